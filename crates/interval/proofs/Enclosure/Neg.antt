@@ -1,0 +1,61 @@
+-- Negation exchanges the ends and the signs; a difference is the sum with the negation.
+use mathlib.Core.Path.{_≡_, refl, sym, ap, _∙_, subst}
+use mathlib.Core.Logic.{_⊎_, inl, inr}
+use Prim.Native.Nat.{ℕ, zero, suc, _+_, _-_, _*_, _/_, _^_, _≤_, _<_, zero-le}
+use native.Mathlib.Nat.{le-trans, le-of-eq, le-of-lt, le-refl, eq-or-lt-of-le}
+use native.Mathlib.Omega.{arith}
+use mathlib.Core.Bool.{Bool, true, false, not, cond}
+use lib.Dec.{T}
+use lib.IntN.{ℤ, pos, negsuc, negℤ, _+ℤ_, _-ℤ_, _*ℤ_}
+use lib.Signed.{leZ}
+use lib.Ieee.{Float, nan, inf, fin, binary64, low, up, down, neg, sub, add, lt, fits, isNan}
+use lib.Ieee.Fits.{neg-fits}
+use lib.Ieee.Scale.{finite}
+use Rattle.interval.specs.declared.Scalar.{Scalar}
+use Rattle.interval.specs.Enclosure.{unitsOf, Fits, Finite, HoldsQ, Holds, Encloses}
+use Rattle.interval.specs.Scalar.{addOf, subOf, negOf}
+use Rattle.interval.proofs.Integers.{P, N, P-neg, N-neg, le-of-parts, parts-of-le}
+use Rattle.interval.proofs.Enclosure.Add.{scaled-le, le-scaled, add-holds}
+
+-- ---- negation
+pub parts-neg : (z : ℤ) → (P (negℤ z) ≡ N z) × (N (negℤ z) ≡ P z)
+parts-neg (pos n) = (P-neg n, N-neg n)
+parts-neg (negsuc n) = (refl, refl)
+
+pub signs : (x : Float) → (P (unitsOf binary64 (neg x)) ≡ N (unitsOf binary64 x)) × (N (unitsOf binary64 (neg x)) ≡ P (unitsOf binary64 x))
+unfolding unitsOf neg
+signs nan = (refl, refl)
+signs (inf s) = (refl, refl)
+signs (fin false m e) = (P-neg (m * up e * 2 ^ low binary64 / down e), N-neg (m * up e * 2 ^ low binary64 / down e))
+signs (fin true m e) = (sym (N-neg (m * up e * 2 ^ low binary64 / down e)), sym (P-neg (m * up e * 2 ^ low binary64 / down e)))
+
+pub swap-le : (z w z' w' : ℤ) (a b : ℕ) → P z' ≡ N z → N z' ≡ P z → P w' ≡ N w → N w' ≡ P w → T (leZ (z *ℤ pos a) (w *ℤ pos b)) → T (leZ (w' *ℤ pos b) (z' *ℤ pos a))
+swap-le z w z' w' a b p n q m h =
+    le-scaled w' z' b a
+    (omega (arith, scaled-le z w a b h, ap (λ (t : ℕ). t * a) p, ap (λ (t : ℕ). t * a) n, ap (λ (t : ℕ). t * b) q, ap (λ (t : ℕ). t * b) m))
+
+pub neg-holds : (x : Scalar) (p : ℤ) (c : ℕ) → HoldsQ x p c → HoldsQ (negOf x) (negℤ p) c
+neg-holds x p c h =
+    let u = unitsOf binary64 in
+    let s = signs (x .hi) in
+    let t = signs (x .lo) in
+    let q = parts-neg p in
+    record {
+      from-lo = swap-le p (u (x .hi)) (negℤ p) (u (neg (x .hi))) (2 ^ low binary64) c (q .0) (q .1) (s .0) (s .1) (h .to-hi);
+      to-hi = swap-le (u (x .lo)) p (u (neg (x .lo))) (negℤ p) c (2 ^ low binary64) (t .0) (t .1) (q .0) (q .1) (h .from-lo);
+    }
+
+-- ---- difference
+pub finite-neg : (x : Float) → T (finite x) → T (finite (neg x))
+unfolding neg
+finite-neg (fin s m e) h = tt
+
+sub-is : (x y : Scalar) → subOf x y ≡ addOf x (negOf y)
+unfolding sub
+sub-is x y = refl
+
+pub sub-holds : (x y : Scalar) → Fits x → Fits y → Encloses _-ℤ_ x y (subOf x y)
+sub-holds x y tx ty fx fy fr p q k a b =
+    subst (λ (r : Scalar). Holds r (p -ℤ q) k) (sym (sub-is x y))
+    (add-holds x (negOf y) tx (neg-fits binary64 (y .hi) (ty .1), neg-fits binary64 (y .lo) (ty .0)) fx (record { lo-finite = finite-neg (y .hi) (fy .hi-finite); hi-finite = finite-neg (y .lo) (fy .lo-finite) })
+    (subst Finite (sub-is x y) fr) p (negℤ q) k a (neg-holds y q (2 ^ k) b))

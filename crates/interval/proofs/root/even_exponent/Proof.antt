@@ -1,0 +1,20 @@
+-- `even_exponent` meets its contract: an odd exponent gives one factor of 2 to c.
+use borrow.Author.Needs.{needs}
+use Rattle.interval.proofs.RootBits.{even-step}
+use Rattle.interval.proofs.root.even_exponent.Statement.{statement}
+use Rattle.interval.proofs.root.even_exponent.Tie as tie
+
+returns : tie.Need-returns
+returns c = search needs
+
+mul-t2 : tie.Need-mul-t2
+mul-t2 c = search needs
+
+sub-t4 : tie.Need-sub-t4
+sub-t4 c = search needs
+
+returns-2 : tie.Need-returns-2
+returns-2 c = even-step (c .before .before .before .before .args .s .c) (c .before .before .before .before .args .s .e) (c .before .before .if1 .left)
+
+pub even-exponent-spec : {M : Type 1} → statement M
+even-exponent-spec = tie.close (tie.spec returns mul-t2 sub-t4 returns-2)

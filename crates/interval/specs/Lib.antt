@@ -1,0 +1,9 @@
+pub mod Step
+pub mod Float
+pub mod Pattern
+pub mod Root
+pub mod RootSteps
+pub mod NearestRoot
+pub mod Result
+pub mod Scalar
+pub mod Enclosure

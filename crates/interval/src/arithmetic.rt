@@ -1,0 +1,131 @@
+// Arithmetic, absolute value and root.
+ghost use mathlib.Core.Path.{_≡_};
+ghost use lib.IntN.{_+ℤ_, _-ℤ_};
+ghost use Rattle.interval.specs.Enclosure.{Gives, GivesResult, Encloses, EnclosesProduct, EnclosesNegation, EnclosesQuotient, EnclosesSize, EnclosesRoot};
+ghost use Rattle.interval.specs.Scalar.{addOf, subOf, mulOf, negOf, divOf, absOf, sqrtOf, spread, holdsZero, inverse, clamped};
+use crate::float::greatest_of;
+use crate::float::least_of;
+use crate::float::max_of;
+use crate::root::nearest_root;
+use crate::step::next_down;
+use crate::step::next_up;
+use crate::GeopError;
+use crate::Scalar;
+use crate::ScalarResult;
+
+// The least and the greatest of four products, stepped outward.
+fn spread_of(p: f64, q: f64, r: f64, s: f64) -> Scalar
+    ensures { λ x. ⌜ x ≡ spread p q r s ⌝ }
+{
+    Scalar {
+        lo: next_down(least_of(p, q, r, s)),
+        hi: next_up(greatest_of(p, q, r, s)),
+    }
+}
+
+// A lower end below zero counts as zero.
+fn clamped_at_zero(x: f64) -> f64
+    ensures { λ r. ⌜ r ≡ clamped x ⌝ }
+{
+    if x < 0.0 {
+        return 0.0;
+    }
+    x
+}
+
+impl Scalar {
+    pub fn add(self, other: Scalar) -> Scalar
+        ensures { λ r. ⌜ Gives (addOf self other) (Encloses _+ℤ_ self other) r ⌝ }
+    {
+        Scalar {
+            lo: next_down(self.lo + other.lo),
+            hi: next_up(self.hi + other.hi),
+        }
+    }
+
+    pub fn sub(self, other: Scalar) -> Scalar
+        ensures { λ r. ⌜ Gives (subOf self other) (Encloses _-ℤ_ self other) r ⌝ }
+    {
+        Scalar {
+            lo: next_down(self.lo - other.hi),
+            hi: next_up(self.hi - other.lo),
+        }
+    }
+
+    pub fn mul(self, other: Scalar) -> Scalar
+        ensures { λ r. ⌜ Gives (mulOf self other) (EnclosesProduct self other) r ⌝ }
+    {
+        spread_of(
+            self.lo * other.lo,
+            self.lo * other.hi,
+            self.hi * other.lo,
+            self.hi * other.hi,
+        )
+    }
+
+    pub fn neg(self) -> Scalar
+        ensures { λ r. ⌜ Gives (negOf self) (EnclosesNegation self) r ⌝ }
+    {
+        Scalar {
+            lo: -self.hi,
+            hi: -self.lo,
+        }
+    }
+
+    fn holds_zero(self) -> bool
+        ensures { λ r. ⌜ r ≡ holdsZero self ⌝ }
+    {
+        self.lo <= 0.0 && self.hi >= 0.0
+    }
+
+    // The reciprocals of the ends, exchanged and stepped outward.
+    fn inverse_of(self) -> Scalar
+        ensures { λ r. ⌜ r ≡ inverse self ⌝ }
+    {
+        Scalar {
+            lo: next_down(1.0 / self.hi),
+            hi: next_up(1.0 / self.lo),
+        }
+    }
+
+    // Refused where the divisor could be zero.
+    pub fn div(self, other: Scalar) -> ScalarResult
+        ensures { λ r. ⌜ GivesResult (divOf self other) (EnclosesQuotient self other) r ⌝ }
+    {
+        if other.holds_zero() {
+            return ScalarResult::Refused(GeopError::DivisorContainsZero);
+        }
+        ScalarResult::Value(self.mul(other.inverse_of()))
+    }
+
+    pub fn abs(self) -> Scalar
+        ensures { λ r. ⌜ Gives (absOf self) (EnclosesSize self) r ⌝ }
+    {
+        if self.lo >= 0.0 {
+            return self;
+        }
+        if self.hi <= 0.0 {
+            return Scalar {
+                lo: -self.hi,
+                hi: -self.lo,
+            };
+        }
+        Scalar {
+            lo: 0.0,
+            hi: max_of(-self.lo, self.hi),
+        }
+    }
+
+    // Refused where the interval is definitely negative.
+    pub fn sqrt(self) -> ScalarResult
+        ensures { λ r. ⌜ GivesResult (sqrtOf self) (EnclosesRoot self) r ⌝ }
+    {
+        if self.hi < 0.0 {
+            return ScalarResult::Refused(GeopError::SqrtOfNegative);
+        }
+        ScalarResult::Value(Scalar {
+            lo: next_down(nearest_root(clamped_at_zero(self.lo))),
+            hi: next_up(nearest_root(self.hi)),
+        })
+    }
+}

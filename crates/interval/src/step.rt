@@ -1,0 +1,33 @@
+// The next float either way, by the bit pattern.
+ghost use mathlib.Core.Path.{_≡_};
+ghost use mathlib.Core.Bool.{true, false, cond};
+ghost use Prim.Native.Nat.{_+_, _-_, _%_, _≤_};
+ghost use Rattle.interval.specs.Step.{nextUp, nextDown};
+
+// The pattern one step up from b: away from zero for a number that is not negative, whose sign bit
+// is dropped so that -0 counts as +0, and towards zero for a negative one.
+fn pattern_above(not_negative: bool, b: u64) -> u64
+    requires { ⌜ («not_negative» ≡ false → 1 ≤ b) ⌝ }
+    ensures { λ r. ⌜ r ≡ cond «not_negative» (b % 9223372036854775808 + 1) (b - 1) ⌝ }
+{
+    if not_negative {
+        return b % 9223372036854775808 + 1;
+    }
+    b - 1
+}
+
+// From either zero: the smallest subnormal. Infinity and NaN stay.
+pub fn next_up(x: f64) -> f64
+    ensures { λ r. ⌜ r ≡ nextUp x ⌝ }
+{
+    if x < 1.0 / 0.0 {
+        return f64::from_bits(pattern_above(x >= 0.0, f64::to_bits(x)));
+    }
+    x
+}
+
+pub fn next_down(x: f64) -> f64
+    ensures { λ r. ⌜ r ≡ nextDown x ⌝ }
+{
+    -next_up(-x)
+}
