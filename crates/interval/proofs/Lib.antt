@@ -10,6 +10,8 @@ pub mod NextUp
 pub mod Outward
 pub mod MinMax
 pub mod Order
+pub mod Spacing
+pub mod Bounded
 pub mod RootDigits
 pub mod RootExtend
 pub mod RootBits

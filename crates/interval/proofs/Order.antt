@@ -14,7 +14,7 @@ use lib.Ieee.Scale.{finite}
 use Rattle.interval.specs.Float.{lesser, greater, least, greatest}
 use Rattle.interval.specs.Pattern.{infBits, magnitude}
 use Rattle.interval.proofs.Patterns.{magnitude-zero, bits-val, bits-under}
-use Rattle.interval.proofs.Rounding.{magnitude-lt}
+use Rattle.interval.proofs.Rounding.{magnitude-lt, magnitude-le}
 use lib.Signed.{leZ}
 use Rattle.interval.specs.Enclosure.{unitsOf}
 use Rattle.interval.proofs.Integers.{le-of-parts}
@@ -169,15 +169,12 @@ pub greatest-rank : (p q r s : Float) → Number p → Number q → Number r →
 greatest-rank p q r s gp gq gr gs = let w = greatest-any p q r s (gp .0) (gq .0) (gr .0) (gs .0) in (w .number, w .at-p (gp .1), w .at-q (gq .1), w .at-r (gr .1), w .at-s (gs .1))
 
 -- ---- the ranks of finite values are in the order of their units
-magnitude-le : (i j : ℕ) → i ≤ j → magnitude binary64 i ≤ magnitude binary64 j
-magnitude-le i j h = elim (eq-or-lt-of-le h) [ inl e ↦ le-of-eq (ap (magnitude binary64) e) | inr l ↦ le-of-lt (magnitude-lt binary64 i j l) ]
-
 pub rank-units : (x y : Float) → T (fits binary64 x) → T (finite x) → T (fits binary64 y) → T (finite y) → rank binary64 x ≤ rank binary64 y → T (leZ (unitsOf binary64 x) (unitsOf binary64 y))
 rank-units x y tx hx ty hy h =
     let a = rank binary64 x in
     let b = rank binary64 y in
     le-of-parts (unitsOf binary64 x) (unitsOf binary64 y)
-    (omega (arith, units-P binary64 x tx hx, units-N binary64 x tx hx, units-P binary64 y ty hy, units-N binary64 y ty hy, magnitude-le (a - infBits binary64) (b - infBits binary64) (omega arith), magnitude-le (infBits binary64 - b) (infBits binary64 - a) (omega arith)))
+    (omega (arith, units-P binary64 x tx hx, units-N binary64 x tx hx, units-P binary64 y ty hy, units-N binary64 y ty hy, magnitude-le binary64 (a - infBits binary64) (b - infBits binary64) (omega arith), magnitude-le binary64 (infBits binary64 - b) (infBits binary64 - a) (omega arith)))
 
 pub finite-number : (x : Float) → T (fits binary64 x) → T (finite x) → Number x
 unfolding isNan

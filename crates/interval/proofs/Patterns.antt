@@ -17,7 +17,7 @@ use lib.Ieee.Exact.{HasValue, odd-sign, round-exact}
 use lib.Ieee.Fits.{eq→eqb, up-pos, two, two-le-pos}
 use lib.Ieee.Scale.{finite}
 
-hid-pos : (f : Format) → 0 < hid f
+pub hid-pos : (f : Format) → 0 < hid f
 hid-pos f = pow-pos (prec f - 1)
 
 field-lt : (f : Format) (b : ℕ) → b < infBits f → b / hid f < ones f

@@ -19,6 +19,7 @@ use Rattle.interval.specs.Pattern.{infBits, magnitude}
 use Rattle.interval.proofs.Integers.{P, N, P-neg, N-neg}
 use Rattle.interval.proofs.Patterns.{magnitude-zero, bits-under, bits-infinity, bits-val}
 use Rattle.interval.proofs.Rounding.{magnitude-lt, NonNegative, round-nonneg, at, at-le, below-at, above-at, placed}
+pub use Rattle.interval.proofs.Rounding.{le-or-lt}
 
 -- on either side of the zeros
 abbrev pub side : Format → Bool → ℕ → ℕ
@@ -127,13 +128,6 @@ at-zero f c C =
 -- ---- the rank of (p - q) / c rounded
 abbrev pub rankOf : Format → ℕ → ℕ → ℕ → ℕ
 rankOf f p q c = infBits f + at f (p - q) c - at f (q - p) c
-
-pub le-or-lt : (x y : ℕ) → (x ≤ y) ⊎ (y < x)
-le-or-lt x y = go (leb x y) (leb→le x y) (nleb→lt x y)
-  where
-    go : (b : Bool) → (T b → x ≤ y) → (T (not b) → y < x) → (x ≤ y) ⊎ (y < x)
-    go true p q = inl (p tt)
-    go false p q = inr (q tt)
 
 pub none-at : (f : Format) (a c : ℕ) → 0 < c → a ≡ 0 → at f a c ≡ 0
 none-at f a c C e = ap (λ (z : ℕ). at f z c) e ∙ at-zero f c C

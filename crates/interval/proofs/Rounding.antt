@@ -2,7 +2,7 @@
 use mathlib.Core.Path.{_≡_, refl, sym, ap, _∙_, subst}
 use mathlib.Core.Logic.{_⊎_, inl, inr}
 use Prim.Native.Nat.{ℕ, zero, suc, _+_, _-_, _*_, _/_, _%_, _^_, _≤_, _<_, zero-le}
-use native.Mathlib.Nat.{le-trans, le-of-eq, le-of-lt, lt-of-lt-of-le, lt-of-le-of-lt, lt-of-not-le, not-le-of-lt, lt-irrefl, lt-trans, le-refl, le-of-mul-le-mul-right, add-zero, mul-comm, zero-mul, zero-add, zero-lt-suc, mul-pos}
+use native.Mathlib.Nat.{eq-or-lt-of-le, le-trans, le-of-eq, le-of-lt, lt-of-lt-of-le, lt-of-le-of-lt, lt-of-not-le, not-le-of-lt, lt-irrefl, lt-trans, le-refl, le-of-mul-le-mul-right, add-zero, mul-comm, zero-mul, zero-add, zero-lt-suc, mul-pos}
 use native.Mathlib.Numerals.{add-one}
 use native.Mathlib.Omega.{arith}
 use mathlib.Core.Bool.{Bool, true, false, not, _&&_, _||_, cond, true≢false}
@@ -28,6 +28,9 @@ magnitude-lt f i j h =
     let e : i + suc (j - suc i) ≡ j = omega arith in
     subst (λ (z : ℕ). magnitude f i < magnitude f z) e (climb f i (j - suc i))
 
+pub magnitude-le : (f : Format) (i j : ℕ) → i ≤ j → magnitude f i ≤ magnitude f j
+magnitude-le f i j h = elim (eq-or-lt-of-le h) [ inl e ↦ le-of-eq (ap (magnitude f) e) | inr l ↦ le-of-lt (magnitude-lt f i j l) ]
+
 -- ---- what `le` says of two values that are not negative
 or-le : (a b : ℕ) → T (ltb a b || (eqb a b && true)) → a ≤ b
 or-le a b h = go (ltb a b) (eqb a b) (ltb→lt a b) (eqb→eq a b) h
@@ -49,7 +52,7 @@ le-values (fin false m e) (fin false n d) a b l L p q h =
     le-of-mul-le-mul-right
     (transfer a b l l (m * up e) (n * up d) (down e) (down d) (down-pos e) (down-pos d) (sym (p .1)) (sym (q .1)) (or-le (m * up e * down d) (n * up d * down e) h)) L
 
-no-inf : (x : Float) (a l : ℕ) → HasValue x false a l → T (le (inf false) x) → ⊥
+pub no-inf : (x : Float) (a l : ℕ) → HasValue x false a l → T (le (inf false) x) → ⊥
 unfolding le
 no-inf (fin s m e) a l p h = h
 
@@ -91,16 +94,38 @@ pub at-le : (f : Format) (a c : ℕ) → at f a c ≤ infBits f
 unfolding at
 at-le f a c = elim (placed f (round f false a c) (round-fits f false a c) (round-nonneg f a c)) [ inl w ↦ le-of-eq (w .1) | inr w ↦ le-of-lt (w .0) ]
 
--- ---- every pattern below the rounded value's is at most a / c, and every one above is at least a / c
-pub below-at : (f : Format) (a c i : ℕ) → 0 < c → i < at f a c → magnitude f i * c ≤ a * 2 ^ low f
+-- ---- a / c at or above a pattern's number rounds to that pattern or above, and at or below it to that or below
+pub le-or-lt : (x y : ℕ) → (x ≤ y) ⊎ (y < x)
+le-or-lt x y = go (leb x y) (leb→le x y) (nleb→lt x y)
+  where
+    go : (b : Bool) → (T b → x ≤ y) → (T (not b) → y < x) → (x ≤ y) ⊎ (y < x)
+    go true p q = inl (p tt)
+    go false p q = inr (q tt)
+
+pub at-ge : (f : Format) (a c i : ℕ) → 0 < c → i < infBits f → magnitude f i * c ≤ a * 2 ^ low f → i ≤ at f a c
 unfolding at
-below-at f a c i C h =
+at-ge f a c i C I n =
     let l = 2 ^ low f in
-    let I : i < infBits f = lt-of-lt-of-le h (at-le f a c) in
-    elim (le-or-lt (magnitude f i * c) (a * l)) [
+    elim (le-or-lt i (toBits f (round f false a c))) [
       | inl y ↦ y
-      | inr n ↦
-          let m = round-mono f a c (magnitude f i) l C (pow-pos (low f)) (le-of-lt n) in
+      | inr h ↦
+          let m = round-mono f (magnitude f i) l a c (pow-pos (low f)) C n in
+          elim (placed f (round f false a c) (round-fits f false a c) (round-nonneg f a c)) [
+            | inl w ↦ absurd (lt-irrefl (infBits f) (lt-of-le-of-lt (le-of-eq (sym (w .1))) (lt-of-lt-of-le h (le-of-lt I))))
+            | inr w ↦
+                absurd (not-le-of-lt (magnitude-lt f (toBits f (round f false a c)) i h)
+                (le-values (round f false (magnitude f i) l) (round f false a c) (magnitude f i) (magnitude f (toBits f (round f false a c))) l (pow-pos (low f)) (magnitude-exact f i I) (w .1) m))
+          ]
+    ]
+
+pub at-most : (f : Format) (a c i : ℕ) → 0 < c → i < infBits f → a * 2 ^ low f ≤ magnitude f i * c → at f a c ≤ i
+unfolding at
+at-most f a c i C I n =
+    let l = 2 ^ low f in
+    elim (le-or-lt (toBits f (round f false a c)) i) [
+      | inl y ↦ y
+      | inr h ↦
+          let m = round-mono f a c (magnitude f i) l C (pow-pos (low f)) n in
           elim (placed f (round f false a c) (round-fits f false a c) (round-nonneg f a c)) [
             | inl w ↦ absurd (no-inf (round f false (magnitude f i) l) (magnitude f i) l (magnitude-exact f i I) (subst (λ (z : Float). T (le z (round f false (magnitude f i) l))) (w .0) m))
             | inr w ↦
@@ -108,33 +133,16 @@ below-at f a c i C h =
                 (le-values (round f false a c) (round f false (magnitude f i) l) (magnitude f (toBits f (round f false a c))) (magnitude f i) l (pow-pos (low f)) (w .1) (magnitude-exact f i I) m))
           ]
     ]
-  where
-    le-or-lt : (x y : ℕ) → (x ≤ y) ⊎ (y < x)
-    le-or-lt x y = go (leb x y) (leb→le x y) (nleb→lt x y)
-      where
-        go : (b : Bool) → (T b → x ≤ y) → (T (not b) → y < x) → (x ≤ y) ⊎ (y < x)
-        go true p q = inl (p tt)
-        go false p q = inr (q tt)
+
+-- ---- every pattern below the rounded value's is at most a / c, and every one above is at least a / c
+pub below-at : (f : Format) (a c i : ℕ) → 0 < c → i < at f a c → magnitude f i * c ≤ a * 2 ^ low f
+below-at f a c i C h = elim (le-or-lt (magnitude f i * c) (a * 2 ^ low f)) [
+  | inl y ↦ y
+  | inr n ↦ absurd (not-le-of-lt h (at-most f a c i C (lt-of-lt-of-le h (at-le f a c)) (le-of-lt n)))
+]
 
 pub above-at : (f : Format) (a c i : ℕ) → 0 < c → at f a c < i → i < infBits f → a * 2 ^ low f ≤ magnitude f i * c
-unfolding at
-above-at f a c i C h I =
-    let l = 2 ^ low f in
-    elim (le-or-lt (a * l) (magnitude f i * c)) [
-      | inl y ↦ y
-      | inr n ↦
-          let m = round-mono f (magnitude f i) l a c (pow-pos (low f)) C (le-of-lt n) in
-          elim (placed f (round f false a c) (round-fits f false a c) (round-nonneg f a c)) [
-            | inl w ↦ absurd (lt-irrefl (infBits f) (lt-trans (subst (λ (z : ℕ). z < i) (w .1) h) I))
-            | inr w ↦
-                absurd (not-le-of-lt (magnitude-lt f (toBits f (round f false a c)) i h)
-                (le-values (round f false (magnitude f i) l) (round f false a c) (magnitude f i) (magnitude f (toBits f (round f false a c))) l (pow-pos (low f)) (magnitude-exact f i I) (w .1) m))
-          ]
-    ]
-  where
-    le-or-lt : (x y : ℕ) → (x ≤ y) ⊎ (y < x)
-    le-or-lt x y = go (leb x y) (leb→le x y) (nleb→lt x y)
-      where
-        go : (b : Bool) → (T b → x ≤ y) → (T (not b) → y < x) → (x ≤ y) ⊎ (y < x)
-        go true p q = inl (p tt)
-        go false p q = inr (q tt)
+above-at f a c i C h I = elim (le-or-lt (a * 2 ^ low f) (magnitude f i * c)) [
+  | inl y ↦ y
+  | inr n ↦ absurd (not-le-of-lt h (at-ge f a c i C I (le-of-lt n)))
+]

@@ -7,3 +7,4 @@ pub mod NearestRoot
 pub mod Result
 pub mod Scalar
 pub mod Enclosure
+pub mod Bounded

@@ -22,7 +22,7 @@ use Rattle.interval.proofs.Corners.{leZ-trans, mono}
 use Rattle.interval.proofs.MinMax.{fmax-number, abs-is}
 use Rattle.interval.proofs.Rank.{rank}
 use Rattle.interval.proofs.Order.{Number, greater-rank, rank-units, finite-number}
-use Rattle.interval.proofs.Enclosure.Sqrt.{zero-units, zero-units-N}
+use Rattle.interval.proofs.Enclosure.Sqrt.{zero-units, zero-units-N, zero-fits}
 use Rattle.interval.proofs.Enclosure.Div.{sides-pos, sides-neg}
 use Rattle.interval.proofs.Enclosure.Neg.{neg-holds, finite-neg, signs}
 use Rattle.interval.proofs.Enclosure.Max.{either}
@@ -30,7 +30,7 @@ use Rattle.interval.proofs.Enclosure.Max.{either}
 no-eq : (a b : ℕ) → 0 < a → b ≡ 0 → a * 1 ≡ b → ⊥
 no-eq a b h z e = omega arith
 
-not-neg : (x : Float) → T (fits binary64 x) → T (finite x) → T (le zero64 x) → N (unitsOf binary64 x) ≡ 0
+pub not-neg : (x : Float) → T (fits binary64 x) → T (finite x) → T (le zero64 x) → N (unitsOf binary64 x) ≡ 0
 unfolding le lt eq
 not-neg (fin s zero e) t h k = zero-units-N s e t
 not-neg (fin false (suc m) e) t h k = sides-pos (suc m) e
@@ -61,10 +61,6 @@ turns : (u p : ℤ) (c l : ℕ) → 0 < l → P u ≡ 0 → T (leZ (p *ℤ pos l
 turns u (negsuc n) c l L z h = refl
 turns u (pos zero) c l L z h = refl
 turns u (pos (suc n)) c l L z h = absurd (lt-irrefl 0 (lt-of-lt-of-le (mul-pos (zero-lt-suc n) L) (omega (arith, scaled-le (pos (suc n)) u l c h, ap (λ (t : ℕ). t * c) z, zero-mul c, zero-mul l))))
-
-zero-fits : T (fits binary64 zero64)
-unfolding fits
-zero-fits = tt
 
 low-zero : (z : ℤ) (n c l : ℕ) → P z ≡ 0 → T (leZ (z *ℤ pos c) (pos n *ℤ pos l))
 low-zero z n c l e = le-scaled z (pos n) c l (omega (arith, ap (λ (t : ℕ). t * c) e, zero-mul c, zero-mul l))

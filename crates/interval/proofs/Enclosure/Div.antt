@@ -134,11 +134,11 @@ H4 r u q k l L h g =
     three a b u c h z = omega (arith, ap (λ (t : ℕ). t * u) z, zero-mul u)
 
 -- ---- the inverse of an end
-units-pos : (m : ℕ) (e : ℤ) → T (fits binary64 (fin false m e)) → P (unitsOf binary64 (fin false m e)) ≡ magnitude binary64 (toBits binary64 (fin false m e))
+pub units-pos : (m : ℕ) (e : ℤ) → T (fits binary64 (fin false m e)) → P (unitsOf binary64 (fin false m e)) ≡ magnitude binary64 (toBits binary64 (fin false m e))
 unfolding unitsOf
 units-pos m e t = count binary64 m e t
 
-units-neg : (m : ℕ) (e : ℤ) → T (fits binary64 (fin true m e)) → N (unitsOf binary64 (fin true m e)) ≡ magnitude binary64 (toBits binary64 (fin false m e))
+pub units-neg : (m : ℕ) (e : ℤ) → T (fits binary64 (fin true m e)) → N (unitsOf binary64 (fin true m e)) ≡ magnitude binary64 (toBits binary64 (fin false m e))
 unfolding unitsOf
 units-neg m e t = N-neg (m * up e * 2 ^ low binary64 / down e) ∙ count binary64 m e (plain-fits true m e t)
 

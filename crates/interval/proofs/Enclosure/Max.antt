@@ -33,15 +33,18 @@ joined : (l h : Float) → Number l → Number h → (rank binary64 (fmin l h) �
 joined l h gl gh =
     (subst (λ (z : Float). rank binary64 z ≤ rank binary64 l) (sym (fmin-number l h (gl .1))) (lesser-rank l h gl gh .1), subst (λ (z : Float). rank binary64 h ≤ rank binary64 z) (sym (fmax-number l h (gl .1))) (greater-rank l h gl gh .2))
 
-either-min : (a b : Float) (A : Float → Type 0) → Number a → A a → A b → A (fmin a b)
+pub either-lesser : (a b : Float) (A : Float → Type 0) → A a → A b → A (lesser a b)
 unfolding lesser
-either-min a b A n p q = subst A (sym (fmin-number a b (n .1))) (go (lt b a))
+either-lesser a b A p q = go (lt b a)
   where
     go : (t : Bool) → A (cond t b a)
     go true = q
     go false = p
 
-either-max : (a b : Float) (A : Float → Type 0) → Number a → A a → A b → A (fmax a b)
+pub either-min : (a b : Float) (A : Float → Type 0) → Number a → A a → A b → A (fmin a b)
+either-min a b A n p q = subst A (sym (fmin-number a b (n .1))) (either-lesser a b A p q)
+
+pub either-max : (a b : Float) (A : Float → Type 0) → Number a → A a → A b → A (fmax a b)
 either-max a b A n p q = subst A (sym (fmax-number a b (n .1))) (either a b A p q)
 
 -- r is p or q, whichever is larger

@@ -50,7 +50,7 @@ pub finite-neg : (x : Float) → T (finite x) → T (finite (neg x))
 unfolding neg
 finite-neg (fin s m e) h = tt
 
-sub-is : (x y : Scalar) → subOf x y ≡ addOf x (negOf y)
+pub sub-is : (x y : Scalar) → subOf x y ≡ addOf x (negOf y)
 unfolding sub
 sub-is x y = refl
 

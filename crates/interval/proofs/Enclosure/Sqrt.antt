@@ -26,7 +26,7 @@ use Rattle.interval.proofs.Patterns.{magnitude-zero}
 use Rattle.interval.proofs.RootDigits.{isqrt-is, sticky, sticky-says, sticky-le, near-fits}
 
 -- ---- the nearest root is rounded once
-near-rank : (n : ℕ) → rank binary64 (roundedRoot binary64 n) ≡ rankOf binary64 (2 * isqrt n + sticky (isqrt n) n) 0 (2 * 2 ^ low binary64)
+pub near-rank : (n : ℕ) → rank binary64 (roundedRoot binary64 n) ≡ rankOf binary64 (2 * isqrt n + sticky (isqrt n) n) 0 (2 * 2 ^ low binary64)
 unfolding roundedRoot sticky
 near-rank n =
     let a = 2 * isqrt n + sticky (isqrt n) n in
@@ -127,7 +127,7 @@ zero-units s e t = let b = zero-rank s e t in units-P binary64 (fin s zero e) t 
 abbrev pub Low : Float → Float → Type 0
 Low x y = (P (unitsOf binary64 (nextDown (nearestRoot y))) ≡ 0) ⊎ ((P (unitsOf binary64 (nextDown (nearestRoot y))) * P (unitsOf binary64 (nextDown (nearestRoot y))) ≤ P (unitsOf binary64 x) * 2 ^ low binary64) × (N (unitsOf binary64 x) ≡ 0))
 
-zero-fits : T (fits binary64 (fin false zero (pos 0)))
+pub zero-fits : T (fits binary64 (fin false zero (pos 0)))
 unfolding fits
 zero-fits = tt
 
