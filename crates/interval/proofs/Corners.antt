@@ -1,4 +1,4 @@
--- Whole numbers: a product of two choices is between the least and the greatest of the products of the ends.
+-- Whole numbers: what is at most each of the four products of the ends is at most every product of what lies between.
 use mathlib.Core.Path.{_≡_, refl, sym, ap, _∙_, subst}
 use Prim.Native.Nat.{ℕ, zero, suc, _+_, _-_, _*_, _≤_, _<_, zero-le}
 use native.Mathlib.Nat.{zero-mul, mul-zero, mul-comm, mul-assoc, mul-right-comm, mul-mul-mul-comm, add-mul, mul-le-mul-right, le-of-mul-le-mul-right, zero-lt-suc}
@@ -66,15 +66,6 @@ pub corners-low : (r a x b c y d : ℤ) → T (leZ a x) → T (leZ x b) → T (l
     → T (leZ r (a *ℤ c)) → T (leZ r (a *ℤ d)) → T (leZ r (b *ℤ c)) → T (leZ r (b *ℤ d)) → T (leZ r (x *ℤ y))
 corners-low r a x b c (pos n) d ax xb cy yd p q u v = leZ-trans r (a *ℤ pos n) (x *ℤ pos n) (low-side r a c (pos n) d cy yd p q) (mono a x n ax)
 corners-low r a x b c (negsuc n) d ax xb cy yd p q u v = leZ-trans r (b *ℤ negsuc n) (x *ℤ negsuc n) (low-side r b c (negsuc n) d cy yd u v) (anti x b n xb)
-
-high-side : (r a c y d : ℤ) → T (leZ c y) → T (leZ y d) → T (leZ (a *ℤ c) r) → T (leZ (a *ℤ d) r) → T (leZ (a *ℤ y) r)
-high-side r (pos n) c y d h k p q = leZ-trans (pos n *ℤ y) (pos n *ℤ d) r (mono-right n y d k) q
-high-side r (negsuc n) c y d h k p q = leZ-trans (negsuc n *ℤ y) (negsuc n *ℤ c) r (anti-right n c y h) p
-
-pub corners-high : (r a x b c y d : ℤ) → T (leZ a x) → T (leZ x b) → T (leZ c y) → T (leZ y d)
-    → T (leZ (a *ℤ c) r) → T (leZ (a *ℤ d) r) → T (leZ (b *ℤ c) r) → T (leZ (b *ℤ d) r) → T (leZ (x *ℤ y) r)
-corners-high r a x b c (pos n) d ax xb cy yd p q u v = leZ-trans (x *ℤ pos n) (b *ℤ pos n) r (mono x b n xb) (high-side r b c (pos n) d cy yd u v)
-corners-high r a x b c (negsuc n) d ax xb cy yd p q u v = leZ-trans (x *ℤ negsuc n) (a *ℤ negsuc n) r (anti a x n ax) (high-side r a c (negsuc n) d cy yd p q)
 
 -- ---- scales
 pub scale-scale : (z : ℤ) (j k : ℕ) → (z *ℤ pos j) *ℤ pos k ≡ z *ℤ pos (j * k)

@@ -4,5 +4,4 @@ pub mod Max
 pub mod Abs
 pub mod Mul
 pub mod Div
-pub mod DivInfinite
 pub mod Sqrt

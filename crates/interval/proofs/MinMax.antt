@@ -70,7 +70,7 @@ pub fmax-number : (a b : Float) → T (not (isNan a)) → fmax a b ≡ greater a
 unfolding fmax
 fmax-number a b h = ap (λ (t : Bool). cond t b (greater a b)) (same-itself a h)
 
-inf-number : (s : Bool) → T (not (isNan (inf s)))
+pub inf-number : (s : Bool) → T (not (isNan (inf s)))
 unfolding isNan
 inf-number s = tt
 
@@ -90,6 +90,39 @@ least-is p q r s = fold fmin lesser fmin-number lesser-number (inf false) p q r 
 pub greatest-is : (p q r s : Float) → greatest p q r s ≡ greater (greater (greater (greater (inf true) p) q) r) s
 unfolding greatest
 greatest-is p q r s = fold fmax greater fmax-number greater-number (inf true) p q r s (inf-number true)
+
+-- ---- what holds of both numbers holds of the one chosen
+pub either : (a b : Float) (A : Float → Type 0) → A a → A b → A (greater a b)
+unfolding greater
+either a b A p q = go (lt a b)
+  where
+    go : (t : Bool) → A (cond t b a)
+    go true = q
+    go false = p
+
+pub either-lesser : (a b : Float) (A : Float → Type 0) → A a → A b → A (lesser a b)
+unfolding lesser
+either-lesser a b A p q = go (lt b a)
+  where
+    go : (t : Bool) → A (cond t b a)
+    go true = q
+    go false = p
+
+pub either-min : (a b : Float) (A : Float → Type 0) → A a → A b → A (fmin a b)
+unfolding fmin
+either-min a b A p q = go (ne a a)
+  where
+    go : (s : Bool) → A (cond s b (lesser a b))
+    go true = q
+    go false = either-lesser a b A p q
+
+pub either-max : (a b : Float) (A : Float → Type 0) → A a → A b → A (fmax a b)
+unfolding fmax
+either-max a b A p q = go (ne a a)
+  where
+    go : (s : Bool) → A (cond s b (greater a b))
+    go true = q
+    go false = either a b A p q
 
 -- ---- abs, by the sign
 negative-form : (m : ℕ) (e : ℤ) → (fin false m e ≡ inf true) ⊎ ((n : ℕ) × (d : ℤ) × (fin false m e ≡ fin true (suc n) d)) → ⊥

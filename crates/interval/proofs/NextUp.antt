@@ -49,6 +49,7 @@ fields-neg (suc x) t = go (eqb (suc x) (ones binary64)) (eqb t 0) (hid binary64 
     digits : (n : ℕ) → odd (prec binary64) true n x (low binary64) ≡ neg (odd (prec binary64) false n x (low binary64))
     digits zero = refl
     digits (suc n) = refl
+
     go : (a b : Bool) (n : ℕ) → cond a (cond b (inf true) nan) (odd (prec binary64) true n x (low binary64)) ≡ neg (cond a (cond b (inf false) nan) (odd (prec binary64) false n x (low binary64)))
     go true true n = refl
     go true false n = refl
@@ -152,7 +153,7 @@ down-side x t a b =
     record {
       some = omega (arith, with-sign x w);
       number = subst (λ (z : ℕ). T (not (nanBits binary64 z))) (sym e) (no-nan-below n near);
-      next = ap (ofBits binary64) e ∙ ofBits-neg n near ∙ i .2
+      next = ap (ofBits binary64) e ∙ ofBits-neg n near ∙ i .2;
     }
 
 -- ---- the pattern that `pattern_above` gives, for either sign s

@@ -11,14 +11,14 @@ use lib.IntN.{ℤ, pos, negsuc}
 use lib.Ieee.{Float, nan, inf, fin, Format, binary64, low, up, down, below, lt, fits, toBits, isNan}
 use lib.Ieee.Fits.{down-pos, inf-fits}
 use lib.Ieee.Scale.{finite}
-use Rattle.interval.specs.Float.{lesser, greater, least, greatest}
+use Rattle.interval.specs.Float.{lesser, greater, fmin, fmax, least, greatest}
 use Rattle.interval.specs.Pattern.{infBits, magnitude}
 use Rattle.interval.proofs.Patterns.{magnitude-zero, bits-val, bits-under}
 use Rattle.interval.proofs.Rounding.{magnitude-lt, magnitude-le}
 use lib.Signed.{leZ}
 use Rattle.interval.specs.Enclosure.{unitsOf}
 use Rattle.interval.proofs.Integers.{le-of-parts}
-use Rattle.interval.proofs.MinMax.{lt-first, lt-second, least-is, greatest-is}
+use Rattle.interval.proofs.MinMax.{lt-first, lt-second, fmin-number, fmax-number, least-is, greatest-is}
 use Rattle.interval.proofs.Rank.{rank, le-or-lt, units-P, units-N}
 use Rattle.interval.proofs.Outward.{positive-fits, rank-le}
 use Rattle.interval.proofs.Enclosure.Add.{plain-fits}
@@ -160,13 +160,10 @@ lesser-rank a b ga gb = let w = lesser-any a b ga (gb .0) in (w .0, w .1, w .2 (
 pub greater-rank : (a b : Float) → Number a → Number b → Number (greater a b) × (rank binary64 a ≤ rank binary64 (greater a b)) × (rank binary64 b ≤ rank binary64 (greater a b))
 greater-rank a b ga gb = let w = greater-any a b ga (gb .0) in (w .0, w .1, w .2 (gb .1))
 
-pub least-rank : (p q r s : Float) → Number p → Number q → Number r → Number s
-    → Number (least p q r s) × (rank binary64 (least p q r s) ≤ rank binary64 p) × (rank binary64 (least p q r s) ≤ rank binary64 q) × (rank binary64 (least p q r s) ≤ rank binary64 r) × (rank binary64 (least p q r s) ≤ rank binary64 s)
-least-rank p q r s gp gq gr gs = let w = least-any p q r s (gp .0) (gq .0) (gr .0) (gs .0) in (w .number, w .at-p (gp .1), w .at-q (gq .1), w .at-r (gr .1), w .at-s (gs .1))
-
-pub greatest-rank : (p q r s : Float) → Number p → Number q → Number r → Number s
-    → Number (greatest p q r s) × (rank binary64 p ≤ rank binary64 (greatest p q r s)) × (rank binary64 q ≤ rank binary64 (greatest p q r s)) × (rank binary64 r ≤ rank binary64 (greatest p q r s)) × (rank binary64 s ≤ rank binary64 (greatest p q r s))
-greatest-rank p q r s gp gq gr gs = let w = greatest-any p q r s (gp .0) (gq .0) (gr .0) (gs .0) in (w .number, w .at-p (gp .1), w .at-q (gq .1), w .at-r (gr .1), w .at-s (gs .1))
+-- the joined end is no greater than the greater lower end, and no smaller than the greater upper end
+pub joined : (l h : Float) → Number l → Number h → (rank binary64 (fmin l h) ≤ rank binary64 l) × (rank binary64 h ≤ rank binary64 (fmax l h))
+joined l h gl gh =
+    (subst (λ (z : Float). rank binary64 z ≤ rank binary64 l) (sym (fmin-number l h (gl .1))) (lesser-rank l h gl gh .1), subst (λ (z : Float). rank binary64 h ≤ rank binary64 z) (sym (fmax-number l h (gl .1))) (greater-rank l h gl gh .2))
 
 -- ---- the ranks of finite values are in the order of their units
 pub rank-units : (x y : Float) → T (fits binary64 x) → T (finite x) → T (fits binary64 y) → T (finite y) → rank binary64 x ≤ rank binary64 y → T (leZ (unitsOf binary64 x) (unitsOf binary64 y))

@@ -34,7 +34,7 @@ facts s r hs hr =
       whole = omega (arith, e, expand s u);
       rest = mod-lt t D;
       few = few;
-      square = mul-le-mul few few
+      square = mul-le-mul few few;
     }
   where
     less-eq : (u : ℕ) → u < 134217729 → u ≤ 134217728

@@ -17,7 +17,7 @@ use Rattle.interval.specs.Pattern.{infBits, magnitude, fieldsMagnitude, 
 use Rattle.interval.proofs.Patterns.{hid-pos, magnitude-at}
 use Rattle.interval.proofs.Rounding.{magnitude-lt, round-nonneg, at, placed, no-inf, le-or-lt}
 pub use Rattle.interval.proofs.Rounding.{magnitude-le, at-ge, at-most}
-use Rattle.interval.proofs.Enclosure.DivInfinite.{value-finite}
+use Rattle.interval.proofs.Infinite.{value-finite}
 
 -- ---- from 2 ^ 1024 on it is infinite
 top-inf : round binary64 false (2 ^ 1024) 1 ≡ inf false

@@ -7,4 +7,5 @@ pub mod NearestRoot
 pub mod Result
 pub mod Scalar
 pub mod Enclosure
+pub mod OneSided
 pub mod Bounded

@@ -3,15 +3,15 @@ ghost use mathlib.Core.Path.{_≡_};
 ghost use lib.IntN.{_+ℤ_, _-ℤ_};
 ghost use Rattle.interval.specs.Enclosure.{Gives, GivesResult, Encloses, EnclosesProduct, EnclosesNegation, EnclosesQuotient, EnclosesSize, EnclosesRoot};
 ghost use Rattle.interval.specs.Scalar.{addOf, subOf, mulOf, negOf, divOf, absOf, sqrtOf, spread, holdsZero, inverse, clamped};
+use crate::GeopError;
+use crate::Scalar;
+use crate::ScalarResult;
 use crate::float::greatest_of;
 use crate::float::least_of;
 use crate::float::max_of;
 use crate::root::nearest_root;
 use crate::step::next_down;
 use crate::step::next_up;
-use crate::GeopError;
-use crate::Scalar;
-use crate::ScalarResult;
 
 // The least and the greatest of four products, stepped outward.
 fn spread_of(p: f64, q: f64, r: f64, s: f64) -> Scalar

@@ -1,8 +1,8 @@
 // Three-valued comparisons, and finiteness.
 ghost use mathlib.Core.Path.{_≡_};
 ghost use Rattle.interval.specs.Scalar.{couldBeEqual, definitelyNotEqual, couldBeGreater, definitelyGreater, couldBeLess, definitelyLess, isZero, isFinite};
-use crate::float::is_finite_f64;
 use crate::Scalar;
+use crate::float::is_finite_f64;
 
 impl Scalar {
     pub fn could_be_equal(self, other: Scalar) -> bool

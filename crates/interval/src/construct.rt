@@ -2,15 +2,17 @@
 ghost use mathlib.Core.Path.{_≡_};
 ghost use Rattle.interval.specs.Result.{resultOf};
 ghost use Rattle.interval.specs.Scalar.{degenerate, fromI64, fromRatio};
-use crate::step::next_down;
-use crate::step::next_up;
 use crate::GeopError;
 use crate::Scalar;
 use crate::ScalarResult;
+use crate::step::next_down;
+use crate::step::next_up;
 
 impl Scalar {
     pub const ZERO: Scalar = Scalar { lo: 0.0, hi: 0.0 };
+
     pub const ONE: Scalar = Scalar { lo: 1.0, hi: 1.0 };
+
     pub const TWO: Scalar = Scalar { lo: 2.0, hi: 2.0 };
 
     // The point interval.

@@ -2,10 +2,10 @@
 ghost use mathlib.Core.Path.{_≡_};
 ghost use Rattle.interval.specs.Enclosure.{Gives, Encloses, maxℤ};
 ghost use Rattle.interval.specs.Scalar.{midpoint, isSharp, lower, upper, sharpen, union, maxOf};
+use crate::Scalar;
 use crate::float::greater_of;
 use crate::float::max_of;
 use crate::float::min_of;
-use crate::Scalar;
 
 impl Scalar {
     // (lo + hi) / 2 at both ends, by two roundings: infinite where the sum overflows.

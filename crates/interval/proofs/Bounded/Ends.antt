@@ -12,7 +12,7 @@ use Rattle.interval.specs.Float.{greater, fmax}
 use Rattle.interval.specs.Scalar.{zero64, zeroS, pick, negOf, absOf, maxOf}
 use Rattle.interval.proofs.MinMax.{abs-is}
 use Rattle.interval.proofs.Order.{finite-number}
-use Rattle.interval.proofs.Enclosure.Max.{either, either-min, either-max}
+use Rattle.interval.proofs.MinMax.{either, either-min, either-max}
 use Rattle.interval.proofs.Enclosure.Sqrt.{zero-units, zero-units-N, zero-fits}
 use Rattle.interval.proofs.Bounded.Power.{small, parts-small, neg-small}
 
@@ -47,7 +47,7 @@ abs-bounded x k h = subst (λ (r : Scalar). Bounded r k) (sym (abs-is x)) (go (l
     go false true = neg-bounded x k h
     go false false =
         let n = neg-small (x .lo) k (h .lo-small) in
-        record { lo-small = zero-small k; hi-small = either-max (neg (x .lo)) (x .hi) (λ (z : Float). Small z k) (finite-number (neg (x .lo)) (n .is-float) (n .is-finite)) n (h .hi-small) }
+        record { lo-small = zero-small k; hi-small = either-max (neg (x .lo)) (x .hi) (λ (z : Float). Small z k) n (h .hi-small) }
 
 pub max-bounded : (x y : Scalar) (k : ℕ) → Bounded x k → Bounded y k → Bounded (maxOf x y) k
 max-bounded x y k h g =
@@ -57,4 +57,4 @@ max-bounded x y k h g =
     let a : Small l k = either (x .lo) (y .lo) A (h .lo-small) (g .lo-small) in
     let b : Small u k = either (x .hi) (y .hi) A (h .hi-small) (g .hi-small) in
     let n = finite-number l (a .is-float) (a .is-finite) in
-    record { lo-small = either-min l u A n a b; hi-small = either-max l u A n a b }
+    record { lo-small = either-min l u A a b; hi-small = either-max l u A a b }

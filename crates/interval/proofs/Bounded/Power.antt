@@ -22,7 +22,8 @@ use Rattle.interval.proofs.Rank.{rank, le-or-lt, units-P, units-N}
 use Rattle.interval.proofs.Outward.{rising, rank-up, up-fits}
 use Rattle.interval.proofs.Spacing.{at-most, dbl, magnitude-dbl, magnitude-le, magnitude-infinity}
 use Rattle.interval.proofs.Enclosure.Add.{Rounds}
-use Rattle.interval.proofs.Enclosure.Neg.{signs, finite-neg}
+use Rattle.interval.proofs.Enclosure.Neg.{signs}
+use Rattle.interval.proofs.Infinite.{neg-finite}
 
 -- ---- the pattern of 2 ^ k units
 pub power : ℕ → ℕ
@@ -100,7 +101,7 @@ near-small v k t K h =
 pub neg-small : (v : Float) (k : ℕ) → Small v k → Small (neg v) k
 neg-small v k h =
     let w = parts-small v k h in
-    small (neg v) k (neg-fits binary64 v (h .is-float)) (finite-neg v (h .is-finite)) (le-trans (le-of-eq (signs v .0)) (w .1)) (le-trans (le-of-eq (signs v .1)) (w .0))
+    small (neg v) k (neg-fits binary64 v (h .is-float)) (neg-finite v (h .is-finite)) (le-trans (le-of-eq (signs v .0)) (w .1)) (le-trans (le-of-eq (signs v .1)) (w .0))
 
 finite-rising : (v : Float) → T (finite v) → T (rising v)
 finite-rising (fin s m e) h = tt

@@ -16,8 +16,8 @@ use Rattle.interval.specs.Float.{lesser, greater, least, greatest}
 use Rattle.interval.specs.Scalar.{spread, mulOf}
 use Rattle.interval.proofs.Integers.{P, N, P-neg, N-neg}
 use Rattle.interval.proofs.MinMax.{least-is, greatest-is}
-use Rattle.interval.proofs.Enclosure.Max.{either, either-lesser}
-use Rattle.interval.proofs.Enclosure.Mul.{mul-rounds}
+use Rattle.interval.proofs.MinMax.{either, either-lesser}
+use Rattle.interval.proofs.Product.{mul-rounds}
 use Rattle.interval.proofs.Bounded.Power.{rounds-small, outward-bounded}
 
 -- ---- the size of a product

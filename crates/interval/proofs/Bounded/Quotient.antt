@@ -20,8 +20,8 @@ use Rattle.interval.proofs.Patterns.{bits-under, magnitude-under}
 use Rattle.interval.proofs.Rank.{le-or-lt}
 use Rattle.interval.proofs.Enclosure.Add.{pp, nn, plain-fits}
 use Rattle.interval.proofs.Enclosure.Neg.{parts-neg}
-use Rattle.interval.proofs.Enclosure.Div.{div-rounds, units-pos, units-neg, some-above, some-below}
-use Rattle.interval.proofs.Enclosure.Abs.{not-neg, not-pos}
+use Rattle.interval.proofs.Inverse.{div-rounds, units-pos, units-neg, some-above, some-below}
+use Rattle.interval.proofs.OneSided.Abs.{not-neg, not-pos}
 use Rattle.interval.proofs.Bounded.Power.{rounds-small, outward-bounded}
 use Rattle.interval.proofs.Bounded.Product.{powers-le, mul-bounded}
 

@@ -17,7 +17,7 @@ use Rattle.interval.specs.Scalar.{two64, addOf, subOf, negOf, midpoint}
 use Rattle.interval.proofs.Integers.{P, N}
 use Rattle.interval.proofs.Rank.{rank, rankOf}
 use Rattle.interval.proofs.Enclosure.Add.{pp, nn, over, plain-fits, Rounds, add-rounds}
-use Rattle.interval.proofs.Enclosure.Mul.{signed-rank}
+use Rattle.interval.proofs.Product.{signed-rank}
 use Rattle.interval.proofs.Enclosure.Neg.{sub-is}
 use Rattle.interval.proofs.Bounded.Power.{parts-small, rounds-small, outward-bounded}
 use Rattle.interval.proofs.Bounded.Ends.{bounded-weaken, neg-bounded}

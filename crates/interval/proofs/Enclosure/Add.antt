@@ -1,4 +1,4 @@
--- A sum is rounded once and stepped outward, so it is past the exact sum of the ends; the choices lie between the ends.
+-- The sum of two intervals holds the sum of what each holds.
 use mathlib.Core.Path.{_≡_, refl, sym, ap, _∙_, subst}
 use mathlib.Core.Logic.{_⊎_, inl, inr}
 use Prim.Native.Nat.{ℕ, zero, suc, _+_, _-_, _*_, _/_, _%_, _^_, _≤_, _<_, zero-le}
@@ -185,13 +185,23 @@ sum-high r x y p q k l h a b =
     le-scaled (p +ℤ q) r l k
     (omega (arith, scaled-le p x l k a, scaled-le q y l k b, dist (P r) (N x) (N y) k, dist (P x) (P y) (N r) k, dist (P (p +ℤ q)) (N p) (N q) l, dist (P p) (P q) (N (p +ℤ q)) l))
 
+-- two finite ends: their sum, rounded and stepped outward, bounds the sum of what they bound
+pub add-under : (x y : Float) (p q : ℤ) (c : ℕ) → T (fits binary64 x) → T (finite x) → T (fits binary64 y) → T (finite y) → T (finite (nextDown (add binary64 x y)))
+    → T (leZ (unitsOf binary64 x *ℤ pos c) (p *ℤ pos (2 ^ low binary64))) → T (leZ (unitsOf binary64 y *ℤ pos c) (q *ℤ pos (2 ^ low binary64))) → T (leZ (unitsOf binary64 (nextDown (add binary64 x y)) *ℤ pos c) ((p +ℤ q) *ℤ pos (2 ^ low binary64)))
+add-under x y p q c tx fx ty fy h a b =
+    let v = add binary64 x y in
+    let r = add-rounds x y tx fx ty fy in
+    sum-low (unitsOf binary64 (nextDown v)) (unitsOf binary64 x) (unitsOf binary64 y) p q c (2 ^ low binary64) (rounds-below v v _ _ 1 r (r .is-float) (le-refl (rank binary64 v)) h) a b
+
+pub add-over : (x y : Float) (p q : ℤ) (c : ℕ) → T (fits binary64 x) → T (finite x) → T (fits binary64 y) → T (finite y) → T (finite (nextUp (add binary64 x y)))
+    → T (leZ (p *ℤ pos (2 ^ low binary64)) (unitsOf binary64 x *ℤ pos c)) → T (leZ (q *ℤ pos (2 ^ low binary64)) (unitsOf binary64 y *ℤ pos c)) → T (leZ ((p +ℤ q) *ℤ pos (2 ^ low binary64)) (unitsOf binary64 (nextUp (add binary64 x y)) *ℤ pos c))
+add-over x y p q c tx fx ty fy h a b =
+    let v = add binary64 x y in
+    let r = add-rounds x y tx fx ty fy in
+    sum-high (unitsOf binary64 (nextUp v)) (unitsOf binary64 x) (unitsOf binary64 y) p q c (2 ^ low binary64) (rounds-above v v _ _ 1 r (r .is-float) (le-refl (rank binary64 v)) h) a b
+
 pub add-holds : (x y : Scalar) → Fits x → Fits y → Encloses _+ℤ_ x y (addOf x y)
-add-holds x y tx ty fx fy fr p q k a b =
-    let l = add binary64 (x .lo) (y .lo) in
-    let h = add binary64 (x .hi) (y .hi) in
-    let rl = add-rounds (x .lo) (y .lo) (tx .0) (fx .lo-finite) (ty .0) (fy .lo-finite) in
-    let rh = add-rounds (x .hi) (y .hi) (tx .1) (fx .hi-finite) (ty .1) (fy .hi-finite) in
-    record {
-      from-lo = sum-low (unitsOf binary64 (nextDown l)) (unitsOf binary64 (x .lo)) (unitsOf binary64 (y .lo)) p q (2 ^ k) (2 ^ low binary64) (rounds-below l l _ _ 1 rl (rl .is-float) (le-refl (rank binary64 l)) (fr .lo-finite)) (a .from-lo) (b .from-lo);
-      to-hi = sum-high (unitsOf binary64 (nextUp h)) (unitsOf binary64 (x .hi)) (unitsOf binary64 (y .hi)) p q (2 ^ k) (2 ^ low binary64) (rounds-above h h _ _ 1 rh (rh .is-float) (le-refl (rank binary64 h)) (fr .hi-finite)) (a .to-hi) (b .to-hi);
-    }
+add-holds x y tx ty fx fy fr p q k a b = record {
+  from-lo = add-under (x .lo) (y .lo) p q (2 ^ k) (tx .0) (fx .lo-finite) (ty .0) (fy .lo-finite) (fr .lo-finite) (a .from-lo) (b .from-lo);
+  to-hi = add-over (x .hi) (y .hi) p q (2 ^ k) (tx .1) (fx .hi-finite) (ty .1) (fy .hi-finite) (fr .hi-finite) (a .to-hi) (b .to-hi);
+}

@@ -15,6 +15,7 @@ use Rattle.interval.specs.declared.Scalar.{Scalar}
 use Rattle.interval.specs.Enclosure.{unitsOf, Fits, Finite, HoldsQ, Holds, Encloses}
 use Rattle.interval.specs.Scalar.{addOf, subOf, negOf}
 use Rattle.interval.proofs.Integers.{P, N, P-neg, N-neg, le-of-parts, parts-of-le}
+use Rattle.interval.proofs.Infinite.{neg-finite}
 use Rattle.interval.proofs.Enclosure.Add.{scaled-le, le-scaled, add-holds}
 
 -- ---- negation
@@ -34,22 +35,22 @@ swap-le z w z' w' a b p n q m h =
     le-scaled w' z' b a
     (omega (arith, scaled-le z w a b h, ap (λ (t : ℕ). t * a) p, ap (λ (t : ℕ). t * a) n, ap (λ (t : ℕ). t * b) q, ap (λ (t : ℕ). t * b) m))
 
-pub neg-holds : (x : Scalar) (p : ℤ) (c : ℕ) → HoldsQ x p c → HoldsQ (negOf x) (negℤ p) c
-neg-holds x p c h =
-    let u = unitsOf binary64 in
-    let s = signs (x .hi) in
-    let t = signs (x .lo) in
+pub neg-under : (x : Float) (p : ℤ) (c : ℕ) → T (leZ (p *ℤ pos (2 ^ low binary64)) (unitsOf binary64 x *ℤ pos c)) → T (leZ (unitsOf binary64 (neg x) *ℤ pos c) (negℤ p *ℤ pos (2 ^ low binary64)))
+neg-under x p c =
+    let s = signs x in
     let q = parts-neg p in
-    record {
-      from-lo = swap-le p (u (x .hi)) (negℤ p) (u (neg (x .hi))) (2 ^ low binary64) c (q .0) (q .1) (s .0) (s .1) (h .to-hi);
-      to-hi = swap-le (u (x .lo)) p (u (neg (x .lo))) (negℤ p) c (2 ^ low binary64) (t .0) (t .1) (q .0) (q .1) (h .from-lo);
-    }
+    swap-le p (unitsOf binary64 x) (negℤ p) (unitsOf binary64 (neg x)) (2 ^ low binary64) c (q .0) (q .1) (s .0) (s .1)
+
+pub neg-over : (x : Float) (p : ℤ) (c : ℕ) → T (leZ (unitsOf binary64 x *ℤ pos c) (p *ℤ pos (2 ^ low binary64))) → T (leZ (negℤ p *ℤ pos (2 ^ low binary64)) (unitsOf binary64 (neg x) *ℤ pos c))
+neg-over x p c =
+    let s = signs x in
+    let q = parts-neg p in
+    swap-le (unitsOf binary64 x) p (unitsOf binary64 (neg x)) (negℤ p) c (2 ^ low binary64) (s .0) (s .1) (q .0) (q .1)
+
+pub neg-holds : (x : Scalar) (p : ℤ) (c : ℕ) → HoldsQ x p c → HoldsQ (negOf x) (negℤ p) c
+neg-holds x p c h = record { from-lo = neg-under (x .hi) p c (h .to-hi); to-hi = neg-over (x .lo) p c (h .from-lo) }
 
 -- ---- difference
-pub finite-neg : (x : Float) → T (finite x) → T (finite (neg x))
-unfolding neg
-finite-neg (fin s m e) h = tt
-
 pub sub-is : (x y : Scalar) → subOf x y ≡ addOf x (negOf y)
 unfolding sub
 sub-is x y = refl
@@ -57,5 +58,5 @@ sub-is x y = refl
 pub sub-holds : (x y : Scalar) → Fits x → Fits y → Encloses _-ℤ_ x y (subOf x y)
 sub-holds x y tx ty fx fy fr p q k a b =
     subst (λ (r : Scalar). Holds r (p -ℤ q) k) (sym (sub-is x y))
-    (add-holds x (negOf y) tx (neg-fits binary64 (y .hi) (ty .1), neg-fits binary64 (y .lo) (ty .0)) fx (record { lo-finite = finite-neg (y .hi) (fy .hi-finite); hi-finite = finite-neg (y .lo) (fy .lo-finite) })
+    (add-holds x (negOf y) tx (neg-fits binary64 (y .hi) (ty .1), neg-fits binary64 (y .lo) (ty .0)) fx (record { lo-finite = neg-finite (y .hi) (fy .hi-finite); hi-finite = neg-finite (y .lo) (fy .lo-finite) })
     (subst Finite (sub-is x y) fr) p (negℤ q) k a (neg-holds y q (2 ^ k) b))

@@ -1,4 +1,4 @@
--- The rounded root, stepped outward, is past the root: its square is on the right side of the end.
+-- The root of an interval holds the root of what it holds.
 use mathlib.Core.Path.{_≡_, refl, sym, ap, _∙_, subst}
 use mathlib.Core.Logic.{_⊎_, inl, inr}
 use Prim.Native.Nat.{ℕ, zero, suc, _+_, _-_, _*_, _/_, _^_, _≤_, _<_, zero-le}
@@ -165,7 +165,7 @@ clean a b l n k h z = omega (arith, zero-mul l, ap (λ (t : ℕ). t * k) z, zero
 pub clean' : (a b l n k : ℕ) → a + n * k ≤ b + 0 * l → a ≤ b
 clean' a b l n k h = omega (arith, zero-mul l)
 
-neg-part : (a : ℤ) → P a ≡ 0 → T (leZ a (pos 0))
+pub neg-part : (a : ℤ) → P a ≡ 0 → T (leZ a (pos 0))
 neg-part a z = le-of-parts a (pos 0) (omega arith)
 
 pos-part : (a : ℤ) → N a ≡ 0 → T (leZ (pos 0) a)
@@ -179,25 +179,33 @@ sq-ge : (a : ℤ) (m k : ℕ) → N a ≡ 0 → m ≤ P a * P a * k → T (leZ (
 sq-ge (pos a) m k z h = le→leb m (a * a * k) h
 sq-ge (negsuc a) m k z h = absurd (omega arith)
 
+-- x is at most s / c: the root of x, stepped down, is at most 0 or its square at most s / c
+pub under-root : (x : Float) (s c : ℕ) → T (fits binary64 x) → T (finite x) → T (finite (nextDown (nearestRoot (clamped x)))) → T (leZ (unitsOf binary64 x *ℤ pos c) (pos s *ℤ pos (2 ^ low binary64)))
+    → T (leZ (unitsOf binary64 (nextDown (nearestRoot (clamped x)))) (pos 0)) ⊎ T (leZ ((unitsOf binary64 (nextDown (nearestRoot (clamped x))) *ℤ unitsOf binary64 (nextDown (nearestRoot (clamped x)))) *ℤ pos c) (pos (s * (2 ^ low binary64 * 2 ^ low binary64))))
+under-root x s c t f h g =
+    let l = 2 ^ low binary64 in
+    let u = unitsOf binary64 x in
+    let r = unitsOf binary64 (nextDown (nearestRoot (clamped x))) in
+    elim (one-part r) [
+      | inl z ↦ inl (neg-part r z)
+      | inr z ↦
+          elim (low-end x t f h) [
+            | inl y ↦ inl (neg-part r y)
+            | inr y ↦ inr (sq-le r (s * (l * l)) c z (square-low (P r) (P u) s l c (y .0) (clean (P u * c) (s * l) l (N u) c (scaled-le u (pos s) c l g) (y .1))))
+          ]
+    ]
+
+-- x is at least s / c: the root of x, stepped up, is not below 0 and its square at least s / c
+pub over-root : (x : Float) (s c : ℕ) → T (fits binary64 x) → T (finite x) → T (finite (nextUp (nearestRoot x))) → T (leZ (pos s *ℤ pos (2 ^ low binary64)) (unitsOf binary64 x *ℤ pos c))
+    → T (leZ (pos 0) (unitsOf binary64 (nextUp (nearestRoot x)))) × T (leZ (pos (s * (2 ^ low binary64 * 2 ^ low binary64))) ((unitsOf binary64 (nextUp (nearestRoot x)) *ℤ unitsOf binary64 (nextUp (nearestRoot x))) *ℤ pos c))
+over-root x s c t f h g =
+    let l = 2 ^ low binary64 in
+    let u = unitsOf binary64 x in
+    let r = unitsOf binary64 (nextUp (nearestRoot x)) in
+    let w = high-end x t f h in
+    (pos-part r (w .0), sq-ge r (s * (l * l)) c (w .0) (square-high (P r) (P u) s l c (w .1) (clean' (s * l) (P u * c) l (N u) c (scaled-le (pos s) u l c g))))
+
 pub sqrt-holds : (x : Scalar) → Fits x → Finite x → Finite (outward (nearestRoot (clamped (x .lo))) (nearestRoot (x .hi))) → (p k : ℕ) → Holds x (pos p) k → HoldsRoot (outward (nearestRoot (clamped (x .lo))) (nearestRoot (x .hi))) p k
 sqrt-holds x t f g p k h =
-    let l = 2 ^ low binary64 in
-    let K = 2 ^ k in
-    let a = unitsOf binary64 (nextDown (nearestRoot (clamped (x .lo)))) in
-    let b = unitsOf binary64 (nextUp (nearestRoot (x .hi))) in
-    let xl = unitsOf binary64 (x .lo) in
-    let xh = unitsOf binary64 (x .hi) in
-    let w = high-end (x .hi) (t .1) (f .hi-finite) (g .hi-finite) in
-    record {
-      from-lo =
-          elim (one-part a) [
-            | inl z ↦ inl (neg-part a z)
-            | inr z ↦
-                elim (low-end (x .lo) (t .0) (f .lo-finite) (g .lo-finite)) [
-                  | inl y ↦ inl (neg-part a y)
-                  | inr y ↦ inr (sq-le a (p * (l * l)) K z (square-low (P a) (P xl) p l K (y .0) (clean (P xl * K) (p * l) l (N xl) K (scaled-le xl (pos p) K l (h .from-lo)) (y .1))))
-                ]
-          ];
-      not-below = pos-part b (w .0);
-      to-hi = sq-ge b (p * (l * l)) K (w .0) (square-high (P b) (P xh) p l K (w .1) (clean' (p * l) (P xh * K) l (N xh) K (scaled-le (pos p) xh l K (h .to-hi))));
-    }
+    let w = over-root (x .hi) p (2 ^ k) (t .1) (f .hi-finite) (g .hi-finite) (h .to-hi) in
+    record { from-lo = under-root (x .lo) p (2 ^ k) (t .0) (f .lo-finite) (g .lo-finite) (h .from-lo); not-below = w .0; to-hi = w .1 }

@@ -3,7 +3,6 @@ use borrow.Author.Needs.{needs}
 use Rattle.interval.proofs.Scalar.definitely_not_equal.Statement.{statement}
 use Rattle.interval.proofs.Scalar.definitely_not_equal.Tie as tie
 
-
 returns : tie.Need-returns
 returns c = cc
 

@@ -10,7 +10,7 @@ use Rattle.interval.proofs.Scalar.div.Statement.{statement}
 use Rattle.interval.proofs.Scalar.div.Tie as tie
 use Rattle.interval.proofs.Given.{yes}
 use Rattle.interval.proofs.Results.{refused-ok, ok-inj}
-use Rattle.interval.proofs.Enclosure.DivInfinite.{div-holds}
+use Rattle.interval.proofs.Enclosure.Div.{div-holds}
 
 holds-zero-requires : tie.Need-holds-zero-requires
 holds-zero-requires c κs = search needs
@@ -37,7 +37,7 @@ returns-2 c =
     let m = c .mul .ensures .value ∙ ap (mulOf x) (c .before .inverse-of .ensures) in
     record {
       value = simp z (ap ok m);
-      encloses = λ r e. subst (EnclosesQuotient x y) (sym m ∙ ok-inj e) (λ fx fy fr p q j k a b. div-holds x y (yes (g .0 .1), yes (g .1 .0 .1)) (yes (h .0 .1), yes (h .1 .0 .1)) fx fy z fr p q (2 ^ j) (2 ^ k) a b)
+      encloses = λ r e. subst (EnclosesQuotient x y) (sym m ∙ ok-inj e) (λ fx fy fr p q j k a b. div-holds x y (yes (g .0 .1), yes (g .1 .0 .1)) (yes (h .0 .1), yes (h .1 .0 .1)) fx fy z fr p q (2 ^ j) (2 ^ k) a b);
     }
 
 pub div-spec : {M : Type 1} → statement M

@@ -3,7 +3,6 @@ use borrow.Author.Needs.{needs}
 use Rattle.interval.proofs.Scalar.union_of.Statement.{statement}
 use Rattle.interval.proofs.Scalar.union_of.Tie as tie
 
-
 min-of-requires : tie.Need-min-of-requires
 min-of-requires c κs = search needs
 
