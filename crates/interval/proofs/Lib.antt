@@ -23,4 +23,5 @@ pub mod Enclosure
 pub mod OneSided
 pub mod OrderUnits
 pub mod Bounded
+pub mod Scaling
 pub mod KnownAnswers

@@ -124,6 +124,14 @@ either-max a b A p q = go (ne a a)
     go true = q
     go false = either a b A p q
 
+pub either-least : (A : Float → Type 0) (p q r s : Float) → A (inf false) → A p → A q → A r → A s → A (least p q r s)
+unfolding least
+either-least A p q r s o hp hq hr hs = either-min _ s A (either-min _ r A (either-min _ q A (either-min (inf false) p A o hp) hq) hr) hs
+
+pub either-greatest : (A : Float → Type 0) (p q r s : Float) → A (inf true) → A p → A q → A r → A s → A (greatest p q r s)
+unfolding greatest
+either-greatest A p q r s o hp hq hr hs = either-max _ s A (either-max _ r A (either-max _ q A (either-max (inf true) p A o hp) hq) hr) hs
+
 -- ---- abs, by the sign
 negative-form : (m : ℕ) (e : ℤ) → (fin false m e ≡ inf true) ⊎ ((n : ℕ) × (d : ℤ) × (fin false m e ≡ fin true (suc n) d)) → ⊥
 negative-form m e (inl q) = subst (λ (z : Float). T (Plain z)) q tt

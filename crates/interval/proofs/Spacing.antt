@@ -91,12 +91,12 @@ magnitude-gap f x t h = elim (le-or-lt (hid f) (t + 1)) [
 pub gap-of : (f : Format) (x t b : ℕ) → t < hid f → x * hid f + t ≡ b → magnitude f (b + 1) ≡ magnitude f b + 2 ^ shiftOf x
 gap-of f x t b h e = ap (λ (z : ℕ). magnitude f (z + 1)) (sym e) ∙ magnitude-gap f x t h ∙ ap (λ (z : ℕ). z + 2 ^ shiftOf x) (sym (magnitude-at f x t h) ∙ ap (magnitude f) e)
 
-pub dbl : Format → ℕ → ℕ
-dbl f b = cond (ltb b (hid f)) (2 * b) (b + hid f)
+pub doubled : Format → ℕ → ℕ
+doubled f b = cond (ltb b (hid f)) (2 * b) (b + hid f)
 
-pub magnitude-dbl : (f : Format) (b : ℕ) → magnitude f (dbl f b) ≡ 2 * magnitude f b
-unfolding dbl
-magnitude-dbl f b = go (ltb b (hid f)) (ltb→lt b (hid f)) (nltb→le b (hid f))
+pub magnitude-doubled : (f : Format) (b : ℕ) → magnitude f (doubled f b) ≡ 2 * magnitude f b
+unfolding doubled
+magnitude-doubled f b = go (ltb b (hid f)) (ltb→lt b (hid f)) (nltb→le b (hid f))
   where
     small : (t : ℕ) → t < hid f → magnitude f t ≡ t
     small t h = ap (magnitude f) (plain t (hid f)) ∙ magnitude-at f 0 t h ∙ unit t
@@ -235,16 +235,16 @@ foot-magnitude f x b e =
         plus0 n = omega arith
 
 -- the two neighbours of a pattern add up to twice it, rounded
-pub around : (b : ℕ) → at binary64 (magnitude binary64 b + magnitude binary64 (b + 1 + 1)) (2 ^ low binary64) < infBits binary64 → at binary64 (magnitude binary64 b + magnitude binary64 (b + 1 + 1)) (2 ^ low binary64) ≡ dbl binary64 (b + 1)
+pub around : (b : ℕ) → at binary64 (magnitude binary64 b + magnitude binary64 (b + 1 + 1)) (2 ^ low binary64) < infBits binary64 → at binary64 (magnitude binary64 b + magnitude binary64 (b + 1 + 1)) (2 ^ low binary64) ≡ doubled binary64 (b + 1)
 around b h = elim (magnitude-around binary64 b) [
   | inl e ↦
-      let q : magnitude binary64 b + magnitude binary64 (b + 1 + 1) ≡ magnitude binary64 (dbl binary64 (b + 1)) = e ∙ sym (magnitude-dbl binary64 (b + 1)) in
-      subst (λ (z : ℕ). at binary64 z (2 ^ low binary64) < infBits binary64 → at binary64 z (2 ^ low binary64) ≡ dbl binary64 (b + 1)) (sym q) (at-own (dbl binary64 (b + 1))) h
+      let q : magnitude binary64 b + magnitude binary64 (b + 1 + 1) ≡ magnitude binary64 (doubled binary64 (b + 1)) = e ∙ sym (magnitude-doubled binary64 (b + 1)) in
+      subst (λ (z : ℕ). at binary64 z (2 ^ low binary64) < infBits binary64 → at binary64 z (2 ^ low binary64) ≡ doubled binary64 (b + 1)) (sym q) (at-own (doubled binary64 (b + 1))) h
   | inr w ↦
       let x = w .0 in
       let a = 4 * hid binary64 + 1 in
-      subst (λ (z : ℕ). at binary64 z (2 ^ low binary64) < infBits binary64 → at binary64 z (2 ^ low binary64) ≡ dbl binary64 (b + 1)) (sym (w .2))
+      subst (λ (z : ℕ). at binary64 z (2 ^ low binary64) < infBits binary64 → at binary64 z (2 ^ low binary64) ≡ doubled binary64 (b + 1)) (sym (w .2))
       (λ (k : at binary64 (a * 2 ^ x) (2 ^ low binary64) < infBits binary64).
-      magnitude-inj binary64 (at binary64 (a * 2 ^ x) (2 ^ low binary64)) (dbl binary64 (b + 1))
-      (at-grid binary64 (a * 2 ^ x) (2 ^ low binary64) k ∙ grid-scale binary64 a (2 ^ low binary64) x (pow-pos (low binary64)) enough-digits ∙ ap (λ (z : ℕ). z * 2 ^ x) near ∙ foot-magnitude binary64 x (b + 1) (w .1) ∙ sym (magnitude-dbl binary64 (b + 1)))) h
+      magnitude-inj binary64 (at binary64 (a * 2 ^ x) (2 ^ low binary64)) (doubled binary64 (b + 1))
+      (at-grid binary64 (a * 2 ^ x) (2 ^ low binary64) k ∙ grid-scale binary64 a (2 ^ low binary64) x (pow-pos (low binary64)) enough-digits ∙ ap (λ (z : ℕ). z * 2 ^ x) near ∙ foot-magnitude binary64 x (b + 1) (w .1) ∙ sym (magnitude-doubled binary64 (b + 1)))) h
 ]

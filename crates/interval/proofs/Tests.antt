@@ -39,14 +39,18 @@ eq-zero s e =
 above-zero : (m : ℕ) (e : ℤ) → T (ltb (0 * down e) (m * up e * 1)) → 0 < m * up e
 above-zero m e h = lt-of-le-of-lt (le-of-eq (sym (zero-mul (down e)))) (subst (λ (z : ℕ). 0 * down e < z) (mul-one (m * up e)) (ltb→lt (0 * down e) (m * up e * 1) h))
 
+pub positive-finite : (x : Float) → T (finite x) → lt (fin false 0 (pos 0)) x ≡ true → (m : ℕ) × (e : ℤ) × (x ≡ fin false (suc m) e)
+unfolding lt
+positive-finite (fin true m e) f c = absurd (false≢true c)
+positive-finite (fin false zero e) f c = absurd (lt-irrefl 0 (subst (λ (z : ℕ). 0 < z) (zero-mul (up e)) (above-zero 0 e (subst T (sym c) tt))))
+positive-finite (fin false (suc m) e) f c = (m, e, refl)
+
 pub positive : (x : Float) → ne x x ≡ false → eq x (inf false) ≡ false → lt (fin false 0 (pos 0)) x ≡ true → (m : ℕ) × (e : ℤ) × (x ≡ fin false (suc m) e)
 unfolding ne eq lt
 positive nan a b c = absurd (true≢false a)
 positive (inf true) a b c = absurd (false≢true c)
 positive (inf false) a b c = absurd (true≢false b)
-positive (fin true m e) a b c = absurd (false≢true c)
-positive (fin false zero e) a b c = absurd (lt-irrefl 0 (subst (λ (z : ℕ). 0 < z) (zero-mul (up e)) (above-zero 0 e (subst T (sym c) tt))))
-positive (fin false (suc m) e) a b c = (m, e, refl)
+positive (fin s m e) a b c = positive-finite (fin s m e) tt c
 
 pub negative : (x : Float) → ne x x ≡ false → eq x (fin false 0 (pos 0)) ≡ false → lt (fin false 0 (pos 0)) x ≡ false → (x ≡ inf true) ⊎ ((m : ℕ) × (e : ℤ) × (x ≡ fin true (suc m) e))
 unfolding ne eq lt

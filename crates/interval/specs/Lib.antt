@@ -9,3 +9,4 @@ pub mod Scalar
 pub mod Enclosure
 pub mod OneSided
 pub mod Bounded
+pub mod Scaling

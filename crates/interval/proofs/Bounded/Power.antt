@@ -20,7 +20,7 @@ use Rattle.interval.proofs.Integers.{P, N}
 use Rattle.interval.proofs.Rounding.{magnitude-lt, at}
 use Rattle.interval.proofs.Rank.{rank, le-or-lt, units-P, units-N}
 use Rattle.interval.proofs.Outward.{rising, rank-up, up-fits}
-use Rattle.interval.proofs.Spacing.{at-most, dbl, magnitude-dbl, magnitude-le, magnitude-infinity}
+use Rattle.interval.proofs.Spacing.{at-most, doubled, magnitude-doubled, magnitude-le, magnitude-infinity}
 use Rattle.interval.proofs.Enclosure.Add.{Rounds}
 use Rattle.interval.proofs.Enclosure.Neg.{signs}
 use Rattle.interval.proofs.Infinite.{neg-finite}
@@ -28,7 +28,7 @@ use Rattle.interval.proofs.Infinite.{neg-finite}
 -- ---- the pattern of 2 ^ k units
 pub power : ℕ → ℕ
 power zero = 1
-power (suc k) = dbl binary64 (power k)
+power (suc k) = doubled binary64 (power k)
 
 one-magnitude : magnitude binary64 1 ≡ 1
 unfolding magnitude
@@ -37,7 +37,7 @@ one-magnitude = refl
 pub power-magnitude : (k : ℕ) → magnitude binary64 (power k) ≡ 2 ^ k
 unfolding power
 power-magnitude zero = one-magnitude
-power-magnitude (suc k) = magnitude-dbl binary64 (power k) ∙ ap (λ (z : ℕ). 2 * z) (power-magnitude k) ∙ sym (pow-succ' 2 k)
+power-magnitude (suc k) = magnitude-doubled binary64 (power k) ∙ ap (λ (z : ℕ). 2 * z) (power-magnitude k) ∙ sym (pow-succ' 2 k)
 
 reflect : (i j : ℕ) → magnitude binary64 i ≤ magnitude binary64 j → i ≤ j
 reflect i j h = elim (le-or-lt i j) [ inl k ↦ k | inr k ↦ absurd (not-le-of-lt (magnitude-lt binary64 j i k) h) ]

@@ -50,7 +50,7 @@ sum-kinds s x y (inr a) (inl d) = inl (ap (add binary64 x) d ∙ second s x (a .
 sum-kinds s x y (inr a) (inr b) = inr (a, b)
 
 -- ---- finite ends
-add-number : (x y : Float) → T (finite x) → T (finite y) → Number (add binary64 x y)
+pub add-number : (x y : Float) → T (finite x) → T (finite y) → Number (add binary64 x y)
 unfolding add sum
 add-number (fin s m e) (fin t n d) hx hy = (add-fits binary64 (fin s m e) (fin t n d), go s t (m * up e * down d) (n * up d * down e) (down e * down d) (Bool·beq s t) (ltb (m * up e * down d) (n * up d * down e)))
   where

@@ -1,0 +1,3 @@
+pub mod Quadruple
+pub mod Third
+pub mod Positive
