@@ -15,6 +15,7 @@ mod step;
 pub use step::next_down;
 pub use step::next_up;
 
+#[repr(C)]
 pub struct Scalar {
     pub lo: f64,
     pub hi: f64,

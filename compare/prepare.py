@@ -1,0 +1,80 @@
+#!/usr/bin/env python3
+"""Copies the scalars of geop-core-math to a folder, as a crate that rustc compiles alone.
+
+usage: prepare.py SOURCE OUT      SOURCE: the folder that holds core/geop-core-math; OUT: where the crate is written
+
+Each file must be the one that the comparison was written for, by its sha256. Each edit replaces an exact text an exact
+number of times. Where either does not hold, nothing is written.
+"""
+import hashlib
+import os
+import sys
+
+FILES = {
+    "geop_error.rs": "50a6e657faf78e8445e7baf546416ff7c2b4d39668b46d3535a8c7ad2074f581",
+    "scalars/mod.rs": "21d0aa4e84eeed12993c1fda145a424dee222e43bc20809296b6cadaca309128",
+    "scalars/number.rs": "968548acec5b65901c98166c5c181a45a619728cc2902259a4d18e869ecad487",
+}
+
+# (file, how often, old, new)
+EDITS = [
+    # serde is no part of std.
+    ("scalars/mod.rs", 1, "pub mod as_f64 {", "#[cfg(any())]\npub mod as_f64 {"),
+    # The comparison calls the two from outside the crate.
+    ("scalars/mod.rs", 1, "pub(crate) fn next_up(", "pub fn next_up("),
+    ("scalars/mod.rs", 1, "pub(crate) fn next_down(", "pub fn next_down("),
+    # Rust leaves open which zero f64::min and f64::max give for -0 and +0: here the first. `union` is the one place of
+    # those compared where it shows: in `mul` the chosen product is stepped, and both zeros step to the same number; in
+    # `abs` both operands of f64::max are absolute values, so no -0 is among them.
+    (
+        "scalars/mod.rs",
+        1,
+        "Self::new(self.lo.min(other.lo), self.hi.max(other.hi))",
+        "Self::new(crate::first_min(self.lo, other.lo), crate::first_max(self.hi, other.hi))",
+    ),
+]
+
+ROOT = """pub mod geop_error;
+pub mod scalars;
+
+// f64::min and f64::max, and of two equal numbers the first.
+pub(crate) fn first_min(a: f64, b: f64) -> f64 {
+    if a.is_nan() || b < a { b } else { a }
+}
+
+pub(crate) fn first_max(a: f64, b: f64) -> f64 {
+    if a.is_nan() || b > a { b } else { a }
+}
+"""
+
+
+def prepared(folder):
+    texts = {}
+    for name, expected in FILES.items():
+        path = os.path.join(folder, name)
+        data = open(path, "rb").read()
+        found = hashlib.sha256(data).hexdigest()
+        if found != expected:
+            sys.exit(f"compare: {path} is not the file that this comparison was written for: sha256 {found}, not {expected}")
+        texts[name] = data.decode("utf-8")
+    for name, times, old, new in EDITS:
+        found = texts[name].count(old)
+        if found != times:
+            sys.exit(f"compare: {name} has {old!r} {found} times, not {times}")
+        texts[name] = texts[name].replace(old, new)
+    texts["lib.rs"] = ROOT
+    return texts
+
+
+def main():
+    if len(sys.argv) != 3:
+        sys.exit(__doc__)
+    source, out = sys.argv[1:]
+    for name, text in prepared(os.path.join(source, "core/geop-core-math/src")).items():
+        path = os.path.join(out, name)
+        os.makedirs(os.path.dirname(path), exist_ok=True)
+        with open(path, "w", encoding="utf-8") as file:
+            file.write(text)
+
+
+main()

@@ -1,0 +1,50 @@
+//! The archive of `interval_c`: each public function of the interval crate.
+
+#[repr(C)]
+#[derive(Clone, Copy)]
+pub struct Scalar {
+    pub lo: f64,
+    pub hi: f64,
+}
+
+/// `number` 0 and a value, or a refusal's number.
+#[repr(C)]
+#[derive(Clone, Copy)]
+pub struct Answer {
+    pub number: u64,
+    pub value: Scalar,
+}
+
+// Each is total: it has no `requires`, and it takes and gives plain numbers.
+#[link(name = "interval_c", kind = "static")]
+unsafe extern "C" {
+    pub safe fn interval_zero() -> Scalar;
+    pub safe fn interval_one() -> Scalar;
+    pub safe fn interval_two() -> Scalar;
+    pub safe fn interval_next_up(x: f64) -> f64;
+    pub safe fn interval_next_down(x: f64) -> f64;
+    pub safe fn interval_degenerate(v: f64) -> Scalar;
+    pub safe fn interval_from_i64(v: i64) -> Scalar;
+    pub safe fn interval_from_ratio(num: i64, den: i64) -> Answer;
+    pub safe fn interval_add(x: Scalar, y: Scalar) -> Scalar;
+    pub safe fn interval_sub(x: Scalar, y: Scalar) -> Scalar;
+    pub safe fn interval_mul(x: Scalar, y: Scalar) -> Scalar;
+    pub safe fn interval_neg(x: Scalar) -> Scalar;
+    pub safe fn interval_div(x: Scalar, y: Scalar) -> Answer;
+    pub safe fn interval_abs(x: Scalar) -> Scalar;
+    pub safe fn interval_sqrt(x: Scalar) -> Answer;
+    pub safe fn interval_could_be_equal(x: Scalar, y: Scalar) -> bool;
+    pub safe fn interval_definitely_not_equal(x: Scalar, y: Scalar) -> bool;
+    pub safe fn interval_could_be_greater(x: Scalar, y: Scalar) -> bool;
+    pub safe fn interval_definitely_greater(x: Scalar, y: Scalar) -> bool;
+    pub safe fn interval_could_be_less(x: Scalar, y: Scalar) -> bool;
+    pub safe fn interval_definitely_less(x: Scalar, y: Scalar) -> bool;
+    pub safe fn interval_is_zero(x: Scalar) -> bool;
+    pub safe fn interval_is_finite(x: Scalar) -> bool;
+    pub safe fn interval_midpoint(x: Scalar) -> Scalar;
+    pub safe fn interval_is_sharp(x: Scalar) -> bool;
+    pub safe fn interval_lower(x: Scalar) -> Scalar;
+    pub safe fn interval_upper(x: Scalar) -> Scalar;
+    pub safe fn interval_sharpen(x: Scalar) -> Scalar;
+    pub safe fn interval_max(x: Scalar, y: Scalar) -> Scalar;
+}

@@ -1,0 +1,12 @@
+-- `interval_c::interval_one` meets its contract: the constant's pattern is the number's.
+use mathlib.Core.Path.{refl}
+use lib.Ieee.{ofBits}
+use Rattle.interval_c.proofs.interval_one.Statement.{statement}
+use Rattle.interval_c.proofs.interval_one.Tie as tie
+
+returns : tie.Need-returns
+unfolding ofBits
+returns c = refl
+
+pub interval-one-spec : {M : Type 1} → statement M
+interval-one-spec = tie.close (tie.spec returns)
