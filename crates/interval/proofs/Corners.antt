@@ -1,10 +1,10 @@
 -- Whole numbers: what is at most each of the four products of the ends is at most every product of what lies between.
-use mathlib.Core.Path.{_≡_, refl, sym, ap, _∙_, subst}
-use Prim.Native.Nat.{ℕ, zero, suc, _+_, _-_, _*_, _≤_, _<_, zero-le}
-use native.Mathlib.Nat.{zero-mul, mul-zero, mul-comm, mul-assoc, mul-right-comm, mul-mul-mul-comm, add-mul, mul-le-mul-right, le-of-mul-le-mul-right, zero-lt-suc}
+use mathlib.Core.Path.{_≡_, sym, ap, _∙_, subst}
+use Prim.Native.Nat.{ℕ, suc, _+_, _-_, _*_, _≤_, _<_}
+use native.Mathlib.Nat.{zero-mul, mul-zero, mul-assoc, mul-mul-mul-comm, add-mul, mul-le-mul-right, le-of-mul-le-mul-right}
 use native.Mathlib.Omega.{arith}
 use lib.Dec.{T}
-use lib.IntN.{ℤ, pos, negsuc, negℤ, _+ℤ_, _*ℤ_, *ℤ-comm}
+use lib.IntN.{ℤ, pos, negsuc, _*ℤ_, *ℤ-comm}
 use lib.Signed.{leZ}
 use Rattle.interval.proofs.Integers.{P, N, P-neg, N-neg, P-scale, N-scale, le-of-parts, parts-of-le}
 

@@ -1,14 +1,14 @@
 -- Document 01's known answers about scalars, P1 to P6, P9 and P10, in one table: each is computed from the definitions.
 use mathlib.Core.Path.{_≡_, refl}
 use Prim.Native.Nat.{ℕ}
-use mathlib.Core.Bool.{Bool, true, false}
-use lib.IntN.{pos, negsuc}
-use lib.Ieee.{Float, fin, inf, binary64, ofBits, toBits, neg, lt, le, eq, div, ofInt, round}
+use mathlib.Core.Bool.{true, false}
+use lib.IntN.{pos}
+use lib.Ieee.{inf, binary64, ofBits, toBits, neg, lt, le, eq, div, ofInt, round}
 use Rattle.interval.specs.declared.Scalar.{Scalar}
 use Rattle.interval.specs.Step.{nextUp, nextDown}
 use Rattle.interval.specs.Root.{nearestRoot}
-use Rattle.interval.specs.Result.{Res, ok, refused}
-use Rattle.interval.specs.Scalar.{sqrtOf, clamped, fromRatio, couldBeEqual, definitelyLess, definitelyGreater, definitelyNotEqual}
+use Rattle.interval.specs.Result.{ok, refused}
+use Rattle.interval.specs.Scalar.{sqrtOf, clamped, fromRatio, couldBeEqual, definitelyLess, definitelyGreater}
 
 -- the scalar with the ends of these bits
 abbrev bits : ℕ → ℕ → Scalar

@@ -2,19 +2,19 @@
 use mathlib.Core.Path.{_≡_, refl, sym, ap, _∙_, subst}
 use mathlib.Core.Logic.{_⊎_, inl, inr}
 use Prim.Native.Nat.{ℕ, zero, suc, _+_, _-_, _*_, _/_, _%_, _^_, _≤_, _<_}
-use native.Mathlib.Nat.{zero-mul, mul-one, mul-pos, zero-lt-suc, lt-irrefl, le-of-lt, lt-of-le-of-lt, mod-eq-of-lt, div-eq-of-lt}
+use native.Mathlib.Nat.{zero-mul, mul-one, mul-pos, zero-lt-suc, lt-irrefl, mod-eq-of-lt, div-eq-of-lt}
 use native.Mathlib.Omega.{arith}
-use mathlib.Core.Bool.{Bool, true, false, not, cond, _||_, _&&_, Bool·beq, true≢false, false≢true}
+use mathlib.Core.Bool.{Bool, true, false, not, cond, _||_, Bool·beq, true≢false, false≢true}
 use lib.Arith.{lt→nleb, le→nltb}
 use lib.IntN.{ℤ, pos}
-use lib.Dec.{T, leb, ltb, eqb, le→leb, lit≤, eqb→eq, nltb→le}
-use lib.Ieee.{Float, nan, inf, fin, Format, binary64, up, down, low, prec, size, hid, ones, top, odd, ofFields, ofBits, toBits, neg, isNan, nanBits, lt, le, eq, fits}
-use lib.Ieee.Fits.{and-l, neg-fits, up-pos, down-pos}
+use lib.Dec.{T, leb, ltb, eqb, le→leb, eqb→eq, nltb→le}
+use lib.Ieee.{Float, nan, inf, fin, binary64, up, down, low, prec, size, hid, ones, top, odd, ofFields, ofBits, toBits, neg, isNan, nanBits, lt, le, eq, fits}
+use lib.Ieee.Fits.{and-l, up-pos, down-pos}
 use lib.Ieee.Bits.{nanBits-above, is-true, is-false}
 use Rattle.interval.specs.Pattern.{infBits}
 use Rattle.interval.specs.Step.{nextUp}
-use Rattle.interval.proofs.Tests.{zero-eq, eq-zero, zero-test, In, step-in, step-out}
-use Rattle.interval.proofs.Patterns.{bits-under, bits-infinity, bits-pos, no-nan}
+use Rattle.interval.proofs.Tests.{eq-zero, step-in, step-out}
+use Rattle.interval.proofs.Patterns.{no-nan}
 
 shift : (t a b : ℕ) → t + a + b ≡ t + (0 + a + b)
 shift t a b = omega arith

@@ -1,19 +1,18 @@
 -- The ranks are in the order of `lt`. So the least of several floats has the least rank, and units of finite floats are in the order of their ranks.
 use mathlib.Core.Path.{_≡_, refl, sym, ap, _∙_, subst}
-use mathlib.Core.Logic.{_⊎_, inl, inr}
-use Prim.Native.Nat.{ℕ, zero, suc, _+_, _-_, _*_, _/_, _%_, _^_, _≤_, _<_, zero-le}
-use native.Mathlib.Nat.{eq-zero-or-pos, eq-or-lt-of-le, le-trans, le-refl, le-of-eq, le-of-lt, lt-of-lt-of-le, lt-irrefl, not-le-of-lt, zero-mul, mul-pos, mul-assoc, mul-comm, mul-right-comm, mul-le-mul-right, le-of-mul-le-mul-right, mul-lt-mul-of-pos-right, lt-of-mul-lt-mul-right}
+use mathlib.Core.Logic.{inl, inr}
+use Prim.Native.Nat.{ℕ, _+_, _-_, _*_, _^_, _≤_, _<_, zero-le}
+use native.Mathlib.Nat.{eq-zero-or-pos, le-trans, le-refl, le-of-eq, le-of-lt, lt-irrefl, not-le-of-lt, zero-mul, mul-pos, mul-assoc, mul-comm, mul-right-comm, mul-le-mul-right, le-of-mul-le-mul-right}
 use native.Mathlib.Omega.{arith}
-use mathlib.Core.Bool.{Bool, true, false, not, _&&_, _||_, cond}
-use lib.Dec.{T, ltb, ltb→lt, nltb→le, lit≤}
-use lib.Pow.{pow-pos}
-use lib.IntN.{ℤ, pos, negsuc}
-use lib.Ieee.{Float, nan, inf, fin, Format, binary64, low, up, down, below, lt, fits, toBits, isNan}
+use mathlib.Core.Bool.{Bool, true, false, not, cond}
+use lib.Dec.{T, ltb→lt, nltb→le}
+use lib.IntN.{ℤ}
+use lib.Ieee.{Float, nan, inf, fin, binary64, low, up, down, below, lt, fits, toBits, isNan}
 use lib.Ieee.Fits.{down-pos, inf-fits}
 use lib.Ieee.Scale.{finite}
 use Rattle.interval.specs.Float.{lesser, greater, fmin, fmax, least, greatest}
 use Rattle.interval.specs.Pattern.{infBits, magnitude}
-use Rattle.interval.proofs.Patterns.{magnitude-zero, bits-val, bits-under}
+use Rattle.interval.proofs.Patterns.{magnitude-zero, bits-val}
 use Rattle.interval.proofs.Rounding.{magnitude-lt, magnitude-le}
 use lib.Signed.{leZ}
 use Rattle.interval.specs.Enclosure.{unitsOf}
@@ -21,7 +20,6 @@ use Rattle.interval.proofs.Integers.{le-of-parts}
 use Rattle.interval.proofs.MinMax.{lt-first, lt-second, fmin-number, fmax-number, least-is, greatest-is}
 use Rattle.interval.proofs.Rank.{rank, le-or-lt, units-P, units-N}
 use Rattle.interval.proofs.Outward.{positive-fits, rank-le}
-use Rattle.interval.proofs.Enclosure.Add.{plain-fits}
 
 magnitude-none : (b c : ℕ) → 0 < c → magnitude binary64 b * c ≡ 0 → b ≡ 0
 magnitude-none b c C h = elim (eq-zero-or-pos b) [

@@ -1,14 +1,14 @@
 -- A step is one rank. So a rounded fraction, stepped outward, is past the fraction.
 use mathlib.Core.Path.{_≡_, refl, sym, ap, _∙_, subst}
-use mathlib.Core.Logic.{_⊎_, inl, inr}
-use Prim.Native.Nat.{ℕ, zero, suc, _+_, _-_, _*_, _/_, _%_, _^_, _≤_, _<_, zero-le}
-use native.Mathlib.Nat.{eq-or-lt-of-le, le-trans, le-of-eq, le-of-lt, lt-of-lt-of-le, lt-of-le-of-lt, lt-irrefl, mul-one, mul-comm, zero-mul, zero-add, zero-lt-suc, mul-pos, eq-zero-or-pos, suc-mul}
+use mathlib.Core.Logic.{inl, inr}
+use Prim.Native.Nat.{ℕ, zero, suc, _+_, _-_, _*_, _^_, _≤_, _<_, zero-le}
+use native.Mathlib.Nat.{eq-or-lt-of-le, lt-irrefl, mul-comm, zero-mul, zero-lt-suc, eq-zero-or-pos, suc-mul}
 use native.Mathlib.Omega.{arith}
-use mathlib.Core.Bool.{Bool, true, false, not, _&&_, _||_, cond, true≢false}
-use lib.Dec.{T, lit<, lit≤}
+use mathlib.Core.Bool.{Bool, true, false, not, true≢false}
+use lib.Dec.{T, lit≤}
 use lib.Pow.{pow-pos}
-use lib.IntN.{ℤ, pos, negsuc, negℤ}
-use lib.Ieee.{Float, nan, inf, fin, Format, binary64, low, prec, up, down, neg, fits, toBits, ofBits, isNan, hid, ones, top}
+use lib.IntN.{ℤ}
+use lib.Ieee.{Float, nan, inf, fin, Format, binary64, low, prec, up, down, neg, fits, toBits, ofBits, isNan, hid, ones}
 use lib.Ieee.Bits.{ofBits-toBits, toBits-ofBits, ofBits-fits, nanBits-is}
 use lib.Ieee.Exact.{HasValue}
 use lib.Ieee.Fits.{neg-fits, inf-fits, nan-fits}
@@ -19,7 +19,7 @@ use Rattle.interval.specs.Step.{nextUp, nextDown}
 use Rattle.interval.proofs.Integers.{P, N}
 use Rattle.interval.proofs.Patterns.{magnitude-zero, bits-under, bits-infinity, bits-val, bits-pos, ofBits-val, no-nan}
 use Rattle.interval.proofs.Rounding.{magnitude-lt, NonNegative}
-use Rattle.interval.proofs.Rank.{side, rank, VP, VN, units-P, units-N, rank-in, nonneg-rank, zero-value, rankOf, under-ρ, over-ρ}
+use Rattle.interval.proofs.Rank.{rank, units-P, units-N, rank-in, nonneg-rank, zero-value, rankOf, under-ρ, over-ρ}
 
 -- ---- the value of a pattern that is not negative, and its rank
 value-nonneg : (v : Float) (a l : ℕ) → HasValue v false a l → NonNegative v

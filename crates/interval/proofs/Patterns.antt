@@ -1,18 +1,17 @@
 -- The bit patterns below an infinity's stand for whole numbers of the format's smallest value (`magnitude`), which grow with the pattern; rounding keeps them.
 use Rattle.interval.specs.Pattern.{infBits, significand, shiftOf, fieldsMagnitude, magnitude}
 use mathlib.Core.Path.{_≡_, refl, sym, ap, _∙_, subst}
-use mathlib.Core.Logic.{_⊎_, inl, inr}
-use Prim.Native.Nat.{ℕ, zero, suc, _+_, _-_, _*_, _/_, _%_, _^_, _≤_, _<_, zero-le}
-use native.Mathlib.Nat.{eq-zero-or-pos, mul-pos, zero-mul, le-trans, le-of-eq, lt-of-lt-of-le, lt-of-le-of-lt, lt-irrefl, mul-one, one-mul, mul-comm, mul-assoc, mul-right-comm, add-mul, mul-lt-mul-of-pos-right, mul-le-mul-right, mod-lt, mod-eq-of-lt, div-lt-iff-lt-mul, div-add-mod', suc-mul, add-assoc, zero-add, zero-lt-suc, le-of-suc-le-suc, pow-succ'}
-use native.Mathlib.Numerals.{add-one}
+use mathlib.Core.Logic.{inl, inr}
+use Prim.Native.Nat.{ℕ, zero, suc, _+_, _-_, _*_, _/_, _%_, _^_, _≤_, _<_}
+use native.Mathlib.Nat.{eq-zero-or-pos, mul-pos, zero-mul, le-of-eq, lt-of-lt-of-le, lt-irrefl, mul-comm, mul-assoc, mul-lt-mul-of-pos-right, mod-lt, mod-eq-of-lt, div-lt-iff-lt-mul, div-add-mod', suc-mul, zero-add, zero-lt-suc, le-of-suc-le-suc, pow-succ'}
 use native.Mathlib.Omega.{arith}
 use mathlib.Core.Bool.{Bool, true, false, not, cond, true≢false}
-use lib.Dec.{T, leb, ltb, eqb, lt→ltb, ltb→lt, leb→le, eqb→eq, not-T, T-not, nltb→le, nleb→lt, lit<, lit≤}
+use lib.Dec.{T, leb, ltb, eqb, ltb→lt, eqb→eq, not-T, nltb→le, nleb→lt, lit<}
 use lib.Arith.{lt-of-le-ne, digits-div, digits-mod, lt→nleb, le→nltb}
-use lib.Pow.{pow-add, pow-pos, pow-mono, shl-lt}
-use lib.IntN.{ℤ, pos, negsuc}
-use lib.Ieee.{Float, nan, inf, fin, Format, binary32, binary64, prec, emax, low, up, down, odd, round, fits, isNan, hid, ones, top, ofFields, ofBits, nanBits, toBits}
-use lib.Ieee.Bits.{is-true, is-false, cond-no, ofBits-toBits, toBits-lt, nanBits-above}
+use lib.Pow.{pow-pos, pow-mono, shl-lt}
+use lib.IntN.{ℤ}
+use lib.Ieee.{Float, nan, inf, fin, Format, binary32, binary64, prec, emax, low, down, odd, round, fits, hid, ones, top, ofFields, ofBits, nanBits, toBits}
+use lib.Ieee.Bits.{is-false, cond-no, ofBits-toBits, nanBits-above}
 use lib.Ieee.Exact.{HasValue, odd-sign, round-exact}
 use lib.Ieee.Fits.{eq→eqb, up-pos, two, two-le-pos}
 use lib.Ieee.Scale.{finite}

@@ -1,24 +1,24 @@
 -- The rank of a float among all floats of its format, as one natural number: the zeros have rank `infBits`, a step up adds 1, and the order of ranks is the order of numbers.
 use mathlib.Core.Path.{_≡_, refl, sym, ap, _∙_, subst}
-use mathlib.Core.Logic.{_⊎_, inl, inr}
-use Prim.Native.Nat.{ℕ, zero, suc, _+_, _-_, _*_, _/_, _%_, _^_, _≤_, _<_, zero-le}
-use native.Mathlib.Nat.{le-trans, le-of-eq, le-of-lt, lt-of-lt-of-le, lt-of-le-of-lt, lt-irrefl, mul-one, mul-comm, zero-mul, zero-add, zero-lt-suc, mul-pos, add-mul, mul-div-cancel, sub-self, eq-zero-or-pos, mul-le-mul-right}
+use mathlib.Core.Logic.{inl, inr}
+use Prim.Native.Nat.{ℕ, zero, suc, _+_, _-_, _*_, _/_, _^_, _≤_, _<_}
+use native.Mathlib.Nat.{le-of-lt, lt-irrefl, zero-mul, mul-pos, add-mul, mul-div-cancel, eq-zero-or-pos, mul-le-mul-right}
 use native.Mathlib.Omega.{arith}
-use mathlib.Core.Bool.{Bool, true, false, not, _&&_, _||_, cond, true≢false}
-use lib.Dec.{T, leb, ltb, eqb, lt→ltb, ltb→lt, leb→le, nleb→lt}
+use mathlib.Core.Bool.{Bool, true, false, cond}
+use lib.Dec.{T, ltb}
 use lib.Pow.{pow-pos}
-use lib.IntN.{ℤ, pos, negsuc, negℤ}
-use lib.Ieee.{Float, nan, inf, fin, Format, binary64, prec, emax, low, up, down, odd, units, round, neg, fits, toBits, ofBits}
+use lib.IntN.{ℤ}
+use lib.Ieee.{Float, nan, inf, fin, Format, prec, emax, low, up, down, odd, units, round, neg, fits, toBits}
 use lib.Ieee.Exact.{HasValue, round-exact}
 use lib.Ieee.Fits.{round-fits, round-is, down-pos, neg-fits}
 use lib.Ieee.Order.{kept, drop}
 use lib.Ieee.Scale.{finite}
 use lib.Ieee.Positive.{first-pos}
-use Rattle.interval.specs.Enclosure.{signed, unitsOf}
+use Rattle.interval.specs.Enclosure.{unitsOf}
 use Rattle.interval.specs.Pattern.{infBits, magnitude}
 use Rattle.interval.proofs.Integers.{P, N, P-neg, N-neg}
 use Rattle.interval.proofs.Patterns.{magnitude-zero, bits-under, bits-infinity, bits-val}
-use Rattle.interval.proofs.Rounding.{magnitude-lt, NonNegative, round-nonneg, at, at-le, below-at, above-at, placed}
+use Rattle.interval.proofs.Rounding.{magnitude-lt, NonNegative, round-nonneg, at, below-at, above-at, placed}
 pub use Rattle.interval.proofs.Rounding.{le-or-lt}
 
 -- on either side of the zeros

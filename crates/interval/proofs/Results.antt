@@ -2,7 +2,7 @@
 use mathlib.Core.Path.{_≡_}
 use Prim.Native.Nat.{ℕ}
 use native.Mathlib.Omega.{arith}
-use Rattle.interval.specs.Result.{Res, ok, refused}
+use Rattle.interval.specs.Result.{ok, refused}
 
 pub refused-ok : {A : Type 0} {n : ℕ} {x : A} → refused n ≡ ok x → ⊥
 refused-ok {A} {n} {x} e = let z : _≡_ {A = ℕ} 0 1 = cc in omega arith

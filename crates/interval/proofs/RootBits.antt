@@ -1,11 +1,11 @@
 -- The steps of `root_bits` keep the number c * 2 ^ e, and the digits and the exponent put together are the pattern of the rounded root.
 use mathlib.Core.Path.{_≡_, refl, sym, ap, _∙_, subst}
-use Prim.Native.Nat.{ℕ, zero, suc, _+_, _-_, _*_, _/_, _%_, _^_, _≤_, _<_, zero-le}
-use native.Mathlib.Nat.{le-trans, le-of-eq, lt-of-lt-of-le, lt-of-le-of-lt, mul-one, one-mul, mul-assoc, mul-comm, mul-right-comm, mul-le-mul-right, pow-succ', mul-pos, eq-of-mul-eq-mul-right}
+use Prim.Native.Nat.{ℕ, zero, suc, _+_, _-_, _*_, _/_, _%_, _^_, _≤_, _<_}
+use native.Mathlib.Nat.{le-trans, le-of-eq, mul-one, mul-assoc, pow-succ'}
 use native.Mathlib.Omega.{arith}
-use lib.Pow.{pow-pos, pow-add}
-use lib.Ieee.{Float, Format, binary64, low, ofBits, hid}
-use Rattle.interval.specs.Pattern.{infBits, significand, shiftOf, fieldsMagnitude, magnitude}
+use lib.Pow.{pow-add}
+use lib.Ieee.{binary64, low, ofBits}
+use Rattle.interval.specs.Pattern.{infBits, fieldsMagnitude, magnitude}
 use Rattle.interval.specs.Root.{IsRoot, roundedRoot}
 use Rattle.interval.specs.RootSteps.{Decomposed, Normalizable, Normalized, EvenExponent}
 use Rattle.interval.proofs.Patterns.{magnitude-zero}

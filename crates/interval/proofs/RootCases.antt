@@ -1,11 +1,11 @@
 -- What the tests of `nearest_root` leave of x.
-use mathlib.Core.Path.{_≡_, refl, sym, ap, _∙_, subst}
+use mathlib.Core.Path.{_≡_, refl, sym, ap, subst}
 use mathlib.Core.Logic.{_⊎_, inl, inr}
-use Prim.Native.Nat.{ℕ, zero, suc, _+_, _*_, _/_, _^_, _≤_, _<_}
-use mathlib.Core.Bool.{Bool, true, false, false≢true}
+use Prim.Native.Nat.{ℕ, suc, _*_, _^_, _<_}
+use mathlib.Core.Bool.{true, false, false≢true}
 use lib.Dec.{T}
 use lib.IntN.{ℤ, pos}
-use lib.Ieee.{Float, nan, inf, fin, binary64, low, up, down, ne, eq, fits, toBits, ofBits}
+use lib.Ieee.{Float, nan, inf, fin, binary64, low, ne, eq, fits, toBits}
 use lib.Ieee.Compare.{differs-from-itself}
 use Rattle.interval.specs.Pattern.{infBits, magnitude}
 use Rattle.interval.specs.Root.{roundedRoot, nearestRoot}

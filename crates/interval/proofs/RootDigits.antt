@@ -2,17 +2,17 @@
 use mathlib.Core.Path.{_≡_, refl, sym, ap, _∙_, subst}
 use mathlib.Core.Logic.{_⊎_, inl, inr}
 use Prim.Native.Nat.{ℕ, zero, suc, _+_, _-_, _*_, _/_, _%_, _^_, _≤_, _<_, zero-le, compare, Ordering, Ordering·lt, Ordering·eq, Ordering·gt}
-use native.Mathlib.Nat.{eq-or-lt-of-le, suc-mul, add-zero, eq-of-mul-eq-mul-right, le-trans, le-refl, le-of-eq, le-of-lt, lt-of-lt-of-le, lt-of-le-of-lt, lt-of-not-le, not-le-of-lt, lt-irrefl, mul-one, mul-comm, mul-assoc, mul-left-comm, mul-right-comm, add-mul, mul-add, mul-le-mul, mul-le-mul-right, mul-lt-mul-of-pos-right, le-of-mul-le-mul-right, lt-of-mul-lt-mul-right, mul-pos, mul-mul-mul-comm, zero-mul, pow-succ', div-add-mod', div-lt-iff-lt-mul, le-div-iff-mul-le, mod-lt, div-eq-of-lt-le, zero-lt-suc, pow-le-pow-left}
+use native.Mathlib.Nat.{eq-or-lt-of-le, suc-mul, add-zero, eq-of-mul-eq-mul-right, le-trans, le-of-eq, lt-of-lt-of-le, lt-of-le-of-lt, lt-of-not-le, not-le-of-lt, lt-irrefl, mul-comm, mul-assoc, mul-left-comm, add-mul, mul-le-mul, mul-le-mul-right, mul-lt-mul-of-pos-right, le-of-mul-le-mul-right, mul-pos, mul-mul-mul-comm, pow-succ', div-add-mod', div-eq-of-lt-le, zero-lt-suc, pow-le-pow-left}
 use native.Mathlib.Omega.{arith}
 use mathlib.Core.Bool.{Bool, true, false, not, cond, true≢false}
 use lib.Arith.{lt-of-le-ne}
 use lib.Dec.{eqb, eqb→eq, eqb-refl, isLe, isEq, T, leb, ltb, leb→le, nleb→lt, ltb→lt, nltb→le}
 use lib.Pow.{pow-add, pow-pos, pow-mono}
-use lib.Ieee.{Float, fin, up, down, hid, Format, binary64, prec, emax, low, size, nearest, units, round, toBits, ofBits, fits}
-use lib.Ieee.Digits.{size-lt, size-le, size-reaches}
+use lib.Ieee.{Float, fin, down, hid, Format, prec, emax, low, size, nearest, units, toBits, ofBits, fits}
+use lib.Ieee.Digits.{size-lt, size-le}
 use lib.Ieee.Nearest.{closest, closest-same, div-same}
 use native.Mathlib.Numerals.{add-one}
-use lib.Ieee.Order.{drop, kept}
+use lib.Ieee.Order.{drop}
 use lib.Ieee.Fits.{round-is, round-fits, down-pos, two, two-le-pos}
 use lib.Ieee.Exact.{HasValue, units-val}
 use lib.Ieee.Bits.{ofBits-toBits}

@@ -1,10 +1,9 @@
 -- Long division for roots: from s with s * s + r, 27 digits more by one division by 2 s; one correction suffices.
-use mathlib.Core.Path.{_≡_, refl, sym, ap, _∙_, subst}
-use mathlib.Core.Logic.{_⊎_, inl, inr}
+use mathlib.Core.Path.{_≡_, sym, ap, subst}
 use Prim.Native.Nat.{ℕ, zero, suc, _+_, _-_, _*_, _/_, _%_, _^_, _≤_, _<_}
-use native.Mathlib.Nat.{not-le-of-lt, mul-comm, mul-assoc, mul-right-comm, add-mul, mul-add, mul-le-mul, mul-mul-mul-comm, div-add-mod', div-lt-iff-lt-mul, mod-lt, lt-irrefl, eq-zero-or-pos, le-of-lt, lt-of-not-le, mod-eq-of-lt}
+use native.Mathlib.Nat.{mul-comm, mul-right-comm, add-mul, mul-add, mul-le-mul, mul-mul-mul-comm, div-add-mod', div-lt-iff-lt-mul, mod-lt, lt-irrefl, le-of-lt, lt-of-not-le, mod-eq-of-lt}
 use native.Mathlib.Omega.{arith}
-use mathlib.Core.Bool.{Bool, true, false, not, false≢true}
+use mathlib.Core.Bool.{Bool, true, not, false≢true}
 use lib.Dec.{T, ltb}
 use lib.Arith.{le→nltb}
 use lib.Ieee.{Float, nan, inf, fin, eq, isNan, nanBits, binary64}

@@ -1,17 +1,16 @@
 -- Rounding against the patterns, with no argument about half units: rounding is monotone and keeps what a pattern stands for, so a / c lies on the right side of every pattern that is not the rounded value's own.
 use mathlib.Core.Path.{_≡_, refl, sym, ap, _∙_, subst}
 use mathlib.Core.Logic.{_⊎_, inl, inr}
-use Prim.Native.Nat.{ℕ, zero, suc, _+_, _-_, _*_, _/_, _%_, _^_, _≤_, _<_, zero-le}
-use native.Mathlib.Nat.{eq-or-lt-of-le, le-trans, le-of-eq, le-of-lt, lt-of-lt-of-le, lt-of-le-of-lt, lt-of-not-le, not-le-of-lt, lt-irrefl, lt-trans, le-refl, le-of-mul-le-mul-right, add-zero, mul-comm, zero-mul, zero-add, zero-lt-suc, mul-pos}
-use native.Mathlib.Numerals.{add-one}
+use Prim.Native.Nat.{ℕ, zero, suc, _+_, _-_, _*_, _^_, _≤_, _<_}
+use native.Mathlib.Nat.{eq-or-lt-of-le, le-of-eq, le-of-lt, lt-of-lt-of-le, lt-of-le-of-lt, not-le-of-lt, lt-irrefl, lt-trans, le-of-mul-le-mul-right}
 use native.Mathlib.Omega.{arith}
 use mathlib.Core.Bool.{Bool, true, false, not, _&&_, _||_, cond, true≢false}
-use lib.Dec.{T, leb, ltb, eqb, lt→ltb, ltb→lt, leb→le, eqb→eq, nltb→le, nleb→lt}
+use lib.Dec.{T, leb, ltb, eqb, ltb→lt, leb→le, eqb→eq, nleb→lt}
 use lib.Pow.{pow-pos}
-use lib.IntN.{ℤ, pos, negsuc}
-use lib.Ieee.{Float, nan, inf, fin, Format, prec, emax, low, up, down, odd, units, round, le, fits, toBits, ofBits}
-use lib.Ieee.Exact.{HasValue, odd-sign}
-use lib.Ieee.Fits.{round-fits, round-is, down-pos, and-l}
+use lib.IntN.{ℤ, pos}
+use lib.Ieee.{Float, nan, inf, fin, Format, prec, emax, low, up, down, odd, units, round, le, fits, toBits}
+use lib.Ieee.Exact.{HasValue}
+use lib.Ieee.Fits.{round-fits, round-is, down-pos}
 use lib.Ieee.Order.{round-mono, transfer, kept, drop}
 use Rattle.interval.specs.Pattern.{infBits, magnitude}
 use Rattle.interval.proofs.Patterns.{magnitude-step, magnitude-exact, bits-under, bits-infinity, bits-val}

@@ -5,10 +5,10 @@ use Prim.Native.Nat.{ℕ, zero, suc, _+_, _-_, _*_, _≤_, _<_}
 use native.Mathlib.Nat.{le-of-lt, lt-irrefl, zero-mul, mul-one, mul-pos, zero-lt-suc, lt-of-le-of-lt, le-of-eq}
 use native.Mathlib.Omega.{arith}
 use mathlib.Core.Bool.{Bool, true, false, not, _&&_, _||_, Bool·beq, true≢false, false≢true}
-use lib.IntN.{ℤ, pos, negsuc}
-use lib.Dec.{T, ltb, eqb, ltb→lt, lt→ltb, nltb→le, eqb-refl, eqb→eq, lit≤}
+use lib.IntN.{ℤ, pos}
+use lib.Dec.{T, ltb, eqb, ltb→lt, nltb→le, eqb→eq, lit≤}
 use lib.Ieee.{Float, nan, inf, fin, up, down, ne, eq, lt, level, isNan, neg, fits, toBits, ofBits, binary64}
-use lib.Ieee.Fits.{and-l, neg-fits, up-pos, down-pos}
+use lib.Ieee.Fits.{and-l, neg-fits, up-pos}
 use lib.Ieee.Compare.{differs-from-itself}
 use lib.Ieee.Scale.{finite}
 use Rattle.interval.specs.Pattern.{infBits}

@@ -2,9 +2,8 @@
 -- n * 2 ^ 1074 in units. Its whole part s is found exactly. Every float of that size, and every midpoint of two, is a whole number of units:
 -- so rounding s, or s + 1/2 where s is not the whole root, rounds the root itself. The theorem `NearestRoot` says so without reference to s.
 use Prim.Native.Nat.{ℕ, zero, suc, _+_, _*_, _/_, _^_, _≤_, _<_}
-use mathlib.Core.Bool.{Bool, true, false, cond}
+use mathlib.Core.Bool.{true, false, cond}
 use lib.Dec.{leb, ltb}
-use lib.IntN.{ℤ}
 use lib.Ieee.{Float, nan, inf, fin, Format, binary64, low, up, down, size, round}
 
 -- r is the whole part of the root of n

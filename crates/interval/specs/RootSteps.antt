@@ -1,5 +1,5 @@
 -- What the steps of `root_bits` promise: a number of units, times 2 ^ 52, as c * 2 ^ e.
-use Prim.Native.Nat.{ℕ, _+_, _*_, _%_, _^_, _≤_, _<_}
+use Prim.Native.Nat.{ℕ, _*_, _%_, _^_, _≤_, _<_}
 use mathlib.Core.Path.{_≡_}
 
 -- c * 2 ^ e is the n units of a float that is not zero, times 2 ^ 52

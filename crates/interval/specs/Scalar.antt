@@ -2,7 +2,7 @@
 use Prim.Native.Nat.{zero, suc}
 use mathlib.Core.Bool.{Bool, true, false, not, cond, _&&_, _||_}
 use lib.IntN.{ℤ, pos, negsuc}
-use lib.Ieee.{Float, fin, inf, binary64, add, sub, mul, div, neg, lt, le, eq, ofInt}
+use lib.Ieee.{Float, fin, binary64, add, sub, mul, div, neg, lt, le, eq, ofInt}
 use lib.Ieee.Scale.{finite}
 use Rattle.interval.specs.Step.{nextUp, nextDown}
 use Rattle.interval.specs.Float.{greater, fmin, fmax, fabs, least, greatest}

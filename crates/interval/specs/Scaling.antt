@@ -1,7 +1,7 @@
 -- Four times a scalar, and a third of it, sharpened: what a run does to its damping (document 01: mu = 4 mu sharpened, mu / 3 sharpened).
 use Prim.Native.Nat.{ℕ, zero, suc}
-use mathlib.Core.Bool.{Bool, true, false, _&&_}
-use lib.IntN.{ℤ, pos}
+use mathlib.Core.Bool.{Bool, false, _&&_}
+use lib.IntN.{pos}
 use lib.Ieee.{Float, fin, lt, le}
 use lib.Ieee.Scale.{finite}
 use Rattle.interval.specs.declared.Scalar.{Scalar}

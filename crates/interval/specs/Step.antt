@@ -1,7 +1,6 @@
 -- The float next above and next below (document 01, "Interval ends"), by one bit pattern. From either zero they go to the smallest subnormal.
-use Prim.Native.Nat.{ℕ, zero, suc, _+_, _-_}
-use mathlib.Core.Bool.{Bool, true, false}
-use lib.IntN.{ℤ}
+use Prim.Native.Nat.{zero, suc, _+_, _-_}
+use mathlib.Core.Bool.{true, false}
 use lib.Ieee.{Float, nan, inf, fin, binary64, neg, toBits, ofBits}
 
 -- of a positive number: one pattern further from zero, and one nearer

@@ -1,26 +1,24 @@
 -- The sum of two intervals holds the sum of what each holds.
-use mathlib.Core.Path.{_≡_, refl, sym, ap, _∙_, subst}
-use mathlib.Core.Logic.{_⊎_, inl, inr}
-use Prim.Native.Nat.{ℕ, zero, suc, _+_, _-_, _*_, _/_, _%_, _^_, _≤_, _<_, zero-le}
-use native.Mathlib.Nat.{mul-one, le-refl, le-trans, le-of-eq, le-of-lt, lt-of-lt-of-le, zero-mul, mul-pos, mul-assoc, mul-comm, mul-right-comm, add-mul, mul-le-mul-right, le-of-mul-le-mul-right}
+use mathlib.Core.Path.{_≡_, sym, ap, _∙_}
+use Prim.Native.Nat.{ℕ, _+_, _-_, _*_, _/_, _^_, _≤_, _<_}
+use native.Mathlib.Nat.{mul-one, le-refl, le-trans, le-of-eq, zero-mul, mul-pos, mul-assoc, mul-comm, mul-right-comm, add-mul, mul-le-mul-right, le-of-mul-le-mul-right}
 use native.Mathlib.Omega.{arith}
-use mathlib.Core.Bool.{Bool, true, false, not, _&&_, _||_, cond}
+use mathlib.Core.Bool.{Bool, true, false, not, _&&_, cond}
 use lib.Dec.{T, ltb, ltb→lt, nltb→le}
-use lib.Pow.{pow-pos}
-use lib.IntN.{ℤ, pos, negsuc, negℤ, _+ℤ_, _*ℤ_}
+use lib.IntN.{ℤ, pos, _+ℤ_, _*ℤ_}
 use lib.Signed.{leZ}
-use lib.Ieee.{Float, nan, inf, fin, Format, binary64, low, up, down, round, sum, add, neg, fits, toBits}
+use lib.Ieee.{Float, fin, Format, binary64, low, up, down, round, sum, add, fits, toBits}
 use lib.Ieee.Fits.{down-pos, add-fits}
 use lib.Ieee.Scale.{finite}
 use Rattle.interval.specs.declared.Scalar.{Scalar}
-use Rattle.interval.specs.Enclosure.{signed, unitsOf, Fits, Finite, Holds, Encloses}
+use Rattle.interval.specs.Enclosure.{signed, unitsOf, Fits, Encloses}
 use Rattle.interval.specs.Pattern.{infBits, magnitude}
 use Rattle.interval.specs.Scalar.{addOf}
 use Rattle.interval.specs.Step.{nextUp, nextDown}
 use Rattle.interval.proofs.Integers.{P, N, P-neg, N-neg, P-scale, N-scale, le-of-parts, parts-of-le, add-parts}
 use Rattle.interval.proofs.Patterns.{bits-val}
 use Rattle.interval.proofs.Rounding.{at}
-use Rattle.interval.proofs.Rank.{side, rank, rankOf, round-rank, none-at, count}
+use Rattle.interval.proofs.Rank.{rank, rankOf, round-rank, none-at, count}
 use Rattle.interval.proofs.Outward.{above-all, below-all, positive-fits}
 
 -- a number with its sign, as a difference

@@ -1,20 +1,17 @@
 -- Negation exchanges the ends and the signs; a difference is the sum with the negation.
-use mathlib.Core.Path.{_≡_, refl, sym, ap, _∙_, subst}
-use mathlib.Core.Logic.{_⊎_, inl, inr}
-use Prim.Native.Nat.{ℕ, zero, suc, _+_, _-_, _*_, _/_, _^_, _≤_, _<_, zero-le}
-use native.Mathlib.Nat.{le-trans, le-of-eq, le-of-lt, le-refl, eq-or-lt-of-le}
+use mathlib.Core.Path.{_≡_, refl, sym, ap, subst}
+use Prim.Native.Nat.{ℕ, _-_, _*_, _/_, _^_}
 use native.Mathlib.Omega.{arith}
-use mathlib.Core.Bool.{Bool, true, false, not, cond}
+use mathlib.Core.Bool.{true, false}
 use lib.Dec.{T}
-use lib.IntN.{ℤ, pos, negsuc, negℤ, _+ℤ_, _-ℤ_, _*ℤ_}
+use lib.IntN.{ℤ, pos, negsuc, negℤ, _-ℤ_, _*ℤ_}
 use lib.Signed.{leZ}
-use lib.Ieee.{Float, nan, inf, fin, binary64, low, up, down, neg, sub, add, lt, fits, isNan}
+use lib.Ieee.{Float, nan, inf, fin, binary64, low, up, down, neg, sub}
 use lib.Ieee.Fits.{neg-fits}
-use lib.Ieee.Scale.{finite}
 use Rattle.interval.specs.declared.Scalar.{Scalar}
 use Rattle.interval.specs.Enclosure.{unitsOf, Fits, Finite, HoldsQ, Holds, Encloses}
 use Rattle.interval.specs.Scalar.{addOf, subOf, negOf}
-use Rattle.interval.proofs.Integers.{P, N, P-neg, N-neg, le-of-parts, parts-of-le}
+use Rattle.interval.proofs.Integers.{P, N, P-neg, N-neg}
 use Rattle.interval.proofs.Infinite.{neg-finite}
 use Rattle.interval.proofs.Enclosure.Add.{scaled-le, le-scaled, add-holds}
 

@@ -1,21 +1,20 @@
 -- The root of an interval holds the root of what it holds.
-use mathlib.Core.Path.{_≡_, refl, sym, ap, _∙_, subst}
+use mathlib.Core.Path.{_≡_, refl, sym, ap, _∙_}
 use mathlib.Core.Logic.{_⊎_, inl, inr}
 use Prim.Native.Nat.{ℕ, zero, suc, _+_, _-_, _*_, _/_, _^_, _≤_, _<_, zero-le}
-use native.Mathlib.Nat.{le-trans, le-of-eq, le-of-lt, le-refl, lt-of-lt-of-le, lt-irrefl, mul-one, zero-mul, mul-comm, mul-assoc, mul-right-comm, mul-left-comm, mul-le-mul, mul-le-mul-right, le-of-mul-le-mul-right, mul-pos, zero-lt-suc}
+use native.Mathlib.Nat.{le-trans, le-of-eq, le-of-lt, lt-of-lt-of-le, lt-irrefl, zero-mul, mul-comm, mul-assoc, mul-right-comm, mul-le-mul, mul-le-mul-right, le-of-mul-le-mul-right, mul-pos, zero-lt-suc}
 use native.Mathlib.Omega.{arith}
-use mathlib.Core.Bool.{Bool, true, false, not, cond}
-use lib.Dec.{T, ltb, le→leb}
+use mathlib.Core.Bool.{Bool, true, false, cond}
+use lib.Dec.{T, le→leb}
 use lib.Pow.{pow-pos}
 use lib.IntN.{ℤ, pos, negsuc, _*ℤ_}
 use lib.Signed.{leZ}
-use lib.Ieee.{Float, nan, inf, fin, binary64, low, up, down, round, neg, lt, fits, toBits}
-use lib.Ieee.Fits.{round-fits}
+use lib.Ieee.{Float, fin, binary64, low, up, down, neg, lt, fits}
 use lib.Ieee.Scale.{finite}
 use Rattle.interval.specs.declared.Scalar.{Scalar}
 use Rattle.interval.specs.Enclosure.{unitsOf, Fits, Finite, Holds, HoldsRoot}
 use Rattle.interval.specs.Pattern.{infBits, magnitude}
-use Rattle.interval.specs.Root.{IsRoot, isqrt, roundedRoot, nearestRoot}
+use Rattle.interval.specs.Root.{isqrt, roundedRoot, nearestRoot}
 use Rattle.interval.specs.Scalar.{clamped, outward}
 use Rattle.interval.specs.Step.{nextUp, nextDown}
 use Rattle.interval.proofs.Integers.{P, N, le-of-parts}

@@ -1,16 +1,15 @@
 -- A positive scalar stays positive where four times it is finite, and where a third of it is definitely positive. Four times is exact for a sharp one, so few quadruplings in a row are finite.
 use mathlib.Core.Path.{_≡_, refl, sym, ap, _∙_, subst}
-use mathlib.Core.Logic.{_⊎_, inl, inr}
-use Prim.Native.Nat.{ℕ, zero, suc, _+_, _-_, _*_, _/_, _^_, _≤_, _<_, zero-le, suc-le-suc}
-use native.Mathlib.Nat.{le-refl, le-trans, le-of-eq, le-of-lt, lt-of-lt-of-le, lt-irrefl, eq-or-lt-of-le, not-le-of-lt, mul-comm, mul-le-mul-right}
+use mathlib.Core.Logic.{inl, inr}
+use Prim.Native.Nat.{ℕ, zero, suc, _+_, _-_, _*_, _^_, _≤_, _<_, zero-le, suc-le-suc}
+use native.Mathlib.Nat.{le-refl, lt-of-lt-of-le, eq-or-lt-of-le, not-le-of-lt, mul-comm, mul-le-mul-right}
 use native.Mathlib.Omega.{arith}
-use mathlib.Core.Bool.{Bool, true, false, not, cond, _&&_}
-use lib.Dec.{T, lit<, lit≤}
+use mathlib.Core.Bool.{Bool, true, false, not, _&&_}
+use lib.Dec.{T, lit<}
 use lib.Pow.{pow-pos}
-use lib.IntN.{ℤ, pos, negsuc, _*ℤ_}
+use lib.IntN.{ℤ, pos, _*ℤ_}
 use lib.Ieee.{Float, nan, inf, fin, binary64, low, lt, le, eq, ne, fits, toBits, ofBits, isNan, round, neg, mul, add, sum, div, ofInt}
 use lib.Ieee.Bits.{is-true, ofBits-toBits}
-use lib.Ieee.Exact.{HasValue}
 use lib.Ieee.Fits.{and-l, and-r}
 use lib.Ieee.Scale.{finite}
 use lib.Ieee.Order.{le-of-values}
@@ -20,11 +19,11 @@ use Rattle.interval.specs.Scaling.{isPositive, quadrupledTimes}
 use Rattle.interval.specs.Enclosure.{Fits, unitsOf}
 use Rattle.interval.specs.Float.{least, greatest, fmin, fmax, lesser, greater}
 use Rattle.interval.specs.Pattern.{infBits, magnitude}
-use Rattle.interval.specs.Scalar.{zero64, middle, zeroS, definitelyGreater, degenerate, fromI64, divOf, mulOf, inverse}
+use Rattle.interval.specs.Scalar.{zero64, zeroS, definitelyGreater, degenerate, fromI64, divOf, mulOf, inverse}
 use Rattle.interval.specs.Result.{ok}
 use Rattle.interval.specs.Scaling.{four64, three64, quadruple, quadrupled, quadrupleTimes, third}
 use Rattle.interval.specs.Step.{nextUp}
-use Rattle.interval.proofs.Integers.{P, N, P-scale, N-scale}
+use Rattle.interval.proofs.Integers.{P, P-scale, N-scale}
 use Rattle.interval.proofs.Corners.{ext}
 use Rattle.interval.proofs.Patterns.{bits-pos}
 use Rattle.interval.proofs.Rounding.{magnitude-lt, le-values}
@@ -33,7 +32,7 @@ use Rattle.interval.proofs.Order.{nlt-rank}
 use Rattle.interval.proofs.Enclosure.Sqrt.{zero-rank}
 use Rattle.interval.proofs.OneSided.Ends.{zero-fits}
 use Rattle.interval.proofs.Spacing.{magnitude-le, doubled, magnitude-doubled}
-use Rattle.interval.proofs.Scaling.Quadruple.{Pattern, pattern-value, pattern-under, magnitude-some, magnitude-only, quadruple-exact, quadrupled-wide, Bigger, few-from, quadruple-units, pattern-N}
+use Rattle.interval.proofs.Scaling.Quadruple.{Pattern, pattern-value, magnitude-some, magnitude-only, quadruple-exact, quadrupled-wide, few-from, quadruple-units, pattern-N}
 use Rattle.interval.proofs.Scaling.Third.{third-above}
 use Rattle.interval.proofs.Tests.{positive-finite}
 

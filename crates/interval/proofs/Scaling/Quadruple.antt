@@ -1,38 +1,37 @@
 -- Four times a sharp positive float, sharpened, is exactly four times it or not finite: the product is stepped out by one place each way, and the middle of the two neighbours is the product again.
 use mathlib.Core.Path.{_≡_, refl, sym, ap, _∙_, subst}
-use mathlib.Core.Logic.{_⊎_, inl, inr}
-use Prim.Native.Nat.{ℕ, zero, suc, _+_, _-_, _*_, _/_, _%_, _^_, _≤_, _<_, zero-le}
-use native.Mathlib.Nat.{le-antisymm, le-refl, le-trans, le-of-eq, le-of-lt, lt-of-lt-of-le, lt-of-le-of-lt, lt-irrefl, not-le-of-lt, mul-one, one-mul, zero-mul, mul-comm, mul-assoc, mul-right-comm, mul-left-comm, add-mul, mul-pos, mul-le-mul-right, mul-le-mul-left, eq-zero-or-pos, eq-of-mul-eq-mul-right, pow-succ', lt-suc-self}
+use mathlib.Core.Logic.{inl, inr}
+use Prim.Native.Nat.{ℕ, zero, suc, _+_, _-_, _*_, _^_, _≤_, _<_, zero-le}
+use native.Mathlib.Nat.{le-refl, le-trans, le-of-eq, le-of-lt, lt-of-lt-of-le, lt-of-le-of-lt, lt-irrefl, not-le-of-lt, mul-one, one-mul, zero-mul, mul-comm, mul-assoc, mul-left-comm, mul-pos, mul-le-mul-right, mul-le-mul-left, eq-zero-or-pos, lt-suc-self}
 use native.Mathlib.Omega.{arith}
-use mathlib.Core.Bool.{Bool, true, false, not, cond, Bool·beq, true≢false}
-use lib.Dec.{T, ltb, eqb, lit<, lit≤}
+use mathlib.Core.Bool.{true, false, not, true≢false}
+use lib.Dec.{T, lit<, lit≤}
 use lib.Pow.{pow-pos, pow-mono, pow-add}
-use lib.IntN.{ℤ, pos, negsuc}
-use lib.Ieee.{Float, nan, inf, fin, Format, binary64, low, hid, up, down, round, add, mul, div, neg, lt, unlike, fits, toBits, isNan}
-use lib.Ieee.Bits.{cond-no}
+use lib.IntN.{ℤ}
+use lib.Ieee.{Float, nan, inf, fin, binary64, low, hid, up, down, round, add, mul, div, lt, fits, toBits, isNan}
 use lib.Ieee.Exact.{HasValue}
 use lib.Ieee.Fits.{down-pos, round-fits, add-fits, div-fits, mul-fits}
-use lib.Ieee.Scale.{finite, round-same}
-use lib.Ieee.Positive.{positive, positive-of-value, mul-at}
+use lib.Ieee.Scale.{finite}
+use lib.Ieee.Positive.{positive-of-value, mul-at}
 use Rattle.interval.specs.declared.Scalar.{Scalar}
 use Rattle.interval.specs.Enclosure.{unitsOf}
 use Rattle.interval.specs.Float.{least, greatest, lesser, greater}
 use Rattle.interval.specs.Pattern.{infBits, magnitude}
-use Rattle.interval.specs.Scalar.{mulOf, sharpen, middle, two64, degenerate}
+use Rattle.interval.specs.Scalar.{two64}
 use Rattle.interval.specs.Scaling.{four64, quadruple, quadrupled, quadrupleTimes}
 use Rattle.interval.specs.Step.{nextUp, nextDown}
 use Rattle.interval.proofs.Integers.{P, N}
 use Rattle.interval.proofs.Patterns.{bits-under, bits-val, magnitude-zero}
-use Rattle.interval.proofs.Rounding.{magnitude-lt, NonNegative, round-nonneg, at, at-le}
+use Rattle.interval.proofs.Rounding.{magnitude-lt, NonNegative, round-nonneg, at}
 use Rattle.interval.proofs.Rank.{rank, rankOf, rank-in, units-P, units-N, none-at, round-rank, neg-round, le-or-lt}
 use Rattle.interval.proofs.Outward.{up-fits, down-fits, up-rank, down-rank, rank-up, rising, positive-fits}
-use Rattle.interval.proofs.Enclosure.Add.{Rounds, add-rounds}
+use Rattle.interval.proofs.Enclosure.Add.{add-rounds}
 use Rattle.interval.proofs.Product.{round-number, nonneg-number}
 use Rattle.interval.proofs.Infinite.{down-finite, up-any, neg-finite}
 use Rattle.interval.proofs.MinMax.{either, either-lesser, either-least, least-is, greatest-is}
 use Rattle.interval.proofs.OneSided.Add.{add-number}
-use Rattle.interval.proofs.Order.{Number, LeastOf, GreatestOf, least-any, greatest-any}
-use Rattle.interval.proofs.Spacing.{at-ge, at-most, over, magnitude-infinity, magnitude-le, at-own, at-same, doubled, magnitude-doubled, magnitude-inj, around, magnitude-around, foot-magnitude, gap-of}
+use Rattle.interval.proofs.Order.{least-any, greatest-any}
+use Rattle.interval.proofs.Spacing.{at-ge, at-most, magnitude-infinity, magnitude-le, at-own, at-same, doubled, magnitude-doubled, magnitude-inj, around, magnitude-around, foot-magnitude, gap-of}
 
 abbrev L : ℕ
 L = 2 ^ low binary64

@@ -1,39 +1,39 @@
 -- A third of a positive scalar, sharpened, is positive and finite where it is definitely positive: the products with 1 / 3, stepped outward, stay below three eighths of 2 ^ 1024, so their sum is finite.
 use mathlib.Core.Path.{_≡_, refl, sym, ap, _∙_, subst}
-use mathlib.Core.Logic.{_⊎_, inl, inr}
-use Prim.Native.Nat.{ℕ, zero, suc, _+_, _-_, _*_, _/_, _^_, _≤_, _<_, zero-le}
-use native.Mathlib.Nat.{le-refl, le-trans, le-of-eq, le-of-lt, lt-of-lt-of-le, lt-of-le-of-lt, lt-irrefl, not-le-of-lt, mul-one, one-mul, mul-comm, mul-assoc, mul-right-comm, mul-left-comm, mul-mul-mul-comm, mul-le-mul, mul-le-mul-right, mul-le-mul-left, mul-pos}
+use mathlib.Core.Logic.{inl, inr}
+use Prim.Native.Nat.{ℕ, _+_, _-_, _*_, _^_, _≤_, _<_, zero-le}
+use native.Mathlib.Nat.{le-trans, le-of-eq, le-of-lt, lt-of-le-of-lt, lt-irrefl, mul-one, mul-comm, mul-assoc, mul-left-comm, mul-le-mul, mul-le-mul-right, mul-le-mul-left, mul-pos}
 use native.Mathlib.Omega.{arith}
-use mathlib.Core.Bool.{Bool, true, false, not, cond}
-use lib.Dec.{T, ltb, lit<, lit≤}
+use mathlib.Core.Bool.{true, false, not}
+use lib.Dec.{T, lit<, lit≤}
 use lib.Pow.{pow-pos}
-use lib.IntN.{ℤ, pos, negsuc}
+use lib.IntN.{negsuc}
 use lib.Ieee.{Float, nan, inf, fin, binary64, low, hid, up, down, round, add, mul, div, neg, lt, fits, toBits, ofBits, isNan}
 use lib.Ieee.Exact.{HasValue}
-use lib.Ieee.Fits.{down-pos, add-fits, div-fits, mul-fits, round-fits}
+use lib.Ieee.Fits.{down-pos, add-fits, mul-fits, round-fits}
 use lib.Ieee.Scale.{finite}
-use lib.Ieee.Positive.{positive, positive-of-value, mul-at}
+use lib.Ieee.Positive.{positive-of-value, mul-at}
 use Rattle.interval.specs.declared.Scalar.{Scalar}
 use Rattle.interval.specs.Enclosure.{unitsOf}
-use Rattle.interval.specs.Float.{least, greatest, lesser, greater}
+use Rattle.interval.specs.Float.{least, greatest}
 use Rattle.interval.specs.Pattern.{infBits, magnitude}
-use Rattle.interval.specs.Scalar.{zero64, one64, two64, mulOf, inverse, middle, sharpen, degenerate}
+use Rattle.interval.specs.Scalar.{zero64, one64, two64}
 use Rattle.interval.specs.Scaling.{three64, third}
 use Rattle.interval.specs.Step.{nextUp, nextDown}
 use Rattle.interval.proofs.Integers.{P, N, parts-of-lt}
-use Rattle.interval.proofs.Patterns.{bits-val, bits-under, magnitude-zero}
-use Rattle.interval.proofs.Rounding.{NonNegative, round-nonneg, at, at-le}
-use Rattle.interval.proofs.Rank.{rank, rankOf, rank-in, units-P, round-rank, none-at, neg-round, le-or-lt}
-use Rattle.interval.proofs.Outward.{up-fits, down-fits, up-rank, down-rank, rank-up, rising}
+use Rattle.interval.proofs.Patterns.{bits-val, bits-under}
+use Rattle.interval.proofs.Rounding.{NonNegative, round-nonneg, at}
+use Rattle.interval.proofs.Rank.{rank, units-P, round-rank, neg-round}
+use Rattle.interval.proofs.Outward.{up-fits, down-fits, down-rank, rank-up, rising}
 use Rattle.interval.proofs.Enclosure.Add.{add-rounds}
 use Rattle.interval.proofs.Product.{round-number}
-use Rattle.interval.proofs.Order.{Number, LeastOf, GreatestOf, least-any, greatest-any}
+use Rattle.interval.proofs.Order.{least-any, greatest-any}
 use Rattle.interval.proofs.Infinite.{down-finite}
 use Rattle.interval.proofs.Infinite.{up-any}
 use Rattle.interval.proofs.MinMax.{either-least, either-greatest}
 use Rattle.interval.proofs.OrderUnits.{lt-units}
 use Rattle.interval.proofs.OneSided.Ends.{zero-fits}
-use Rattle.interval.proofs.Spacing.{at-most, magnitude-infinity, magnitude-le}
+use Rattle.interval.proofs.Spacing.{at-most, magnitude-le}
 use Rattle.interval.proofs.Scaling.Quadruple.{round-pattern, Pattern, pattern-P, pattern-value, pattern-under, magnitude-some, magnitude-only}
 
 third-low : nextDown (div binary64 one64 three64) ≡ fin false 1501199875790165 (negsuc 51)

@@ -1,5 +1,5 @@
 -- `abs` meets its contract: each branch is the definition's by its tests, and the size of a choice is enclosed.
-use mathlib.Core.Path.{_≡_, sym, subst, _∙_}
+use mathlib.Core.Path.{_≡_, sym, subst}
 use Prim.Native.Nat.{_^_}
 use borrow.Author.Needs.{needs}
 use lib.Ieee.{ofBits, binary64, fits}

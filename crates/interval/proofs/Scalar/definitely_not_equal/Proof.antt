@@ -1,5 +1,4 @@
 -- `definitely_not_equal` meets its contract.
-use borrow.Author.Needs.{needs}
 use Rattle.interval.proofs.Scalar.definitely_not_equal.Statement.{statement}
 use Rattle.interval.proofs.Scalar.definitely_not_equal.Tie as tie
 

@@ -1,6 +1,5 @@
 -- `div` meets its contract: the test decides the refusal, and else the product with the inverse encloses the quotient.
-use mathlib.Core.Path.{_≡_, sym, _∙_, ap, subst}
-use mathlib.Core.Bool.{true, false}
+use mathlib.Core.Path.{sym, _∙_, ap, subst}
 use Prim.Native.Nat.{_^_}
 use borrow.Author.Needs.{needs}
 use Rattle.interval.specs.Scalar.{divOf, mulOf}

@@ -1,5 +1,5 @@
 -- `mul` meets its contract: the corners are the definition's, and the product encloses.
-use mathlib.Core.Path.{_≡_, sym, subst}
+use mathlib.Core.Path.{sym, subst}
 use borrow.Author.Needs.{needs}
 use Rattle.interval.specs.Enclosure.{EnclosesProduct}
 use Rattle.interval.proofs.Scalar.mul.Statement.{statement}

@@ -1,7 +1,6 @@
 -- `neg` meets its contract.
 use mathlib.Core.Path.{refl}
 use Prim.Native.Nat.{_^_}
-use borrow.Author.Needs.{needs}
 use Rattle.interval.proofs.Scalar.neg.Statement.{statement}
 use Rattle.interval.proofs.Scalar.neg.Tie as tie
 use Rattle.interval.proofs.Enclosure.Neg.{neg-holds}

@@ -1,5 +1,4 @@
 -- `greatest_of` meets its contract: the fold by max is a fold of plain choices.
-use mathlib.Core.Path.{_≡_, sym, _∙_}
 use borrow.Author.Needs.{needs}
 use lib.Ieee.{ofBits, div, neg}
 use Rattle.interval.proofs.float.greatest_of.Statement.{statement}

@@ -1,5 +1,4 @@
 -- `is_finite_f64` meets its contract: what lies between the infinities is finite.
-use borrow.Author.Needs.{needs}
 use lib.Ieee.{ofBits, div, neg}
 use Rattle.interval.proofs.float.is_finite_f64.Statement.{statement}
 use Rattle.interval.proofs.float.is_finite_f64.Tie as tie

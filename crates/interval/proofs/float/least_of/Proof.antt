@@ -1,5 +1,4 @@
 -- `least_of` meets its contract: the fold by min is a fold of plain choices.
-use mathlib.Core.Path.{_≡_, sym, _∙_}
 use borrow.Author.Needs.{needs}
 use lib.Ieee.{ofBits, div}
 use Rattle.interval.proofs.float.least_of.Statement.{statement}

@@ -1,5 +1,4 @@
 -- `max_of` meets its contract.
-use mathlib.Core.Path.{_∙_}
 use borrow.Author.Needs.{needs}
 use Rattle.interval.specs.Float.{fmax}
 use Rattle.interval.proofs.float.max_of.Statement.{statement}

@@ -1,5 +1,5 @@
 -- `extend_root` meets its contract: with t = 2 s u + v the square of s * 2^27 + u leaves v * 2^27 - u * u, and where that is negative one less is the root.
-use Prim.Native.Nat.{ℕ, _+_, _-_, _*_, _/_, _%_, _^_, _≤_, _<_}
+use Prim.Native.Nat.{_+_, _-_, _*_, _/_, _%_}
 use native.Mathlib.Omega.{arith}
 use borrow.Author.Needs.{needs}
 use Rattle.interval.proofs.RootExtend.{Facts, facts, some, pred}

@@ -1,8 +1,8 @@
 -- `lower_to_root` meets its contract: the candidate never rises, and the loop is left where its square is at most c.
-use Prim.Native.Nat.{ℕ, _+_, _-_, _*_, _^_, _≤_, _<_}
+use Prim.Native.Nat.{_-_, _≤_}
 use native.Mathlib.Omega.{arith}
 use borrow.Author.Needs.{needs}
-use Rattle.interval.proofs.RootExtend.{facts, some, root-lt, fits28}
+use Rattle.interval.proofs.RootExtend.{some, fits28}
 use Rattle.interval.proofs.root.lower_to_root.Statement.{statement}
 use Rattle.interval.proofs.root.lower_to_root.Tie as tie
 

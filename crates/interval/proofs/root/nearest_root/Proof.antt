@@ -1,5 +1,5 @@
 -- `nearest_root` meets its contract: what each test leaves of x.
-use mathlib.Core.Path.{_≡_, sym, subst, _∙_}
+use mathlib.Core.Path.{sym, subst, _∙_}
 use native.Mathlib.Nat.{le-of-lt}
 use lib.Dec.{T}
 use lib.Ieee.{ofBits, div, binary64}

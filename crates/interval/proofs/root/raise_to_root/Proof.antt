@@ -1,8 +1,8 @@
 -- `raise_to_root` meets its contract: the square of the candidate stays at most c, and the loop is left where the next square is above c.
-use Prim.Native.Nat.{ℕ, _+_, _-_, _*_, _^_, _≤_, _<_}
+use Prim.Native.Nat.{_+_, _-_, _*_, _^_, _≤_}
 use native.Mathlib.Omega.{arith}
 use borrow.Author.Needs.{needs}
-use Rattle.interval.proofs.RootExtend.{facts, some, root-lt, fits28}
+use Rattle.interval.proofs.RootExtend.{root-lt, fits28}
 use Rattle.interval.proofs.root.raise_to_root.Statement.{statement}
 use Rattle.interval.proofs.root.raise_to_root.Tie as tie
 

@@ -1,7 +1,7 @@
 -- `root_digits` meets its contract: 27 digits from the corrected estimate, 27 more by `extend_root`.
-use Prim.Native.Nat.{ℕ, _+_, _-_, _*_, _^_, _≤_, _<_}
+use Prim.Native.Nat.{_-_}
 use native.Mathlib.Omega.{arith}
-use Rattle.interval.proofs.RootExtend.{ready, done, fits28}
+use Rattle.interval.proofs.RootExtend.{ready, done}
 use Rattle.interval.proofs.root.root_digits.Statement.{statement}
 use Rattle.interval.proofs.root.root_digits.Tie as tie
 

@@ -1,8 +1,7 @@
 -- `next_up` meets its contract: below infinity the chosen pattern is the next float's; infinity and NaN stay.
-use mathlib.Core.Path.{_≡_, sym, ap, _∙_, subst}
+use mathlib.Core.Path.{sym, ap, _∙_, subst}
 use mathlib.Core.Bool.{not}
 use Prim.Native.Nat.{ℕ}
-use borrow.Author.Needs.{needs}
 use lib.Dec.{T}
 use lib.Ieee.{ofBits, div, binary64, nanBits, le}
 use Rattle.interval.specs.Scalar.{zero64}

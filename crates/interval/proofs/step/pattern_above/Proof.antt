@@ -1,7 +1,4 @@
 -- `pattern_above` meets its contract: each branch is one side of `cond`.
-use mathlib.Core.Path.{ap}
-use mathlib.Core.Bool.{Bool, cond}
-use Prim.Native.Nat.{ℕ}
 use borrow.Author.Needs.{needs}
 use Rattle.interval.proofs.step.pattern_above.Statement.{statement}
 use Rattle.interval.proofs.step.pattern_above.Tie as tie
