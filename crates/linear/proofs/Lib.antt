@@ -1,0 +1,12 @@
+pub mod FlatLaws
+pub mod Lists
+pub mod Folds
+pub mod Turns
+pub mod Replied
+pub mod Sums
+pub mod Cells
+pub mod Marks
+pub mod Pivots
+pub mod FactorEntries
+pub mod CholeskyRows
+pub mod Reflections

@@ -1,0 +1,15 @@
+-- A reply says how a call ended and what the slice holds. So where the reply is that of a result, the end with the slice is that result.
+use mathlib.Core.Path.{_≡_, ap}
+use Prim.Native.Nat.{ℕ}
+use native.Mathlib.Omega.{arith}
+use Rattle.interval.specs.Result.{Res, ok, refused}
+use Rattle.linear.specs.Answers.{doneOf, numberOf}
+use Rattle.linear.specs.Replies.{replied, replyOf}
+use Rattle.linear.specs.declared.answers.Done.{Done}
+use Rattle.linear.specs.declared.answers.Done.the-variants as d
+
+pub done-is : {A : Type 0} (r : Done) (x clear : A) (s : Res A) → replied r x ≡ replyOf clear s → doneOf r x ≡ s
+done-is d.Finished x clear (ok y) e = ap (λ z. ok (z .out)) e
+done-is d.Finished x clear (refused k) e = let h = ap (λ z. z .ended) e in let z : _≡_ {A = ℕ} 0 1 = cc in absurd (omega arith)
+done-is (d.Refused q) x clear (ok y) e = let h = ap (λ z. z .ended) e in let z : _≡_ {A = ℕ} 0 1 = cc in absurd (omega arith)
+done-is (d.Refused q) x clear (refused k) e = let h = ap (λ z. z .ended) e in let z : numberOf q ≡ k = cc in ap refused z

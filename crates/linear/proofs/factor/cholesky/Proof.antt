@@ -1,0 +1,68 @@
+-- `cholesky` meets its contract: each check decides one of the definition's.
+use native.Mathlib.Omega.{arith}
+use borrow.Author.Needs.{needs}
+use borrow.Author.Tests.{le-leb, lt-leb, eq-eqb, ne-eqb}
+use Rattle.linear.specs.Calls.{choleskyReply}
+use Rattle.linear.proofs.Cells.{product-small}
+use Rattle.linear.proofs.factor.cholesky.Statement.{statement}
+use Rattle.linear.proofs.factor.cholesky.Tie as tie
+
+returns : tie.Need-returns
+unfolding choleskyReply
+returns c = rw (lt-leb _ _ (c .if1 .taken))
+
+mul-if2 : tie.Need-mul-if2
+mul-if2 c = omega (arith, product-small (c .if1 .left) (c .if1 .left))
+
+mul-if2-2 : tie.Need-mul-if2-2
+mul-if2-2 c = omega (arith, product-small (c .if1 .left) (c .if1 .left))
+
+returns-2 : tie.Need-returns-2
+unfolding choleskyReply
+returns-2 c = rw (le-leb _ _ (c .before .if1 .left), ne-eqb _ _ (c .if2 .taken))
+
+mul-if3 : tie.Need-mul-if3
+mul-if3 c = search needs
+
+mul-if3-2 : tie.Need-mul-if3-2
+mul-if3-2 c = search needs
+
+returns-3 : tie.Need-returns-3
+unfolding choleskyReply
+returns-3 c = rw (le-leb _ _ (c .before .before .if1 .left), eq-eqb _ _ (c .before .if2 .left), ne-eqb _ _ (c .if3 .taken))
+
+returns-4 : tie.Need-returns-4
+unfolding choleskyReply
+returns-4 c = rw (le-leb _ _ (c .before .before .before .if1 .left), eq-eqb _ _ (c .before .before .if2 .left), eq-eqb _ _ (c .before .if3 .left), ne-eqb _ _ (c .if4 .taken))
+
+factor-sized-requires : tie.Need-factor-sized-requires
+factor-sized-requires c κs = search needs
+
+same-length : tie.Need-same-length
+same-length c = search needs
+
+same-length-2 : tie.Need-same-length-2
+same-length-2 c = search needs
+
+returns-5 : tie.Need-returns-5
+unfolding choleskyReply
+returns-5 c =
+    let k = c .before .before .before .before .before .before .before in
+    rw (le-leb _ _ (k .before .before .before .if1 .left), eq-eqb _ _ (k .before .before .if2 .left), eq-eqb _ _ (k .before .if3 .left), eq-eqb _ _ (k .if4 .left)) (c .before .before .before .before .factor-sized .ensures)
+
+pub cholesky-spec : {M : Type 1} → statement M
+cholesky-spec =
+    tie.close
+    (tie.spec
+    returns
+    mul-if2
+    mul-if2-2
+    returns-2
+    mul-if3
+    mul-if3-2
+    returns-3
+    returns-4
+    factor-sized-requires
+    same-length
+    same-length-2
+    returns-5)

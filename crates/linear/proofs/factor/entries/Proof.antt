@@ -1,0 +1,74 @@
+-- `entries` meets its contract: the invariant is the fold at the columns passed, not refused.
+use mathlib.Core.Path.{_≡_, sym}
+use Prim.Native.Nat.{_≤_, _-_}
+use native.Mathlib.Nat.{le-antisymm}
+use borrow.Author.Needs.{needs}
+use lib.ListN.{length}
+use Rattle.interval.specs.Result.{ok}
+use Rattle.linear.specs.Results.{foldR}
+use Rattle.linear.specs.CholeskyRows.{entryStep}
+use Rattle.linear.proofs.Turns.{went-on, broke-off}
+use Rattle.linear.proofs.factor.entries.Statement.{statement}
+use Rattle.linear.proofs.factor.entries.Tie as tie
+
+abbrev Inv-loop : tie.InvT-loop
+Inv-loop n a l₀ left-out i j₀ l j = (j ≤ i) × (length l ≡ length l₀) × (foldR (entryStep n a left-out i) l₀ j ≡ ok l)
+
+abbrev μ-loop : tie.MeasureT-loop
+μ-loop n a l₀ left-out i j₀ l j = i - j
+
+loop-holds : tie.Need-loop-holds Inv-loop μ-loop
+unfolding foldR
+loop-holds c = search needs
+
+entry-requires : tie.Need-entry-requires Inv-loop μ-loop
+entry-requires c κs = search needs
+
+enum-told : tie.Need-enum-told Inv-loop μ-loop
+enum-told c = search needs
+
+enum-known-e : tie.Need-enum-known-e Inv-loop μ-loop
+enum-known-e c = search needs
+
+same-length : tie.Need-same-length Inv-loop μ-loop
+same-length c = search needs
+
+returns : tie.Need-returns Inv-loop μ-loop
+returns c =
+    let k = c .before .before .before .before .before in
+    broke-off _ _ _ (k .before .before .loop-test .taken) (k .before .before .before .loop .inv .2) (k .entry .ensures) (c .before .e .given .1)
+
+add-j : tie.Need-add-j Inv-loop μ-loop
+add-j c = search needs
+
+loop-less : tie.Need-loop-less Inv-loop μ-loop
+loop-less c = search needs
+
+loop-again : tie.Need-loop-again Inv-loop μ-loop
+loop-again c =
+    let k = c .before .before .before .before in
+    (search needs, search needs, went-on _ _ (k .before .before .before .loop .inv .2) (k .entry .ensures) (c .enum-told .given .1))
+
+same-length-2 : tie.Need-same-length-2 Inv-loop μ-loop
+same-length-2 c = search needs
+
+returns-2 : tie.Need-returns-2 Inv-loop μ-loop
+returns-2 c = sym (rw (le-antisymm (c .before .loop .inv .0) (c .loop-test .left)) at (c .before .loop .inv .2))
+
+pub entries-spec : {M : Type 1} → statement M
+entries-spec =
+    tie.close
+    (tie.spec
+    Inv-loop
+    μ-loop
+    loop-holds
+    entry-requires
+    enum-told
+    enum-known-e
+    same-length
+    returns
+    add-j
+    loop-less
+    loop-again
+    same-length-2
+    returns-2)

@@ -1,0 +1,84 @@
+-- `factor_rows` meets its contract: the invariant is the fold at the rows passed, not refused.
+use mathlib.Core.Path.{_≡_, sym}
+use Prim.Native.Nat.{_≤_, _-_}
+use native.Mathlib.Nat.{le-antisymm}
+use borrow.Author.Needs.{needs}
+use lib.ListN.{length}
+use Rattle.interval.specs.Result.{ok}
+use Rattle.linear.specs.Results.{foldR}
+use Rattle.linear.specs.Cholesky.{factorOf}
+use Rattle.linear.specs.CholeskyRows.{rowStep}
+use Rattle.linear.proofs.Turns.{went-on, broke-off}
+use Rattle.linear.proofs.factor.factor_rows.Statement.{statement}
+use Rattle.linear.proofs.factor.factor_rows.Tie as tie
+
+abbrev Inv-loop : tie.InvT-loop
+Inv-loop n a l₀ left-out₀ i₀ l left-out i =
+    (i ≤ n) × (length l ≡ length l₀) × (length left-out ≡ length left-out₀) × (foldR (rowStep n a) (factorOf l₀ left-out₀) i ≡ ok (factorOf l left-out))
+
+abbrev μ-loop : tie.MeasureT-loop
+μ-loop n a l₀ left-out₀ i₀ l left-out i = n - i
+
+loop-holds : tie.Need-loop-holds Inv-loop μ-loop
+unfolding foldR
+loop-holds c = search needs
+
+factor-row-requires : tie.Need-factor-row-requires Inv-loop μ-loop
+factor-row-requires c κs = search needs
+
+enum-told : tie.Need-enum-told Inv-loop μ-loop
+enum-told c = search needs
+
+enum-known-e : tie.Need-enum-known-e Inv-loop μ-loop
+enum-known-e c = search needs
+
+same-length : tie.Need-same-length Inv-loop μ-loop
+same-length c = search needs
+
+same-length-2 : tie.Need-same-length-2 Inv-loop μ-loop
+same-length-2 c = search needs
+
+returns : tie.Need-returns Inv-loop μ-loop
+returns c =
+    let k = c .before .before .before .before .before .before .before in
+    broke-off _ _ _ (k .before .before .before .loop-test .taken) (k .before .before .before .before .loop .inv .3) (k .factor-row .ensures) (c .before .e .given .1)
+
+add-i : tie.Need-add-i Inv-loop μ-loop
+add-i c = search needs
+
+loop-less : tie.Need-loop-less Inv-loop μ-loop
+loop-less c = search needs
+
+loop-again : tie.Need-loop-again Inv-loop μ-loop
+loop-again c =
+    let k = c .before .before .before .before .before .before in
+    (search needs, search needs, search needs, went-on _ _ (k .before .before .before .before .loop .inv .3) (k .factor-row .ensures) (c .enum-told .given .1))
+
+same-length-3 : tie.Need-same-length-3 Inv-loop μ-loop
+same-length-3 c = search needs
+
+same-length-4 : tie.Need-same-length-4 Inv-loop μ-loop
+same-length-4 c = search needs
+
+returns-2 : tie.Need-returns-2 Inv-loop μ-loop
+returns-2 c = sym (rw (le-antisymm (c .before .loop .inv .0) (c .loop-test .left)) at (c .before .loop .inv .3))
+
+pub factor-rows-spec : {M : Type 1} → statement M
+factor-rows-spec =
+    tie.close
+    (tie.spec
+    Inv-loop
+    μ-loop
+    loop-holds
+    factor-row-requires
+    enum-told
+    enum-known-e
+    same-length
+    same-length-2
+    returns
+    add-i
+    loop-less
+    loop-again
+    same-length-3
+    same-length-4
+    returns-2)

@@ -1,0 +1,84 @@
+-- `factor_sized` meets its contract: the rows from clear slices are the factor's entries (CholeskyRows), and a refusal clears both slices again.
+use mathlib.Core.Path.{_≡_, _∙_}
+use Prim.Native.Nat.{_*_}
+use native.Mathlib.Omega.{arith}
+use borrow.Author.Needs.{needs}
+use lib.ListN.{length}
+use Rattle.linear.proofs.CholeskyRows.{rows-are-entries}
+use Rattle.linear.proofs.factor.factor_sized.Statement.{statement}
+use Rattle.linear.proofs.factor.factor_sized.Tie as tie
+
+clear-requires : tie.Need-clear-requires
+clear-requires c κs = search needs
+
+unmark-requires : tie.Need-unmark-requires
+unmark-requires c κs = search needs
+
+factor-rows-requires : tie.Need-factor-rows-requires
+factor-rows-requires c κs = search needs
+
+enum-told : tie.Need-enum-told
+enum-told c = search needs
+
+enum-known-e : tie.Need-enum-known-e
+enum-known-e c = search needs
+
+clear-requires-2 : tie.Need-clear-requires-2
+clear-requires-2 c κs = search needs
+
+unmark-requires-2 : tie.Need-unmark-requires-2
+unmark-requires-2 c κs = search needs
+
+same-length : tie.Need-same-length
+same-length c = search needs
+
+same-length-2 : tie.Need-same-length-2
+same-length-2 c = search needs
+
+returns : tie.Need-returns
+returns c =
+    let f = c .before .before .before .before .before .before in
+    let u = f .before .before .before .before .before in
+    let k = u .before .before .before .before in
+    let s = k .before .before .before .before .before in
+    let l = rw (s .pre .1 .0) at (k .clear .ensures) in
+    let left = rw (s .pre .1 .1) at (u .unmark .ensures) in
+    let e = rw (c .enum-told .given .1, l, left) at (f .factor-rows .ensures) ∙ rows-are-entries (s .args .n) (s .args .a .now) in
+    rw (← e)
+
+same-length-3 : tie.Need-same-length-3
+same-length-3 c = search needs
+
+same-length-4 : tie.Need-same-length-4
+same-length-4 c = search needs
+
+returns-2 : tie.Need-returns-2
+returns-2 c =
+    let f = c .before .before .before .before .before .before .before .before .before .before .before .before .before .before .before in
+    let u = f .before .before .before .before .before in
+    let k = u .before .before .before .before in
+    let s = k .before .before .before .before .before in
+    let l = rw (s .pre .1 .0) at (k .clear .ensures) in
+    let left = rw (s .pre .1 .1) at (u .unmark .ensures) in
+    let e = rw (c .before .before .before .before .before .before .before .before .before .e .given .1, l, left) at (f .factor-rows .ensures) ∙ rows-are-entries (s .args .n) (s .args .a .now) in
+    let size : length (f .factor-rows .last .1 .1 .0) ≡ 2 * (s .args .n * s .args .n) = omega (arith, f .factor-rows .kept, k .clear .kept) in
+    let marks : length (f .factor-rows .last .1 .1 .1 .0) ≡ s .args .n = omega (arith, f .factor-rows .kept, u .unmark .kept) in
+    rw (← e, rw size at (c .before .before .before .before .before .before .clear2 .ensures), rw marks at (c .before .before .unmark2 .ensures))
+
+pub factor-sized-spec : {M : Type 1} → statement M
+factor-sized-spec =
+    tie.close
+    (tie.spec
+    clear-requires
+    unmark-requires
+    factor-rows-requires
+    enum-told
+    enum-known-e
+    clear-requires-2
+    unmark-requires-2
+    same-length
+    same-length-2
+    returns
+    same-length-3
+    same-length-4
+    returns-2)

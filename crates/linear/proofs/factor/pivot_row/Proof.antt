@@ -1,0 +1,55 @@
+-- `pivot_row` meets its contract: the definition's steps, from what each call gives.
+use Prim.Native.Nat.{_*_, _≤_}
+use native.Mathlib.Omega.{arith}
+use borrow.Author.Needs.{needs}
+use Rattle.linear.specs.CholeskyRows.{pivotStep}
+use Rattle.linear.proofs.Cells.{product-small}
+use Rattle.linear.proofs.factor.pivot_row.Statement.{statement}
+use Rattle.linear.proofs.factor.pivot_row.Tie as tie
+
+row : (s : tie.Start) → s .args .i * s .args .n ≤ 576
+row s = product-small (omega arith) (omega arith)
+
+mul-row : tie.Need-mul-row
+mul-row c = omega (arith, row (c .before .before .before))
+
+add-at : tie.Need-add-at
+add-at c = omega (arith, row (c .before .before .before .before))
+
+at-requires : tie.Need-at-requires
+at-requires c κs = search needs
+
+minus-dot-requires : tie.Need-minus-dot-requires
+minus-dot-requires c κs = omega (arith, row (c .before .before .before .before .before))
+
+pivot-of-requires : tie.Need-pivot-of-requires
+pivot-of-requires c κs = search needs
+
+settle-pivot-requires : tie.Need-settle-pivot-requires
+settle-pivot-requires c κs = search needs
+
+same-length : tie.Need-same-length
+same-length c = search needs
+
+same-length-2 : tie.Need-same-length-2
+same-length-2 c = search needs
+
+returns : tie.Need-returns
+unfolding pivotStep
+returns c =
+    let k = c .before .before .before .before .before in
+    rw (← k .before .before .before .before .at .ensures, ← k .before .before .before .minus-dot .ensures, ← k .pivot-of .ensures) (c .before .before .before .before .settle-pivot .ensures)
+
+pub pivot-row-spec : {M : Type 1} → statement M
+pivot-row-spec =
+    tie.close
+    (tie.spec
+    mul-row
+    add-at
+    at-requires
+    minus-dot-requires
+    pivot-of-requires
+    settle-pivot-requires
+    same-length
+    same-length-2
+    returns)

@@ -1,0 +1,116 @@
+-- `reflections` meets its contract: the invariant is the fold at the columns passed, not refused.
+use mathlib.Core.Path.{_≡_, sym, _∙_}
+use Prim.Native.Nat.{_*_, _≤_, _-_}
+use native.Mathlib.Nat.{le-antisymm}
+use native.Mathlib.Omega.{arith}
+use borrow.Author.Needs.{needs}
+use lib.ListN.{length}
+use lib.Seq.{length-take-le, length-front}
+use Rattle.interval.specs.Result.{ok}
+use Rattle.linear.specs.Results.{foldR}
+use Rattle.linear.specs.Cholesky.{factorOf}
+use Rattle.linear.specs.Householder.{householderStep}
+use Rattle.linear.proofs.Folds.{turn, ends}
+use Rattle.linear.proofs.householder.reflections.Statement.{statement}
+use Rattle.linear.proofs.householder.reflections.Tie as tie
+
+abbrev Inv-loop : tie.InvT-loop
+Inv-loop m r k cols₀ left-out₀ v₀ j₀ cols left-out v j =
+    (j ≤ k) × (length cols ≡ length cols₀) × (length left-out ≡ length left-out₀) × (length v ≡ length v₀) × (foldR (householderStep m r) (factorOf cols₀ left-out₀) j ≡ ok (factorOf cols left-out))
+
+abbrev μ-loop : tie.MeasureT-loop
+μ-loop m r k cols₀ left-out₀ v₀ j₀ cols left-out v j = k - j
+
+loop-holds : tie.Need-loop-holds Inv-loop μ-loop
+unfolding foldR
+loop-holds c = search needs
+
+sub-e : tie.Need-sub-e Inv-loop μ-loop
+sub-e c = search needs
+
+mul-e : tie.Need-mul-e Inv-loop μ-loop
+mul-e c = search needs
+
+slice-relend-prefix-householder-step : tie.Need-slice-relend-prefix-householder-step Inv-loop μ-loop
+slice-relend-prefix-householder-step c = search needs
+
+slice-aggregate-householder-step : tie.Need-slice-aggregate-householder-step Inv-loop μ-loop
+slice-aggregate-householder-step c = sym (length-take-le _ _ (omega arith))
+
+householder-step-requires : tie.Need-householder-step-requires Inv-loop μ-loop
+householder-step-requires c κs =
+    let p = c .before .before .before .before .before .before .before .before .pre in
+    (omega arith, (p .1 .1 .0, (omega arith, (p .1 .1 .1 .0, (omega arith, length-take-le _ _ (omega arith))))))
+
+enum-told : tie.Need-enum-told Inv-loop μ-loop
+enum-told c = search needs
+
+enum-known-e : tie.Need-enum-known-e Inv-loop μ-loop
+enum-known-e c = search needs
+
+same-length : tie.Need-same-length Inv-loop μ-loop
+same-length c = search needs
+
+same-length-2 : tie.Need-same-length-2 Inv-loop μ-loop
+same-length-2 c = search needs
+
+same-length-3 : tie.Need-same-length-3 Inv-loop μ-loop
+same-length-3 c = search needs
+
+returns : tie.Need-returns Inv-loop μ-loop
+returns c =
+    let h = c .before .before .before .before .before .before .before .before .before in
+    let e = rw (c .before .e .given .1) at (h .householder-step .ensures) in
+    sym (ends _ _ (h .before .before .before .before .loop-test .taken) (h .before .before .before .before .before .loop .inv .4) (sym e))
+
+add-j : tie.Need-add-j Inv-loop μ-loop
+add-j c = search needs
+
+loop-less : tie.Need-loop-less Inv-loop μ-loop
+loop-less c = search needs
+
+loop-again : tie.Need-loop-again Inv-loop μ-loop
+loop-again c =
+    let h = c .before .before .before .before .before .before .before .before in
+    let e = rw (c .enum-told .given .1) at (h .householder-step .ensures) in
+    let l = h .before .before .before .before .before .loop in
+    let n = 2 * (h .before .before .before .before .before .before .before .before .before .args .m - l .j) in
+    (search needs, search needs, search needs, length-front (l .v) (h .householder-step .last .1 .1 .1 .1 .1 .0) n (h .householder-step .kept .1 .1 .1 .1 .1 .0) ∙ l .inv .3, turn _ _ (l .j) (l .inv .4) ∙ sym e)
+
+same-length-4 : tie.Need-same-length-4 Inv-loop μ-loop
+same-length-4 c = search needs
+
+same-length-5 : tie.Need-same-length-5 Inv-loop μ-loop
+same-length-5 c = search needs
+
+same-length-6 : tie.Need-same-length-6 Inv-loop μ-loop
+same-length-6 c = search needs
+
+returns-2 : tie.Need-returns-2 Inv-loop μ-loop
+returns-2 c = sym (rw (le-antisymm (c .before .loop .inv .0) (c .loop-test .left)) at (c .before .loop .inv .4))
+
+pub reflections-spec : {M : Type 1} → statement M
+reflections-spec =
+    tie.close
+    (tie.spec
+    Inv-loop
+    μ-loop
+    loop-holds
+    sub-e
+    mul-e
+    slice-relend-prefix-householder-step
+    slice-aggregate-householder-step
+    householder-step-requires
+    enum-told
+    enum-known-e
+    same-length
+    same-length-2
+    same-length-3
+    returns
+    add-j
+    loop-less
+    loop-again
+    same-length-4
+    same-length-5
+    same-length-6
+    returns-2)

@@ -1,0 +1,71 @@
+-- `squares_cut` meets its contract: the parts of the scratch slices have the lengths asked.
+use mathlib.Core.Path.{sym}
+use Prim.Native.Nat.{_+_, _*_, _≤_}
+use native.Mathlib.Omega.{arith}
+use borrow.Author.Needs.{needs}
+use lib.Seq.{length-take-le}
+use Rattle.linear.proofs.Reflections.{columns-small}
+use Rattle.linear.proofs.householder.squares_cut.Statement.{statement}
+use Rattle.linear.proofs.householder.squares_cut.Tie as tie
+
+room : (s : tie.Start) → (s .args .r + 1) * s .args .m ≤ 600
+room s = columns-small (s .pre .1 .0) (s .pre .0)
+
+add-e : tie.Need-add-e
+add-e c = search needs
+
+mul-e : tie.Need-mul-e
+mul-e c = omega (arith, room (c .before .before .before .before .before .before))
+
+mul-e-2 : tie.Need-mul-e-2
+mul-e-2 c = omega (arith, room (c .before .before .before .before .before .before))
+
+slice-relend-prefix-squares-in : tie.Need-slice-relend-prefix-squares-in
+slice-relend-prefix-squares-in c = omega (arith, room (c .before .before .before .before .before .before .before))
+
+slice-aggregate-squares-in : tie.Need-slice-aggregate-squares-in
+slice-aggregate-squares-in c = sym (length-take-le _ _ (omega (arith, room (c .before .before .before .before .before .before .before .before))))
+
+slice-relend-prefix-squares-in-2 : tie.Need-slice-relend-prefix-squares-in-2
+slice-relend-prefix-squares-in-2 c = search needs
+
+slice-aggregate-squares-in-2 : tie.Need-slice-aggregate-squares-in-2
+slice-aggregate-squares-in-2 c = sym (length-take-le _ _ (omega arith))
+
+squares-in-requires : tie.Need-squares-in-requires
+squares-in-requires c κs =
+    let p = c .before .before .before .before .before .before .before .before .before .before .pre in
+    (p .0, (p .1 .0, (p .1 .1 .0, (length-take-le _ _ (omega (arith, room (c .before .before .before .before .before .before .before .before .before .before))), (length-take-le _ _ (omega arith), p .1 .1 .1 .1 .1)))))
+
+same-length : tie.Need-same-length
+same-length c = search needs
+
+same-length-2 : tie.Need-same-length-2
+same-length-2 c = search needs
+
+same-length-3 : tie.Need-same-length-3
+same-length-3 c = search needs
+
+same-length-4 : tie.Need-same-length-4
+same-length-4 c = search needs
+
+returns : tie.Need-returns
+returns c = search needs
+
+pub squares-cut-spec : {M : Type 1} → statement M
+squares-cut-spec =
+    tie.close
+    (tie.spec
+    add-e
+    mul-e
+    mul-e-2
+    slice-relend-prefix-squares-in
+    slice-aggregate-squares-in
+    slice-relend-prefix-squares-in-2
+    slice-aggregate-squares-in-2
+    squares-in-requires
+    same-length
+    same-length-2
+    same-length-3
+    same-length-4
+    returns)

@@ -1,0 +1,93 @@
+-- `back_row` meets its contract: the definition's steps, from what each call gives.
+use Prim.Native.Nat.{_+_, _*_, _-_, _≤_}
+use native.Mathlib.Omega.{arith}
+use borrow.Author.Needs.{needs}
+use Rattle.linear.specs.Substitution.{backStep}
+use Rattle.linear.proofs.Cells.{product-small}
+use Rattle.linear.proofs.substitution.back_row.Statement.{statement}
+use Rattle.linear.proofs.substitution.back_row.Tie as tie
+
+-- the row, and the one below it
+row : (s : tie.Start) → (s .args .n - 1 - s .args .t) * s .args .n ≤ 576
+row s = product-small (omega arith) (omega arith)
+
+below : (s : tie.Start) → (s .args .n - 1 - s .args .t + 1) * s .args .n ≤ 576
+below s = product-small (omega arith) (omega arith)
+
+sub-i : tie.Need-sub-i
+sub-i c = search needs
+
+sub-i-2 : tie.Need-sub-i-2
+sub-i-2 c = search needs
+
+shared-slice-read-if1 : tie.Need-shared-slice-read-if1
+shared-slice-read-if1 c = search needs
+
+returns : tie.Need-returns
+unfolding backStep
+returns c = rw (c .if1 .taken)
+
+add-minus-dot : tie.Need-add-minus-dot
+add-minus-dot c = search needs
+
+mul-minus-dot : tie.Need-mul-minus-dot
+mul-minus-dot c = omega (arith, below (c .before .before .before .before .before .before))
+
+add-minus-dot-2 : tie.Need-add-minus-dot-2
+add-minus-dot-2 c = omega (arith, below (c .before .before .before .before .before .before))
+
+add-minus-dot-3 : tie.Need-add-minus-dot-3
+add-minus-dot-3 c = search needs
+
+at-requires : tie.Need-at-requires
+at-requires c κs = search needs
+
+minus-dot-requires : tie.Need-minus-dot-requires
+minus-dot-requires c κs = omega (arith, below (c .before .before .before .before .before .before .before .before))
+
+mul-at : tie.Need-mul-at
+mul-at c = omega (arith, row (c .before .before .before .before .before .before .before .before .before .before))
+
+add-at : tie.Need-add-at
+add-at c = omega (arith, row (c .before .before .before .before .before .before .before .before .before .before))
+
+at-requires-2 : tie.Need-at-requires-2
+at-requires-2 c κs = search needs
+
+div-requires : tie.Need-div-requires
+div-requires c κs = search needs
+
+store-requires : tie.Need-store-requires
+store-requires c κs = search needs
+
+same-length : tie.Need-same-length
+same-length c = search needs
+
+returns-2 : tie.Need-returns-2
+unfolding backStep
+returns-2 c =
+    let q = c .before .before .before in
+    let k = q .before .before .before in
+    rw (k .before .before .before .if1 .left, ← k .before .at .ensures, ← k .minus-dot .ensures, ← q .before .at2 .ensures, ← q .div .ensures .value) (c .before .before .store .ensures)
+
+pub back-row-spec : {M : Type 1} → statement M
+back-row-spec =
+    tie.close
+    (tie.spec
+    sub-i
+    sub-i-2
+    shared-slice-read-if1
+    returns
+    add-minus-dot
+    mul-minus-dot
+    add-minus-dot-2
+    add-minus-dot-3
+    at-requires
+    minus-dot-requires
+    mul-at
+    add-at
+    at-requires-2
+    div-requires
+    store-requires
+    same-length
+    returns-2)

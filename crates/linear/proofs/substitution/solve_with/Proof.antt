@@ -1,0 +1,41 @@
+-- `solve_with` meets its contract: the part of the scratch slice has 2 n numbers.
+use mathlib.Core.Path.{sym}
+use borrow.Author.Needs.{needs}
+use lib.Seq.{length-take-le}
+use Rattle.linear.proofs.substitution.solve_with.Statement.{statement}
+use Rattle.linear.proofs.substitution.solve_with.Tie as tie
+
+mul-m : tie.Need-mul-m
+mul-m c = search needs
+
+slice-relend-prefix-solve-in : tie.Need-slice-relend-prefix-solve-in
+slice-relend-prefix-solve-in c = search needs
+
+slice-aggregate-solve-in : tie.Need-slice-aggregate-solve-in
+slice-aggregate-solve-in c = sym (length-take-le _ _ (c .before .before .before .before .before .before .before .pre .1 .1 .1))
+
+solve-in-requires : tie.Need-solve-in-requires
+solve-in-requires c κs =
+    let s = c .before .before .before .before .before .before .before in
+    (s .pre .0, (s .pre .1 .0, (s .pre .1 .1 .0, length-take-le _ _ (s .pre .1 .1 .1))))
+
+same-length : tie.Need-same-length
+same-length c = search needs
+
+same-length-2 : tie.Need-same-length-2
+same-length-2 c = search needs
+
+returns : tie.Need-returns
+returns c = search needs
+
+pub solve-with-spec : {M : Type 1} → statement M
+solve-with-spec =
+    tie.close
+    (tie.spec
+    mul-m
+    slice-relend-prefix-solve-in
+    slice-aggregate-solve-in
+    solve-in-requires
+    same-length
+    same-length-2
+    returns)

@@ -1,0 +1,26 @@
+-- What each answer of a linear function means: document 01's number of a refusal, and the value.
+use Prim.Native.Nat.{ℕ}
+use Rattle.interval.specs.Result.{Res, ok, refused}
+use Rattle.interval.specs.Result as scalar
+use Rattle.interval.specs.declared.Scalar.{Scalar}
+use Rattle.linear.specs.declared.answers.LinearError.{LinearError}
+use Rattle.linear.specs.declared.answers.LinearError.the-variants as e
+use Rattle.linear.specs.declared.answers.Answer.{Answer}
+use Rattle.linear.specs.declared.answers.Answer.the-variants as a
+use Rattle.linear.specs.declared.answers.Done.{Done}
+use Rattle.linear.specs.declared.answers.Done.the-variants as d
+
+-- 1: a count above 24. 2: a slice of the wrong length. 5 and 6: the scalars' refusals
+abbrev pub numberOf : LinearError → ℕ
+numberOf e.TooMany = 1
+numberOf e.WrongLength = 2
+numberOf (e.Arithmetic g) = scalar.numberOf g
+
+abbrev pub resultOf : Answer → Res Scalar
+resultOf (a.Value x) = ok x
+resultOf (a.Refused k) = refused (numberOf k)
+
+-- how a call ended, with what the state is then
+abbrev pub doneOf : {A : Type 0} → Done → A → Res A
+doneOf d.Finished s = ok s
+doneOf (d.Refused k) s = refused (numberOf k)

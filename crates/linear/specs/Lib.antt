@@ -1,0 +1,13 @@
+pub mod Flat
+pub mod Results
+pub mod Answers
+pub mod Replies
+pub mod Dot
+pub mod Choose
+pub mod Norm
+pub mod Cholesky
+pub mod Substitution
+pub mod CholeskyRows
+pub mod Householder
+pub mod Solved
+pub mod Calls

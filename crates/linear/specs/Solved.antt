@@ -1,0 +1,27 @@
+-- `minus_solved`: from - Jᵀ k with J Jᵀ k = rhs, each value chosen; J has m rows and n columns. Rows of J that say nothing the others do not are left out.
+use Prim.Native.Nat.{ℕ, _*_, _/_, _%_}
+use mathlib.Core.List.{List}
+use lib.Ieee.{Float}
+use Rattle.interval.specs.Result.{Res, ok}
+use Rattle.linear.specs.Flat.{at, along, listTo}
+use Rattle.linear.specs.Results.{bind}
+use Rattle.linear.specs.Dot.{dotTo, minusTo}
+use Rattle.linear.specs.Choose.{chooseOf}
+use Rattle.linear.specs.Cholesky.{choleskyOf}
+use Rattle.linear.specs.Substitution.{solveOf}
+
+-- J Jᵀ
+unfoldable pub gramOf : ℕ → ℕ → List Float → List Float
+gramOf m n jc = listTo (λ p. dotTo (along jc (p / m * n) 1) (along jc (p % m * n) 1) n) (m * m)
+
+unfoldable pub minusOf : ℕ → ℕ → List Float → List Float → List Float → List Float
+minusOf m n jc from k = listTo (λ i. chooseOf (minusTo (along jc i n) (at k) (at from i) m)) n
+
+-- k, of J Jᵀ k = rhs
+unfoldable pub multipliersOf : ℕ → ℕ → List Float → List Float → Res (List Float)
+unfolding bind
+multipliersOf m n jc rhs = bind (choleskyOf m (gramOf m n jc)) (λ f. solveOf m (f .l) (f .left-out) rhs)
+
+unfoldable pub minusSolvedOf : ℕ → ℕ → List Float → List Float → List Float → Res (List Float)
+unfolding bind
+minusSolvedOf m n jc rhs from = bind (multipliersOf m n jc rhs) (λ k. ok (minusOf m n jc from k))

@@ -1,0 +1,21 @@
+// How a call ends: the numbers are given in specs/Answers.antt.
+use interval::GeopError;
+use interval::Scalar;
+
+pub enum LinearError {
+    TooMany,
+    WrongLength,
+    Arithmetic(GeopError),
+}
+
+// Of a function that gives a scalar.
+pub enum Answer {
+    Value(Scalar),
+    Refused(LinearError),
+}
+
+// Of a function that writes its result into a slice.
+pub enum Done {
+    Finished,
+    Refused(LinearError),
+}

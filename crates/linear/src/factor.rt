@@ -1,0 +1,199 @@
+// The factor of a symmetric matrix, row by row.
+ghost use mathlib.Core.Path.{_≡_};
+ghost use mathlib.Core.Bool.{false};
+ghost use Prim.Native.Nat.{_+_, _*_, _<_, _≤_};
+ghost use lib.ListN.{length, replicate};
+ghost use Rattle.interval.specs.Result as scalar;
+ghost use Rattle.linear.specs.Answers.{doneOf};
+ghost use Rattle.linear.specs.Calls.{choleskyReply, blank};
+ghost use Rattle.linear.specs.Cholesky.{usable, rootPivot, pivotOf, choleskyOf, factorOf};
+ghost use Rattle.linear.specs.CholeskyRows.{pivotResult, entryStep, clearRow, settle, pivotStep, rowStep};
+ghost use Rattle.linear.specs.Replies.{replied, replyOf};
+ghost use Rattle.linear.specs.Results.{foldR};
+use crate::answers::Done;
+use crate::answers::LinearError;
+use crate::dots::minus_dot;
+use crate::flat::at;
+use crate::flat::clear;
+use crate::flat::put;
+use crate::store::store;
+use interval::GeopError;
+use interval::Scalar;
+use interval::ScalarResult;
+
+// A pivot: a root to divide by, or left out, or the root's refusal.
+pub enum Pivoted {
+    Root(Scalar),
+    LeftOut,
+    Refused(GeopError),
+}
+
+fn is_usable(q: ScalarResult) -> bool
+    ensures { λ r. ⌜ r ≡ usable (scalar.resultOf q) ⌝ }
+{
+    match q {
+        ScalarResult::Value(v) => v.is_finite(),
+        ScalarResult::Refused(_) => false,
+    }
+}
+
+fn root_pivot(q: ScalarResult) -> Pivoted
+    ensures { λ r. ⌜ pivotResult r ≡ rootPivot (scalar.resultOf q) ⌝ }
+{
+    match q {
+        ScalarResult::Value(v) => {
+            if is_usable(Scalar::ONE.div(v)) {
+                Pivoted::Root(v)
+            } else {
+                Pivoted::LeftOut
+            }
+        }
+        ScalarResult::Refused(e) => Pivoted::Refused(e),
+    }
+}
+
+fn pivot_of(s: Scalar) -> Pivoted
+    ensures { λ r. ⌜ pivotResult r ≡ pivotOf s ⌝ }
+{
+    if s.definitely_greater(Scalar::ZERO) {
+        return root_pivot(s.sqrt());
+    }
+    Pivoted::LeftOut
+}
+
+// The entry of row i and column j, below the diagonal.
+fn entry(n: usize, a: &[f64], l: &mut [f64], left_out: &[bool], i: usize, j: usize) -> Done
+    requires { ⌜ (i < n) × ((j < i) × ((n ≤ 24) × (length (now «left_out») ≡ n))) ⌝ }
+    ensures { λ r. ⌜ doneOf r (now (l .exit)) ≡ entryStep n (now (a .entry)) (now («left_out» .entry)) i (now (l .entry)) j ⌝ }
+{
+    if left_out[j] {
+        return Done::Finished;
+    }
+    let row = i * n;
+    let top = j * n;
+    let s = minus_dot(l, row, 1, l, top, 1, at(a, row + j), j);
+    store(l, row + j, s.div(at(l, top + j)))
+}
+
+// The entries of row i below the diagonal.
+fn entries(n: usize, a: &[f64], l: &mut [f64], left_out: &[bool], i: usize) -> Done
+    requires { ⌜ (i < n) × ((n ≤ 24) × (length (now «left_out») ≡ n)) ⌝ }
+    ensures { λ r. ⌜ doneOf r (now (l .exit)) ≡ foldR (entryStep n (now (a .entry)) (now («left_out» .entry)) i) (now (l .entry)) i ⌝ }
+{
+    for j in 0..i {
+        match entry(n, a, l, left_out, i, j) {
+            Done::Finished => {}
+            Done::Refused(e) => {
+                return Done::Refused(e);
+            }
+        }
+    }
+    Done::Finished
+}
+
+fn clear_row(n: usize, l: &mut [f64], i: usize)
+    requires { ⌜ (i < n) × (n ≤ 24) ⌝ }
+    ensures { λ _. ⌜ now (l .exit) ≡ clearRow n i (now (l .entry)) n ⌝ }
+{
+    for k in 0..n {
+        put(l, i * n + k, Scalar::ZERO);
+    }
+}
+
+// Stores a pivot, or leaves its row out.
+fn settle_pivot(n: usize, l: &mut [f64], left_out: &mut [bool], i: usize, p: Pivoted) -> Done
+    requires { ⌜ (i < n) × ((n ≤ 24) × (length (now «left_out») ≡ n)) ⌝ }
+    ensures { λ r. ⌜ doneOf r (factorOf (now (l .exit)) (now («left_out» .exit))) ≡ settle n (now («left_out» .entry)) i (now (l .entry)) (pivotResult p) ⌝ }
+{
+    match p {
+        Pivoted::Root(r) => {
+            put(l, i * n + i, r);
+            Done::Finished
+        }
+        Pivoted::LeftOut => {
+            clear_row(n, l, i);
+            left_out[i] = true;
+            Done::Finished
+        }
+        Pivoted::Refused(e) => Done::Refused(LinearError::Arithmetic(e)),
+    }
+}
+
+fn pivot_row(n: usize, a: &[f64], l: &mut [f64], left_out: &mut [bool], i: usize) -> Done
+    requires { ⌜ (i < n) × ((n ≤ 24) × (length (now «left_out») ≡ n)) ⌝ }
+    ensures { λ r. ⌜ doneOf r (factorOf (now (l .exit)) (now («left_out» .exit))) ≡ pivotStep n (now (a .entry)) (now («left_out» .entry)) i (now (l .entry)) ⌝ }
+{
+    let row = i * n;
+    let s = minus_dot(l, row, 1, l, row, 1, at(a, row + i), i);
+    settle_pivot(n, l, left_out, i, pivot_of(s))
+}
+
+// Row i of the factor.
+fn factor_row(n: usize, a: &[f64], l: &mut [f64], left_out: &mut [bool], i: usize) -> Done
+    requires { ⌜ (i < n) × ((n ≤ 24) × (length (now «left_out») ≡ n)) ⌝ }
+    ensures { λ r. ⌜ doneOf r (factorOf (now (l .exit)) (now («left_out» .exit))) ≡ rowStep n (now (a .entry)) (factorOf (now (l .entry)) (now («left_out» .entry))) i ⌝ }
+{
+    match entries(n, a, l, left_out, i) {
+        Done::Finished => pivot_row(n, a, l, left_out, i),
+        Done::Refused(e) => Done::Refused(e),
+    }
+}
+
+fn factor_rows(n: usize, a: &[f64], l: &mut [f64], left_out: &mut [bool]) -> Done
+    requires { ⌜ (n ≤ 24) × (length (now «left_out») ≡ n) ⌝ }
+    ensures { λ r. ⌜ doneOf r (factorOf (now (l .exit)) (now («left_out» .exit))) ≡ foldR (rowStep n (now (a .entry))) (factorOf (now (l .entry)) (now («left_out» .entry))) n ⌝ }
+{
+    for i in 0..n {
+        match factor_row(n, a, l, left_out, i) {
+            Done::Finished => {}
+            Done::Refused(e) => {
+                return Done::Refused(e);
+            }
+        }
+    }
+    Done::Finished
+}
+
+pub fn unmark(xs: &mut [bool])
+    ensures { λ _. ⌜ now (xs .exit) ≡ replicate (length (now (xs .entry))) false ⌝ }
+{
+    for i in 0..xs.len() {
+        xs[i] = false;
+    }
+}
+
+// The factor from clear slices, and clear slices where it is refused; the lengths are checked.
+pub fn factor_sized(n: usize, a: &[f64], l: &mut [f64], left_out: &mut [bool]) -> Done
+    requires { ⌜ (n ≤ 24) × ((length (now l) ≡ 2 * (n * n)) × (length (now «left_out») ≡ n)) ⌝ }
+    ensures { λ r. ⌜ replied r (factorOf (now (l .exit)) (now («left_out» .exit))) ≡ replyOf (blank n) (choleskyOf n (now (a .entry))) ⌝ }
+{
+    clear(l);
+    unmark(left_out);
+    match factor_rows(n, a, l, left_out) {
+        Done::Finished => Done::Finished,
+        Done::Refused(e) => {
+            clear(l);
+            unmark(left_out);
+            Done::Refused(e)
+        }
+    }
+}
+
+// L with L Lᵀ = a, of which the lower triangle is read; a pivot that is not definitely positive is left out.
+pub fn cholesky(n: usize, a: &[f64], l: &mut [f64], left_out: &mut [bool]) -> Done
+    ensures { λ r. ⌜ replied r (factorOf (now (l .exit)) (now («left_out» .exit))) ≡ choleskyReply n (now (a .entry)) (factorOf (now (l .entry)) (now («left_out» .entry))) ⌝ }
+{
+    if n > 24 {
+        return Done::Refused(LinearError::TooMany);
+    }
+    if a.len() != 2 * (n * n) {
+        return Done::Refused(LinearError::WrongLength);
+    }
+    if l.len() != 2 * (n * n) {
+        return Done::Refused(LinearError::WrongLength);
+    }
+    if left_out.len() != n {
+        return Done::Refused(LinearError::WrongLength);
+    }
+    factor_sized(n, a, l, left_out)
+}

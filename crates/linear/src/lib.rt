@@ -1,0 +1,30 @@
+// Lists of scalars and small matrices, at most 24 rows and 24 columns, over flat f64 slices: two numbers for each scalar, lo then hi, matrices row by row. The functions are those of
+// geop-core-math's solvers, by the same names. Nothing is kept on a heap.
+//
+// Public functions are total: they answer 1 where a count is above 24, then 2 where a slice has the wrong length, with nothing written, and 5 or 6 in the Rust's order of operations, with
+// the output slice all +0. Inputs are never written.
+mod answers;
+mod choices;
+mod dots;
+mod factor;
+mod flat;
+mod householder;
+mod norms;
+mod solved;
+mod store;
+mod substitution;
+
+pub use answers::Answer;
+pub use answers::Done;
+pub use answers::LinearError;
+pub use choices::choose;
+pub use choices::sharp;
+pub use dots::dot;
+pub use factor::cholesky;
+pub use flat::at;
+pub use flat::clear;
+pub use flat::put;
+pub use householder::least_squares;
+pub use norms::norm;
+pub use solved::minus_solved;
+pub use substitution::solve_cholesky;

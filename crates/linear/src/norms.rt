@@ -1,0 +1,87 @@
+// The length of a list.
+ghost use mathlib.Core.Path.{_≡_};
+ghost use Prim.Native.Nat.{_+_, _*_, _<_};
+ghost use Rattle.interval.specs.Result as scalar;
+ghost use Rattle.linear.specs.Answers.{resultOf};
+ghost use Rattle.linear.specs.Calls.{normReply};
+ghost use Rattle.linear.specs.Flat.{at, along};
+ghost use Rattle.linear.specs.Norm.{largestTo, scaledSquares, scaledRoot, normOf};
+use crate::answers::Answer;
+use crate::answers::LinearError;
+use crate::dots::dot_of;
+use crate::flat::at;
+use interval::Scalar;
+use interval::ScalarResult;
+
+// The greatest size among the first n.
+fn largest(v: &[f64], n: usize) -> Scalar
+    ensures { λ r. ⌜ r ≡ largestTo (at (now (v .entry))) n ⌝ }
+{
+    let mut m = Scalar::ZERO;
+    for i in 0..n {
+        m = m.max(at(v, i).abs().upper());
+    }
+    m
+}
+
+// The sum of the squares of the first n, each over g.
+fn scaled_squares(v: &[f64], g: Scalar, n: usize) -> ScalarResult
+    ensures { λ r. ⌜ scalar.resultOf r ≡ scaledSquares (at (now (v .entry))) g n ⌝ }
+{
+    let mut sum = Scalar::ZERO;
+    for i in 0..n {
+        match at(v, i).div(g) {
+            ScalarResult::Value(q) => {
+                sum = sum.add(q.mul(q));
+            }
+            ScalarResult::Refused(e) => {
+                return ScalarResult::Refused(e);
+            }
+        }
+    }
+    ScalarResult::Value(sum)
+}
+
+fn scaled_root(g: Scalar, squares: ScalarResult) -> ScalarResult
+    ensures { λ r. ⌜ scalar.resultOf r ≡ scaledRoot g (scalar.resultOf squares) ⌝ }
+{
+    match squares {
+        ScalarResult::Value(s) => match s.sqrt() {
+            ScalarResult::Value(r) => ScalarResult::Value(g.mul(r)),
+            ScalarResult::Refused(e) => ScalarResult::Refused(e),
+        },
+        ScalarResult::Refused(e) => ScalarResult::Refused(e),
+    }
+}
+
+// The length of the first n.
+pub fn norm_of(v: &[f64], n: usize) -> ScalarResult
+    ensures { λ r. ⌜ scalar.resultOf r ≡ normOf (at (now (v .entry))) n ⌝ }
+{
+    let g = largest(v, n);
+    if g.definitely_greater(Scalar::ZERO) {
+        return scaled_root(g, scaled_squares(v, g, n));
+    }
+    dot_of(v, v, n).sqrt()
+}
+
+fn answer(r: ScalarResult) -> Answer
+    ensures { λ a. ⌜ resultOf a ≡ scalar.resultOf r ⌝ }
+{
+    match r {
+        ScalarResult::Value(x) => Answer::Value(x),
+        ScalarResult::Refused(e) => Answer::Refused(LinearError::Arithmetic(e)),
+    }
+}
+
+pub fn norm(n: usize, v: &[f64]) -> Answer
+    ensures { λ r. ⌜ resultOf r ≡ normReply n (now (v .entry)) ⌝ }
+{
+    if n > 24 {
+        return Answer::Refused(LinearError::TooMany);
+    }
+    if v.len() != 2 * n {
+        return Answer::Refused(LinearError::WrongLength);
+    }
+    answer(norm_of(v, n))
+}

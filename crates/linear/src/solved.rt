@@ -1,0 +1,186 @@
+// The shortest step onto linear constraints.
+ghost use mathlib.Core.Path.{_≡_};
+ghost use Prim.Native.Nat.{_+_, _*_, _/_, _%_, _<_, _≤_};
+ghost use lib.ListN.{length};
+ghost use Rattle.linear.specs.Answers.{doneOf};
+ghost use Rattle.linear.specs.Calls.{minusSolvedReply};
+ghost use Rattle.linear.specs.Dot.{dotTo};
+ghost use Rattle.linear.specs.Flat.{along, zeros};
+ghost use Rattle.linear.specs.Replies.{replied, replyOf};
+ghost use Rattle.linear.specs.Solved.{gramOf, multipliersOf, minusOf, minusSolvedOf};
+use crate::answers::Done;
+use crate::answers::LinearError;
+use crate::choices::choose;
+use crate::dots::minus_dot;
+use crate::factor::factor_sized;
+use crate::flat::at;
+use crate::flat::clear;
+use crate::flat::put;
+use crate::substitution::solve_sized;
+use interval::Scalar;
+
+// The product of rows a and b of jc, each of n.
+fn row_dot(n: usize, jc: &[f64], a: usize, b: usize) -> Scalar
+    requires { ⌜ (n ≤ 24) × ((a < 24) × (b < 24)) ⌝ }
+    ensures { λ r. ⌜ r ≡ dotTo (along (now (jc .entry)) (a * n) 1) (along (now (jc .entry)) (b * n) 1) n ⌝ }
+{
+    let mut sum = Scalar::ZERO;
+    for i in 0..n {
+        sum = sum.add(at(jc, a * n + i).mul(at(jc, b * n + i)));
+    }
+    sum
+}
+
+// The products of all rows.
+fn gram(m: usize, n: usize, jc: &[f64], g: &mut [f64])
+    requires { ⌜ (m ≤ 24) × ((n ≤ 24) × (length (now g) ≡ 2 * (m * m))) ⌝ }
+    ensures { λ _. ⌜ now (g .exit) ≡ gramOf m n (now (jc .entry)) ⌝ }
+{
+    let q = m * m;
+    for p in 0..q {
+        put(g, p, row_dot(n, jc, p / m, p % m));
+    }
+}
+
+// The values, once k is solved for.
+fn minus(m: usize, n: usize, jc: &[f64], from: &[f64], k: &[f64], out: &mut [f64])
+    requires { ⌜ (m ≤ 24) × ((n ≤ 24) × (length (now out) ≡ 2 * n)) ⌝ }
+    ensures { λ _. ⌜ now (out .exit) ≡ minusOf m n (now (jc .entry)) (now (from .entry)) (now (k .entry)) ⌝ }
+{
+    for i in 0..n {
+        put(out, i, choose(minus_dot(jc, i, n, k, 0, 1, at(from, i), m)));
+    }
+}
+
+// k, of J Jᵀ k = rhs, with scratch slices.
+fn multipliers(
+    m: usize,
+    n: usize,
+    jc: &[f64],
+    rhs: &[f64],
+    k: &mut [f64],
+    g: &mut [f64],
+    l: &mut [f64],
+    left_out: &mut [bool],
+) -> Done
+    requires { ⌜ (m ≤ 24) × ((n ≤ 24) × ((length (now k) ≡ 2 * m) × ((length (now g) ≡ 2 * (m * m)) × ((length (now l) ≡ 2 * (m * m)) × (length (now «left_out») ≡ m))))) ⌝ }
+    ensures { λ r. ⌜ doneOf r (now (k .exit)) ≡ multipliersOf m n (now (jc .entry)) (now (rhs .entry)) ⌝ }
+{
+    gram(m, n, jc, g);
+    match factor_sized(m, g, l, left_out) {
+        Done::Finished => solve_sized(m, l, left_out, rhs, k),
+        Done::Refused(e) => Done::Refused(e),
+    }
+}
+
+// The whole, with scratch slices of the right lengths; out is clear where it is refused.
+fn solved_in(
+    m: usize,
+    n: usize,
+    jc: &[f64],
+    rhs: &[f64],
+    from: &[f64],
+    out: &mut [f64],
+    k: &mut [f64],
+    g: &mut [f64],
+    l: &mut [f64],
+    left_out: &mut [bool],
+) -> Done
+    requires { ⌜ (m ≤ 24) × ((n ≤ 24) × ((length (now out) ≡ 2 * n) × ((length (now k) ≡ 2 * m) × ((length (now g) ≡ 2 * (m * m)) × ((length (now l) ≡ 2 * (m * m)) × (length (now «left_out») ≡ m)))))) ⌝ }
+    ensures { λ r. ⌜ replied r (now (out .exit)) ≡ replyOf (zeros (2 * n)) (minusSolvedOf m n (now (jc .entry)) (now (rhs .entry)) (now (from .entry))) ⌝ }
+{
+    clear(out);
+    match multipliers(m, n, jc, rhs, k, g, l, left_out) {
+        Done::Finished => {
+            minus(m, n, jc, from, k, out);
+            Done::Finished
+        }
+        Done::Refused(e) => Done::Refused(e),
+    }
+}
+
+// The same with scratch slices that are long enough.
+fn solved_cut(
+    m: usize,
+    n: usize,
+    jc: &[f64],
+    rhs: &[f64],
+    from: &[f64],
+    out: &mut [f64],
+    k: &mut [f64],
+    g: &mut [f64],
+    l: &mut [f64],
+    left_out: &mut [bool],
+) -> Done
+    requires { ⌜ (m ≤ 24) × ((n ≤ 24) × ((length (now out) ≡ 2 * n) × ((length (now k) ≡ 48) × ((length (now g) ≡ 1152) × ((length (now l) ≡ 1152) × (length (now «left_out») ≡ 24)))))) ⌝ }
+    ensures { λ r. ⌜ replied r (now (out .exit)) ≡ replyOf (zeros (2 * n)) (minusSolvedOf m n (now (jc .entry)) (now (rhs .entry)) (now (from .entry))) ⌝ }
+{
+    let q = 2 * m;
+    let s = 2 * (m * m);
+    solved_in(
+        m,
+        n,
+        jc,
+        rhs,
+        from,
+        out,
+        &mut k[..q],
+        &mut g[..s],
+        &mut l[..s],
+        &mut left_out[..m],
+    )
+}
+
+fn solved_sized(m: usize, n: usize, jc: &[f64], rhs: &[f64], from: &[f64], out: &mut [f64]) -> Done
+    requires { ⌜ (m ≤ 24) × ((n ≤ 24) × (length (now out) ≡ 2 * n)) ⌝ }
+    ensures { λ r. ⌜ replied r (now (out .exit)) ≡ replyOf (zeros (2 * n)) (minusSolvedOf m n (now (jc .entry)) (now (rhs .entry)) (now (from .entry))) ⌝ }
+{
+    let mut k = [0.0; 48];
+    let mut g = [0.0; 1152];
+    let mut l = [0.0; 1152];
+    let mut left_out = [false; 24];
+    solved_cut(
+        m,
+        n,
+        jc,
+        rhs,
+        from,
+        out,
+        &mut k,
+        &mut g,
+        &mut l,
+        &mut left_out,
+    )
+}
+
+// from - Jᵀ k with J Jᵀ k = rhs, each value chosen; J has m rows of n.
+pub fn minus_solved(
+    m: usize,
+    n: usize,
+    jc: &[f64],
+    rhs: &[f64],
+    from: &[f64],
+    out: &mut [f64],
+) -> Done
+    ensures { λ r. ⌜ replied r (now (out .exit)) ≡ minusSolvedReply m n (now (jc .entry)) (now (rhs .entry)) (now (from .entry)) (now (out .entry)) ⌝ }
+{
+    if m > 24 {
+        return Done::Refused(LinearError::TooMany);
+    }
+    if n > 24 {
+        return Done::Refused(LinearError::TooMany);
+    }
+    if jc.len() != 2 * (m * n) {
+        return Done::Refused(LinearError::WrongLength);
+    }
+    if rhs.len() != 2 * m {
+        return Done::Refused(LinearError::WrongLength);
+    }
+    if from.len() != 2 * n {
+        return Done::Refused(LinearError::WrongLength);
+    }
+    if out.len() != 2 * n {
+        return Done::Refused(LinearError::WrongLength);
+    }
+    solved_sized(m, n, jc, rhs, from, out)
+}

@@ -1,0 +1,22 @@
+// A scalar that may be refused, stored.
+ghost use mathlib.Core.Path.{_≡_};
+ghost use Rattle.interval.specs.Result as scalar;
+ghost use Rattle.linear.specs.Answers.{doneOf};
+ghost use Rattle.linear.specs.Substitution.{storeR};
+use crate::answers::Done;
+use crate::answers::LinearError;
+use crate::flat::put;
+use interval::ScalarResult;
+
+// Stores a value, or hands its refusal on.
+pub fn store(xs: &mut [f64], i: usize, q: ScalarResult) -> Done
+    ensures { λ r. ⌜ doneOf r (now (xs .exit)) ≡ storeR (now (xs .entry)) i (scalar.resultOf q) ⌝ }
+{
+    match q {
+        ScalarResult::Value(v) => {
+            put(xs, i, v);
+            Done::Finished
+        }
+        ScalarResult::Refused(e) => Done::Refused(LinearError::Arithmetic(e)),
+    }
+}
