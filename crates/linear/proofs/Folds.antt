@@ -1,9 +1,10 @@
 -- Steps that may refuse, one after the other: one turn more, and a refusal that stays.
 use Prim.Native.Nat.{ℕ, zero, suc, _+_, _-_, _<_}
-use mathlib.Core.Path.{_≡_, _∙_}
+use mathlib.Core.Path.{_≡_, refl, _∙_}
 use native.Mathlib.Omega.{arith}
 use native.Mathlib.Numerals.{add-one}
 use Rattle.interval.specs.Result.{Res, ok, refused}
+use Rattle.interval.proofs.Results.{refused-ok}
 use Rattle.linear.specs.Results.{bind, foldR}
 
 pub bind-ok : {A B : Type 0} {x : Res A} {s : A} (f : A → Res B) → x ≡ ok s → bind x f ≡ f s
@@ -29,3 +30,9 @@ module _ {A : Type 0} (f : A → ℕ → Res A) (z : A) where
   ends {n} {i} h e r =
       let m : (n - (i + 1)) + (i + 1) ≡ n = omega arith in
       rw m at (stays (n - (i + 1)) (i + 1) (turn i e ∙ r))
+
+-- what gives a value
+pub bind-value : {A B : Type 0} (x : Res A) (f : A → Res B) {y : B} → bind x f ≡ ok y → (a : A) × (x ≡ ok a) × (f a ≡ ok y)
+unfolding bind
+bind-value (ok a) f e = (a, refl, e)
+bind-value (refused k) f e = absurd (refused-ok e)

@@ -10,3 +10,8 @@ pub mod Pivots
 pub mod FactorEntries
 pub mod CholeskyRows
 pub mod Reflections
+pub mod SquareLaws
+pub mod RootLaws
+pub mod NormLaws
+pub mod NormSizes
+pub mod NormLow

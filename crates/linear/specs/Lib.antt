@@ -5,6 +5,7 @@ pub mod Replies
 pub mod Dot
 pub mod Choose
 pub mod Norm
+pub mod Squares
 pub mod Cholesky
 pub mod Substitution
 pub mod CholeskyRows
