@@ -1,5 +1,5 @@
 #!/usr/bin/env python3
-"""Copies the scalars of geop-core-math to a folder, as a crate that rustc compiles alone.
+"""Copies the scalars of geop-core-math and two of its solvers to a folder, as a crate that rustc compiles alone.
 
 usage: prepare.py SOURCE OUT      SOURCE: the folder that holds core/geop-core-math; OUT: where the crate is written
 
@@ -14,7 +14,14 @@ FILES = {
     "geop_error.rs": "50a6e657faf78e8445e7baf546416ff7c2b4d39668b46d3535a8c7ad2074f581",
     "scalars/mod.rs": "21d0aa4e84eeed12993c1fda145a424dee222e43bc20809296b6cadaca309128",
     "scalars/number.rs": "968548acec5b65901c98166c5c181a45a619728cc2902259a4d18e869ecad487",
+    "solvers/least_squares.rs": "69ddbd08e51a4117f45b07deae12084a78898004137e837c653239e41c643662",
+    "solvers/linear.rs": "80021b9e633e88f901e8c54db2e786646d3defb758ec4e93809a80b7eb8c7304",
 }
+
+DERIVED = "#[derive(Clone, Copy, Debug, PartialEq, Eq"
+
+SOLVERS = ["dot", "norm", "choose", "sharp", "minus_solved", "least_squares"]
+FIXED_SIZE = ["solve_linear_system<", "solve_pivoted<", "solve_banded<", "shortest_solution("]
 
 # (file, how often, old, new)
 EDITS = [
@@ -32,10 +39,26 @@ EDITS = [
         "Self::new(self.lo.min(other.lo), self.hi.max(other.hi))",
         "Self::new(crate::first_min(self.lo, other.lo), crate::first_max(self.hi, other.hi))",
     ),
+    # serde is no part of std.
+    ("solvers/least_squares.rs", 2, DERIVED + ", serde::Serialize, serde::Deserialize)]", DERIVED + ")]"),
+    # The comparison calls them from outside the crate.
+    *[("solvers/least_squares.rs", 1, f"\nfn {name}(", f"\npub fn {name}(") for name in SOLVERS],
+    # Small matrices and vectors of fixed size are not copied, nor are the functions over them compared.
+    ("solvers/linear.rs", 1, "    matrix::Matrix,\n", ""),
+    ("solvers/linear.rs", 1, "    vector::{Vector, Vector3},\n", ""),
+    *[("solvers/linear.rs", 1, f"\npub fn {name}", f"\n#[cfg(any())]\npub fn {name}") for name in FIXED_SIZE],
 ]
 
 ROOT = """pub mod geop_error;
 pub mod scalars;
+
+pub mod solvers {
+    pub mod least_squares;
+    pub mod linear;
+
+    // The Rust counts its work here, for tests of its own.
+    fn factorised(_rows: usize, _columns: usize) {}
+}
 
 // f64::min and f64::max, and of two equal numbers the first.
 pub(crate) fn first_min(a: f64, b: f64) -> f64 {

@@ -1,4 +1,4 @@
-//! The archive of `interval_c`: each public function of the interval crate.
+//! The archives of `interval_c` and `linear_c`: each public function of the two crates.
 
 #[repr(C)]
 #[derive(Clone, Copy)]
@@ -47,4 +47,67 @@ unsafe extern "C" {
     pub safe fn interval_upper(x: Scalar) -> Scalar;
     pub safe fn interval_sharpen(x: Scalar) -> Scalar;
     pub safe fn interval_max(x: Scalar, y: Scalar) -> Scalar;
+}
+
+// Each is total too, given that a pointer and its count are those of a slice.
+#[link(name = "linear_c", kind = "static")]
+unsafe extern "C" {
+    pub fn linear_dot(
+        n: usize,
+        a: *const f64,
+        a_count: usize,
+        b: *const f64,
+        b_count: usize,
+    ) -> Answer;
+    pub fn linear_norm(n: usize, v: *const f64, v_count: usize) -> Answer;
+    pub safe fn linear_choose(v: Scalar) -> Scalar;
+    pub fn linear_sharp(
+        n: usize,
+        v: *const f64,
+        v_count: usize,
+        out: *mut f64,
+        out_count: usize,
+    ) -> u64;
+    pub fn linear_cholesky(
+        n: usize,
+        a: *const f64,
+        a_count: usize,
+        l: *mut f64,
+        l_count: usize,
+        left_out: *mut bool,
+        left_out_count: usize,
+    ) -> u64;
+    pub fn linear_solve_cholesky(
+        n: usize,
+        l: *const f64,
+        l_count: usize,
+        left_out: *const bool,
+        left_out_count: usize,
+        b: *const f64,
+        b_count: usize,
+        x: *mut f64,
+        x_count: usize,
+    ) -> u64;
+    pub fn linear_least_squares(
+        m: usize,
+        r: usize,
+        rows: *const f64,
+        rows_count: usize,
+        rhs: *const f64,
+        rhs_count: usize,
+        y: *mut f64,
+        y_count: usize,
+    ) -> u64;
+    pub fn linear_minus_solved(
+        m: usize,
+        n: usize,
+        jc: *const f64,
+        jc_count: usize,
+        rhs: *const f64,
+        rhs_count: usize,
+        from: *const f64,
+        from_count: usize,
+        out: *mut f64,
+        out_count: usize,
+    ) -> u64;
 }

@@ -1,26 +1,35 @@
-//! Compares the interval crate with the Rust that it follows, function by function: a NaN equals a NaN, other numbers
-//! compare by bits, refusals by number. The exit status is 1 where any answer differs.
+//! Compares the crates interval and linear with the Rust that they follow, function by function: a NaN equals a NaN, other
+//! numbers compare by bits, refusals by number. The exit status is 1 where any answer differs.
 
 mod archive;
-mod functions;
-mod list;
-mod operands;
+mod interval;
+mod linear;
+mod words;
 
-use functions::{Answer, FUNCTIONS, Function, Operands, Takes};
-use operands::Random;
 use std::process::ExitCode;
-
-/// How many differences of a function are printed.
-const SHOWN: u64 = 5;
 
 struct Settings {
     seed: u64,
     random: u64,
-    list: Option<String>,
+    lists: Vec<(String, String)>,
+}
+
+/// What was compared, and how much of it differs.
+#[derive(Default)]
+struct Count {
+    compared: u64,
+    differ: u64,
+}
+
+impl std::ops::AddAssign for Count {
+    fn add_assign(&mut self, other: Count) {
+        self.compared += other.compared;
+        self.differ += other.differ;
+    }
 }
 
 fn refuse(why: &str) -> ! {
-    eprintln!("compare: {why}: --seed N, --random N, --write-list FILE");
+    eprintln!("compare: {why}: --seed N, --random N, --write-list CRATE=FILE");
     std::process::exit(2)
 }
 
@@ -30,11 +39,18 @@ fn number(name: &str, value: &str) -> u64 {
         .unwrap_or_else(|_| refuse(&format!("{name} wants a whole number")))
 }
 
+fn crate_and_file(value: &str) -> (String, String) {
+    let Some((name, file)) = value.split_once('=') else {
+        refuse("--write-list wants CRATE=FILE")
+    };
+    (name.to_string(), file.to_string())
+}
+
 fn settings() -> Settings {
     let mut settings = Settings {
         seed: 1,
         random: 1_000_000,
-        list: None,
+        lists: Vec::new(),
     };
     let mut args = std::env::args().skip(1);
     while let Some(name) = args.next() {
@@ -44,104 +60,33 @@ fn settings() -> Settings {
         match name.as_str() {
             "--seed" => settings.seed = number(&name, &value),
             "--random" => settings.random = number(&name, &value),
-            "--write-list" => settings.list = Some(value),
+            "--write-list" => settings.lists.push(crate_and_file(&value)),
             _ => refuse(&format!("no option {name}")),
         }
     }
     settings
 }
 
-fn hex(words: &[u64]) -> String {
-    words
-        .iter()
-        .map(|w| format!("{w:016X}"))
-        .collect::<Vec<_>>()
-        .join(" ")
-}
-
-fn shown(answer: Answer) -> String {
-    match answer.number {
-        0 => hex(&answer.words),
-        number => format!("refusal {number} {}", hex(&answer.words)),
-    }
-}
-
-/// 1 where the two answers differ, and the difference is printed while it is among the first.
-fn differs(function: &Function, operands: &Operands, before: u64) -> u64 {
-    let rust = (function.rust)(operands);
-    let rattle = (function.rattle)(operands);
-    if rust == rattle {
-        return 0;
-    }
-    if before < SHOWN {
-        println!(
-            "  {} {}: Rust {}, Rattle {}",
-            function.name,
-            hex(operands),
-            shown(rust),
-            shown(rattle)
-        );
-    }
-    1
-}
-
-struct Count {
-    compared: u64,
-    differ: u64,
-}
-
-fn compare(function: &Function, seed: u64, random: u64) -> Count {
-    let random = if function.takes == Takes::Nothing {
-        0
-    } else {
-        random
+fn write_list(name: &str, path: &str, seed: u64) {
+    let lines = match name {
+        "interval_replay" => interval::list::lines(seed),
+        "linear_replay" => linear::list::lines(seed),
+        _ => refuse(&format!("no list for {name}")),
     };
-    let specials = operands::specials(function.takes);
-    let mut differ = 0;
-    for operands in &specials {
-        differ += differs(function, operands, differ);
-    }
-    let mut drawn = Random::new(seed ^ u64::from(function.code) << 56);
-    for _ in 0..random {
-        differ += differs(function, &drawn.operands(function.takes), differ);
-    }
-    println!(
-        "{:<20} {:>8} special {:>9} random {:>4} differ",
-        function.name,
-        specials.len(),
-        random,
-        differ
-    );
-    Count {
-        compared: specials.len() as u64 + random,
-        differ,
-    }
+    std::fs::write(path, lines.concat()).unwrap_or_else(|error| panic!("{path}: {error}"));
+    println!("{} answers written to {path}", lines.len());
 }
 
 fn main() -> ExitCode {
     let settings = settings();
-    if let Some(path) = settings.list {
-        let lines = list::lines(settings.seed);
-        std::fs::write(&path, lines.concat()).unwrap_or_else(|error| panic!("{path}: {error}"));
-        println!("{} answers written to {path}", lines.len());
+    for (name, path) in &settings.lists {
+        write_list(name, path, settings.seed);
+    }
+    if !settings.lists.is_empty() {
         return ExitCode::SUCCESS;
     }
-    println!(
-        "seed {}; special scalars {}, special floats {}, special integers {}",
-        settings.seed,
-        operands::special_scalars().len(),
-        operands::special_floats().len(),
-        operands::special_integers().len()
-    );
-    let mut total = Count {
-        compared: 0,
-        differ: 0,
-    };
-    for function in &FUNCTIONS {
-        let count = compare(function, settings.seed, settings.random);
-        total.compared += count.compared;
-        total.differ += count.differ;
-    }
+    let mut total = interval::compare(settings.seed, settings.random);
+    total += linear::compare(settings.seed, settings.random);
     println!("{} compared, {} differ", total.compared, total.differ);
     if total.differ == 0 {
         ExitCode::SUCCESS

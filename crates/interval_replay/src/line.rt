@@ -1,27 +1,12 @@
 // A line of the list, 109 bytes: the function's code, four operands, and after the sign = the number
 // of the refusal or 0 and the two words of the answer, all by hexadecimal digits.
 ghost use mathlib.Core.Path.{_≡_};
-ghost use Prim.Native.Nat.{_+_, _≤_};
-ghost use Rattle.interval_replay.specs.Line.{digitOf, fitsMark, numberOf};
-
-// The value of a digit, 16 for a byte that is none.
-fn digit_of(b: u8) -> u64
-    ensures { λ r. ⌜ r ≡ digitOf b ⌝ }
-{
-    if b < b'0' {
-        return 16;
-    }
-    if b <= b'9' {
-        return b as u64 - 48;
-    }
-    if b < b'A' {
-        return 16;
-    }
-    if b <= b'F' {
-        return b as u64 - 55;
-    }
-    16
-}
+ghost use Prim.Native.Nat.{_-_, _≤_};
+ghost use lib.ListN.{take, drop};
+ghost use Rattle.float_bits.specs.Text.{numberOf};
+ghost use Rattle.interval_replay.specs.Line.{fitsMark};
+use float_bits::digit_of;
+use float_bits::number_of;
 
 // A digit stands where the layout has '#', and else what the layout has.
 fn fits(b: u8, mark: u8) -> bool
@@ -46,16 +31,11 @@ pub fn is_line(line: &[u8; 109]) -> bool {
     true
 }
 
-// The number that the digits from `at` on write.
-pub fn number_at(line: &[u8; 109], at: usize, digits: usize) -> u64
-    requires { ⌜ (at + digits ≤ 109) × (digits ≤ 16) ⌝ }
-    ensures { λ r. ⌜ r ≡ numberOf (now (line .entry)) at digits ⌝ }
+// The number that the bytes from..to write.
+pub fn number_in(line: &[u8; 109], from: usize, to: usize) -> u64
+    requires { ⌜ (from ≤ to) × (to ≤ 109) ⌝ }
+    ensures { λ r. ⌜ r ≡ numberOf (take (to - from) (drop from (now (line .entry)))) ⌝ }
 {
-    let mut number: u64 = 0;
-    let mut i = 0;
-    while i < digits {
-        number = number * 16 + digit_of(line[at + i]) % 16;
-        i += 1;
-    }
-    number
+    let text = &line[..];
+    number_of(&text[from..to])
 }

@@ -11,7 +11,7 @@ use answer::Answer;
 use answer::answer_of;
 use libc::STDOUT_FILENO;
 use line::is_line;
-use line::number_at;
+use line::number_in;
 
 // More lines are not read: their number shows it.
 const MOST_LINES: u64 = 1000000;
@@ -30,19 +30,19 @@ fn same(x: Answer, y: Answer) -> bool
 
 fn recorded(line: &[u8; 109]) -> Answer {
     Answer {
-        number: number_at(line, 73, 1),
-        lo: number_at(line, 75, 16),
-        hi: number_at(line, 92, 16),
+        number: number_in(line, 73, 74),
+        lo: number_in(line, 75, 91),
+        hi: number_in(line, 92, 108),
     }
 }
 
 fn computed(line: &[u8; 109]) -> Answer {
     answer_of(
-        number_at(line, 0, 2),
-        number_at(line, 3, 16),
-        number_at(line, 20, 16),
-        number_at(line, 37, 16),
-        number_at(line, 54, 16),
+        number_in(line, 0, 2),
+        number_in(line, 3, 19),
+        number_in(line, 20, 36),
+        number_in(line, 37, 53),
+        number_in(line, 54, 70),
     )
 }
 

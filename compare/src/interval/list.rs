@@ -1,7 +1,8 @@
 //! The fixed list of the Rust's answers that `interval_replay` reads: a line for each answer, all of one width.
 
-use crate::functions::{FUNCTIONS, Function, NAN, Operands, Takes};
-use crate::operands::{self, Random};
+use crate::interval::functions::{FUNCTIONS, Function, Operands, Takes};
+use crate::interval::operands::{self, Random};
+use crate::words::NAN;
 
 /// How many lines each function has of its special operands, and of random ones.
 const SPECIAL: usize = 64;
@@ -39,9 +40,20 @@ const NAMED: [(u8, Operands); 25] = [
     (0x30, [NAN, NAN, ONE, ONE]),
     (0x32, [NAN, TWO, THREE, FOUR]),
     (0x32, [ZERO, ZERO, INFINITY, INFINITY]),
-    (0x33, [0x4018_0000_0000_0000, 0x4018_0000_0000_0000, THREE, THREE]),
+    (
+        0x33,
+        [0x4018_0000_0000_0000, 0x4018_0000_0000_0000, THREE, THREE],
+    ),
     (0x33, [ONE, ONE, ONE, MINUS_ONE]),
-    (0x34, [MINUS_ZERO, ZERO, 0xC014_0000_0000_0000, 0xC014_0000_0000_0000]),
+    (
+        0x34,
+        [
+            MINUS_ZERO,
+            ZERO,
+            0xC014_0000_0000_0000,
+            0xC014_0000_0000_0000,
+        ],
+    ),
     (0x34, [THREE, ONE, ZERO, ZERO]),
     (0x34, [NAN, FIVE, ONE, TWO]),
 ];
@@ -87,7 +99,10 @@ fn function(code: u8) -> &'static Function {
 }
 
 pub fn lines(seed: u64) -> Vec<String> {
-    let mut lines: Vec<String> = NAMED.iter().map(|(code, w)| line(function(*code), w)).collect();
+    let mut lines: Vec<String> = NAMED
+        .iter()
+        .map(|(code, w)| line(function(*code), w))
+        .collect();
     for function in FUNCTIONS.iter().filter(|f| f.takes != Takes::Nothing) {
         let mut random = Random::new(seed ^ u64::from(function.code) << 56);
         let specials = spread(&operands::specials(function.takes), &mut random);

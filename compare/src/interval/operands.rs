@@ -1,6 +1,7 @@
 //! Operands: the special ones, and random ones drawn from classes.
 
-use crate::functions::{NAN, Operands, Takes};
+use crate::interval::functions::{Operands, Takes};
+use crate::words::NAN;
 
 type Ends = [u64; 2];
 
@@ -180,18 +181,18 @@ impl Random {
         }
     }
 
-    fn word(&mut self) -> u64 {
+    pub fn word(&mut self) -> u64 {
         self.state = self.state.wrapping_add(0x9E37_79B9_7F4A_7C15);
         let z = (self.state ^ (self.state >> 30)).wrapping_mul(0xBF58_476D_1CE4_E5B9);
         let z = (z ^ (z >> 27)).wrapping_mul(0x94D0_49BB_1331_11EB);
         z ^ (z >> 31)
     }
 
-    fn below(&mut self, n: u64) -> u64 {
+    pub fn below(&mut self, n: u64) -> u64 {
         ((u128::from(self.word()) * u128::from(n)) >> 64) as u64
     }
 
-    fn between(&mut self, from: i64, to: i64) -> i64 {
+    pub fn between(&mut self, from: i64, to: i64) -> i64 {
         from + self.below((to - from + 1) as u64) as i64
     }
 
@@ -199,7 +200,7 @@ impl Random {
         self.word() >> 12
     }
 
-    fn scaled(&mut self, from: i64, to: i64) -> u64 {
+    pub fn scaled(&mut self, from: i64, to: i64) -> u64 {
         power(self.between(from, to)) | self.digits()
     }
 
@@ -257,7 +258,7 @@ impl Random {
     }
 
     /// Two ends, by their class.
-    fn scalar(&mut self) -> Ends {
+    pub fn scalar(&mut self) -> Ends {
         let (a, b) = (self.float(), self.float());
         let ordered = if f64::from_bits(a) <= f64::from_bits(b) {
             [a, b]

@@ -1,8 +1,8 @@
 -- `digit_of` meets its contract: what each test says of the code.
 use borrow.Author.Needs.{needs}
 use borrow.Author.Tests.{le-ltb, lt-ltb, le-leb, lt-leb}
-use Rattle.interval_replay.proofs.line.digit_of.Statement.{statement}
-use Rattle.interval_replay.proofs.line.digit_of.Tie as tie
+use Rattle.float_bits.proofs.digit_of.Statement.{statement}
+use Rattle.float_bits.proofs.digit_of.Tie as tie
 
 returns : tie.Need-returns
 returns c = rw (lt-ltb _ _ (c .if1 .taken))

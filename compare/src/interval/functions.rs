@@ -1,7 +1,8 @@
-//! The functions compared. Operands and answers are words: the bits of a float, the two's complement of an integer.
+//! The functions of `interval` compared. Operands and answers are words: the bits of a float, the two's complement of an integer.
 
 use crate::archive;
-use geop_core_math::geop_error::GeopResult;
+use crate::words::word;
+use geop_core_math::geop_error::{GeopError, GeopResult};
 use geop_core_math::scalars::{self, Scalar};
 
 /// A scalar is two words; operands that a function does not take are 0.
@@ -31,13 +32,6 @@ pub struct Function {
     pub takes: Takes,
     pub rust: fn(&Operands) -> Answer,
     pub rattle: fn(&Operands) -> Answer,
-}
-
-/// Every NaN is one word, so that a NaN equals a NaN.
-pub const NAN: u64 = 0x7FF8_0000_0000_0000;
-
-fn word(x: f64) -> u64 {
-    if x.is_nan() { NAN } else { x.to_bits() }
 }
 
 fn value(lo: f64, hi: f64) -> Answer {
@@ -90,22 +84,24 @@ impl Answers for archive::Answer {
     }
 }
 
+pub fn number_of(error: &GeopError) -> u64 {
+    match error.root_message() {
+        "Scalar::sqrt: interval is definitely negative" => 5,
+        "Scalar::div: divisor interval contains zero" => 6,
+        "Scalar::from_ratio: denominator is zero" => 6,
+        other => panic!("an error without a number: {other}"),
+    }
+}
+
 /// A refusal is its number with the value zero.
 impl Answers for GeopResult<Scalar> {
     fn answer(self) -> Answer {
-        let error = match self {
-            Ok(value) => return value.answer(),
-            Err(error) => error,
-        };
-        let number = match error.root_message() {
-            "Scalar::sqrt: interval is definitely negative" => 5,
-            "Scalar::div: divisor interval contains zero" => 6,
-            "Scalar::from_ratio: denominator is zero" => 6,
-            other => panic!("an error without a number: {other}"),
-        };
-        Answer {
-            number,
-            words: [0, 0],
+        match self {
+            Ok(value) => value.answer(),
+            Err(error) => Answer {
+                number: number_of(&error),
+                words: [0, 0],
+            },
         }
     }
 }
