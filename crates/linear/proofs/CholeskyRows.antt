@@ -24,7 +24,8 @@ use Rattle.linear.specs.Calls.{blank}
 use Rattle.linear.proofs.FlatLaws.{at-inside, length-put, at-put-same, at-put-other}
 use Rattle.linear.proofs.Lists.{is-listTo}
 use Rattle.linear.proofs.Marks.{is-marksTo}
-use Rattle.linear.proofs.Sums.{minusTo-ext, along-row}
+use Rattle.linear.proofs.Sums.{along-row}
+use Rattle.linear.proofs.Agree.{minusTo-ext}
 use Rattle.linear.proofs.Cells.{cell-inside, cell-row, cell-column, place-row, place-column}
 use Rattle.linear.proofs.Pivots.{root-divides, refused-five}
 use Rattle.linear.proofs.FactorEntries.{same-or-not, rest, row-beyond, row-other, row-new, mark-is, factor-out, factor-diagonal, factor-below, factor-off, none-refused}

@@ -3,7 +3,9 @@ pub mod Lists
 pub mod Folds
 pub mod Turns
 pub mod Replied
+pub mod Walks
 pub mod Sums
+pub mod Agree
 pub mod Cells
 pub mod Marks
 pub mod Pivots

@@ -33,7 +33,7 @@ use Rattle.interval.proofs.OneSided.Mul.{square-within}
 use Rattle.interval.proofs.OneSided.Sqrt.{sqrt-within, sqrt-fits}
 use Rattle.interval.proofs.OrderUnits.{lt-units, le-units, not-less}
 use Rattle.interval.proofs.Results.{ok-inj}
-use Rattle.linear.specs.Dot.{dotTo}
+use Rattle.linear.specs.Dot.{plusTo, dotTo}
 use Rattle.linear.specs.Norm.{largestTo, scaledSquares, scaledRoot, normOf}
 use Rattle.linear.specs.Results.{bind}
 use Rattle.linear.specs.Squares.{squaresTo, Rows, Ordered, Chosen}
@@ -285,5 +285,5 @@ module _ (f g : ℕ → Scalar) (n m : ℕ) (rf : Rows f n) (rg : Rows g m) (x y
 
 -- ---- of none: [-2 ^ -1074, 2 ^ -1074]
 pub norm-empty : (f : ℕ → Scalar) → normOf f 0 ≡ ok (record { lo = ofBits binary64 0x8000_0000_0000_0001; hi = ofBits binary64 1 })
-unfolding normOf largestTo dotTo sqrtOf clamped nearestRoot nextUp neg lt ofBits
+unfolding normOf largestTo plusTo sqrtOf clamped nearestRoot nextUp neg lt ofBits
 norm-empty f = refl

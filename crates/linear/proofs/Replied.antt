@@ -4,6 +4,7 @@ use Prim.Native.Nat.{ℕ}
 use native.Mathlib.Omega.{arith}
 use Rattle.interval.specs.Result.{Res, ok, refused}
 use Rattle.linear.specs.Answers.{doneOf, numberOf}
+use Rattle.linear.specs.Results.{bind}
 use Rattle.linear.specs.Replies.{replied, replyOf}
 use Rattle.linear.specs.declared.answers.Done.{Done}
 use Rattle.linear.specs.declared.answers.Done.the-variants as d
@@ -13,3 +14,9 @@ done-is d.Finished x clear (ok y) e = ap (λ z. ok (z .out)) e
 done-is d.Finished x clear (refused k) e = let h = ap (λ z. z .ended) e in let z : _≡_ {A = ℕ} 0 1 = cc in absurd (omega arith)
 done-is (d.Refused q) x clear (ok y) e = let h = ap (λ z. z .ended) e in let z : _≡_ {A = ℕ} 0 1 = cc in absurd (omega arith)
 done-is (d.Refused q) x clear (refused k) e = let h = ap (λ z. z .ended) e in let z : numberOf q ≡ k = cc in ap refused z
+
+-- what is worked out from a state whether or not it is a result
+pub done-then : {A B : Type 0} (r : Done) (f : A → B) (x : A) {s : Res A} → doneOf r x ≡ s → doneOf r (f x) ≡ bind s (λ y. ok (f y))
+unfolding bind
+done-then d.Finished f x e = rw (← e)
+done-then (d.Refused k) f x e = rw (← e)

@@ -19,7 +19,7 @@ use Rattle.interval.proofs.OneSided.Add.{add-within}
 use Rattle.interval.proofs.OneSided.Ends.{holds-within, zero-fits, zero-within, outward-fits}
 use Rattle.interval.proofs.OneSided.Mul.{square-within}
 use Rattle.interval.proofs.OrderUnits.{less-within}
-use Rattle.linear.specs.Dot.{dotTo}
+use Rattle.linear.specs.Dot.{plusTo, dotTo}
 use Rattle.linear.specs.Squares.{squaresTo, Rows, Chosen}
 
 -- ---- the exact sum is not below 0
@@ -37,13 +37,13 @@ squares-size p (suc n) = sums (squares-size p n) (square-size (p n))
 
 -- ---- enclosure
 pub dot-fits : (f g : ℕ → Scalar) (n : ℕ) → Fits (dotTo f g n)
-unfolding dotTo
+unfolding plusTo
 dot-fits f g zero = zero-fits
 dot-fits f g (suc n) = outward-fits _ _
 
 -- of any scalars, with ends that may be infinite
 pub squares-within : (f : ℕ → Scalar) (n : ℕ) → ((i : ℕ) → i < n → Fits (f i)) → (p : ℕ → ℤ) (c : ℕ) → 0 < c → ((i : ℕ) → i < n → Within (f i) (p i) c) → Within (dotTo f f n) (squaresTo p n) (c * c)
-unfolding dotTo squaresTo
+unfolding plusTo squaresTo
 squares-within f zero t p c C a = zero-within (c * c)
 squares-within f (suc n) t p c C a =
     let h : n < suc n = lt-suc-self n in
@@ -67,7 +67,7 @@ bounded-rows f n a b i h = (bounded-fits (f i) a (b i h), bounded-finite (f i) a
 
 -- a product of 2 ^ a and 2 ^ b units is at most 2 ^ (k + 1), and each sum doubles twice at most
 pub dots-bounded : (f g : ℕ → Scalar) (a b k n : ℕ) → a + b ≤ k + 1074 → k + 1 + 2 * n < 2098 → ((i : ℕ) → i < n → Bounded (f i) a) → ((i : ℕ) → i < n → Bounded (g i) b) → Bounded (dotTo f g n) (k + 1 + 2 * n)
-unfolding dotTo
+unfolding plusTo
 dots-bounded f g a b k zero s K hf hg = zero-bounded (k + 1 + 2 * 0)
 dots-bounded f g a b k (suc n) s K hf hg =
     let h : n < suc n = lt-suc-self n in

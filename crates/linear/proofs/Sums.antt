@@ -1,30 +1,30 @@
--- A sum of products: one product more, and two runs whose first scalars agree give the same sum.
-use Prim.Native.Nat.{ℕ, zero, suc, _+_, _*_, _<_}
-use mathlib.Core.Path.{_≡_, refl}
+-- Sums of products: one product more, and runs that are rows.
+use Prim.Native.Nat.{ℕ, _+_, _*_}
+use mathlib.Core.Path.{_≡_}
 use mathlib.Core.List.{List}
 use native.Mathlib.Numerals.{add-one}
 use native.Mathlib.Omega.{arith}
 use lib.Ieee.{Float}
 use Rattle.interval.specs.declared.Scalar.{Scalar}
-use Rattle.interval.specs.Scalar.{addOf, mulOf}
+use Rattle.interval.specs.Scalar.{addOf, subOf, mulOf}
 use Rattle.linear.specs.Flat.{at, along}
-use Rattle.linear.specs.Dot.{dotTo, minusTo}
+use Rattle.linear.specs.Dot.{plusTo, minusTo}
 
-pub dotTo-more : (f g : ℕ → Scalar) {s x y p r : Scalar} (i : ℕ) → s ≡ dotTo f g i → x ≡ f i → y ≡ g i → p ≡ mulOf x y → r ≡ addOf s p → r ≡ dotTo f g (i + 1)
-unfolding dotTo
-dotTo-more f g i es ex ey ep er = rw (add-one, er, ep, ex, ey, es)
+module _ (f g : ℕ → Scalar) (z : Scalar) {s x y p r : Scalar} (i : ℕ) where
+  pub plusTo-more : s ≡ plusTo f g z i → x ≡ f i → y ≡ g i → p ≡ mulOf x y → r ≡ addOf s p → r ≡ plusTo f g z (i + 1)
+  unfolding plusTo
+  plusTo-more es ex ey ep er = rw (add-one, er, ep, ex, ey, es)
 
-pub minusTo-ext : (f f′ g g′ : ℕ → Scalar) (z : Scalar) (k : ℕ) → ((j : ℕ) → j < k → f j ≡ f′ j) → ((j : ℕ) → j < k → g j ≡ g′ j) → minusTo f g z k ≡ minusTo f′ g′ z k
-unfolding minusTo
-minusTo-ext f f′ g g′ z zero p q = refl
-minusTo-ext f f′ g g′ z (suc k) p q = rw (minusTo-ext f f′ g g′ z k (λ j h. p j (omega arith)) (λ j h. q j (omega arith)), p k (omega arith), q k (omega arith))
+  pub minusTo-more : s ≡ minusTo f g z i → x ≡ f i → y ≡ g i → p ≡ mulOf x y → r ≡ subOf s p → r ≡ minusTo f g z (i + 1)
+  unfolding minusTo
+  minusTo-more es ex ey ep er = rw (add-one, er, ep, ex, ey, es)
 
 -- a run with step 1
 pub along-row : (xs : List Float) (base k : ℕ) → along xs base 1 k ≡ at xs (base + k)
 unfolding along
 along-row xs base k = let e : base + k * 1 ≡ base + k = omega arith in rw e
 
--- one from the start on
-pub from-start : (f : ℕ → Scalar) (xs : List Float) (z : Scalar) (k : ℕ) → minusTo f (along xs 0 1) z k ≡ minusTo f (at xs) z k
+-- from the start on it is the list's own
+pub along-start : (xs : List Float) → along xs 0 1 ≡ at xs
 unfolding along
-from-start f xs z k = minusTo-ext f f (along xs 0 1) (at xs) z k (λ j h. refl) (λ j h. let e : 0 + j * 1 ≡ j = omega arith in rw e)
+along-start xs = let e : (k : ℕ) → 0 + k * 1 ≡ k = λ k. omega arith in λ i k. at xs (e k i)

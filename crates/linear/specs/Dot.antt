@@ -3,10 +3,14 @@ use Prim.Native.Nat.{ℕ, zero, suc}
 use Rattle.interval.specs.declared.Scalar.{Scalar}
 use Rattle.interval.specs.Scalar.{zeroS, addOf, subOf, mulOf}
 
--- the first n products, summed from zero
-unfoldable pub dotTo : (ℕ → Scalar) → (ℕ → Scalar) → ℕ → Scalar
-dotTo f g zero = zeroS
-dotTo f g (suc n) = addOf (dotTo f g n) (mulOf (f n) (g n))
+-- z and the first n products
+unfoldable pub plusTo : (ℕ → Scalar) → (ℕ → Scalar) → Scalar → ℕ → Scalar
+plusTo f g z zero = z
+plusTo f g z (suc n) = addOf (plusTo f g z n) (mulOf (f n) (g n))
+
+-- the first n products, from zero
+abbrev pub dotTo : (ℕ → Scalar) → (ℕ → Scalar) → ℕ → Scalar
+dotTo f g n = plusTo f g zeroS n
 
 -- z less the first n products
 unfoldable pub minusTo : (ℕ → Scalar) → (ℕ → Scalar) → Scalar → ℕ → Scalar

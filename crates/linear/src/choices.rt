@@ -1,6 +1,6 @@
 // A value chosen from its enclosure: zero where zero is among it, else the middle.
 ghost use mathlib.Core.Path.{_≡_};
-ghost use Prim.Native.Nat.{_+_, _*_};
+ghost use Prim.Native.Nat.{_*_};
 ghost use lib.ListN.{length};
 ghost use Rattle.linear.specs.Calls.{sharpReply};
 ghost use Rattle.linear.specs.Choose.{chooseOf, sharpOf};

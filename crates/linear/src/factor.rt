@@ -1,7 +1,7 @@
 // The factor of a symmetric matrix, row by row.
 ghost use mathlib.Core.Path.{_≡_};
 ghost use mathlib.Core.Bool.{false};
-ghost use Prim.Native.Nat.{_+_, _*_, _<_, _≤_};
+ghost use Prim.Native.Nat.{_*_, _<_, _≤_};
 ghost use lib.ListN.{length, replicate};
 ghost use Rattle.interval.specs.Result as scalar;
 ghost use Rattle.linear.specs.Answers.{doneOf};

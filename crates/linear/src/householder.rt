@@ -1,14 +1,12 @@
 // Least squares by Householder reflections.
 ghost use mathlib.Core.Path.{_≡_};
-ghost use mathlib.Core.Bool.{false};
 ghost use Prim.Native.Nat.{_+_, _*_, _-_, _<_, _≤_, min};
-ghost use lib.ListN.{length, replicate};
+ghost use lib.ListN.{length};
 ghost use Rattle.interval.specs.Result as scalar;
 ghost use Rattle.linear.specs.Answers.{doneOf};
 ghost use Rattle.linear.specs.Calls.{leastSquaresReply};
 ghost use Rattle.linear.specs.Cholesky.{factorOf};
-ghost use Rattle.linear.specs.Dot.{dotTo};
-ghost use Rattle.linear.specs.Flat.{at, along, zeros};
+ghost use Rattle.linear.specs.Flat.{zeros};
 ghost use Rattle.linear.specs.Householder.{columnEntry, columnsOf, tailOf, alphaOf, normalOf, lessTo, reflectStep, reflectTo, reflectBy, reflectWith, householderStep, chosen, valueStep, leastSquaresOf};
 ghost use Rattle.linear.specs.Replies.{replied, replyOf};
 ghost use Rattle.linear.specs.Results.{foldR};
@@ -17,6 +15,7 @@ use crate::answers::LinearError;
 use crate::choices::choose;
 use crate::dots::dot_of;
 use crate::dots::minus_dot;
+use crate::dots::plus_dot;
 use crate::factor::unmark;
 use crate::flat::at;
 use crate::flat::clear;
@@ -80,18 +79,6 @@ fn normal(x: &mut [f64], length: Scalar)
     put(x, 0, choose(x0.sub(alpha(x0, length))));
 }
 
-// Σ v b over n scalars of b from base on.
-fn dot_from(v: &[f64], b: &[f64], base: usize, n: usize) -> Scalar
-    requires { ⌜ (base < 65536) × (n < 65536) ⌝ }
-    ensures { λ r. ⌜ r ≡ dotTo (at (now (v .entry))) (along (now (b .entry)) base 1) n ⌝ }
-{
-    let mut sum = Scalar::ZERO;
-    for i in 0..n {
-        sum = sum.add(at(v, i).mul(at(b, base + i)));
-    }
-    sum
-}
-
 fn less(f: Scalar, v: &[f64], base: usize, cols: &mut [f64], n: usize)
     requires { ⌜ (base < 65536) × (n < 65536) ⌝ }
     ensures { λ _. ⌜ now (cols .exit) ≡ lessTo f (now (v .entry)) base (now (cols .entry)) n ⌝ }
@@ -107,7 +94,8 @@ fn reflect(v: &[f64], vv: Scalar, n: usize, base: usize, cols: &mut [f64]) -> Do
     requires { ⌜ (base < 65536) × (n < 65536) ⌝ }
     ensures { λ r. ⌜ doneOf r (now (cols .exit)) ≡ reflectStep (now (v .entry)) vv n base (now (cols .entry)) ⌝ }
 {
-    let q = dot_from(v, cols, base, n).mul(Scalar::TWO).div(vv);
+    let s = plus_dot(v, 0, 1, cols, base, 1, Scalar::ZERO, n);
+    let q = s.mul(Scalar::TWO).div(vv);
     match q {
         ScalarResult::Value(f) => {
             less(f, v, base, cols, n);

@@ -2,7 +2,7 @@
 // geop-core-math's solvers, by the same names. Nothing is kept on a heap.
 //
 // Public functions are total: they answer 1 where a count is above 24, then 2 where a slice has the wrong length, with nothing written, and 5 or 6 in the Rust's order of operations, with
-// the output slice all +0. Inputs are never written.
+// the output slice all +0. Inputs are never written. `at`, `along`, `plus_dot` and `minus_dot` read NaN outside a slice, and `put` changes nothing there.
 mod answers;
 mod choices;
 mod dots;
@@ -20,7 +20,10 @@ pub use answers::LinearError;
 pub use choices::choose;
 pub use choices::sharp;
 pub use dots::dot;
+pub use dots::minus_dot;
+pub use dots::plus_dot;
 pub use factor::cholesky;
+pub use flat::along;
 pub use flat::at;
 pub use flat::clear;
 pub use flat::put;

@@ -1,10 +1,9 @@
 // The length of a list.
 ghost use mathlib.Core.Path.{_≡_};
-ghost use Prim.Native.Nat.{_+_, _*_, _<_};
 ghost use Rattle.interval.specs.Result as scalar;
 ghost use Rattle.linear.specs.Answers.{resultOf};
 ghost use Rattle.linear.specs.Calls.{normReply};
-ghost use Rattle.linear.specs.Flat.{at, along};
+ghost use Rattle.linear.specs.Flat.{at};
 ghost use Rattle.linear.specs.Norm.{largestTo, scaledSquares, scaledRoot, normOf};
 use crate::answers::Answer;
 use crate::answers::LinearError;

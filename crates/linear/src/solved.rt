@@ -1,35 +1,23 @@
 // The shortest step onto linear constraints.
 ghost use mathlib.Core.Path.{_≡_};
-ghost use Prim.Native.Nat.{_+_, _*_, _/_, _%_, _<_, _≤_};
+ghost use Prim.Native.Nat.{_*_, _≤_};
 ghost use lib.ListN.{length};
 ghost use Rattle.linear.specs.Answers.{doneOf};
 ghost use Rattle.linear.specs.Calls.{minusSolvedReply};
-ghost use Rattle.linear.specs.Dot.{dotTo};
-ghost use Rattle.linear.specs.Flat.{along, zeros};
+ghost use Rattle.linear.specs.Flat.{zeros};
 ghost use Rattle.linear.specs.Replies.{replied, replyOf};
 ghost use Rattle.linear.specs.Solved.{gramOf, multipliersOf, minusOf, minusSolvedOf};
 use crate::answers::Done;
 use crate::answers::LinearError;
 use crate::choices::choose;
 use crate::dots::minus_dot;
+use crate::dots::plus_dot;
 use crate::factor::factor_sized;
 use crate::flat::at;
-use crate::flat::clear;
 use crate::flat::put;
+use crate::substitution::cleared;
 use crate::substitution::solve_sized;
 use interval::Scalar;
-
-// The product of rows a and b of jc, each of n.
-fn row_dot(n: usize, jc: &[f64], a: usize, b: usize) -> Scalar
-    requires { ⌜ (n ≤ 24) × ((a < 24) × (b < 24)) ⌝ }
-    ensures { λ r. ⌜ r ≡ dotTo (along (now (jc .entry)) (a * n) 1) (along (now (jc .entry)) (b * n) 1) n ⌝ }
-{
-    let mut sum = Scalar::ZERO;
-    for i in 0..n {
-        sum = sum.add(at(jc, a * n + i).mul(at(jc, b * n + i)));
-    }
-    sum
-}
 
 // The products of all rows.
 fn gram(m: usize, n: usize, jc: &[f64], g: &mut [f64])
@@ -38,7 +26,9 @@ fn gram(m: usize, n: usize, jc: &[f64], g: &mut [f64])
 {
     let q = m * m;
     for p in 0..q {
-        put(g, p, row_dot(n, jc, p / m, p % m));
+        let x = p / m * n;
+        let y = p % m * n;
+        put(g, p, plus_dot(jc, x, 1, jc, y, 1, Scalar::ZERO, n));
     }
 }
 
@@ -89,14 +79,9 @@ fn solved_in(
     requires { ⌜ (m ≤ 24) × ((n ≤ 24) × ((length (now out) ≡ 2 * n) × ((length (now k) ≡ 2 * m) × ((length (now g) ≡ 2 * (m * m)) × ((length (now l) ≡ 2 * (m * m)) × (length (now «left_out») ≡ m)))))) ⌝ }
     ensures { λ r. ⌜ replied r (now (out .exit)) ≡ replyOf (zeros (2 * n)) (minusSolvedOf m n (now (jc .entry)) (now (rhs .entry)) (now (from .entry))) ⌝ }
 {
-    clear(out);
-    match multipliers(m, n, jc, rhs, k, g, l, left_out) {
-        Done::Finished => {
-            minus(m, n, jc, from, k, out);
-            Done::Finished
-        }
-        Done::Refused(e) => Done::Refused(e),
-    }
+    let d = multipliers(m, n, jc, rhs, k, g, l, left_out);
+    minus(m, n, jc, from, k, out);
+    cleared(d, out)
 }
 
 // The same with scratch slices that are long enough.

@@ -1,6 +1,6 @@
 // Solving through a factor.
 ghost use mathlib.Core.Path.{_≡_};
-ghost use Prim.Native.Nat.{_+_, _*_, _-_, _<_, _≤_};
+ghost use Prim.Native.Nat.{_*_, _<_, _≤_};
 ghost use lib.ListN.{length};
 ghost use Rattle.linear.specs.Answers.{doneOf};
 ghost use Rattle.linear.specs.Calls.{solveReply};

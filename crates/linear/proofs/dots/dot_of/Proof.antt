@@ -1,64 +1,16 @@
--- `dot_of` meets its contract: the sum is that of the products so far.
-use mathlib.Core.Path.{_≡_}
-use Prim.Native.Nat.{_≤_, _-_}
-use native.Mathlib.Nat.{le-antisymm}
+-- `dot_of` meets its contract: a run from the start on, by steps of 1, is the slice's own.
 use borrow.Author.Needs.{needs}
 use lib.Ieee.{ofBits}
-use Rattle.linear.specs.Flat.{at}
-use Rattle.linear.specs.Dot.{dotTo}
-use Rattle.linear.proofs.Sums.{dotTo-more}
+use Rattle.linear.proofs.Sums.{along-start}
 use Rattle.linear.proofs.dots.dot_of.Statement.{statement}
 use Rattle.linear.proofs.dots.dot_of.Tie as tie
 
-abbrev Inv-loop : tie.InvT-loop
-Inv-loop a b n sum₀ i₀ sum i = (i ≤ n) × (sum ≡ dotTo (at a) (at b) i)
+plus-dot-requires : tie.Need-plus-dot-requires
+plus-dot-requires c κs = tt
 
-abbrev μ-loop : tie.MeasureT-loop
-μ-loop a b n sum₀ i₀ sum i = n - i
-
-loop-holds : tie.Need-loop-holds Inv-loop μ-loop
-unfolding dotTo ofBits
-loop-holds c = search needs
-
-at-requires : tie.Need-at-requires Inv-loop μ-loop
-at-requires c κs = search needs
-
-at-requires-2 : tie.Need-at-requires-2 Inv-loop μ-loop
-at-requires-2 c κs = search needs
-
-mul-requires : tie.Need-mul-requires Inv-loop μ-loop
-mul-requires c κs = search needs
-
-add-requires : tie.Need-add-requires Inv-loop μ-loop
-add-requires c κs = search needs
-
-add-i : tie.Need-add-i Inv-loop μ-loop
-add-i c = search needs
-
-loop-less : tie.Need-loop-less Inv-loop μ-loop
-loop-less c = search needs
-
-loop-again : tie.Need-loop-again Inv-loop μ-loop
-loop-again c =
-    let x = c .before .before .before in
-    let l = x .before .before .loop in
-    (search needs, dotTo-more _ _ (l .i) (l .inv .1) (x .at .ensures) (c .before .before .at2 .ensures) (c .before .mul .ensures .value) (c .add .ensures .value))
-
-returns : tie.Need-returns Inv-loop μ-loop
-returns c = rw (le-antisymm (c .before .loop .inv .0) (c .loop-test .left)) at (c .before .loop .inv .1)
+returns : tie.Need-returns
+unfolding ofBits
+returns c = rw (along-start, along-start) at (c .plus-dot .ensures)
 
 pub dot-of-spec : {M : Type 1} → statement M
-dot-of-spec =
-    tie.close
-    (tie.spec
-    Inv-loop
-    μ-loop
-    loop-holds
-    at-requires
-    at-requires-2
-    mul-requires
-    add-requires
-    add-i
-    loop-less
-    loop-again
-    returns)
+dot-of-spec = tie.close (tie.spec plus-dot-requires returns)

@@ -33,7 +33,7 @@ at-requires : tie.Need-at-requires
 at-requires c κs = search needs
 
 minus-dot-requires : tie.Need-minus-dot-requires
-minus-dot-requires c κs = omega (arith, row (c .before .before .before .before .before .before .before), top (c .before .before .before .before .before .before .before))
+minus-dot-requires c κs = tt
 
 add-store : tie.Need-add-store
 add-store c = omega (arith, row (c .before .before .before .before .before .before .before .before .before))

@@ -1,12 +1,13 @@
 -- `reflect` meets its contract: the quotient decides, and each arm is the definition's.
 use borrow.Author.Needs.{needs}
 use lib.Ieee.{ofBits}
+use Rattle.linear.proofs.Sums.{along-start}
 use Rattle.linear.proofs.Reflections.{reflect-ok, reflect-refused}
 use Rattle.linear.proofs.householder.reflect.Statement.{statement}
 use Rattle.linear.proofs.householder.reflect.Tie as tie
 
-dot-from-requires : tie.Need-dot-from-requires
-dot-from-requires c κs = search needs
+plus-dot-requires : tie.Need-plus-dot-requires
+plus-dot-requires c κs = tt
 
 mul-requires : tie.Need-mul-requires
 mul-requires c κs = search needs
@@ -30,7 +31,7 @@ returns : tie.Need-returns
 unfolding ofBits
 returns c =
     let q = rw (c .before .before .before .before .before .q .given .1) at (c .before .before .before .before .before .before .before .div .ensures .value) in
-    reflect-ok _ _ _ _ _ (c .before .before .before .before .before .before .before .before .before .dot-from .ensures) (c .before .before .before .before .before .before .before .before .mul .ensures .value) q (c .before .before .less .ensures)
+    reflect-ok _ _ _ _ _ (rw along-start at (c .before .before .before .before .before .before .before .before .before .plus-dot .ensures)) (c .before .before .before .before .before .before .before .before .mul .ensures .value) q (c .before .before .less .ensures)
 
 same-length-2 : tie.Need-same-length-2
 same-length-2 c = search needs
@@ -39,13 +40,13 @@ returns-2 : tie.Need-returns-2
 unfolding ofBits
 returns-2 c =
     let q = rw (c .before .q2 .given .1) at (c .before .before .before .div .ensures .value) in
-    reflect-refused _ _ _ _ _ (c .before .before .before .before .before .dot-from .ensures) (c .before .before .before .before .mul .ensures .value) q
+    reflect-refused _ _ _ _ _ (rw along-start at (c .before .before .before .before .before .plus-dot .ensures)) (c .before .before .before .before .mul .ensures .value) q
 
 pub reflect-spec : {M : Type 1} → statement M
 reflect-spec =
     tie.close
     (tie.spec
-    dot-from-requires
+    plus-dot-requires
     mul-requires
     div-requires
     enum-known-q

@@ -75,7 +75,7 @@ sub-minus-dot-2 : tie.Need-sub-minus-dot-2
 sub-minus-dot-2 c = search needs
 
 minus-dot-requires : tie.Need-minus-dot-requires
-minus-dot-requires c κs = omega (arith, behind (c .before .before .before .before .before .before .before .before .before .before))
+minus-dot-requires c κs = tt
 
 div-requires : tie.Need-div-requires
 div-requires c κs = search needs

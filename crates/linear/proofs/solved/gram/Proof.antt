@@ -1,10 +1,11 @@
 -- `gram` meets its contract: the slice starts with the products stored so far, and is else as it was.
 use mathlib.Core.Path.{_≡_, sym, _∙_}
 use mathlib.Core.List.{_++_}
-use Prim.Native.Nat.{ℕ, _+_, _*_, _/_, _%_, _≤_, _-_}
+use Prim.Native.Nat.{ℕ, _+_, _*_, _/_, _%_, _≤_, _<_, _-_}
 use native.Mathlib.Nat.{le-antisymm}
 use native.Mathlib.Omega.{arith}
 use borrow.Author.Needs.{needs}
+use lib.Ieee.{ofBits}
 use lib.ListN.{length, drop}
 use Rattle.interval.specs.declared.Scalar.{Scalar}
 use Rattle.linear.specs.Flat.{along, listTo}
@@ -21,24 +22,37 @@ Inv-loop m n jc g₀ q p₀ g p = (p ≤ q) × (length g ≡ length g₀) × (g 
 abbrev μ-loop : tie.MeasureT-loop
 μ-loop m n jc g₀ q p₀ g p = q - p
 
+-- the place p has a row and a column, each below m
+module _ (c : tie.In-loop Inv-loop μ-loop) where
+  row : c .before .loop .p / c .before .before .before .before .args .m < c .before .before .before .before .args .m
+  row = place-row (c .loop-test .taken)
+
+  column : c .before .loop .p % c .before .before .before .before .args .m < c .before .before .before .before .args .m
+  column = place-column (c .loop-test .taken)
+
+  some : 0 < c .before .before .before .before .args .m
+  some = square-positive (c .before .before .before .before .args .m) {p = c .before .loop .p} (c .loop-test .taken)
+
 mul-q : tie.Need-mul-q Inv-loop μ-loop
 mul-q c = omega (arith, product-small {i = c .before .before .args .m} {n = c .before .before .args .m} (omega arith) (omega arith))
 
 loop-holds : tie.Need-loop-holds Inv-loop μ-loop
 loop-holds c = (search needs, search needs, sym (listTo-none _ _))
 
-div-row-dot : tie.Need-div-row-dot Inv-loop μ-loop
-div-row-dot c = square-positive (c .before .before .before .before .before .args .m) {p = c .before .before .loop .p} (c .before .loop-test .taken)
+div-x : tie.Need-div-x Inv-loop μ-loop
+div-x c = some c
 
-rem-row-dot : tie.Need-rem-row-dot Inv-loop μ-loop
-rem-row-dot c = square-positive (c .before .before .before .before .before .args .m) {p = c .before .before .loop .p} (c .before .loop-test .taken)
+mul-x : tie.Need-mul-x Inv-loop μ-loop
+mul-x c = let a = c .before .before .before .before .args in omega (arith, product-small {i = c .before .loop .p / a .m} {n = a .n} (omega (arith, row c)) (omega arith))
 
-row-dot-requires : tie.Need-row-dot-requires Inv-loop μ-loop
-row-dot-requires c κs =
-    let p = c .before .before .before .before .before .pre in
-    let a = place-row {n = c .before .before .before .before .before .args .m} {p = c .before .before .loop .p} (c .before .loop-test .taken) in
-    let b = place-column {n = c .before .before .before .before .before .args .m} {p = c .before .before .loop .p} (c .before .loop-test .taken) in
-    (p .1 .0, (omega (arith, a, p), omega (arith, b, p)))
+rem-y : tie.Need-rem-y Inv-loop μ-loop
+rem-y c = some c
+
+mul-y : tie.Need-mul-y Inv-loop μ-loop
+mul-y c = let a = c .before .before .before .before .args in omega (arith, product-small {i = c .before .loop .p % a .m} {n = a .n} (omega (arith, column c)) (omega arith))
+
+plus-dot-requires : tie.Need-plus-dot-requires Inv-loop μ-loop
+plus-dot-requires c κs = tt
 
 put-requires : tie.Need-put-requires Inv-loop μ-loop
 put-requires c κs = search needs
@@ -50,12 +64,14 @@ loop-less : tie.Need-loop-less Inv-loop μ-loop
 loop-less c = search needs
 
 loop-again : tie.Need-loop-again Inv-loop μ-loop
+unfolding ofBits
 loop-again c =
     let l = c .before .before .before .before .before .before .loop in
-    let a = c .before .before .before .before .before .before .before .before .before .args in
+    let s = c .before .before .before .before .before .before .before .before .before in
+    let a = s .args in
     let f : ℕ → Scalar = λ j. dotTo (along (a .jc .now) (j / a .m * a .n) 1) (along (a .jc .now) (j % a .m * a .n) 1) (a .n) in
-    let e = rw (l .inv .2, c .before .before .before .row-dot .ensures) at (c .before .before .put .ensures) in
-    (search needs, search needs, e ∙ listTo-more f (l .p) (a .g .now) (omega (arith, c .before .before .before .before .before .before .before .before .before .pre)))
+    let e = rw (l .inv .2, c .before .before .before .plus-dot .ensures) at (c .before .before .put .ensures) in
+    (search needs, search needs, e ∙ listTo-more f (l .p) (a .g .now) (omega (arith, s .pre)))
 
 same-length : tie.Need-same-length Inv-loop μ-loop
 same-length c = search needs
@@ -76,9 +92,11 @@ gram-spec =
     μ-loop
     mul-q
     loop-holds
-    div-row-dot
-    rem-row-dot
-    row-dot-requires
+    div-x
+    mul-x
+    rem-y
+    mul-y
+    plus-dot-requires
     put-requires
     add-p
     loop-less

@@ -14,7 +14,7 @@ use Rattle.linear.specs.Solved.{minusOf}
 use Rattle.linear.proofs.solved.minus.Statement.{statement}
 use Rattle.linear.proofs.solved.minus.Tie as tie
 use Rattle.linear.proofs.Lists.{listTo-none, listTo-more, listTo-all}
-use Rattle.linear.proofs.Sums.{from-start}
+use Rattle.linear.proofs.Sums.{along-start}
 
 abbrev Inv-loop : tie.InvT-loop
 Inv-loop m n jc from k out₀ i₀ out i = (i ≤ n) × (length out ≡ length out₀) × (out ≡ listTo (λ j. chooseOf (minusTo (along jc j n) (at k) (at from j) m)) i ++ drop (2 * i) out₀)
@@ -29,7 +29,7 @@ at-requires : tie.Need-at-requires Inv-loop μ-loop
 at-requires c κs = search needs
 
 minus-dot-requires : tie.Need-minus-dot-requires Inv-loop μ-loop
-minus-dot-requires c κs = search needs
+minus-dot-requires c κs = tt
 
 choose-requires : tie.Need-choose-requires Inv-loop μ-loop
 choose-requires c κs = search needs
@@ -48,7 +48,7 @@ loop-again c =
     let l = c .before .before .before .before .before .before .before .before .loop in
     let a = c .before .before .before .before .before .before .before .before .before .before .before .before .before .args in
     let f : ℕ → Scalar = λ j. chooseOf (minusTo (along (a .jc .now) j (a .n)) (at (a .k .now)) (at (a .from .now) j) (a .m)) in
-    let v : c .before .before .before .choose .result ≡ f (l .i) = c .before .before .before .choose .ensures ∙ ap chooseOf (c .before .before .before .before .minus-dot .ensures ∙ ap (λ (z : Scalar). minusTo (along (a .jc .now) (l .i) (a .n)) (along (a .k .now) 0 1) z (a .m)) (c .before .before .before .before .before .at .ensures) ∙ from-start _ _ _ _) in
+    let v : c .before .before .before .choose .result ≡ f (l .i) = c .before .before .before .choose .ensures ∙ ap chooseOf (c .before .before .before .before .minus-dot .ensures ∙ ap (λ (z : Scalar). minusTo (along (a .jc .now) (l .i) (a .n)) (along (a .k .now) 0 1) z (a .m)) (c .before .before .before .before .before .at .ensures) ∙ rw along-start) in
     let e = rw (l .inv .2, v) at (c .before .before .put .ensures) in
     (search needs, search needs, e ∙ listTo-more f (l .i) (a .out .now) (omega arith))
 

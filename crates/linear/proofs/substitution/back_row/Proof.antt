@@ -43,7 +43,7 @@ at-requires : tie.Need-at-requires
 at-requires c κs = search needs
 
 minus-dot-requires : tie.Need-minus-dot-requires
-minus-dot-requires c κs = omega (arith, below (c .before .before .before .before .before .before .before .before))
+minus-dot-requires c κs = tt
 
 mul-at : tie.Need-mul-at
 mul-at c = omega (arith, row (c .before .before .before .before .before .before .before .before .before .before))

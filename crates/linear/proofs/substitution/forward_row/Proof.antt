@@ -4,7 +4,7 @@ use native.Mathlib.Omega.{arith}
 use borrow.Author.Needs.{needs}
 use Rattle.linear.specs.Substitution.{forwardStep}
 use Rattle.linear.proofs.Cells.{product-small}
-use Rattle.linear.proofs.Sums.{from-start}
+use Rattle.linear.proofs.Sums.{along-start}
 use Rattle.linear.proofs.substitution.forward_row.Statement.{statement}
 use Rattle.linear.proofs.substitution.forward_row.Tie as tie
 
@@ -25,7 +25,7 @@ at-requires : tie.Need-at-requires
 at-requires c κs = search needs
 
 minus-dot-requires : tie.Need-minus-dot-requires
-minus-dot-requires c κs = omega (arith, row (c .before .before .before .before .before .before .before .before))
+minus-dot-requires c κs = tt
 
 add-at : tie.Need-add-at
 add-at c = omega (arith, row (c .before .before .before .before .before .before .before .before .before .before))
@@ -47,7 +47,7 @@ unfolding forwardStep
 returns-2 c =
     let q = c .before .before .before in
     let k = q .before .before .before in
-    rw (k .before .before .before .if1 .left, ← k .before .at .ensures, ← from-start, ← k .minus-dot .ensures, ← q .before .at2 .ensures, ← q .div .ensures .value) (c .before .before .store .ensures)
+    rw (k .before .before .before .if1 .left, ← k .before .at .ensures, ← along-start, ← k .minus-dot .ensures, ← q .before .at2 .ensures, ← q .div .ensures .value) (c .before .before .store .ensures)
 
 pub forward-row-spec : {M : Type 1} → statement M
 forward-row-spec =

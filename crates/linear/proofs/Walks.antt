@@ -1,0 +1,37 @@
+-- A walk along a run of scalars with its place cut off at the list's end: the place is the run's, or both are outside the list.
+use Prim.Native.Nat.{ℕ, _+_, _*_, _≤_, min}
+use mathlib.Core.Logic.{⊎-elim}
+use mathlib.Core.Path.{_≡_, sym, ap, _∙_}
+use mathlib.Core.List.{List}
+use native.Mathlib.Nat.{suc-mul}
+use native.Mathlib.Numerals.{add-one}
+use native.Mathlib.Omega.{arith}
+use borrow.Author.Tests.{le-ltb}
+use lib.Ieee.{Float, nan}
+use lib.ListN.{length}
+use Rattle.interval.specs.Scalar.{degenerate}
+use Rattle.linear.specs.Flat.{at}
+use Rattle.linear.proofs.FlatLaws.{at-outside}
+use Rattle.linear.proofs.FactorEntries.{same-or-not}
+
+-- i and p are the same place, or both beyond the first `size`
+pub record Cut (size i p : ℕ) : Type 0 where
+  pub is : min i size ≡ min p size
+
+beyond : (xs : List Float) (i : ℕ) → length xs ≤ i → at xs i ≡ degenerate nan
+beyond xs i h = at-outside xs i (le-ltb (2 * i + 1) (length xs) (omega arith))
+
+pub at-cut : (xs : List Float) {i p : ℕ} → Cut (length xs) i p → at xs i ≡ at xs p
+at-cut xs {i} {p} e =
+    ⊎-elim
+    (λ q. ap (at xs) q)
+    (λ q. beyond xs i (omega arith) ∙ sym (beyond xs p (omega arith)))
+    (same-or-not i p)
+
+module _ (size base step : ℕ) where
+  -- the start, and one step more
+  pub cut-none : Cut size base (base + 0 * step)
+  cut-none = omega arith
+
+  pub cut-more : {i r : ℕ} (t : ℕ) → Cut size i (base + t * step) → r ≡ min (i + step) size → Cut size r (base + (t + 1) * step)
+  cut-more t e q = let m : (t + 1) * step ≡ t * step + step = rw (add-one, suc-mul) in omega arith

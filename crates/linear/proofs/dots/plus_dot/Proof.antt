@@ -1,0 +1,76 @@
+-- `plus_dot` meets its contract: the sum is that of the products so far, and each place is its run's, or outside the slice.
+use mathlib.Core.Path.{_≡_, _∙_}
+use Prim.Native.Nat.{_+_, _*_, _≤_, _-_}
+use native.Mathlib.Nat.{le-antisymm}
+use borrow.Author.Needs.{needs}
+use lib.ListN.{length}
+use Rattle.linear.specs.Flat.{along}
+use Rattle.linear.specs.Dot.{plusTo}
+use Rattle.linear.proofs.Sums.{plusTo-more}
+use Rattle.linear.proofs.Walks.{Cut, at-cut, cut-none, cut-more}
+use Rattle.linear.proofs.dots.plus_dot.Statement.{statement}
+use Rattle.linear.proofs.dots.plus_dot.Tie as tie
+
+abbrev Inv-loop : tie.InvT-loop
+Inv-loop a a0 sa b b0 sb k sum₀ i₀ j₀ t₀ sum i j t = (t ≤ k) × (sum ≡ plusTo (along a a0 sa) (along b b0 sb) sum₀ t) × Cut (length a) i (a0 + t * sa) × Cut (length b) j (b0 + t * sb)
+
+abbrev μ-loop : tie.MeasureT-loop
+μ-loop a a0 sa b b0 sb k sum₀ i₀ j₀ t₀ sum i j t = k - t
+
+loop-holds : tie.Need-loop-holds Inv-loop μ-loop
+unfolding plusTo
+loop-holds c = (search needs, search needs, cut-none _ _ _, cut-none _ _ _)
+
+at-requires : tie.Need-at-requires Inv-loop μ-loop
+at-requires c κs = search needs
+
+at-requires-2 : tie.Need-at-requires-2 Inv-loop μ-loop
+at-requires-2 c κs = search needs
+
+mul-requires : tie.Need-mul-requires Inv-loop μ-loop
+mul-requires c κs = search needs
+
+add-requires : tie.Need-add-requires Inv-loop μ-loop
+add-requires c κs = search needs
+
+ahead-requires : tie.Need-ahead-requires Inv-loop μ-loop
+ahead-requires c κs = search needs
+
+ahead-requires-2 : tie.Need-ahead-requires-2 Inv-loop μ-loop
+ahead-requires-2 c κs = search needs
+
+add-counter : tie.Need-add-counter Inv-loop μ-loop
+add-counter c = search needs
+
+loop-less : tie.Need-loop-less Inv-loop μ-loop
+loop-less c = search needs
+
+loop-again : tie.Need-loop-again Inv-loop μ-loop
+unfolding along
+loop-again c =
+    let p = c .before .before in
+    let q = p .before .before .before in
+    let l = q .before .before .loop in
+    let a = q .before .before .before .before .before .args in
+    (search needs, plusTo-more _ _ _ (l .counter) (l .inv .1) (q .at .ensures ∙ at-cut (a .a .now) (l .inv .2)) (p .before .before .at2 .ensures ∙ at-cut (a .b .now) (l .inv .3)) (p .before .mul .ensures .value) (p .add .ensures .value), cut-more _ _ _ (l .counter) (l .inv .2) (c .before .ahead .ensures), cut-more _ _ _ (l .counter) (l .inv .3) (c .ahead2 .ensures))
+
+returns : tie.Need-returns Inv-loop μ-loop
+returns c = rw (le-antisymm (c .before .loop .inv .0) (c .loop-test .left)) at (c .before .loop .inv .1)
+
+pub plus-dot-spec : {M : Type 1} → statement M
+plus-dot-spec =
+    tie.close
+    (tie.spec
+    Inv-loop
+    μ-loop
+    loop-holds
+    at-requires
+    at-requires-2
+    mul-requires
+    add-requires
+    ahead-requires
+    ahead-requires-2
+    add-counter
+    loop-less
+    loop-again
+    returns)
