@@ -1,0 +1,192 @@
+-- The basis row by row: each step from what the calls give, never more vectors than rows, and what is read of a problem and of a basis.
+use Prim.Native.Nat.{ℕ, zero, suc, _+_, _*_, _-_, _/_, _%_, _<_, _≤_}
+use mathlib.Core.Bool.{Bool, true, false}
+use mathlib.Core.Path.{_≡_, refl, sym, ap, _∙_}
+use mathlib.Core.List.{List, []}
+use native.Mathlib.Nat.{mod-lt, div-lt-iff-lt-mul}
+use native.Mathlib.Numerals.{add-one}
+use native.Mathlib.Omega.{arith}
+use lib.Ieee.{Float}
+use lib.ListN.{length, take, set, replicate, length-replicate, replicate-append-replicate}
+use lib.Seq.{take-at}
+use Rattle.interval.specs.declared.Scalar.{Scalar}
+use Rattle.interval.specs.Result.{Res, ok, refused}
+use Rattle.interval.specs.Scalar.{zeroS, pick, sharpen, definitelyGreater}
+use Rattle.interval.proofs.Results.{ok-inj}
+use Rattle.linear.specs.Answers.{numberOf, resultOf, doneOf}
+use Rattle.linear.specs.Choose.{chooseOf}
+use Rattle.linear.specs.Dot.{dotTo, minusTo}
+use Rattle.linear.specs.Flat.{at, along, put, listTo}
+use Rattle.linear.specs.Norm.{normOf}
+use Rattle.linear.specs.Results.{bind, foldR}
+use Rattle.linear.specs.Substitution.{solveOf}
+use Rattle.linear.specs.declared.answers.Answer.{Answer}
+use Rattle.linear.specs.declared.answers.Answer.the-variants as answer
+use Rattle.linear.specs.declared.answers.Done.{Done}
+use Rattle.linear.specs.declared.answers.Done.the-variants as done
+use Rattle.linear.specs.declared.answers.LinearError.{LinearError}
+use Rattle.linear.proofs.Agree.{normOf-ext, minusTo-ext}
+use Rattle.linear.proofs.Folds.{bind-value}
+use Rattle.linear.proofs.Reflections.{rows-positive}
+use Rattle.linear.proofs.Sums.{along-start}
+use Rattle.run.specs.Model.{Problem}
+use Rattle.run.specs.Basis.{Basis, Taken, noRows, packed, coefficientsIn, outsideAt, partOut, partsOut, gramRow, extended, withDependent, rowStep, basisOf, correctionOf, multiplierStep, multipliersOf, basisBy, takenBy, problemBy}
+use Rattle.run.specs.Scratch.{vector, row, column, entry, fillTo, minusScaled, unitAt}
+use Rattle.run.proofs.ScratchLaws.{at-take}
+
+pub part-turn : (k r : ℕ) (q : List Float) (z : Taken) (j : ℕ) {s t : Taken} → s ≡ partsOut k r q z j → t ≡ partOut k r q s j → t ≡ partsOut k r q z (j + 1)
+unfolding partsOut
+part-turn k r q z j es et = rw (add-one, ← es) et
+
+-- one part, from what each call gives
+pub part-is : (k r : ℕ) (q v c : List Float) (j : ℕ) {d a : Scalar} {v′ c′ : List Float} → d ≡ dotTo (along v 0 1) (row q j) k → a ≡ chooseOf d → v′ ≡ minusScaled v 0 a q (12 * j) k → c′ ≡ put c (12 * r + j) a
+    → takenBy v′ c′ ≡ partOut k r q (takenBy v c) j
+part-is k r q v c j ed ea ev ec = rw (ec, ev, ea, ed, along-start)
+
+-- a place of m packed rows of r has a row and a column
+pub packed-row : (m r : ℕ) {p : ℕ} → p < m * r → p / r < m
+packed-row m r h = div-lt-iff-lt-mul (rows-positive m r h) .1 h
+
+pub packed-column : (m r : ℕ) {p : ℕ} → p < m * r → p % r < r
+packed-column m r {p} h = mod-lt p (rows-positive m r h)
+
+-- ---- the first scalars of a list that is longer
+
+-- a list with one value throughout
+pub take-replicate : {A : Type 0} (r n : ℕ) (v : A) → r ≤ n → take r (replicate n v) ≡ replicate r v
+take-replicate r n v h =
+    let m : r + (n - r) ≡ n = omega arith in
+    ap (λ k. take r (replicate k v)) (sym m) ∙ ap (take r) (sym (replicate-append-replicate r (n - r) v)) ∙ take-at (replicate r v) (replicate (n - r) v) r (length-replicate r v)
+
+-- what is left of a row reads only the first coefficients
+pub left-take : (k r i : ℕ) (wide q a : List Float) → 2 * r ≤ length a
+    → normOf (λ p. minusTo (at a) (column q p) (entry wide i p) r) k ≡ normOf (λ p. minusTo (at (take (2 * r) a)) (column q p) (entry wide i p) r) k
+left-take k r i wide q a h = normOf-ext _ _ k (λ p _. minusTo-ext _ _ _ _ _ r (λ j l. sym (at-take a r j l h)) (λ j _. refl))
+
+-- ---- a row that says something new, from what each call gives
+
+done-bind : {A B : Type 0} (d : Done) (x : A) (f : A → B) → doneOf d (f x) ≡ bind (doneOf d x) (λ y. ok (f y))
+unfolding bind
+done-bind done.Finished x f = refl
+done-bind (done.Refused e) x f = refl
+
+-- the problem as one row has it
+abbrev pub rowProblem : ℕ → List Float → List Float → Problem
+rowProblem k wide jc = problemBy k 0 (λ _. zeroS) wide jc
+
+module _ (k r i : ℕ) (jc q gram c w : List Float) (o : List ℕ) (v v′ c′ : List Float) (a : Answer) (ev : v ≡ fillTo vector 0 (row jc i) k) (et : takenBy v′ c′ ≡ partsOut k r q (takenBy v c) r)
+    (el : resultOf a ≡ normOf (at v′) k) where
+  -- the steps after the parts are out
+  abbrev vectorOf : Scalar → List Float
+  vectorOf l = fillTo q (12 * r) (unitAt (along v′ 0 1) (sharpen l)) k
+
+  abbrev grown : Scalar → Res Basis
+  grown l = bind (gramRow k r (vectorOf l) gram) (λ g. ok (basisBy (r + 1) (vectorOf l) g (put c′ (12 * r + r) (sharpen l)) w (set o r i)))
+
+  steps : extended (rowProblem k [] jc) (basisBy r q gram c w o) i ≡ bind (resultOf a) grown
+  unfolding extended
+  steps = rw (el, ← ev, ← et)
+
+  pub new-refused : {e : LinearError} → a ≡ answer.Refused e → refused (numberOf e) ≡ extended (rowProblem k [] jc) (basisBy r q gram c w o) i
+  unfolding bind
+  new-refused ea = sym (rw ea at steps)
+
+  pub new-added : {l l′ : Scalar} {q′ c″ : List Float} (gram′ : List Float) (d : Done) → a ≡ answer.Value l → l′ ≡ sharpen l → q′ ≡ fillTo q (12 * r) (unitAt (along v′ 0 1) l′) k → c″ ≡ put c′ (12 * r + r) l′
+      → doneOf d gram′ ≡ gramRow k r q′ gram → doneOf d (basisBy (r + 1) q′ gram′ c″ w (set o r i)) ≡ extended (rowProblem k [] jc) (basisBy r q gram c w o) i
+  unfolding bind
+  new-added {l} {l′} {q′} {c″} gram′ d ea es eq ec eg =
+      let h : extended (rowProblem k [] jc) (basisBy r q gram c w o) i ≡ grown l = rw ea at steps in
+      let g : grown l ≡ bind (doneOf d gram′) (λ g. ok (basisBy (r + 1) q′ g c″ w (set o r i))) = rw (ec, eg, eq, es) in
+      done-bind d gram′ (λ g. basisBy (r + 1) q′ g c″ w (set o r i)) ∙ sym g ∙ sym h
+
+-- ---- one row, from what each call gives
+
+module _ (k r i : ℕ) (wide jc q gram c w : List Float) (o : List ℕ) (x : Answer) (a : List Float)
+    (measured
+    : (f : List Float → Scalar → Res Basis)
+    → bind (resultOf x) (f a)
+    ≡ bind (solveOf r (packed r gram) (replicate r false) (listTo (λ j. dotTo (row wide i) (row q j) k) r)) (λ a. bind (normOf (λ p. minusTo (at a) (column q p) (entry wide i p) r) k) (f a))) where
+  abbrev before : Basis
+  before = basisBy r q gram c w o
+
+  abbrev decided : List Float → Scalar → Res Basis
+  decided a l = pick (definitelyGreater l zeroS) (extended (rowProblem k wide jc) before i) (ok (withDependent before i a))
+
+  row-is : rowStep (rowProblem k wide jc) before i ≡ bind (resultOf x) (decided a)
+  unfolding rowStep coefficientsIn
+  row-is = sym (measured decided)
+
+  pub row-refused : {e : LinearError} → x ≡ answer.Refused e → refused (numberOf e) ≡ rowStep (rowProblem k wide jc) before i
+  unfolding bind
+  row-refused e = sym (rw e at row-is)
+
+  pub row-new : {l : Scalar} {s : Bool} {b : Res Basis} → x ≡ answer.Value l → s ≡ definitelyGreater l zeroS → s ≡ true → b ≡ extended (rowProblem k [] jc) before i → b ≡ rowStep (rowProblem k wide jc) before i
+  unfolding bind extended
+  row-new {l} e es et eb =
+      let h : rowStep (rowProblem k wide jc) before i ≡ decided a l = rw e at row-is in
+      let t : definitelyGreater l zeroS ≡ true = sym es ∙ et in
+      let p : decided a l ≡ extended (rowProblem k wide jc) before i = rw t in
+      eb ∙ sym (h ∙ p)
+
+  pub row-dependent : {l : Scalar} {s : Bool} → x ≡ answer.Value l → s ≡ definitelyGreater l zeroS → s ≡ false → ok (withDependent before i a) ≡ rowStep (rowProblem k wide jc) before i
+  unfolding bind
+  row-dependent {l} e es et =
+      let h : rowStep (rowProblem k wide jc) before i ≡ decided a l = rw e at row-is in
+      let t : definitelyGreater l zeroS ≡ false = sym es ∙ et in
+      let p : decided a l ≡ ok (withDependent before i a) = rw t in
+      sym (h ∙ p)
+
+-- ---- never more vectors than rows
+
+rank-extended : (P : Problem) (b : Basis) (i : ℕ) {b′ : Basis} → extended P b i ≡ ok b′ → b′ .rank ≡ b .rank + 1
+unfolding extended
+rank-extended P b i e =
+    let r = b .rank in
+    let t = partsOut (P .k) r (b .q) (takenBy (fillTo vector 0 (row (P .jc) i) (P .k)) (b .coefficients)) r in
+    let newest : Scalar → List Float = λ l. fillTo (b .q) (12 * r) (unitAt (along (t .v) 0 1) (sharpen l)) (P .k) in
+    let added : Scalar → List Float → Res Basis = λ l g. ok (basisBy (r + 1) (newest l) g (put (t .coefficients) (12 * r + r) (sharpen l)) (b .dependent) (set (b .order) r i)) in
+    let (l, _, e₁) = bind-value (normOf (at (t .v)) (P .k)) (λ l. bind (gramRow (P .k) r (newest l) (b .gram)) (added l)) e in
+    let (g, _, e₂) = bind-value (gramRow (P .k) r (newest l) (b .gram)) (added l) e₁ in
+    sym (ap (λ (b : Basis). b .rank) (ok-inj e₂))
+
+rank-decided : (s : Bool) (b : Basis) {x : Res Basis} (y : Basis) {b′ : Basis} → ((b″ : Basis) → x ≡ ok b″ → b″ .rank ≡ b .rank + 1) → y .rank ≡ b .rank → pick s x (ok y) ≡ ok b′ → b′ .rank ≤ b .rank + 1
+rank-decided true b y {b′} h hy e = omega (arith, h b′ e)
+rank-decided false b y h hy e = let q = ap (λ (b : Basis). b .rank) (ok-inj e) in omega (arith, q, hy)
+
+pub rank-more : (P : Problem) (b : Basis) (i : ℕ) {b′ : Basis} → rowStep P b i ≡ ok b′ → b′ .rank ≤ b .rank + 1
+unfolding rowStep
+rank-more P b i e =
+    let next : List Float → Scalar → Res Basis = λ a l. pick (definitelyGreater l zeroS) (extended P b i) (ok (withDependent b i a)) in
+    let (a, _, e₁) = bind-value (coefficientsIn P b i) (λ a. bind (normOf (outsideAt P b i a) (P .k)) (next a)) e in
+    let (l, _, e₂) = bind-value (normOf (outsideAt P b i a) (P .k)) (next a) e₁ in
+    rank-decided (definitelyGreater l zeroS) b (withDependent b i a) (λ b″ h. rank-extended P b i h) refl e₂
+
+pub rank-few : (P : Problem) (n : ℕ) {b : Basis} → foldR (rowStep P) noRows n ≡ ok b → b .rank ≤ n
+unfolding foldR
+rank-few P zero e = let q = ap (λ (b : Basis). b .rank) (ok-inj e) in omega (arith, q)
+rank-few P (suc n) e =
+    let (s, e₁, e₂) = bind-value (foldR (rowStep P) noRows n) (λ s. rowStep P s n) e in
+    omega (arith, rank-few P n e₁, rank-more P s n e₂)
+
+-- of the whole basis
+pub rank-small : (P : Problem) {b : Basis} → basisOf P ≡ ok b → b .rank ≤ P .m
+unfolding basisOf
+rank-small P e = rank-few P (P .m) e
+
+-- ---- what is read of a problem and of a basis
+
+pub row-reads : (P : Problem) (b : Basis) (i : ℕ) → rowStep (rowProblem (P .k) (P .wide) (P .jc)) b i ≡ rowStep P b i
+unfolding rowStep coefficientsIn extended
+row-reads P b i = refl
+
+pub basis-reads : (P : Problem) → basisOf (problemBy (P .k) (P .m) (λ _. zeroS) (P .wide) (P .jc)) ≡ basisOf P
+unfolding basisOf rowStep coefficientsIn extended
+basis-reads P = refl
+
+pub correction-reads : (P : Problem) (b : Basis) → correctionOf (problemBy (P .k) (P .m) (P .c) [] []) (basisBy (b .rank) (b .q) [] (b .coefficients) (b .dependent) (b .order)) ≡ correctionOf P b
+unfolding correctionOf
+correction-reads P b = refl
+
+pub multipliers-reads : (k : ℕ) (b : Basis) (pull : List Float) → multipliersOf k (basisBy (b .rank) (b .q) [] (b .coefficients) [] (b .order)) pull ≡ multipliersOf k b pull
+unfolding multipliersOf multiplierStep
+multipliers-reads k b pull = refl

@@ -1,0 +1,64 @@
+-- The steps of a correction, from what each call gives.
+use Prim.Native.Nat.{ℕ, _+_, _*_, _/_, _%_, _≤_}
+use mathlib.Core.Bool.{Bool, true, false}
+use mathlib.Core.List.{List}
+use mathlib.Core.Path.{_≡_, refl, _∙_}
+use native.Mathlib.Nat.{div-add-mod'}
+use native.Mathlib.Omega.{arith}
+use lib.Ieee.{Float}
+use lib.ListN.{length, getD, length-replicate}
+use Rattle.interval.specs.declared.Scalar.{Scalar}
+use Rattle.interval.specs.Result.{Res, ok}
+use Rattle.interval.specs.Scalar.{zeroS, zero64, pick}
+use Rattle.linear.specs.Answers.{doneOf}
+use Rattle.linear.specs.Calls.{minusSolvedReply}
+use Rattle.linear.specs.Choose.{chooseOf}
+use Rattle.linear.specs.Flat.{at, zeros, listTo}
+use Rattle.linear.specs.Replies.{replied}
+use Rattle.linear.specs.Solved.{minusSolvedOf}
+use Rattle.linear.specs.declared.answers.Done.{Done}
+use Rattle.linear.proofs.Lists.{length-listTo}
+use Rattle.run.specs.Scratch.{chosenOf, allFinite}
+use Rattle.run.specs.Rows.{constraintsOf, valueAt}
+use Rattle.run.specs.Proposal.{movedOf, sameOf}
+use Rattle.run.specs.Correction.{movingSlope, Shift, to, stay}
+use Rattle.run.proofs.ScratchLaws.{fill-whole}
+use Rattle.run.proofs.LinearCalls.{minus-solved-result}
+
+-- the slope at the place p is that of a row and a variable
+pub slope-is : (moving : List Bool) (xs : List Float) (n m p : ℕ) {v r : Scalar}
+    → v ≡ at xs (m + p) → r ≡ pick (getD moving (p % n) false) (chooseOf v) zeroS → r ≡ movingSlope moving (constraintsOf n m xs) (p / n) (p % n)
+slope-is moving xs n m p ev er =
+    let e : m + p / n * n + p % n ≡ m + p = omega (arith, div-add-mod' p n) in
+    rw (er, ev, e)
+
+pub shift-solved : (n m : ℕ) (moving : List Bool) (xs jc c₀ c clear out : List Float) (r : Done) (x : List Float)
+    → n ≤ 12 → m ≤ 12 → length out ≡ 2 * n → length c₀ ≡ 2 * m
+    → jc ≡ listTo (λ p. movingSlope moving (constraintsOf n m xs) (p / n) (p % n)) (m * n) → c ≡ chosenOf c₀ xs 0 m → clear ≡ zeros (2 * n)
+    → replied r x ≡ minusSolvedReply m n jc c clear out
+    → doneOf r x
+    ≡ minusSolvedOf m n (listTo (λ p. movingSlope moving (constraintsOf n m xs) (p / n) (p % n)) (m * n)) (listTo (λ i. chooseOf (valueAt (constraintsOf n m xs) i)) m) (zeros (2 * n))
+shift-solved n m moving xs jc c₀ c clear out r x hn hm lo lc ej ec ez e =
+    let w = ec ∙ fill-whole c₀ _ m lc in
+    let kj : length jc ≡ 2 * (m * n) = rw ej (length-listTo _ (m * n)) in
+    let kc : length c ≡ 2 * m = rw w (length-listTo _ m) in
+    let kz : length clear ≡ 2 * n = rw ez (length-replicate (2 * n) zero64) in
+    rw (ej, w, ez) at (minus-solved-result r m n jc c clear out x (omega arith) (omega arith) kj kc kz lo e)
+
+-- where a shift d takes the landed point
+module _ (n : ℕ) (landed d : List Float) {t : Bool} (et : t ≡ allFinite d 12) where
+  abbrev ends : Res Shift
+  ends = ok (pick (allFinite d 12) (pick (sameOf n (movedOf n landed d) landed) stay (to (movedOf n landed d))) stay)
+
+  module _ {next : List Float} {u : Bool} (en : next ≡ movedOf n landed d) (eu : u ≡ sameOf n next landed) where
+    decided : ok (pick t (pick u stay (to next)) stay) ≡ ends
+    decided = rw (et, eu, en)
+
+    pub changes-nothing : t ≡ true → u ≡ true → ok stay ≡ ends
+    changes-nothing h k = rw (h, k) at decided
+
+    pub goes : t ≡ true → u ≡ false → ok (to next) ≡ ends
+    goes h k = rw (h, k) at decided
+
+  pub not-finite : t ≡ false → ok stay ≡ ends
+  not-finite h = rw h at (decided {next = movedOf n landed d} refl refl)

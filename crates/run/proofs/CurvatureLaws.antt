@@ -1,0 +1,82 @@
+-- The steps of the curvature's update, from what each call gives.
+use Prim.Native.Nat.{ℕ, _*_, _≤_, _+_}
+use mathlib.Core.Bool.{Bool, true, false}
+use mathlib.Core.List.{List}
+use mathlib.Core.Path.{_≡_, _∙_}
+use native.Mathlib.Omega.{arith}
+use lib.Ieee.{Float}
+use lib.ListN.{length, take}
+use lib.Seq.{length-take-le}
+use Rattle.interval.specs.declared.Scalar.{Scalar}
+use Rattle.interval.specs.Result.{Res, ok}
+use Rattle.interval.specs.Scalar.{zeroS, pick, subOf, definitelyNotEqual}
+use Rattle.linear.specs.Answers.{doneOf}
+use Rattle.linear.specs.Calls.{minusSolvedReply}
+use Rattle.linear.specs.Choose.{chooseOf}
+use Rattle.linear.specs.Dot.{dotTo}
+use Rattle.linear.specs.Flat.{at, along, zeros, listTo}
+use Rattle.linear.specs.Replies.{replied}
+use Rattle.linear.specs.Results.{bind}
+use Rattle.linear.specs.Solved.{minusSolvedOf}
+use Rattle.linear.specs.declared.answers.Done.{Done}
+use Rattle.linear.proofs.Lists.{length-listTo}
+use Rattle.run.specs.Scratch.{vector, fillTo, chosenOf}
+use Rattle.run.specs.Rows.{Rows, Evaluation, constraintsOf}
+use Rattle.run.specs.Curvature.{alongOf, turnedAt, turnedOf, rankOneOf, bentBy, correctedBy, updatedBy}
+use Rattle.run.proofs.ScratchLaws.{fill-ext, fill-whole, prefix-list}
+use Rattle.run.proofs.LinearCalls.{minus-solved-result}
+
+module _ (n m : ℕ) (xs v jc rhs out : List Float) (hn : n ≤ 12) (hm : m ≤ 12) (hv : 2 * n ≤ length v) where
+  along-lists : jc ≡ listTo (λ p. chooseOf (at xs (constraintsOf n m xs .slopes + p))) (m * n) → rhs ≡ listTo (λ i. dotTo (along jc (i * n) 1) (at v) n) m
+      → minusSolvedOf m n jc rhs (take (2 * n) v) ≡ alongOf (constraintsOf n m xs) v
+  unfolding alongOf
+  along-lists ej er = rw (prefix-list v n hv, er, ej)
+
+  pub along-is : (jc₀ rhs₀ : List Float) (r : Done) (x : List Float)
+      → length out ≡ 2 * n → length jc₀ ≡ 2 * (m * n) → length rhs₀ ≡ 2 * m
+      → jc ≡ chosenOf jc₀ xs m (m * n) → rhs ≡ fillTo rhs₀ 0 (λ i. dotTo (along jc (i * n) 1) (at v) n) m
+      → replied r x ≡ minusSolvedReply m n jc rhs (take (2 * n) v) out
+      → doneOf r x ≡ alongOf (constraintsOf n m xs) v
+  along-is jc₀ rhs₀ r x lo lj lr ej er e =
+      let wj = ej ∙ fill-whole jc₀ _ (m * n) lj in
+      let wr = er ∙ fill-whole rhs₀ _ m lr in
+      let kj : length jc ≡ 2 * (m * n) = rw wj (length-listTo _ (m * n)) in
+      let kr : length rhs ≡ 2 * m = rw wr (length-listTo _ m) in
+      minus-solved-result r m n jc rhs (take (2 * n) v) out x (omega arith) (omega arith) kj kr (length-take-le _ _ hv) lo e ∙ along-lists wj wr
+
+pub turned-is : (n : ℕ) (e e′ : Evaluation) (lambda : List Float) {r₀ r y : List Float}
+    → r₀ ≡ zeros 48 → r ≡ chosenOf r₀ (e′ .sum .list) (e′ .sum .values) (e′ .sum .count) → y ≡ fillTo vector 0 (turnedAt e e′ lambda r) n
+    → y ≡ turnedOf n e e′ lambda
+unfolding turnedOf
+turned-is n e e′ lambda e₀ er ey = rw (ey, er, e₀)
+
+module _ (n : ℕ) (b y bs s : List Float) {v : List Float} {d vs : Scalar} {t : Bool}
+    (ev : v ≡ fillTo vector 0 (λ i. chooseOf (subOf (at y i) (at bs i))) n) (ed : d ≡ dotTo (at v) (at s) n) (es : vs ≡ chooseOf d) (et : t ≡ definitelyNotEqual vs zeroS) where
+  decided : pick t (rankOneOf n b v vs) (ok b) ≡ correctedBy n b y bs s
+  unfolding correctedBy
+  decided = rw (et, es, ed, ev)
+
+  pub corrected : {r : Res (List Float)} → t ≡ true → r ≡ rankOneOf n b v vs → r ≡ correctedBy n b y bs s
+  corrected h e = e ∙ (rw h at decided)
+
+  pub uncorrected : t ≡ false → ok b ≡ correctedBy n b y bs s
+  uncorrected h = rw h at decided
+
+-- B s, filled row by row
+bent-is : (n : ℕ) (b s : List Float) {bs₀ bs : List Float} → bs₀ ≡ vector → bs ≡ fillTo bs₀ 0 (λ i. dotTo (along b (i * n) 1) (at s) n) n → bs ≡ bentBy n b s
+bent-is n b s e₀ e =
+    let same : (j : ℕ) → j * n + 0 ≡ j * n = λ j. omega arith in
+    rw (e, e₀) (fill-ext vector 0 _ _ n (λ j h. rw (same j)))
+
+module _ (n : ℕ) (c : Rows) (b y s : List Float) {bs₀ bs : List Float} {p q d : Scalar} {t : Bool}
+    (e₀ : bs₀ ≡ vector) (eb : bs ≡ fillTo bs₀ 0 (λ i. dotTo (along b (i * n) 1) (at s) n) n)
+    (ep : p ≡ dotTo (at y) (at s) n) (eq : q ≡ dotTo (at bs) (at s) n) (ed : d ≡ subOf p q) (et : t ≡ definitelyNotEqual d zeroS) where
+  asked : pick t (bind (alongOf c y) (λ z. correctedBy n b z bs s)) (ok b) ≡ updatedBy n c b y s
+  unfolding updatedBy
+  asked = rw (et, ed, ep, eq, bent-is n b s e₀ eb)
+
+  pub updates : {r : Res (List Float)} → t ≡ true → r ≡ bind (alongOf c y) (λ z. correctedBy n b z bs s) → r ≡ updatedBy n c b y s
+  updates h e = e ∙ (rw h at asked)
+
+  pub leaves : t ≡ false → ok b ≡ updatedBy n c b y s
+  leaves h = rw h at asked

@@ -1,0 +1,30 @@
+-- The laws of exact sums of squares that demand 3 rests on: of finite rows, each of the four definite answers of a judgement makes one exact sum lower.
+use mathlib.Core.Path.{_≡_}
+use mathlib.Core.List.{List}
+use lib.Dec.{T}
+use lib.Ieee.{Float}
+use lib.ListN.{length}
+use Rattle.interval.specs.declared.Scalar.{Scalar}
+use Rattle.interval.specs.Result.{ok}
+use Rattle.interval.specs.Scalar.{subOf, definitelyLess}
+use Rattle.linear.specs.Squares as squares
+use Rattle.run.specs.Rows.{Rows, rowNumbers, valueAt, constraintsOf, sumOf, sumSquared, violationOf}
+use Rattle.run.specs.Judgement.{sumChange, rises}
+use Rattle.run.specs.Demand.{Falls}
+use Rattle.run.specs.declared.state.Sizes.{Sizes}
+
+-- the values are pairs of finite floats
+abbrev pub FiniteRows : Rows → Type 0
+FiniteRows e = squares.Rows (valueAt e) (e .count)
+
+-- rows as they are answered: of the right length, with finite values
+pub record Good (z : Sizes) (xs : List Float) : Type 0 where
+  pub size : length xs ≡ rowNumbers (z .n) (z .m) (z .s)
+  pub constraints-finite : FiniteRows (constraintsOf (z .n) (z .m) xs)
+  pub sum-finite : FiniteRows (sumOf (z .n) (z .m) (z .s) xs)
+
+pub record ExactLaws : Type 0 where
+  pub change-falls : (e e′ : Rows) → e .count ≡ e′ .count → FiniteRows e → FiniteRows e′ → T (rises (sumChange e e′)) → Falls e e′
+  pub sum-less : (e e′ : Rows) → FiniteRows e → FiniteRows e′ → T (definitelyLess (sumSquared e′) (sumSquared e)) → Falls e e′
+  pub violation-falls : (e e′ : Rows) → FiniteRows e → FiniteRows e′ → (v v′ : Scalar) → violationOf e ≡ ok v → violationOf e′ ≡ ok v′ → T (rises (subOf v v′)) → Falls e e′
+  pub violation-less : (e e′ : Rows) → FiniteRows e → FiniteRows e′ → (v v′ : Scalar) → violationOf e ≡ ok v → violationOf e′ ≡ ok v′ → T (definitelyLess v′ v) → Falls e e′

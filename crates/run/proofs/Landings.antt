@@ -1,0 +1,260 @@
+-- A landed point: taken, it stands with its rows and the filter gains the pair of the point it replaced; not taken, what stood still stands.
+use Prim.Native.Nat.{ℕ, _+_, _*_, _≤_, _<_}
+use mathlib.Core.Bool.{Bool, true, false, not, _&&_, _||_}
+use mathlib.Core.Logic.{inl, inr, ⊎-elim, _≢_}
+use mathlib.Core.Path.{_≡_, refl, sym, ap, ap₂, _∙_, subst}
+use mathlib.Core.List.{List, _∷_}
+use native.Mathlib.Omega.{arith}
+use lib.Ieee.{Float}
+use lib.ListN.{length, length-replicate}
+use Rattle.interval.specs.declared.Scalar.{Scalar}
+use Rattle.interval.specs.Result.{ok}
+use Rattle.interval.specs.Scalar.{zero64, zeroS, pick, degenerate, divOf, subOf, definitelyGreater}
+use Rattle.interval.specs.Scaling.{three64}
+use Rattle.linear.specs.Flat.{at, put, zeros}
+use Rattle.linear.proofs.FlatLaws.{length-put, at-put-same, at-put-other}
+use Rattle.linear.proofs.Folds.{bind-value}
+use Rattle.interval.proofs.Given.{yes}
+use Rattle.interval.proofs.Results.{ok-inj}
+use Rattle.run.specs.Rows.{sumSquared, violationOf}
+use Rattle.run.specs.Area.{CURVATURE, Memory, withTaken}
+use Rattle.run.specs.Curvature.{updateCurvature}
+use Rattle.run.specs.Judgement.{sumChange, rises, indefinite, beatsTo, contracts, Judged, judgedBy, judgeOf}
+use Rattle.run.specs.Run.{standingAt, landedAt, curvatureOf, held, linearOf, shrunk, reachOf, standingOn, filterWith, take, notLower, wasTaken, decide, judge}
+use Rattle.linear.specs.Norm.{normOf}
+use Rattle.run.specs.Demand.{In, Lower, Undecided}
+use Rattle.run.specs.declared.state.Last.{Last}
+use Rattle.run.specs.declared.state.Last.the-variants as last
+use Rattle.run.specs.declared.state.Sizes.{Sizes}
+use Rattle.run.specs.declared.state.State.{State}
+use Rattle.run.specs.declared.state.Stop.the-variants as stop
+use Rattle.run.proofs.Booleans.{and-left, and-right, or-either}
+use Rattle.run.proofs.AreaSlots.{length-filter}
+use Rattle.run.proofs.CheckLaws.{size-bounds}
+use Rattle.run.proofs.Slots.{violation-padded, squared-padded, change-padded}
+use Rattle.run.proofs.Yields.{Yields, gives, Any, Long, div-yields, judge-yields, curvature-yields}
+use Rattle.run.proofs.Growths.{growth-third}
+use Rattle.run.proofs.ExactLaws.{ExactLaws}
+use Rattle.run.proofs.Invariant.{Slot, Pairs, Pace, Scene, Halves, Forward, moved, Live, After}
+use Rattle.run.proofs.Outcomes.{pairs-filter, either-after, or-refuse-after, finish-after}
+use Rattle.run.proofs.TurnLaws.{paced-few, iterate-after, not-lower-after}
+use Rattle.run.proofs.Judgements.{sums, constraints, lower-definite, undecided-rows, lower-pairs}
+
+-- a point has landed, with so many questions since the last turn-down or iteration; what stood before the call still stands
+pub record Landing (S : Scene) (st : State) (w : Memory) (since : ℕ) : Type 0 where
+  pub live : Live S (st .sizes) (st .counts) (st .last) w
+  pub still : st .counts .standing ≡ S .ledger .standing
+  pub still-before : live .before ≡ S .before
+  pub newer : (e : ℕ) → In e (S .ledger .stood) → e < st .counts .landed
+  pub landed-asked : st .counts .landed ≤ st .counts .question
+  pub landed-slot : Slot (st .sizes) (S .rows (st .counts .landed)) (w .landedRows)
+  pub pace : Pace (st .counts) (st .search) since
+  pub below-limit : st .counts .iterations < st .sizes .limit
+  pub first-same : S .run .state .search .first ≡ st .search .first
+  pub last-same : S .run .state .last ≡ st .last
+
+-- ---- what is read of the rows in the slots is read of the rows as they were answered
+
+module _ (z : Sizes) (xs slot : List Float) (s : Slot z xs slot) where
+  slot-violation : violationOf (constraints z slot) ≡ violationOf (constraints z xs)
+  slot-violation = ap (λ (l : List Float). violationOf (constraints z l)) (s .in-slot) ∙ violation-padded z xs (s .good .size)
+
+  slot-squared : sumSquared (sums z slot) ≡ sumSquared (sums z xs)
+  slot-squared = ap (λ (l : List Float). sumSquared (sums z l)) (s .in-slot) ∙ squared-padded z xs (s .good .size)
+
+slot-change : (z : Sizes) (xs ys a b : List Float) → Slot z xs a → Slot z ys b → sumChange (sums z a) (sums z b) ≡ sumChange (sums z xs) (sums z ys)
+slot-change z xs ys a b s t = ap₂ (λ (k l : List Float). sumChange (sums z k) (sums z l)) (s .in-slot) (t .in-slot) ∙ change-padded z xs ys (s .good .size) (t .good .size)
+
+-- ---- a step taken
+
+linear-yields : (st : State) (w : Memory) (theta new : Scalar) → violationOf (landedAt st w .constraints) ≡ ok new → Yields Any (linearOf st w theta)
+linear-yields st w theta new e = rw e (go (definitelyGreater theta zeroS) (held theta (st .trial .predicted) new))
+  where
+    go : (b x : Bool) → Yields Any (pick b (ok x) (ok false))
+    go true x = gives tt
+    go false x = gives tt
+
+-- the filter with one pair more
+module _ (filter : List Float) (count : ℕ) (f theta : Scalar) (room : 4 * count + 3 < length filter) where
+  filter-kept : (i : ℕ) → i < 2 * count → at (filterWith filter count f theta) i ≡ at filter i
+  unfolding filterWith
+  filter-kept i h = at-put-other (put filter (2 * count) f) (2 * count + 1) i theta (λ e. omega arith) ∙ at-put-other filter (2 * count) i f (λ e. omega arith)
+
+  filter-sum : at (filterWith filter count f theta) (2 * count) ≡ f
+  unfolding filterWith
+  filter-sum = at-put-other (put filter (2 * count) f) (2 * count + 1) (2 * count) theta (λ e. omega arith) ∙ at-put-same filter (2 * count) f (omega arith)
+
+  filter-violation : at (filterWith filter count f theta) (2 * count + 1) ≡ theta
+  unfolding filterWith
+  filter-violation = at-put-same (put filter (2 * count) f) (2 * count + 1) theta (omega (arith, length-put filter (2 * count) f))
+
+module _ (S : Scene) (st : State) (w : Memory) (since : ℕ) (L : Landing S st w since) (theta : Scalar) (theta-is : violationOf (standingAt st w .constraints) ≡ ok theta) where
+  room : 4 * st .counts .iterations + 3 < length (w .filter)
+  room = let s = size-bounds (st .sizes) (L .live .sizes-fit) in let b = L .below-limit in omega (arith, L .live .sized .filter-size)
+
+  filter′ : List Float
+  filter′ = filterWith (w .filter) (st .counts .iterations) (sumSquared (standingAt st w .sum)) theta
+
+  -- the point that stood, as the newest pair, and those before it
+  taken-pairs : Pairs (st .sizes) (S .rows) filter′ (st .counts .standing ∷ L .live .before)
+  unfolding filter′
+  taken-pairs =
+      let z = st .sizes in
+      let it = st .counts .iterations in
+      let f = sumSquared (standingAt st w .sum) in
+      let s = L .live .stands .slot in
+      let xs = S .rows (st .counts .standing) in
+      let many = L .live .before-many in (
+        record {
+          good = s .good;
+          pair-sum = rw many (filter-sum (w .filter) it f theta room) ∙ slot-squared z xs (w .standingRows) s;
+          pair-violation = sym (slot-violation z xs (w .standingRows) s) ∙ theta-is ∙ ap ok (sym (rw many (filter-violation (w .filter) it f theta room)));
+        },
+        pairs-filter z (S .rows) (w .filter) (filterWith (w .filter) it f theta) (L .live .before) (λ i h. filter-kept (w .filter) it f theta room i (omega arith)) (L .live .stands .pairs),
+      )
+
+  taken-new : st .counts .landed ≢ S .ledger .standing
+  unfolding In
+  taken-new e = let h = L .newer (S .ledger .standing) (subst (In (S .ledger .standing)) (sym (S .stood-is)) (inl refl)) in omega arith
+
+  taken-below : (e : ℕ) → In e (st .counts .landed ∷ (st .counts .standing ∷ L .live .before)) → e ≤ st .counts .question
+  unfolding In
+  taken-below e (inl q) = let h = L .landed-asked in omega arith
+  taken-below e (inr i) = L .live .below e i
+
+  taken-live : (length mu radius : Scalar) (b : List Float) → Long CURVATURE b → Forward S (st .sizes) (st .counts .landed) (last.Taken length)
+      → Live S (st .sizes) (standingOn st length mu radius .counts) (last.Taken length) (withTaken w b filter′)
+  unfolding filter′
+  taken-live length mu radius b size f =
+      let v = L .live in
+      record {
+        before = st .counts .standing ∷ v .before;
+        way = moved taken-new (ap₂ (λ (e : ℕ) (es : List ℕ). e ∷ es) (L .still) (L .still-before)) f;
+        before-many = let m = v .before-many in omega arith;
+        below = taken-below;
+        stands = record { slot = L .landed-slot; pairs = taken-pairs };
+        sized = record {
+          standing-size = v .sized .landed-size;
+          landed-size = v .sized .landed-size;
+          asked-size = v .sized .asked-size;
+          standing-rows-size = v .sized .landed-rows-size;
+          landed-rows-size = v .sized .landed-rows-size;
+          step-size = v .sized .step-size;
+          multipliers-size = v .sized .multipliers-size;
+          curvature-size = size;
+          filter-size = length-filter (w .filter) (st .counts .iterations) (sumSquared (standingAt st w .sum)) theta ∙ v .sized .filter-size;
+        };
+        sizes-fit = v .sizes-fit;
+        within = let b = L .below-limit in omega arith;
+        few-asked = v .few-asked;
+        few-corrections = v .few-corrections;
+      }
+
+  curvature-long : Long CURVATURE (curvatureOf st w)
+  curvature-long = go (st .search .plain)
+    where
+      go : (b : Bool) → Long CURVATURE (pick b (zeros CURVATURE) (w .curvature))
+      go true = length-replicate CURVATURE zero64
+      go false = L .live .sized .curvature-size
+
+  pub take-after : since ≤ 5 → (new : Scalar) → violationOf (landedAt st w .constraints) ≡ ok new → (length : Scalar) → Forward S (st .sizes) (st .counts .landed) (last.Taken length) → After S (st .sizes) (take st w theta length)
+  unfolding take filter′
+  take-after few new new-is length f =
+      let z = st .sizes in
+      let t = paced-few (st .counts) (st .search) since (L .pace) in
+      let q = L .pace .few in
+      or-refuse-after S z st w (linearOf st w theta) _ (linear-yields st w theta new new-is)
+      (λ linear u v.
+      or-refuse-after S z st w (divOf (st .search .mu) (degenerate three64)) _ (div-yields (st .search .mu) (degenerate three64))
+      (λ third is-third v.
+      or-refuse-after S z st w (updateCurvature (st .sizes .n) (curvatureOf st w) (w .step) (standingAt st w) (landedAt st w) (w .multipliers)) _
+      (curvature-yields CURVATURE (st .sizes .n) (curvatureOf st w) (w .step) (standingAt st w) (landedAt st w) (w .multipliers) curvature-long)
+      (λ b u size.
+      iterate-after S (standingOn st length (shrunk (st .search .mu) third) (reachOf length (st .search .radius) (st .«max_step») linear)) (withTaken w b filter′)
+      (taken-live length (shrunk (st .search .mu) third) (reachOf length (st .search .radius) (st .«max_step») linear) b size f)
+      (record { growths = 0; growth = growth-third (L .pace .growth) is-third; turned = omega arith; few = omega arith }))))
+
+-- ---- the judgement
+
+module _ (law : ExactLaws) (S : Scene) (st : State) (w : Memory) (since : ℕ) (L : Landing S st w since) (theta new : Scalar) (theta-is : violationOf (standingAt st w .constraints) ≡ ok theta) (new-is : violationOf (landedAt st w .constraints) ≡ ok new) (length : Scalar) where
+  z : Sizes
+  z = st .sizes
+
+  xs : List Float
+  xs = S .rows (st .counts .standing)
+
+  ys : List Float
+  ys = S .rows (st .counts .landed)
+
+  change : Scalar
+  change = sumChange (standingAt st w .sum) (landedAt st w .sum)
+
+  beats : Bool
+  beats = beatsTo (w .filter) (sumSquared (landedAt st w .sum)) new (st .counts .iterations)
+
+  j : Judged
+  j = judgedBy change (subOf theta new) beats length (st .last)
+
+  change-is : change ≡ sumChange (sums z xs) (sums z ys)
+  unfolding z xs ys change
+  change-is = slot-change z xs ys (w .standingRows) (w .landedRows) (L .live .stands .slot) (L .landed-slot)
+
+  x-violation : violationOf (constraints z xs) ≡ ok theta
+  unfolding z xs
+  x-violation = sym (slot-violation z xs (w .standingRows) (L .live .stands .slot)) ∙ theta-is
+
+  y-violation : violationOf (constraints z ys) ≡ ok new
+  unfolding z ys
+  y-violation = sym (slot-violation z ys (w .landedRows) (L .landed-slot)) ∙ new-is
+
+  -- lower than each that stood
+  lower-all : j .lower ≡ true → (e : ℕ) → In e (S .ledger .stood) → Lower z (S .rows e) ys
+  unfolding j z xs ys change beats In
+  lower-all h e i = by (subst (In e) (S .stood-is) i)
+    where
+      definite : (rises (sumChange (sums z xs) (sums z ys)) || rises (subOf theta new)) ≡ true
+      definite = ap (λ (v : Scalar). rises v || rises (subOf theta new)) (sym change-is) ∙ and-left (rises change || rises (subOf theta new)) beats h
+
+      beaten : beatsTo (w .filter) (sumSquared (sums z ys)) new (lib.ListN.length (L .live .before)) ≡ true
+      beaten = rw (L .live .before-many, ← slot-squared z ys (w .landedRows) (L .landed-slot)) (and-right (rises change || rises (subOf theta new)) beats h)
+
+      by : In e (S .ledger .standing ∷ S .before) → Lower z (S .rows e) ys
+      by (inl q) = subst (λ (k : ℕ). Lower z (S .rows k) ys) (L .still ∙ sym q) (lower-definite law z xs ys (L .live .stands .slot .good) (L .landed-slot .good) theta new x-violation y-violation definite)
+      by (inr k) = lower-pairs law z (S .rows) (w .filter) ys (L .landed-slot .good) new y-violation (L .live .before) (L .live .stands .pairs) beaten e (subst (In e) (sym (L .still-before)) k)
+
+  -- undecided, and half as long as the last
+  halves-last : (st .search .first && j .undecided && j .contracting) ≡ true → Halves S z (st .counts .landed) (last.Taken length)
+  unfolding j z xs ys change
+  halves-last h =
+      let u = indefinite change && indefinite (subOf theta new) in
+      let c = contracts (st .last) length in
+      let f = st .search .first in
+      let fu : (f && u) ≡ true = and-left (f && u) c h in
+      let open-sum : (indefinite (sumChange (sums z xs) (sums z ys)) && indefinite (subOf theta new)) ≡ true = ap (λ (v : Scalar). indefinite v && indefinite (subOf theta new)) (sym change-is) ∙ and-right f u fu in
+      record {
+        not-damped = L .first-same ∙ and-left f u fu;
+        undecided = subst (λ (k : ℕ). Undecided z (S .rows k) ys) (L .still) (undecided-rows law z xs ys (L .live .stands .slot .good) (L .landed-slot .good) theta new x-violation y-violation open-sum);
+        shorter = yes (ap (λ (b : Last). contracts b length) (L .last-same) ∙ and-right (f && u) c h);
+      }
+
+  decide-after : since ≤ 5 → After S (st .sizes) (decide st w theta j)
+  unfolding decide j z ys
+  decide-after few =
+      let p : Pace (st .counts) (st .search) 5 = let q = L .pace .few in record { growths = L .pace .growths; growth = L .pace .growth; turned = L .pace .turned; few = omega arith } in
+      let b = st .search .first && j .undecided && j .contracting in
+      either-after S z (st .search .first && j .undecided && wasTaken (st .last) && not (j .contracting)) _ _
+      (λ e. finish-after S st w stop.Undecided (L .live) (omega (arith, paced-few (st .counts) (st .search) since (L .pace))))
+      (λ e.
+      either-after S z (j .lower || b) (take st w theta length) (notLower st w)
+      (λ t. take-after S st w since L theta theta-is few new new-is length (⊎-elim (λ h. inl (lower-all h)) (λ h. inr (halves-last h)) (or-either (j .lower) b t)))
+      (λ t. not-lower-after S st w (L .live) p (L .below-limit)))
+
+pub judge-after : (law : ExactLaws) (S : Scene) (st : State) (w : Memory) (since : ℕ) → Landing S st w since → since ≤ 5 → (theta : Scalar) → violationOf (standingAt st w .constraints) ≡ ok theta → After S (st .sizes) (judge st w theta)
+unfolding judge judgeOf
+judge-after law S st w since L few theta theta-is =
+    or-refuse-after S (st .sizes) st w (judgeOf (st .sizes .n) (standingAt st w) (landedAt st w) theta (w .filter) (st .counts .iterations) (st .last) (w .step)) _
+    (judge-yields (st .sizes .n) (standingAt st w) (landedAt st w) theta (w .filter) (st .counts .iterations) (st .last) (w .step))
+    (λ j e u.
+    let a = bind-value (normOf (at (w .step)) (st .sizes .n)) _ e in
+    let b = bind-value (violationOf (landedAt st w .constraints)) _ (a .2) in
+    subst (λ (k : Judged). After S (st .sizes) (decide st w theta k)) (ok-inj (b .2)) (unfold z change beats j in decide-after law S st w since L theta (b .0) theta-is (b .1) (a .0) few))

@@ -1,0 +1,100 @@
+-- The variables kept, one after the other, and the entries of H, from what each call gives.
+use Prim.Native.Nat.{ℕ, zero, suc, _+_, _*_, _<_, _≤_}
+use mathlib.Core.Bool.{Bool, true, false}
+use mathlib.Core.Logic.{_≢_}
+use mathlib.Core.Path.{_≡_}
+use mathlib.Core.List.{List, [], _∷_}
+use native.Mathlib.Numerals.{add-one}
+use native.Mathlib.Omega.{arith}
+use borrow.Author.Tests.{eq-eqb, ne-eqb}
+use lib.Ieee.{Float}
+use lib.ListN.{getD, set, replicate}
+use Rattle.interval.specs.declared.Scalar.{Scalar}
+use Rattle.interval.specs.Scalar.{addOf, mulOf}
+use Rattle.linear.specs.Choose.{chooseOf}
+use Rattle.linear.specs.Dot.{plusTo}
+use Rattle.linear.specs.Flat.{along, zeros}
+use Rattle.linear.proofs.Cells.{product-small}
+use Rattle.run.specs.Curvature.{curvatureAt}
+use Rattle.run.specs.Model.{Kept, keepNext, keptTo, squeezedOf, scalingAt, dampedAt, dampedOf, gradientOf, problemOf, problemIn}
+use Rattle.run.specs.Rows.{Rows, rowsIn, constraintSet, sumSet, constraintsOf, evaluationOf, valueAt}
+use Rattle.run.specs.Scratch.{matrix, column, chosenOf}
+use Rattle.run.specs.declared.rows.RowSet.{RowSet}
+
+pub keep-turn : (moving : List Bool) (i : ℕ) {k k′ : Kept} → k ≡ keptTo moving i → k′ ≡ keepNext (getD moving i false) k i → k′ ≡ keptTo moving (i + 1)
+unfolding keptTo
+keep-turn moving i e h = rw (add-one, ← e) h
+
+-- at most one more
+count-next : (b : Bool) (k : Kept) (i : ℕ) → keepNext b k i .count ≤ k .count + 1
+count-next true k i = omega arith
+count-next false k i = omega arith
+
+pub count-more : (b : Bool) (k : Kept) (i : ℕ) {k′ : Kept} → k′ ≡ keepNext b k i → k′ .count ≤ k .count + 1
+count-more b k i e = rw e (count-next b k i)
+
+-- how many, and which: none beyond those passed
+kept-count : (moving : List Bool) (n : ℕ) → keptTo moving n .count ≤ n
+unfolding keptTo
+kept-count moving zero = omega arith
+kept-count moving (suc n) = omega (arith, kept-count moving n, count-next (getD moving n false) (keptTo moving n) n)
+
+set-below : (b : ℕ) (l : List ℕ) (i a j : ℕ) → ((k : ℕ) → getD l k 0 ≤ b) → a ≤ b → getD (set l i a) j 0 ≤ b
+set-below b [] i a j h ha = h j
+set-below b (x ∷ l) zero a zero h ha = ha
+set-below b (x ∷ l) zero a (suc j) h ha = h (suc j)
+set-below b (x ∷ l) (suc i) a zero h ha = h zero
+set-below b (x ∷ l) (suc i) a (suc j) h ha = set-below b l i a j (λ k. h (suc k)) ha
+
+next-below : (b : Bool) (n : ℕ) (k : Kept) → ((p : ℕ) → getD (k .index) p 0 ≤ n) → (p : ℕ) → getD (keepNext b k n .index) p 0 ≤ suc n
+next-below true n k h p = set-below (suc n) (k .index) (k .count) n p (λ j. omega (arith, h j)) (omega arith)
+next-below false n k h p = omega (arith, h p)
+
+zeros-below : (n p : ℕ) → getD (replicate n 0) p 0 ≤ 0
+zeros-below zero p = omega arith
+zeros-below (suc n) zero = omega arith
+zeros-below (suc n) (suc p) = zeros-below n p
+
+kept-below : (moving : List Bool) (n p : ℕ) → getD (keptTo moving n .index) p 0 ≤ n
+unfolding keptTo
+kept-below moving zero p = zeros-below 12 p
+kept-below moving (suc n) p = next-below (getD moving n false) n (keptTo moving n) (kept-below moving n) p
+
+module _ {k : Kept} (moving : List Bool) (n : ℕ) (e : k ≡ keptTo moving n) where
+  pub kept-few : k .count ≤ n
+  kept-few = rw e (kept-count moving n)
+
+  pub kept-near : n ≤ 12 → (p : ℕ) → getD (k .index) p 0 < 65536
+  kept-near h p = rw e (omega (arith, h, kept-below moving n p))
+
+-- the place of a row
+pub row-place : {i count : ℕ} (n : ℕ) → i < count → count ≤ 24 → n ≤ 12 → i * n ≤ 576
+row-place n h c v = product-small (omega arith) (omega arith)
+
+-- an entry of B, read along its column
+pub curvature-along : (n : ℕ) (b : List Float) (i j : ℕ) → along b j n i ≡ curvatureAt n b i j
+unfolding along
+curvature-along n b i j = let e : j + i * n ≡ i * n + j = omega arith in rw e
+
+-- an entry of H, from what each call gives
+module _ (jr : List Float) (s : ℕ) (jc : List Float) (m : ℕ) (mu b : Scalar) (i j : ℕ) {v : Scalar} (ev : v ≡ plusTo (column jr i) (column jr j) b s) where
+  pub damped-off : {r : Scalar} → i ≢ j → r ≡ chooseOf v → r ≡ dampedAt jr s jc m mu b i j
+  unfolding dampedAt
+  damped-off h er = rw (er, ev, ne-eqb _ _ h)
+
+  pub damped-on : {d p w r : Scalar} → i ≡ j → d ≡ scalingAt jr s jc m i → p ≡ mulOf mu d → w ≡ addOf v p → r ≡ chooseOf w → r ≡ dampedAt jr s jc m mu b i j
+  unfolding dampedAt
+  damped-on h ed ep ew er = rw (er, ew, ep, ed, ev, eq-eqb _ _ h)
+
+-- H from the sum's slopes, and the whole problem, from what each call gives
+pub curve-is : (n : ℕ) (k : Kept) (e : Rows) (jc : List Float) (m : ℕ) (b : List Float) (mu : Scalar) {wide₀ jr₀ wide jr h : List Float}
+    → wide₀ ≡ zeros 576 → jr₀ ≡ zeros 576 → wide ≡ squeezedOf k e wide₀ → jr ≡ chosenOf jr₀ wide 0 (12 * e .count) → h ≡ dampedOf n k jr (e .count) jc m b mu
+    → h ≡ dampedOf n k (chosenOf (zeros 576) (squeezedOf k e (zeros 576)) 0 (12 * e .count)) (e .count) jc m b mu
+curve-is n k e jc m b mu ew₀ ej₀ ew ej eh = rw (eh, ej, ew, ej₀, ew₀)
+
+pub problem-is : (n m s : ℕ) (k : Kept) (xs b : List Float) (mu : Scalar) {e c : RowSet} {wide₀ jc₀ wide jc h g : List Float}
+    → e ≡ sumSet n m s → c ≡ constraintSet n m → wide₀ ≡ matrix → jc₀ ≡ matrix → wide ≡ squeezedOf k (rowsIn xs c) wide₀ → jc ≡ chosenOf jc₀ wide 0 (12 * c .count)
+    → h ≡ dampedOf n k (chosenOf (zeros 576) (squeezedOf k (rowsIn xs e) (zeros 576)) 0 (12 * e .count)) (e .count) jc m b mu → g ≡ gradientOf k (rowsIn xs e)
+    → problemIn (k .count) m (valueAt (constraintsOf n m xs)) wide jc h g ≡ problemOf n k (evaluationOf n m s xs) b mu
+unfolding problemOf
+problem-is n m s k xs b mu ee ec ew₀ ej₀ ew ej eh eg = rw (eg, eh, ej, ew, ej₀, ew₀, ec, ee)

@@ -1,0 +1,76 @@
+-- Checks one after the other: what those that passed say, and what a call gives then.
+use Prim.Native.Nat.{ℕ, _+_, _*_, _<_, _≤_}
+use mathlib.Core.Bool.{Bool, true, false}
+use mathlib.Core.Logic.{⊎-elim}
+use mathlib.Core.Path.{_≡_, refl, ap, _∙_}
+use mathlib.Core.List.{List}
+use native.Mathlib.Nat.{le-refl, mul-le-mul, not-suc-le-zero, eq-or-lt-of-le}
+use native.Mathlib.Omega.{arith}
+use borrow.Author.Tests.{leb-true, eqb-true}
+use lib.Dec.{leb, eqb}
+use lib.ListN.{length, getD, set}
+use lib.Seq.{getD-set-same, getD-set-other, ext-getD}
+use Rattle.interval.specs.Result.{Res, ok, refused}
+use Rattle.interval.proofs.Results.{refused-ok}
+use Rattle.linear.specs.Replies.{checkedValue}
+use Rattle.linear.specs.Results.{bind}
+use Rattle.run.specs.Rows.{rowNumbers}
+use Rattle.run.specs.Pieces.{sizedOf, wantsOf}
+
+-- the scalars of an answer
+pub answer-small : {n m s : ℕ} → n ≤ 12 → m ≤ 12 → s ≤ 24 → (m + s) * (n + 1) ≤ 468
+answer-small {n} {m} {s} hn hm hs =
+    let a : m + s ≤ 36 = omega arith in
+    let b : n + 1 ≤ 13 = omega arith in
+    mul-le-mul a b
+
+-- a check that passed
+checked-ok : {A : Type 0} {x : A} (b : Bool) (k : ℕ) (r : Res A) → checkedValue b k r ≡ ok x → (b ≡ true) × (r ≡ ok x)
+checked-ok true k r e = (refl, e)
+checked-ok false k r e = absurd (refused-ok e)
+
+pub record Sized (n m s count : ℕ) : Type 0 where
+  pub few-variables : n ≤ 12
+  pub few-constraints : m ≤ 12
+  pub few-residuals : s ≤ 24
+  pub whole : count ≡ rowNumbers n m s
+
+pub sized-ok : {n m s count : ℕ} → sizedOf n m s count ≡ ok tt → Sized n m s count
+unfolding sizedOf
+sized-ok {n} {m} {s} {count} e =
+    let a = checked-ok (leb n 12) 1 _ e in
+    let b = checked-ok (leb m 12) 1 _ (a .1) in
+    let d = checked-ok (leb s 24) 1 _ (b .1) in
+    let f = checked-ok (eqb count (rowNumbers n m s)) 2 (ok tt) (d .1) in
+    record { few-variables = leb-true _ _ (a .0); few-constraints = leb-true _ _ (b .0); few-residuals = leb-true _ _ (d .0); whole = eqb-true _ _ (f .0) }
+
+-- the constraint values stand in a list as long as the rows
+pub values-inside : {n m s count length : ℕ} → Sized n m s count → length ≡ count → 2 * m ≤ length
+values-inside {n} {m} {s} z e =
+    let h : 1 ≤ n + 1 = omega arith in
+    let a : (m + s) * 1 ≤ (m + s) * (n + 1) = mul-le-mul (le-refl (m + s)) h in
+    omega (arith, z .whole)
+
+-- of a check after others
+pub wants-ok : (count wanted : ℕ) (r : Res (Unit {0})) → wantsOf r count wanted ≡ ok tt → (r ≡ ok tt) × (count ≡ wanted)
+unfolding wantsOf bind
+wants-ok count wanted (ok _) e = (refl, eqb-true _ _ (checked-ok (eqb count wanted) 2 (ok tt) e .0))
+wants-ok count wanted (refused k) e = absurd (refused-ok e)
+
+-- a loop that copies marks
+abbrev pub Copied : List Bool → ℕ → List Bool → Type 0
+Copied from j to = (i : ℕ) → i < j → getD to i false ≡ getD from i false
+
+module _ (from to : List Bool) where
+  pub copied-none : Copied from 0 to
+  copied-none i h = absurd (not-suc-le-zero h)
+
+  pub copied-more : {j : ℕ} → j < length to → Copied from j to → Copied from (j + 1) (set to j (getD from j false))
+  copied-more {j} l p i h =
+      ⊎-elim
+      (λ q. rw q (getD-set-same to j (getD from j false) false l))
+      (λ k. getD-set-other to j i (getD from j false) false (λ q. omega arith) ∙ p i k)
+      (eq-or-lt-of-le (omega arith))
+
+  pub copied-all : {j : ℕ} → length to ≡ length from → length to ≤ j → Copied from j to → to ≡ from
+  copied-all e l p = ext-getD false to from e (λ i h. p i (omega arith))

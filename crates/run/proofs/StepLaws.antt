@@ -1,0 +1,168 @@
+-- The step, put together from its parts: along what is left free, with its multipliers, over the kept variables, and over all.
+use Prim.Native.Nat.{ℕ, _≤_}
+use mathlib.Core.Bool.{Bool, true, false, _&&_}
+use mathlib.Core.Path.{_≡_, refl, sym, ap, _∙_}
+use mathlib.Core.List.{List, []}
+use native.Mathlib.Omega.{arith}
+use lib.Ieee.{Float}
+use Rattle.interval.specs.declared.Scalar.{Scalar}
+use Rattle.interval.specs.Result.{Res, ok, refused}
+use Rattle.interval.specs.Scalar.{zeroS, pick}
+use Rattle.linear.specs.Results.{bind}
+use Rattle.linear.specs.Cholesky.{Factor, choleskyOf}
+use Rattle.run.specs.Scratch.{allFinite}
+use Rattle.run.specs.Rows.{Evaluation}
+use Rattle.run.specs.Model.{Kept, keptTo, Problem, problemOf, problemIn}
+use Rattle.run.specs.Basis.{Basis, basisOf, correctionOf, multiplierStep, multipliersOf, basisBy, problemBy, rankedOf}
+use Rattle.run.specs.declared.basis.Rank.{Rank}
+use Rattle.run.specs.declared.basis.Rank.the-variants as rank
+use Rattle.run.specs.Directions.{Directions, directionsOf}
+use Rattle.run.specs.Step.{Stepped, notPositive, forceOf, pullOf, reducedOf, againstOf, Weights, weights, none, weightsOf, steppedBy, alongZ, freeStep, keptStep, spreadStep, stepOf, curved, spanned, solvedWith, addedTo, freePart, withMultipliers, spreadEnd, basisFor, correctedStep, basedStep, testedStep, rankOf}
+use Rattle.run.proofs.BasisLaws.{basis-reads, rank-small}
+
+-- the kept step, once its part along Z is added
+abbrev pub onward : Problem → Basis → Weights → Res Stepped
+onward P b (weights kept) = steppedBy P b kept
+onward P b none = ok notPositive
+
+module _ (P : Problem) (b : Basis) (delta : List Float) (d : Directions) where
+  weighed : (y : Res Weights) → bind (bind y (λ w. ok (addedTo P delta d w))) (onward P b) ≡ bind y (λ w. alongZ P b delta d w)
+  unfolding bind
+  weighed (ok (weights w)) = refl
+  weighed (ok none) = refl
+  weighed (refused e) = refl
+
+  factored : (x : Res Factor) (g : Factor → Res Weights) → bind (bind (bind x g) (λ w. ok (addedTo P delta d w))) (onward P b) ≡ bind x (λ f. bind (g f) (λ w. alongZ P b delta d w))
+  unfolding bind
+  factored (ok f) g = weighed (g f)
+  factored (refused e) g = refl
+
+  pub free-step : {x : Res Weights} → x ≡ freePart P delta d → bind x (onward P b) ≡ freeStep P b delta d
+  unfolding freeStep freePart solvedWith
+  free-step e = rw e (factored (choleskyOf (d .count) (reducedOf P d)) (λ f. weightsOf (d .count) f (againstOf P d (forceOf P delta))))
+
+-- only the curvature and the gradient are read, and of the directions no remainder
+module _ (P : Problem) (delta : List Float) (d : Directions) where
+  added : (x : Res Weights) → bind x (λ w. ok (addedTo (curved (P .k) (P .h) (P .g)) delta (spanned (d .count) (d .z)) w)) ≡ bind x (λ w. ok (addedTo P delta d w))
+  unfolding bind
+  added (ok (weights w)) = refl
+  added (ok none) = refl
+  added (refused e) = refl
+
+  pub free-curved : freePart (curved (P .k) (P .h) (P .g)) delta (spanned (d .count) (d .z)) ≡ freePart P delta d
+  unfolding freePart forceOf reducedOf againstOf
+  free-curved = added (solvedWith (d .count) (reducedOf P d) (againstOf P d (forceOf P delta)))
+
+module _ (P : Problem) (b : Basis) where
+  onward-read : (x : Res Weights) → bind x (onward (curved (P .k) (P .h) (P .g)) (basisFor (b .rank) (b .q) (b .coefficients) (b .order))) ≡ bind x (onward P b)
+  unfolding bind steppedBy pullOf multipliersOf multiplierStep
+  onward-read (ok (weights w)) = refl
+  onward-read (ok none) = refl
+  onward-read (refused e) = refl
+
+  pub free-read : (delta : List Float) (d : Directions)
+      → freeStep (curved (P .k) (P .h) (P .g)) (basisFor (b .rank) (b .q) (b .coefficients) (b .order)) delta (spanned (d .count) (d .z)) ≡ freeStep P b delta d
+  free-read delta d =
+      sym (free-step (curved (P .k) (P .h) (P .g)) (basisFor (b .rank) (b .q) (b .coefficients) (b .order)) delta (spanned (d .count) (d .z)) (sym (free-curved P delta d)))
+      ∙ onward-read (freePart P delta d)
+      ∙ free-step P b delta d refl
+
+-- the multipliers, where the step and what pulls against it are finite
+module _ (P : Problem) (b : Basis) (kept : List Float) {pull : List Float} {finite : Bool} (ep : pull ≡ pullOf (curved (P .k) (P .h) (P .g)) kept) (ef : finite ≡ (allFinite kept 12 && allFinite pull 12)) where
+  both : finite ≡ (allFinite kept 12 && allFinite (pullOf P kept) 12)
+  unfolding pullOf
+  both = rw ep at ef
+
+  pub stepped-not : finite ≡ false → ok notPositive ≡ steppedBy P b kept
+  unfolding steppedBy
+  stepped-not e = rw (← both, e)
+
+  pub stepped-on : {x : Res (List Float)} → finite ≡ true → x ≡ multipliersOf (P .k) b pull → withMultipliers kept (b .rank) x ≡ steppedBy P b kept
+  unfolding steppedBy withMultipliers pullOf
+  stepped-on e ex = rw (← both, e, ex, ep)
+
+-- from the correction on
+module _ (P : Problem) (b : Basis) (delta : List Float) where
+  pub corrected-refused : {e : ℕ} → refused e ≡ directionsOf (P .k) (b .rank) (b .q) → refused e ≡ correctedStep P b delta
+  unfolding correctedStep bind
+  corrected-refused e = rw (← e)
+
+  pub corrected-on : {d : Directions} {x : Res Stepped} → ok d ≡ directionsOf (P .k) (b .rank) (b .q) → x ≡ freeStep P b delta d → x ≡ correctedStep P b delta
+  unfolding correctedStep bind
+  corrected-on e ex = rw (← e) ex
+
+  each-read : (x : Res Directions)
+      → bind x (λ d. freeStep (curved (P .k) (P .h) (P .g)) (basisFor (b .rank) (b .q) (b .coefficients) (b .order)) delta d) ≡ bind x (λ d. freeStep P b delta d)
+  unfolding bind
+  each-read (ok d) = sym (free-read (curved (P .k) (P .h) (P .g)) (basisFor (b .rank) (b .q) (b .coefficients) (b .order)) delta d) ∙ free-read P b delta d
+  each-read (refused e) = refl
+
+  pub corrected-read : correctedStep (curved (P .k) (P .h) (P .g)) (basisFor (b .rank) (b .q) (b .coefficients) (b .order)) delta ≡ correctedStep P b delta
+  unfolding correctedStep
+  corrected-read = each-read (directionsOf (P .k) (b .rank) (b .q))
+
+-- from the basis on, and over the kept variables
+module _ (P : Problem) where
+  pub based-refused : (b : Basis) {e : ℕ} → refused e ≡ correctionOf P b → refused e ≡ basedStep P b
+  unfolding basedStep bind
+  based-refused b e = rw (← e)
+
+  pub based-on : (b : Basis) {delta : List Float} {x : Res Stepped} → ok delta ≡ correctionOf P b → x ≡ correctedStep P b delta → x ≡ basedStep P b
+  unfolding basedStep bind
+  based-on b e ex = rw (← e) ex
+
+  -- only the constraint values, the curvature and the gradient are read, and of the basis no Gram matrix
+  abbrev plain : Problem
+  plain = problemIn (P .k) (P .m) (P .c) [] [] (P .h) (P .g)
+
+  module _ (b : Basis) where
+    abbrev bare : Basis
+    bare = basisBy (b .rank) (b .q) [] (b .coefficients) (b .dependent) (b .order)
+
+    all-read : (x : Res (List Float)) → bind x (λ delta. correctedStep plain bare delta) ≡ bind x (λ delta. correctedStep P b delta)
+    unfolding bind
+    all-read (ok delta) = sym (corrected-read plain bare delta) ∙ corrected-read P b delta
+    all-read (refused e) = refl
+
+    based-read : basedStep plain bare ≡ basedStep P b
+    unfolding basedStep correctionOf
+    based-read = all-read (correctionOf P b)
+
+  kept-by : keptStep P ≡ bind (basisOf P) (λ b. basedStep P b)
+  unfolding keptStep basedStep correctedStep
+  kept-by = refl
+
+  module _ (q gram coefficients dependent : List Float) (order : List ℕ) where
+    each-based : (x : Rank) → bind (rankedOf x q [] coefficients dependent order) (basedStep plain) ≡ bind (rankedOf x q gram coefficients dependent order) (λ b. basedStep P b)
+    unfolding bind
+    each-based (rank.Of r) = based-read (basisBy r q gram coefficients dependent order)
+    each-based (rank.Refused e) = refl
+
+    module _ (x : Rank) (e : rankedOf x q gram coefficients dependent order ≡ basisOf (problemBy (P .k) (P .m) (λ _. zeroS) (P .wide) (P .jc))) where
+      pub kept-based : {y : Res Stepped} → y ≡ bind (rankedOf x q [] coefficients dependent order) (basedStep plain) → y ≡ keptStep P
+      kept-based ey = ey ∙ each-based x ∙ ap (λ z. bind z (λ b. basedStep P b)) (e ∙ basis-reads P) ∙ sym kept-by
+
+pub rank-bound : (P : Problem) (q gram coefficients dependent : List Float) (order : List ℕ) (x : Rank) → rankedOf x q gram coefficients dependent order ≡ basisOf P → rankOf x ≤ P .m
+rank-bound P q gram coefficients dependent order (rank.Of r) e = rank-small P (sym e)
+rank-bound P q gram coefficients dependent order (rank.Refused x) e = omega arith
+
+-- where H is finite
+module _ (P : Problem) {finite : Bool} (ef : finite ≡ allFinite (P .h) 144) where
+  pub tested-not : finite ≡ false → ok notPositive ≡ testedStep P
+  unfolding testedStep
+  tested-not q = rw (← ef, q)
+
+  pub tested-on : {x : Res Stepped} → finite ≡ true → x ≡ keptStep P → x ≡ testedStep P
+  unfolding testedStep
+  tested-on q ex = rw (← ef, q) ex
+
+-- over all
+spread-tested : (k : Kept) (finite : Bool) (x : Res Stepped) → spreadEnd k (pick finite x (ok notPositive)) ≡ pick finite (bind x (λ y. ok (spreadStep k y))) (ok notPositive)
+unfolding spreadEnd bind
+spread-tested k true x = refl
+spread-tested k false x = refl
+
+pub step-is : (n : ℕ) (e : Evaluation) (b : List Float) (moving : List Bool) (mu : Scalar) {k : Kept} {x y : Res Stepped}
+    → k ≡ keptTo moving n → x ≡ testedStep (problemOf n k e b mu) → y ≡ spreadEnd k x → y ≡ stepOf n e b moving mu
+unfolding stepOf testedStep
+step-is n e b moving mu {k} ek ex ey = ey ∙ ap (spreadEnd k) ex ∙ spread-tested k (allFinite (problemOf n k e b mu .h) 144) (keptStep (problemOf n k e b mu)) ∙ rw ek

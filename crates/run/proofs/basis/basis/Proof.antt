@@ -1,0 +1,122 @@
+-- `basis` meets its contract: the invariant is the fold at the rows passed, not refused.
+use borrow.Author.Needs.{needs}
+use mathlib.Core.Path.{_≡_, sym, ap, _∙_}
+use Prim.Native.Nat.{_≤_, _-_}
+use native.Mathlib.Nat.{le-antisymm}
+use native.Mathlib.Omega.{arith}
+use lib.ListN.{length}
+use Rattle.interval.specs.Result.{ok}
+use Rattle.interval.specs.Scalar.{zeroS}
+use Rattle.linear.specs.Results.{foldR}
+use Rattle.linear.proofs.Folds.{turn, ends}
+use Rattle.run.specs.Basis.{Basis, noRows, rowStep, basisOf, basisBy, problemBy}
+use Rattle.run.proofs.BasisLaws.{rank-more, row-reads}
+use Rattle.run.proofs.basis.basis.Statement.{statement}
+use Rattle.run.proofs.basis.basis.Tie as tie
+
+abbrev Inv-loop : tie.InvT-loop
+Inv-loop k m wide jc q₀ gram₀ coefficients₀ dependent₀ order₀ r₀ i₀ q gram coefficients dependent order r i = (i ≤ m) × (r ≤ i) × (length q ≡ length q₀) × (length gram ≡ length gram₀) × (length coefficients ≡ length coefficients₀) × (length dependent ≡ length dependent₀) × (length order ≡ length order₀) × (foldR (rowStep (problemBy k m (λ _. zeroS) wide jc)) noRows i ≡ ok (basisBy r q gram coefficients dependent order))
+
+abbrev μ-loop : tie.MeasureT-loop
+μ-loop k m wide jc q₀ gram₀ coefficients₀ dependent₀ order₀ r₀ i₀ q gram coefficients dependent order r i = m - i
+
+loop-holds : tie.Need-loop-holds Inv-loop μ-loop
+unfolding foldR
+loop-holds c = (search needs, search needs, search needs, search needs, search needs, search needs, search needs, ap ok (sym (c .before .before .before .before .before .before .before .pre .1 .1)))
+
+next-row-requires : tie.Need-next-row-requires Inv-loop μ-loop
+next-row-requires c κs =
+    let s = c .before .before .before .before .before .before .before .before .before .before .before .before .before .before in
+    let p = s .pre in
+    let l : length (s .args .order .now) ≡ 24 = ap (λ (b : Basis). length (b .order)) (p .1 .1) in
+    (p .0, (c .before .before .before .before .before .before .loop .inv .1, (omega (arith, c .before .before .before .before .before .loop-test .taken, p .1 .0), c .before .before .before .before .before .before .loop .inv .6 ∙ l)))
+
+enum-known-s : tie.Need-enum-known-s Inv-loop μ-loop
+enum-known-s c = search needs
+
+enum-known-e : tie.Need-enum-known-e Inv-loop μ-loop
+enum-known-e c = search needs
+
+same-length : tie.Need-same-length Inv-loop μ-loop
+same-length c = search needs
+
+same-length-2 : tie.Need-same-length-2 Inv-loop μ-loop
+same-length-2 c = search needs
+
+same-length-3 : tie.Need-same-length-3 Inv-loop μ-loop
+same-length-3 c = search needs
+
+same-length-4 : tie.Need-same-length-4 Inv-loop μ-loop
+same-length-4 c = search needs
+
+same-length-5 : tie.Need-same-length-5 Inv-loop μ-loop
+same-length-5 c = search needs
+
+returns : tie.Need-returns Inv-loop μ-loop
+unfolding basisOf
+returns c =
+    let a = c .before .before .before .before .before .before .before .before .before .before .before .before .before .before .before .before .before .before .before .before .before .before .before .before .before .before .before .before .args in
+    let l = c .before .before .before .before .before .before .before .before .before .before .before .before .before .before .before .before .before .before .before .before .loop in
+    let P = problemBy (a .k) (a .m) (λ _. zeroS) (a .wide .now) (a .jc .now) in
+    let e = rw (c .before .e .given .1) at (c .before .before .before .before .before .before .before .before .before .before .before .before .before .next-row .ensures) ∙ row-reads P (basisBy (l .r) (l .q) (l .gram) (l .coefficients) (l .dependent) (l .order)) (l .i) in
+    sym (ends (rowStep P) noRows (c .before .before .before .before .before .before .before .before .before .before .before .before .before .before .before .before .before .before .before .loop-test .taken) (l .inv .7) (sym e))
+
+add-i : tie.Need-add-i Inv-loop μ-loop
+add-i c = search needs
+
+loop-less : tie.Need-loop-less Inv-loop μ-loop
+loop-less c = search needs
+
+loop-again : tie.Need-loop-again Inv-loop μ-loop
+loop-again c =
+    let a = c .before .before .before .before .before .before .before .before .before .before .before .before .before .before .before .before .before .before .before .before .before .before .before .before .before .before .before .before .args in
+    let l = c .before .before .before .before .before .before .before .before .before .before .before .before .before .before .before .before .before .before .before .before .loop in
+    let P = problemBy (a .k) (a .m) (λ _. zeroS) (a .wide .now) (a .jc .now) in
+    let b = basisBy (l .r) (l .q) (l .gram) (l .coefficients) (l .dependent) (l .order) in
+    let e = rw (c .before .s .given .1) at (c .before .before .before .before .before .before .before .before .before .before .before .before .before .next-row .ensures) ∙ row-reads P b (l .i) in
+    (search needs, omega (arith, rank-more P b (l .i) (sym e), l .inv .1), search needs, search needs, search needs, search needs, search needs, turn (rowStep P) noRows (l .i) (l .inv .7) ∙ sym e)
+
+same-length-6 : tie.Need-same-length-6 Inv-loop μ-loop
+same-length-6 c = search needs
+
+same-length-7 : tie.Need-same-length-7 Inv-loop μ-loop
+same-length-7 c = search needs
+
+same-length-8 : tie.Need-same-length-8 Inv-loop μ-loop
+same-length-8 c = search needs
+
+same-length-9 : tie.Need-same-length-9 Inv-loop μ-loop
+same-length-9 c = search needs
+
+same-length-10 : tie.Need-same-length-10 Inv-loop μ-loop
+same-length-10 c = search needs
+
+returns-2 : tie.Need-returns-2 Inv-loop μ-loop
+unfolding basisOf
+returns-2 c = sym (rw (le-antisymm (c .before .loop .inv .0) (c .loop-test .left)) at (c .before .loop .inv .7))
+
+pub basis-spec : {M : Type 1} → statement M
+basis-spec =
+    tie.close
+    (tie.spec
+    Inv-loop
+    μ-loop
+    loop-holds
+    next-row-requires
+    enum-known-s
+    enum-known-e
+    same-length
+    same-length-2
+    same-length-3
+    same-length-4
+    same-length-5
+    returns
+    add-i
+    loop-less
+    loop-again
+    same-length-6
+    same-length-7
+    same-length-8
+    same-length-9
+    same-length-10
+    returns-2)

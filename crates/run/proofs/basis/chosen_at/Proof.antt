@@ -1,0 +1,68 @@
+-- `chosen_at` meets its contract: one place more is filled in each turn.
+use borrow.Author.Needs.{needs}
+use mathlib.Core.Path.{_≡_, ap, _∙_}
+use Prim.Native.Nat.{_≤_, _-_}
+use native.Mathlib.Nat.{le-antisymm}
+use lib.ListN.{length}
+use Rattle.linear.specs.Choose.{chooseOf}
+use Rattle.linear.specs.Flat.{at}
+use Rattle.run.specs.Scratch.{fillTo}
+use Rattle.run.proofs.ScratchLaws.{fill-turn}
+use Rattle.run.proofs.basis.chosen_at.Statement.{statement}
+use Rattle.run.proofs.basis.chosen_at.Tie as tie
+
+abbrev Inv-loop : tie.InvT-loop
+Inv-loop r a to₀ t0 j₀ to j = (j ≤ r) × (length to ≡ length to₀) × (to ≡ fillTo to₀ t0 (λ p. chooseOf (at a p)) j)
+
+abbrev μ-loop : tie.MeasureT-loop
+μ-loop r a to₀ t0 j₀ to j = r - j
+
+loop-holds : tie.Need-loop-holds Inv-loop μ-loop
+unfolding fillTo
+loop-holds c = search needs
+
+add-put : tie.Need-add-put Inv-loop μ-loop
+add-put c = search needs
+
+at-requires : tie.Need-at-requires Inv-loop μ-loop
+at-requires c κs = search needs
+
+choose-requires : tie.Need-choose-requires Inv-loop μ-loop
+choose-requires c κs = search needs
+
+put-requires : tie.Need-put-requires Inv-loop μ-loop
+put-requires c κs = search needs
+
+add-j : tie.Need-add-j Inv-loop μ-loop
+add-j c = search needs
+
+loop-less : tie.Need-loop-less Inv-loop μ-loop
+loop-less c = search needs
+
+loop-again : tie.Need-loop-again Inv-loop μ-loop
+loop-again c =
+    let a = c .before .before .before .before .before .before .before .before .before .before .args in
+    (search needs, search needs, c .before .before .put .ensures ∙ fill-turn (a .to .now) (a .t0) (λ p. chooseOf (at (a .a .now) p)) (c .before .before .before .before .before .before .before .loop .j) (c .before .before .before .before .before .before .before .loop .inv .2) (c .before .before .before .choose .ensures ∙ ap chooseOf (c .before .before .before .before .at .ensures)))
+
+same-length : tie.Need-same-length Inv-loop μ-loop
+same-length c = search needs
+
+returns : tie.Need-returns Inv-loop μ-loop
+returns c = rw (le-antisymm (c .before .loop .inv .0) (c .loop-test .left)) at (c .before .loop .inv .2)
+
+pub chosen-at-spec : {M : Type 1} → statement M
+chosen-at-spec =
+    tie.close
+    (tie.spec
+    Inv-loop
+    μ-loop
+    loop-holds
+    add-put
+    at-requires
+    choose-requires
+    put-requires
+    add-j
+    loop-less
+    loop-again
+    same-length
+    returns)

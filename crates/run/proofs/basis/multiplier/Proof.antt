@@ -1,0 +1,79 @@
+-- `multiplier` meets its contract: the definition's steps, from what each call gives.
+use lib.Ieee.{ofBits}
+use Rattle.linear.proofs.Sums.{along-start}
+use Rattle.run.specs.Basis.{multiplierStep}
+use borrow.Author.Needs.{needs}
+use Rattle.run.proofs.basis.multiplier.Statement.{statement}
+use Rattle.run.proofs.basis.multiplier.Tie as tie
+
+sub-t : tie.Need-sub-t
+sub-t c = search needs
+
+sub-t-2 : tie.Need-sub-t-2
+sub-t-2 c = search needs
+
+mul-plus-dot : tie.Need-mul-plus-dot
+mul-plus-dot c = search needs
+
+plus-dot-requires : tie.Need-plus-dot-requires
+plus-dot-requires c κs = tt
+
+add-minus-dot : tie.Need-add-minus-dot
+add-minus-dot c = search needs
+
+mul-minus-dot : tie.Need-mul-minus-dot
+mul-minus-dot c = search needs
+
+add-minus-dot-2 : tie.Need-add-minus-dot-2
+add-minus-dot-2 c = search needs
+
+add-minus-dot-3 : tie.Need-add-minus-dot-3
+add-minus-dot-3 c = search needs
+
+minus-dot-requires : tie.Need-minus-dot-requires
+minus-dot-requires c κs = tt
+
+mul-at : tie.Need-mul-at
+mul-at c = search needs
+
+add-at : tie.Need-add-at
+add-at c = search needs
+
+at-requires : tie.Need-at-requires
+at-requires c κs = search needs
+
+div-requires : tie.Need-div-requires
+div-requires c κs = search needs
+
+store-chosen-requires : tie.Need-store-chosen-requires
+store-chosen-requires c κs = search needs
+
+same-length : tie.Need-same-length
+same-length c = search needs
+
+returns : tie.Need-returns
+unfolding multiplierStep ofBits
+returns c =
+    let z = rw along-start at (c .before .before .before .before .before .before .before .before .plus-dot .ensures) in
+    rw (← z, ← c .before .before .before .before .before .before .minus-dot .ensures, ← c .before .before .before .before .at .ensures, ← c .before .before .before .div .ensures .value) (c .before .before .store-chosen .ensures)
+
+pub multiplier-spec : {M : Type 1} → statement M
+multiplier-spec =
+    tie.close
+    (tie.spec
+    sub-t
+    sub-t-2
+    mul-plus-dot
+    plus-dot-requires
+    add-minus-dot
+    mul-minus-dot
+    add-minus-dot-2
+    add-minus-dot-3
+    minus-dot-requires
+    mul-at
+    add-at
+    at-requires
+    div-requires
+    store-chosen-requires
+    same-length
+    returns)

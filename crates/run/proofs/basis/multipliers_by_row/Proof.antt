@@ -1,0 +1,71 @@
+-- `multipliers_by_row` meets its contract: the invariant is the fold at the vectors passed, not refused.
+use borrow.Author.Needs.{needs}
+use mathlib.Core.Path.{_≡_, sym}
+use mathlib.Core.List.{[]}
+use Prim.Native.Nat.{_≤_, _-_}
+use native.Mathlib.Nat.{le-antisymm}
+use lib.ListN.{length}
+use Rattle.interval.specs.Result.{ok}
+use Rattle.linear.specs.Results.{foldR}
+use Rattle.linear.proofs.Turns.{went-on, broke-off}
+use Rattle.run.specs.Basis.{basisBy, multiplierStep}
+use Rattle.run.proofs.basis.multipliers_by_row.Statement.{statement}
+use Rattle.run.proofs.basis.multipliers_by_row.Tie as tie
+
+abbrev Inv-loop : tie.InvT-loop
+Inv-loop k r q coefficients pull by-row₀ u₀ by-row u = (u ≤ r) × (length by-row ≡ length by-row₀) × (foldR (multiplierStep k (basisBy r q [] coefficients [] []) pull) by-row₀ u ≡ ok by-row)
+
+abbrev μ-loop : tie.MeasureT-loop
+μ-loop k r q coefficients pull by-row₀ u₀ by-row u = r - u
+
+loop-holds : tie.Need-loop-holds Inv-loop μ-loop
+unfolding foldR
+loop-holds c = search needs
+
+multiplier-requires : tie.Need-multiplier-requires Inv-loop μ-loop
+multiplier-requires c κs = search needs
+
+enum-told : tie.Need-enum-told Inv-loop μ-loop
+enum-told c = search needs
+
+enum-known-e : tie.Need-enum-known-e Inv-loop μ-loop
+enum-known-e c = search needs
+
+same-length : tie.Need-same-length Inv-loop μ-loop
+same-length c = search needs
+
+returns : tie.Need-returns Inv-loop μ-loop
+returns c = broke-off _ _ _ (c .before .before .before .before .before .before .before .loop-test .taken) (c .before .before .before .before .before .before .before .before .loop .inv .2) (c .before .before .before .before .before .multiplier .ensures) (c .before .e .given .1)
+
+add-u : tie.Need-add-u Inv-loop μ-loop
+add-u c = search needs
+
+loop-less : tie.Need-loop-less Inv-loop μ-loop
+loop-less c = search needs
+
+loop-again : tie.Need-loop-again Inv-loop μ-loop
+loop-again c = (search needs, search needs, went-on _ _ (c .before .before .before .before .before .before .before .loop .inv .2) (c .before .before .before .before .multiplier .ensures) (c .enum-told .given .1))
+
+same-length-2 : tie.Need-same-length-2 Inv-loop μ-loop
+same-length-2 c = search needs
+
+returns-2 : tie.Need-returns-2 Inv-loop μ-loop
+returns-2 c = sym (rw (le-antisymm (c .before .loop .inv .0) (c .loop-test .left)) at (c .before .loop .inv .2))
+
+pub multipliers-by-row-spec : {M : Type 1} → statement M
+multipliers-by-row-spec =
+    tie.close
+    (tie.spec
+    Inv-loop
+    μ-loop
+    loop-holds
+    multiplier-requires
+    enum-told
+    enum-known-e
+    same-length
+    returns
+    add-u
+    loop-less
+    loop-again
+    same-length-2
+    returns-2)

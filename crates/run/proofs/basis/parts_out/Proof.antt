@@ -1,0 +1,89 @@
+-- `parts_out` meets its contract: one part more is out in each turn.
+use borrow.Author.Needs.{needs}
+use mathlib.Core.Path.{_≡_}
+use Prim.Native.Nat.{_≤_, _-_}
+use native.Mathlib.Nat.{le-antisymm}
+use lib.Ieee.{ofBits}
+use lib.ListN.{length}
+use Rattle.run.specs.Basis.{partsOut, takenBy}
+use Rattle.run.proofs.BasisLaws.{part-turn, part-is}
+use Rattle.run.proofs.basis.parts_out.Statement.{statement}
+use Rattle.run.proofs.basis.parts_out.Tie as tie
+
+abbrev Inv-loop : tie.InvT-loop
+Inv-loop k r q v₀ coefficients₀ j₀ v coefficients j = (j ≤ r) × (length v ≡ length v₀) × (length coefficients ≡ length coefficients₀) × (takenBy v coefficients ≡ partsOut k r q (takenBy v₀ coefficients₀) j)
+
+abbrev μ-loop : tie.MeasureT-loop
+μ-loop k r q v₀ coefficients₀ j₀ v coefficients j = r - j
+
+loop-holds : tie.Need-loop-holds Inv-loop μ-loop
+unfolding partsOut
+loop-holds c = search needs
+
+mul-plus-dot : tie.Need-mul-plus-dot Inv-loop μ-loop
+mul-plus-dot c = search needs
+
+plus-dot-requires : tie.Need-plus-dot-requires Inv-loop μ-loop
+plus-dot-requires c κs = tt
+
+choose-requires : tie.Need-choose-requires Inv-loop μ-loop
+choose-requires c κs = search needs
+
+mul-minus-scaled : tie.Need-mul-minus-scaled Inv-loop μ-loop
+mul-minus-scaled c = search needs
+
+minus-scaled-requires : tie.Need-minus-scaled-requires Inv-loop μ-loop
+minus-scaled-requires c κs = search needs
+
+mul-put : tie.Need-mul-put Inv-loop μ-loop
+mul-put c = search needs
+
+add-put : tie.Need-add-put Inv-loop μ-loop
+add-put c = search needs
+
+put-requires : tie.Need-put-requires Inv-loop μ-loop
+put-requires c κs = search needs
+
+add-j : tie.Need-add-j Inv-loop μ-loop
+add-j c = search needs
+
+loop-less : tie.Need-loop-less Inv-loop μ-loop
+loop-less c = search needs
+
+loop-again : tie.Need-loop-again Inv-loop μ-loop
+unfolding ofBits
+loop-again c =
+    let a = c .before .before .before .before .before .before .before .before .before .before .before .before .before .before .before .before .args in
+    let l = c .before .before .before .before .before .before .before .before .before .before .before .before .loop in
+    (search needs, search needs, search needs, part-turn (a .k) (a .r) (a .q .now) _ (l .j) (l .inv .3) (part-is (a .k) (a .r) (a .q .now) (l .v) (l .coefficients) (l .j) (c .before .before .before .before .before .before .before .before .before .plus-dot .ensures) (c .before .before .before .before .before .before .before .before .choose .ensures) (c .before .before .before .before .before .before .minus-scaled .ensures) (c .before .before .put .ensures)))
+
+same-length : tie.Need-same-length Inv-loop μ-loop
+same-length c = search needs
+
+same-length-2 : tie.Need-same-length-2 Inv-loop μ-loop
+same-length-2 c = search needs
+
+returns : tie.Need-returns Inv-loop μ-loop
+returns c = rw (le-antisymm (c .before .loop .inv .0) (c .loop-test .left)) at (c .before .loop .inv .3)
+
+pub parts-out-spec : {M : Type 1} → statement M
+parts-out-spec =
+    tie.close
+    (tie.spec
+    Inv-loop
+    μ-loop
+    loop-holds
+    mul-plus-dot
+    plus-dot-requires
+    choose-requires
+    mul-minus-scaled
+    minus-scaled-requires
+    mul-put
+    add-put
+    put-requires
+    add-j
+    loop-less
+    loop-again
+    same-length
+    same-length-2
+    returns)

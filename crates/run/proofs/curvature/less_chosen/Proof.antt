@@ -1,0 +1,83 @@
+-- `less_chosen` meets its contract: the vector is filled so far.
+use mathlib.Core.List.{List}
+use mathlib.Core.Path.{_≡_, sym, _∙_}
+use Prim.Native.Nat.{ℕ, _≤_, _-_}
+use native.Mathlib.Nat.{le-antisymm}
+use borrow.Author.Needs.{needs}
+use lib.Ieee.{Float}
+use lib.ListN.{length}
+use Rattle.interval.specs.declared.Scalar.{Scalar}
+use Rattle.interval.specs.Scalar.{subOf}
+use Rattle.linear.specs.Choose.{chooseOf}
+use Rattle.linear.specs.Flat.{at}
+use Rattle.run.specs.Scratch.{vector, fillTo}
+use Rattle.run.proofs.ScratchLaws.{fill-none, fill-first}
+use Rattle.run.proofs.curvature.less_chosen.Statement.{statement}
+use Rattle.run.proofs.curvature.less_chosen.Tie as tie
+
+abbrev by : List Float → List Float → ℕ → Scalar
+by y bs i = chooseOf (subOf (at y i) (at bs i))
+
+value : (y bs : List Float) (i : ℕ) {a b d v : Scalar} → a ≡ at y i → b ≡ at bs i → d ≡ subOf a b → v ≡ chooseOf d → v ≡ by y bs i
+value y bs i ea eb ed ev = rw (ev, ed, ea, eb)
+
+abbrev Inv-loop : tie.InvT-loop
+Inv-loop n y bs v₀ i₀ v i = (i ≤ n) × (length v ≡ 24) × (v ≡ fillTo vector 0 (by y bs) i)
+
+abbrev μ-loop : tie.MeasureT-loop
+μ-loop n y bs v₀ i₀ v i = n - i
+
+clear-requires : tie.Need-clear-requires Inv-loop μ-loop
+clear-requires c κs = search needs
+
+loop-holds : tie.Need-loop-holds Inv-loop μ-loop
+loop-holds c = (search needs, search needs, rw (c .before .before .before .before .before .before .before .pre) at (c .before .before .clear .ensures) ∙ sym (fill-none _ _))
+
+at-requires : tie.Need-at-requires Inv-loop μ-loop
+at-requires c κs = search needs
+
+at-requires-2 : tie.Need-at-requires-2 Inv-loop μ-loop
+at-requires-2 c κs = search needs
+
+sub-requires : tie.Need-sub-requires Inv-loop μ-loop
+sub-requires c κs = search needs
+
+choose-requires : tie.Need-choose-requires Inv-loop μ-loop
+choose-requires c κs = search needs
+
+put-requires : tie.Need-put-requires Inv-loop μ-loop
+put-requires c κs = search needs
+
+add-i : tie.Need-add-i Inv-loop μ-loop
+add-i c = search needs
+
+loop-less : tie.Need-loop-less Inv-loop μ-loop
+loop-less c = search needs
+
+loop-again : tie.Need-loop-again Inv-loop μ-loop
+loop-again c = let a = c .before .before .before .before .before .before .before .before .before .before .before .before .before .before .before .before .before .args in (search needs, search needs, c .before .before .put .ensures ∙ fill-first vector (by (a .y .now) (a .bs .now)) (c .before .before .before .before .before .before .before .before .before .loop .i) (c .before .before .before .before .before .before .before .before .before .loop .inv .2) (value (a .y .now) (a .bs .now) (c .before .before .before .before .before .before .before .before .before .loop .i) (c .before .before .before .before .before .before .before .at .ensures) (c .before .before .before .before .before .at2 .ensures) (c .before .before .before .before .sub .ensures .value) (c .before .before .before .choose .ensures)))
+
+same-length : tie.Need-same-length Inv-loop μ-loop
+same-length c = search needs
+
+returns : tie.Need-returns Inv-loop μ-loop
+returns c = rw (le-antisymm (c .before .loop .inv .0) (c .loop-test .left)) at (c .before .loop .inv .2)
+
+pub less-chosen-spec : {M : Type 1} → statement M
+less-chosen-spec =
+    tie.close
+    (tie.spec
+    Inv-loop
+    μ-loop
+    clear-requires
+    loop-holds
+    at-requires
+    at-requires-2
+    sub-requires
+    choose-requires
+    put-requires
+    add-i
+    loop-less
+    loop-again
+    same-length
+    returns)

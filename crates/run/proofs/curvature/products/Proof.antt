@@ -1,0 +1,71 @@
+-- `products` meets its contract: the slice is filled so far.
+use mathlib.Core.List.{List}
+use mathlib.Core.Path.{_≡_, sym, _∙_}
+use Prim.Native.Nat.{ℕ, _*_, _≤_, _-_}
+use native.Mathlib.Nat.{le-antisymm}
+use native.Mathlib.Omega.{arith}
+use borrow.Author.Needs.{needs}
+use lib.Ieee.{Float, ofBits}
+use lib.ListN.{length}
+use Rattle.interval.specs.declared.Scalar.{Scalar}
+use Rattle.linear.specs.Flat.{at, along}
+use Rattle.linear.specs.Dot.{dotTo}
+use Rattle.linear.proofs.Cells.{product-small}
+use Rattle.linear.proofs.Sums.{along-start}
+use Rattle.run.specs.Scratch.{fillTo}
+use Rattle.run.proofs.ScratchLaws.{fill-none, fill-first}
+use Rattle.run.proofs.curvature.products.Statement.{statement}
+use Rattle.run.proofs.curvature.products.Tie as tie
+
+abbrev by : ℕ → List Float → List Float → ℕ → Scalar
+by n rows v i = dotTo (along rows (i * n) 1) (at v) n
+
+abbrev Inv-loop : tie.InvT-loop
+Inv-loop n k rows v out₀ i₀ out i = (i ≤ k) × (length out ≡ length out₀) × (out ≡ fillTo out₀ 0 (by n rows v) i)
+
+abbrev μ-loop : tie.MeasureT-loop
+μ-loop n k rows v out₀ i₀ out i = k - i
+
+loop-holds : tie.Need-loop-holds Inv-loop μ-loop
+loop-holds c = (search needs, search needs, sym (fill-none _ _))
+
+mul-plus-dot : tie.Need-mul-plus-dot Inv-loop μ-loop
+mul-plus-dot c = omega (arith, product-small {i = c .before .before .loop .i} {n = c .before .before .before .before .before .before .args .n} (omega arith) (omega arith))
+
+plus-dot-requires : tie.Need-plus-dot-requires Inv-loop μ-loop
+plus-dot-requires c κs = tt
+
+put-requires : tie.Need-put-requires Inv-loop μ-loop
+put-requires c κs = search needs
+
+add-i : tie.Need-add-i Inv-loop μ-loop
+add-i c = search needs
+
+loop-less : tie.Need-loop-less Inv-loop μ-loop
+loop-less c = search needs
+
+loop-again : tie.Need-loop-again Inv-loop μ-loop
+unfolding ofBits
+loop-again c = let a = c .before .before .before .before .before .before .before .before .before .before .args in (search needs, search needs, c .before .before .put .ensures ∙ fill-first (a .out .now) (by (a .n) (a .rows .now) (a .v .now)) (c .before .before .before .before .before .before .loop .i) (c .before .before .before .before .before .before .loop .inv .2) (rw along-start at (c .before .before .before .plus-dot .ensures)))
+
+same-length : tie.Need-same-length Inv-loop μ-loop
+same-length c = search needs
+
+returns : tie.Need-returns Inv-loop μ-loop
+returns c = rw (le-antisymm (c .before .loop .inv .0) (c .loop-test .left)) at (c .before .loop .inv .2)
+
+pub products-spec : {M : Type 1} → statement M
+products-spec =
+    tie.close
+    (tie.spec
+    Inv-loop
+    μ-loop
+    loop-holds
+    mul-plus-dot
+    plus-dot-requires
+    put-requires
+    add-i
+    loop-less
+    loop-again
+    same-length
+    returns)

@@ -1,0 +1,79 @@
+-- `rank_one` meets its contract: the invariant is the fold at the entries passed, not refused.
+use mathlib.Core.Path.{_≡_, sym}
+use Prim.Native.Nat.{_≤_, _-_}
+use native.Mathlib.Nat.{le-antisymm}
+use native.Mathlib.Omega.{arith}
+use borrow.Author.Needs.{needs}
+use lib.ListN.{length}
+use Rattle.interval.specs.Result.{ok}
+use Rattle.linear.specs.Results.{foldR}
+use Rattle.linear.proofs.Cells.{square-positive}
+use Rattle.linear.proofs.Turns.{went-on, broke-off}
+use Rattle.run.proofs.RowLaws.{few}
+use Rattle.run.specs.Curvature.{rankOneStep, rankOneOf}
+use Rattle.run.proofs.curvature.rank_one.Statement.{statement}
+use Rattle.run.proofs.curvature.rank_one.Tie as tie
+
+abbrev Inv-loop : tie.InvT-loop
+Inv-loop n b₀ v vs q p₀ b p = (p ≤ q) × (length b ≡ length b₀) × (foldR (rankOneStep n v vs) b₀ p ≡ ok b)
+
+abbrev μ-loop : tie.MeasureT-loop
+μ-loop n b₀ v vs q p₀ b p = q - p
+
+mul-q : tie.Need-mul-q Inv-loop μ-loop
+mul-q c = omega (arith, few (c .before .before .pre) (c .before .before .pre))
+
+loop-holds : tie.Need-loop-holds Inv-loop μ-loop
+unfolding foldR
+loop-holds c = search needs
+
+rank-one-at-requires : tie.Need-rank-one-at-requires Inv-loop μ-loop
+rank-one-at-requires c κs = square-positive (c .before .before .before .before .before .args .n) {p = c .before .before .loop .p} (c .before .loop-test .taken)
+
+enum-told : tie.Need-enum-told Inv-loop μ-loop
+enum-told c = search needs
+
+enum-known-e : tie.Need-enum-known-e Inv-loop μ-loop
+enum-known-e c = search needs
+
+same-length : tie.Need-same-length Inv-loop μ-loop
+same-length c = search needs
+
+returns : tie.Need-returns Inv-loop μ-loop
+unfolding rankOneOf
+returns c = broke-off _ _ _ (c .before .before .before .before .before .before .before .loop-test .taken) (c .before .before .before .before .before .before .before .before .loop .inv .2) (c .before .before .before .before .before .rank-one-at .ensures) (c .before .e .given .1)
+
+add-p : tie.Need-add-p Inv-loop μ-loop
+add-p c = omega (arith, few (c .before .before .before .before .before .before .before .before .before .before .pre) (c .before .before .before .before .before .before .before .before .before .before .pre), c .before .before .before .before .before .before .loop-test .taken)
+
+loop-less : tie.Need-loop-less Inv-loop μ-loop
+loop-less c = search needs
+
+loop-again : tie.Need-loop-again Inv-loop μ-loop
+loop-again c = (search needs, search needs, went-on _ _ (c .before .before .before .before .before .before .before .loop .inv .2) (c .before .before .before .before .rank-one-at .ensures) (c .enum-told .given .1))
+
+same-length-2 : tie.Need-same-length-2 Inv-loop μ-loop
+same-length-2 c = search needs
+
+returns-2 : tie.Need-returns-2 Inv-loop μ-loop
+unfolding rankOneOf
+returns-2 c = sym (rw (le-antisymm (c .before .loop .inv .0) (c .loop-test .left)) at (c .before .loop .inv .2))
+
+pub rank-one-spec : {M : Type 1} → statement M
+rank-one-spec =
+    tie.close
+    (tie.spec
+    Inv-loop
+    μ-loop
+    mul-q
+    loop-holds
+    rank-one-at-requires
+    enum-told
+    enum-known-e
+    same-length
+    returns
+    add-p
+    loop-less
+    loop-again
+    same-length-2
+    returns-2)

@@ -1,0 +1,64 @@
+-- `problem` meets its contract: each part is one of the definition's.
+use Rattle.run.specs.Model.{keptBy}
+use Rattle.run.proofs.ModelLaws.{problem-is}
+use mathlib.Core.Path.{sym, subst}
+use Rattle.run.specs.Rows.{Small}
+use Rattle.run.proofs.RowLaws.{constraints-small, sum-small}
+use borrow.Author.Needs.{needs}
+use Rattle.run.proofs.model.problem.Statement.{statement}
+use Rattle.run.proofs.model.problem.Tie as tie
+
+sum-requires : tie.Need-sum-requires
+sum-requires c κs = search needs
+
+constraints-requires : tie.Need-constraints-requires
+constraints-requires c κs = search needs
+
+slopes-requires : tie.Need-slopes-requires
+slopes-requires c κs =
+    let p = c .before .before .before .before .before .before .before .before .before .before .before .pre in
+    (subst Small (sym (c .before .before .constraints .ensures)) (constraints-small (p .0) (p .1 .0)), (p .1 .1 .1 .0, p .1 .1 .1 .1 .0))
+
+curve-requires : tie.Need-curve-requires
+curve-requires c κs =
+    let p = c .before .before .before .before .before .before .before .before .before .before .before .before .before .before .before .before .before .before .pre in
+    (subst Small (sym (c .before .before .before .before .before .before .before .before .before .before .sum .ensures)) (sum-small (p .0) (p .1 .0) (p .1 .1 .0)), (p .1 .1 .1 .0, (p .1 .1 .1 .1 .0, p .1 .1 .1 .1 .1 .1 .1 .1 .0)))
+
+gradient-requires : tie.Need-gradient-requires
+gradient-requires c κs =
+    let p = c .before .before .before .before .before .before .before .before .before .before .before .before .before .before .before .before .before .before .before .before .before .before .pre in
+    (subst Small (sym (c .before .before .before .before .before .before .before .before .before .before .before .before .before .before .sum .ensures)) (sum-small (p .0) (p .1 .0) (p .1 .1 .0)), (p .1 .1 .1 .0, (p .1 .1 .1 .1 .0, (p .1 .1 .1 .1 .1 .0, p .1 .1 .1 .1 .1 .1 .1 .1 .1))))
+
+same-length : tie.Need-same-length
+same-length c = search needs
+
+same-length-2 : tie.Need-same-length-2
+same-length-2 c = search needs
+
+same-length-3 : tie.Need-same-length-3
+same-length-3 c = search needs
+
+same-length-4 : tie.Need-same-length-4
+same-length-4 c = search needs
+
+returns : tie.Need-returns
+returns c =
+    let s = c .before .before .before .before .before .before .before .before .before .before .before .before .before .before .before .before .before .before .before .before .before .before .before .before .before in
+    let p = s .pre in
+    let e = c .before .before .before .before .before .before .before .before .before .before .before .before .before .slopes .ensures in
+    problem-is _ _ _ (keptBy (s .args .k) (s .args .index .now)) _ _ _ (c .before .before .before .before .before .before .before .before .before .before .before .before .before .before .before .before .before .sum .ensures) (c .before .before .before .before .before .before .before .before .before .before .before .before .before .before .before .before .constraints .ensures) (p .1 .1 .1 .1 .1 .1 .0) (p .1 .1 .1 .1 .1 .1 .1 .0) (e .0) (e .1) (c .before .before .before .before .before .before .curve .ensures) (c .before .before .gradient .ensures)
+
+pub problem-spec : {M : Type 1} → statement M
+problem-spec =
+    tie.close
+    (tie.spec
+    sum-requires
+    constraints-requires
+    slopes-requires
+    curve-requires
+    gradient-requires
+    same-length
+    same-length-2
+    same-length-3
+    same-length-4
+    returns)

@@ -1,0 +1,50 @@
+-- `predicted` meets its contract: where the checks passed the counts fit.
+use mathlib.Core.Path.{sym, ap, _∙_}
+use Rattle.linear.specs.Answers.{doneOf}
+use Rattle.run.specs.Pieces.{predictedReply}
+use Rattle.run.proofs.PieceLaws.{sized-ok, wants-ok}
+use borrow.Author.Needs.{needs}
+use Rattle.run.proofs.pieces.predicted.Statement.{statement}
+use Rattle.run.proofs.pieces.predicted.Tie as tie
+
+sized-requires : tie.Need-sized-requires
+sized-requires c κs = search needs
+
+wants-requires : tie.Need-wants-requires
+wants-requires c κs = search needs
+
+enum-told : tie.Need-enum-told
+enum-told c = search needs
+
+predicted-requires : tie.Need-predicted-requires
+predicted-requires c κs =
+    let p = wants-ok _ _ _ (sym (c .before .before .wants .ensures) ∙ ap (λ d. doneOf d tt) (c .enum-told .given .1)) in
+    let z = sized-ok (sym (c .before .before .before .sized .ensures) ∙ p .0) in
+    (z .few-variables, z .few-constraints)
+
+enum-known-e : tie.Need-enum-known-e
+enum-known-e c = search needs
+
+returns : tie.Need-returns
+unfolding predictedReply
+returns c =
+    let k = c .before .before .before in
+    rw (← k .before .sized .ensures, ← k .wants .ensures, c .before .enum-told .given .1) (c .predicted .ensures)
+
+returns-2 : tie.Need-returns-2
+unfolding predictedReply
+returns-2 c =
+    let k = c .before .before .before in
+    rw (← k .before .sized .ensures, ← k .wants .ensures, c .before .e .given .1)
+
+pub predicted-spec : {M : Type 1} → statement M
+predicted-spec =
+    tie.close
+    (tie.spec
+    sized-requires
+    wants-requires
+    enum-told
+    predicted-requires
+    enum-known-e
+    returns
+    returns-2)

@@ -1,0 +1,78 @@
+-- `expects` meets its contract: the test decides whether the violation is asked.
+use mathlib.Core.Path.{_≡_, ap, _∙_}
+use Prim.Native.Nat.{_+_}
+use native.Mathlib.Omega.{arith}
+use borrow.Author.Needs.{needs}
+use lib.Ieee.{ofBits}
+use Rattle.interval.specs.declared.Scalar.{Scalar}
+use Rattle.interval.specs.Scalar.{zeroS, subOf, definitelyGreater}
+use Rattle.linear.proofs.Cells.{product-small}
+use Rattle.run.specs.Proposal.{bentOf, expectsOf}
+use Rattle.run.specs.Rows.{rowsIn, sumOf, squaredOf}
+use Rattle.run.specs.declared.rows.RowSet.{RowSet}
+use Rattle.run.proofs.proposal.expects.Statement.{statement}
+use Rattle.run.proofs.proposal.expects.Tie as tie
+
+-- the drop of the sum, less what the curvature bends
+dropped : (k : tie.After-definitely-greater)
+    → let a = k .before .before .before .before .before .before .before .before .before .args in
+    k .definitely-greater .result ≡ definitelyGreater (subOf (subOf (a .f) (squaredOf (sumOf (a .n) (a .m) (a .s) (a .rows .now)) (a .delta .now) (a .n))) (bentOf (a .n) (a .b .now) (a .delta .now))) zeroS
+unfolding ofBits
+dropped k =
+    let a = k .before .before .before .before .before .before .before .before .before .args in
+    let q : k .before .before .before .before .squared .result ≡ squaredOf (sumOf (a .n) (a .m) (a .s) (a .rows .now)) (a .delta .now) (a .n) =
+    k .before .before .before .before .squared .ensures ∙ ap (λ (e : RowSet). squaredOf (rowsIn (a .rows .now) e) (a .delta .now) (a .n)) (k .before .before .before .before .before .sum .ensures) in
+    let d = k .before .before .before .sub .ensures .value ∙ ap (λ (x : Scalar). subOf (a .f) x) q in
+    k .definitely-greater .ensures
+    ∙ ap (λ (x : Scalar). definitelyGreater x zeroS)
+    (k .before .sub2 .ensures .value ∙ ap (λ (x : Scalar). subOf x (k .before .before .bent .result)) d ∙ ap (λ (x : Scalar). subOf (subOf (a .f) (squaredOf (sumOf (a .n) (a .m) (a .s) (a .rows .now)) (a .delta .now) (a .n))) x) (k .before .before .bent .ensures))
+
+sum-requires : tie.Need-sum-requires
+sum-requires c κs = search needs
+
+squared-requires : tie.Need-squared-requires
+squared-requires c κs =
+    let s = c .before .before .before .before in
+    let p = product-small {i = s .args .m} {n = s .args .n + 1} (omega (arith, s .pre)) (omega (arith, s .pre)) in
+    rw (c .sum .ensures) (record { few-variables = s .pre .0; few-rows = s .pre .1 .1; values-near = omega (arith, p); slopes-near = omega (arith, p, s .pre) })
+
+sub-requires : tie.Need-sub-requires
+sub-requires c κs = search needs
+
+bent-requires : tie.Need-bent-requires
+bent-requires c κs = search needs
+
+sub-requires-2 : tie.Need-sub-requires-2
+sub-requires-2 c κs = search needs
+
+definitely-greater-requires : tie.Need-definitely-greater-requires
+definitely-greater-requires c κs = search needs
+
+returns : tie.Need-returns
+unfolding expectsOf
+returns c = rw (← dropped (c .before), c .if1 .taken)
+
+predicted-requires : tie.Need-predicted-requires
+predicted-requires c κs = search needs
+
+falls-requires : tie.Need-falls-requires
+falls-requires c κs = search needs
+
+returns-2 : tie.Need-returns-2
+unfolding expectsOf
+returns-2 c = rw (← dropped (c .before .before .before), c .before .before .if1 .left, ← c .before .predicted .ensures) (c .falls .ensures)
+
+pub expects-spec : {M : Type 1} → statement M
+expects-spec =
+    tie.close
+    (tie.spec
+    sum-requires
+    squared-requires
+    sub-requires
+    bent-requires
+    sub-requires-2
+    definitely-greater-requires
+    returns
+    predicted-requires
+    falls-requires
+    returns-2)

@@ -1,0 +1,19 @@
+-- `turned` meets its contract: each arm is the definition's.
+use borrow.Author.Needs.{needs}
+use Rattle.run.proofs.search.turned.Statement.{statement}
+use Rattle.run.proofs.search.turned.Tie as tie
+
+enum-known-d : tie.Need-enum-known-d
+enum-known-d c = search needs
+
+enum-known-d-2 : tie.Need-enum-known-d-2
+enum-known-d-2 c = search needs
+
+returns : tie.Need-returns
+returns c = rw (c .before .d .given .1)
+
+returns-2 : tie.Need-returns-2
+returns-2 c = rw (c .before .d2 .given .1)
+
+pub turned-spec : {M : Type 1} → statement M
+turned-spec = tie.close (tie.spec enum-known-d enum-known-d-2 returns returns-2)

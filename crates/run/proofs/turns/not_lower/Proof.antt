@@ -1,0 +1,57 @@
+-- `not_lower` meets its contract: whether it is tried again decides.
+use native.Mathlib.Omega.{arith}
+use mathlib.Core.Path.{sym, _∙_}
+use Rattle.run.proofs.SearchCalls.{searched, retries, turns-down}
+use borrow.Author.Needs.{needs}
+use Rattle.run.proofs.turns.not_lower.Statement.{statement}
+use Rattle.run.proofs.turns.not_lower.Tie as tie
+
+may-retry-requires : tie.Need-may-retry-requires
+may-retry-requires c κs = search needs
+
+rejected-for-requires : tie.Need-rejected-for-requires
+rejected-for-requires c κs = search needs
+
+retry-requires : tie.Need-retry-requires
+retry-requires c κs = rw (c .rejected-for .ensures) (omega (arith, c .before .before .before .before .before .before .before .pre .1 .few-turned))
+
+with-search-requires : tie.Need-with-search-requires
+with-search-requires c κs = search needs
+
+search-requires : tie.Need-search-requires
+search-requires c κs =
+    let s = c .before .before .before .before .before .before .before .before .before .before in
+    let b = s .pre .1 in
+    rw (c .before .with-search .ensures, c .before .before .retry .ensures, c .before .before .before .rejected-for .ensures) (s .pre .0, searched _ b (omega (arith, b .few-turned)) (b .damping))
+
+same-length : tie.Need-same-length
+same-length c = search needs
+
+returns : tie.Need-returns
+returns c w h =
+    let st = c .before .before .before .before .before .before .before .before .before .before .before .before .before .args .st in
+    retries st w (sym (c .before .before .before .before .before .before .before .before .may-retry .ensures w h) ∙ c .before .before .before .before .before .before .before .if1 .taken) (c .before .before .before .before .before .before .rejected-for .ensures) (c .before .before .before .before .before .retry .ensures) (c .before .before .before .before .with-search .ensures) (c .before .before .search .ensures w h)
+
+turn-down-requires : tie.Need-turn-down-requires
+turn-down-requires c κs = search needs
+
+same-length-2 : tie.Need-same-length-2
+same-length-2 c = search needs
+
+returns-2 : tie.Need-returns-2
+returns-2 c w h = turns-down (c .before .before .before .before .before .before .before .before .before .before .args .st) w (sym (c .before .before .before .before .before .may-retry .ensures w h) ∙ c .before .before .before .before .if1 .left) (c .before .before .turn-down .ensures w h)
+
+pub not-lower-spec : {M : Type 1} → statement M
+not-lower-spec =
+    tie.close
+    (tie.spec
+    may-retry-requires
+    rejected-for-requires
+    retry-requires
+    with-search-requires
+    search-requires
+    same-length
+    returns
+    turn-down-requires
+    same-length-2
+    returns-2)

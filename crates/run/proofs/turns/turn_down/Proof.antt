@@ -1,0 +1,89 @@
+-- `turn_down` meets its contract: the division decides.
+use mathlib.Core.Path.{_≡_, ap, sym, _∙_}
+use lib.Ieee.{ofBits}
+use Rattle.interval.specs.Result.{resultOf}
+use Rattle.interval.specs.Scalar.{degenerate, divOf}
+use Rattle.interval.specs.Scaling.{four64}
+use Rattle.interval.specs.declared.Scalar.{Scalar}
+use Rattle.interval.specs.declared.ScalarResult.{ScalarResult}
+use Rattle.run.proofs.SearchCalls.{searched, turn-next, turn-refused}
+use borrow.Author.Needs.{needs}
+use Rattle.run.proofs.turns.turn_down.Statement.{statement}
+use Rattle.run.proofs.turns.turn_down.Tie as tie
+
+-- a quarter of the length tried
+divided : (k : tie.After-div) {r : ScalarResult} → k .div .result ≡ r → divOf (k .before .before .before .before .before .args .st .trial .tried) (degenerate four64) ≡ resultOf r
+unfolding ofBits
+divided k e = ap (λ (x : Scalar). divOf (k .before .before .before .before .before .args .st .trial .tried) x) (sym (k .before .degenerate .ensures)) ∙ sym (k .div .ensures .value) ∙ ap resultOf e
+
+rejected-for-requires : tie.Need-rejected-for-requires
+rejected-for-requires c κs = search needs
+
+degenerate-requires : tie.Need-degenerate-requires
+degenerate-requires c κs = search needs
+
+div-requires : tie.Need-div-requires
+div-requires c κs = search needs
+
+enum-known-q : tie.Need-enum-known-q
+enum-known-q c = search needs
+
+sharpen-requires : tie.Need-sharpen-requires
+sharpen-requires c κs = search needs
+
+with-radius-requires : tie.Need-with-radius-requires
+with-radius-requires c κs = search needs
+
+with-search-requires : tie.Need-with-search-requires
+with-search-requires c κs = search needs
+
+grow-requires : tie.Need-grow-requires
+grow-requires c κs =
+    let s = c .before .before .before .before .before .before .before .before .before .before .before .before in
+    let b = s .pre .1 in
+    rw (c .before .with-search .ensures, c .before .before .with-radius .ensures, c .before .before .before .before .before .before .before .before .before .rejected-for .ensures) (s .pre .0, searched _ b (b .few-turned) (b .damping))
+
+enum-known-e : tie.Need-enum-known-e
+enum-known-e c = search needs
+
+with-search-requires-2 : tie.Need-with-search-requires-2
+with-search-requires-2 c κs = search needs
+
+refuse-requires : tie.Need-refuse-requires
+refuse-requires c κs = search needs
+
+same-length : tie.Need-same-length
+same-length c = search needs
+
+returns : tie.Need-returns
+returns c w h =
+    let a = c .before .before .before .before .before .before .before .before .before .before .before .before .before .before .before .args in
+    turn-next (a .st) w (a .why) (c .before .before .before .before .before .before .before .before .before .before .before .before .rejected-for .ensures) (divided (c .before .before .before .before .before .before .before .before .before .before) (c .before .before .before .before .before .before .before .before .q .given .1)) (c .before .before .before .before .before .before .sharpen .ensures) (c .before .before .before .before .before .with-radius .ensures) (c .before .before .before .before .with-search .ensures) (c .before .before .grow .ensures w h)
+
+same-length-2 : tie.Need-same-length-2
+same-length-2 c = search needs
+
+returns-2 : tie.Need-returns-2
+returns-2 c w h =
+    let a = c .before .before .before .before .before .before .before .before .before .before .before .before .before .args in
+    turn-refused (a .st) w (a .why) (c .before .before .before .before .before .before .before .before .before .before .rejected-for .ensures) (divided (c .before .before .before .before .before .before .before .before) (c .before .before .before .before .before .before .e .given .1)) (c .before .before .before .before .with-search2 .ensures) (c .before .before .refuse .ensures w h)
+
+pub turn-down-spec : {M : Type 1} → statement M
+turn-down-spec =
+    tie.close
+    (tie.spec
+    rejected-for-requires
+    degenerate-requires
+    div-requires
+    enum-known-q
+    sharpen-requires
+    with-radius-requires
+    with-search-requires
+    grow-requires
+    enum-known-e
+    with-search-requires-2
+    refuse-requires
+    same-length
+    returns
+    same-length-2
+    returns-2)

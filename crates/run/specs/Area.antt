@@ -1,0 +1,225 @@
+-- The work area (document 01, "Area"): 8,000 numbers in slots. A slot's used places are from its start; all else is +0 after a call.
+use Prim.Native.Nat.{ℕ, zero, suc, _+_, _-_, _*_}
+use mathlib.Core.Bool.{Bool, true, false}
+use mathlib.Core.Path.{_≡_}
+use mathlib.Core.List.{List, [], _∷_, _++_, map}
+use lib.Ieee.{Float}
+use lib.ListN.{length, take, drop, getD}
+use Rattle.interval.specs.Scalar.{pick}
+use Rattle.linear.specs.Flat.{zeros}
+use Rattle.run.specs.Rows.{rowNumbers}
+use Rattle.run.specs.Curvature.{curvatureEntries}
+use Rattle.run.specs.declared.state.Kind.the-variants as kind
+use Rattle.run.specs.declared.state.Phase.{Phase}
+use Rattle.run.specs.declared.state.Phase.the-variants.{Open, Over}
+use Rattle.run.specs.declared.state.State.{State}
+
+-- how many numbers each slot has
+abbrev pub POINT : ℕ
+POINT = 24
+
+abbrev pub ROWS : ℕ
+ROWS = 936
+
+abbrev pub CURVATURE : ℕ
+CURVATURE = 288
+
+abbrev pub FILTER : ℕ
+FILTER = 800
+
+abbrev pub SPARE : ℕ
+SPARE = 4920
+
+abbrev pub AREA : ℕ
+AREA = 8000
+
+-- what the area holds, slot by slot; each list has its slot's length
+pub record Memory : Type 0 where
+  pub standing : List Float
+  pub landed : List Float
+  pub asked : List Float
+  pub standingRows : List Float
+  pub landedRows : List Float
+  pub step : List Float
+  pub multipliers : List Float
+  pub curvature : List Float
+  pub filter : List Float
+
+-- the area, number by number
+unfoldable pub areaOf : Memory → List Float
+areaOf w =
+    w .standing ++ (w .landed ++ (w .asked ++ (w .standingRows ++ (w .landedRows ++ (w .step ++ (w .multipliers ++ (w .curvature ++ (w .filter ++ zeros SPARE))))))))
+
+-- xs, and +0 behind it
+abbrev pub padded : ℕ → List Float → List Float
+padded size xs = xs ++ zeros (size - length xs)
+
+-- what is used of a slot: so many numbers from its start, or none where it is not in use
+abbrev pub usedOf : List Float → ℕ → ℕ → Bool → ℕ → List Float
+usedOf a base size inUse count = padded size (take (pick inUse count 0) (drop base a))
+
+-- which slots are in use: the asked point while a question is open; standing rows, curvature and filter, step and multipliers while a trial or correction is; the landed point and rows while a
+-- correction is
+abbrev pub isOpen : Phase → Bool
+isOpen (Open k) = true
+isOpen Over = false
+
+abbrev pub isTried : Phase → Bool
+isTried (Open kind.Start) = false
+isTried (Open kind.Trial) = true
+isTried (Open kind.Correction) = true
+isTried Over = false
+
+abbrev pub isCorrected : Phase → Bool
+isCorrected (Open kind.Start) = false
+isCorrected (Open kind.Trial) = false
+isCorrected (Open kind.Correction) = true
+isCorrected Over = false
+
+-- a call reads the used places as they stand
+unfoldable pub memoryOf : State → List Float → Memory
+memoryOf st a =
+    let n = st .sizes .n in
+    let rows = rowNumbers n (st .sizes .m) (st .sizes .s) in
+    let tried = isTried (st .phase) in
+    let corrected = isCorrected (st .phase) in
+    record {
+      standing = usedOf a 0 POINT true (2 * n);
+      landed = usedOf a 24 POINT corrected (2 * n);
+      asked = usedOf a 48 POINT (isOpen (st .phase)) (2 * n);
+      standingRows = usedOf a 72 ROWS tried rows;
+      landedRows = usedOf a 1008 ROWS corrected rows;
+      step = usedOf a 1944 POINT tried (2 * n);
+      multipliers = usedOf a 1968 POINT tried (2 * st .sizes .m);
+      curvature = usedOf a 1992 CURVATURE tried (2 * curvatureEntries n);
+      filter = usedOf a 2280 FILTER tried (4 * st .counts .iterations);
+    }
+
+-- ---- how a call changes it
+
+-- after a begin: the start point stands and is asked
+abbrev pub begunMemory : List Float → Memory
+begunMemory start = record {
+  standing = padded POINT start;
+  landed = zeros POINT;
+  asked = padded POINT start;
+  standingRows = zeros ROWS;
+  landedRows = zeros ROWS;
+  step = zeros POINT;
+  multipliers = zeros POINT;
+  curvature = zeros CURVATURE;
+  filter = zeros FILTER;
+}
+
+-- after a finish, or refusal 5 or 6: only the standing point
+abbrev pub onlyStanding : Memory → Memory
+onlyStanding w = record {
+  standing = w .standing;
+  landed = zeros POINT;
+  asked = zeros POINT;
+  standingRows = zeros ROWS;
+  landedRows = zeros ROWS;
+  step = zeros POINT;
+  multipliers = zeros POINT;
+  curvature = zeros CURVATURE;
+  filter = zeros FILTER;
+}
+
+-- a start's answer
+abbrev pub withStart : Memory → List Float → Memory
+withStart w rows = record {
+  standing = w .standing;
+  landed = zeros POINT;
+  asked = zeros POINT;
+  standingRows = padded ROWS rows;
+  landedRows = zeros ROWS;
+  step = zeros POINT;
+  multipliers = zeros POINT;
+  curvature = zeros CURVATURE;
+  filter = zeros FILTER;
+}
+
+-- a trial asked: nothing has landed
+abbrev pub withTrial : Memory → List Float → List Float → List Float → Memory
+withTrial w next delta lambda = record {
+  standing = w .standing;
+  landed = zeros POINT;
+  asked = next;
+  standingRows = w .standingRows;
+  landedRows = zeros ROWS;
+  step = delta;
+  multipliers = lambda;
+  curvature = w .curvature;
+  filter = w .filter;
+}
+
+-- a correction asked
+abbrev pub withAsked : Memory → List Float → Memory
+withAsked w next = record {
+  standing = w .standing;
+  landed = w .landed;
+  asked = next;
+  standingRows = w .standingRows;
+  landedRows = w .landedRows;
+  step = w .step;
+  multipliers = w .multipliers;
+  curvature = w .curvature;
+  filter = w .filter;
+}
+
+-- the asked point landed, with its rows and the step that led there
+abbrev pub withLanded : Memory → List Float → List Float → Memory
+withLanded w rows step = record {
+  standing = w .standing;
+  landed = w .asked;
+  asked = w .asked;
+  standingRows = w .standingRows;
+  landedRows = padded ROWS rows;
+  step = step;
+  multipliers = w .multipliers;
+  curvature = w .curvature;
+  filter = w .filter;
+}
+
+-- the landed point stands, with the curvature and the filter after it
+abbrev pub withTaken : Memory → List Float → List Float → Memory
+withTaken w curvature filter = record {
+  standing = w .landed;
+  landed = w .landed;
+  asked = w .asked;
+  standingRows = w .landedRows;
+  landedRows = w .landedRows;
+  step = w .step;
+  multipliers = w .multipliers;
+  curvature = curvature;
+  filter = filter;
+}
+
+-- ---- slots in the area
+
+-- a with s written from the place `base` on
+abbrev pub written : List Float → ℕ → List Float → List Float
+written a base s = take base a ++ s ++ drop (base + length s) a
+
+-- the slots in order, and how many numbers each has
+abbrev pub slotsOf : Memory → List (List Float)
+slotsOf w =
+    w .standing ∷ (w .landed ∷ (w .asked ∷ (w .standingRows ∷ (w .landedRows ∷ (w .step ∷ (w .multipliers ∷ (w .curvature ∷ (w .filter ∷ []))))))))
+
+abbrev pub SIZES : List ℕ
+SIZES = POINT ∷ (POINT ∷ (POINT ∷ (ROWS ∷ (ROWS ∷ (POINT ∷ (POINT ∷ (CURVATURE ∷ (FILTER ∷ []))))))))
+
+-- an area that holds w, each list of its slot's length
+pub record Holds (w : Memory) (a : List Float) : Type 0 where
+  pub sized : map length (slotsOf w) ≡ SIZES
+  pub is : a ≡ areaOf w
+
+-- where slot k begins
+unfoldable pub startOf : List ℕ → ℕ → ℕ
+startOf sizes zero = 0
+startOf sizes (suc k) = startOf sizes k + getD sizes k 0
+
+-- the first k slots, each with so many numbers of an area and +0 behind
+unfoldable pub tidiedTo : List ℕ → List ℕ → List Float → ℕ → List Float
+tidiedTo sizes used a zero = []
+tidiedTo sizes used a (suc k) = tidiedTo sizes used a k ++ padded (getD sizes k 0) (take (getD used k 0) (drop (startOf sizes k) a))

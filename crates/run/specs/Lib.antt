@@ -1,0 +1,16 @@
+pub mod Scratch
+pub mod Rows
+pub mod Curvature
+pub mod Model
+pub mod Basis
+pub mod Directions
+pub mod Step
+pub mod Proposal
+pub mod Judgement
+pub mod Correction
+pub mod Area
+pub mod Search
+pub mod Run
+pub mod Calls
+pub mod Demand
+pub mod Pieces

@@ -1,0 +1,103 @@
+-- Rows as they are answered (document 01, "Rows"; the Rust's `Rows`): 2 (m + s) (n + 1) numbers, the constraint values, their slopes row by row, then the sum's. All is read at its place in the
+-- answered list.
+use Prim.Native.Nat.{ℕ, _+_, _*_, _<_, _≤_}
+use mathlib.Core.Bool.{Bool, false, _||_}
+use mathlib.Core.List.{List}
+use lib.Dec.{ltb}
+use lib.Ieee.{Float}
+use Rattle.interval.specs.declared.Scalar.{Scalar}
+use Rattle.interval.specs.Result.{Res}
+use Rattle.interval.specs.Scalar.{zeroS, pick, addOf, definitelyNotEqual}
+use Rattle.linear.specs.Flat.{at, along}
+use Rattle.linear.specs.Dot.{dotTo}
+use Rattle.linear.specs.Norm.{normOf}
+use Rattle.linear.specs.Cholesky.{marksTo}
+use Rattle.run.specs.Scratch.{anyTo}
+use Rattle.run.specs.declared.rows.RowSet.{RowSet}
+
+-- how many numbers an answer has
+abbrev pub rowNumbers : ℕ → ℕ → ℕ → ℕ
+rowNumbers n m s = 2 * ((m + s) * (n + 1))
+
+-- rows of one kind: `count` values from the place `values` on, and from the place `slopes` on n slopes for each
+pub record Rows : Type 0 where
+  pub list : List Float
+  pub n : ℕ
+  pub count : ℕ
+  pub values : ℕ
+  pub slopes : ℕ
+
+-- the rows that a place describes, in a list
+abbrev pub rowsIn : List Float → RowSet → Rows
+rowsIn xs e = record { list = xs; n = e .n; count = e .count; values = e .values; slopes = e .slopes }
+
+abbrev pub constraintSet : ℕ → ℕ → RowSet
+constraintSet n m = record { n = n; count = m; values = 0; slopes = m }
+
+abbrev pub sumSet : ℕ → ℕ → ℕ → RowSet
+sumSet n m s = record { n = n; count = s; values = m * (n + 1); slopes = m * (n + 1) + s }
+
+abbrev pub constraintsOf : ℕ → ℕ → List Float → Rows
+constraintsOf n m xs = rowsIn xs (constraintSet n m)
+
+abbrev pub sumOf : ℕ → ℕ → ℕ → List Float → Rows
+sumOf n m s xs = rowsIn xs (sumSet n m s)
+
+-- small enough that no place is out of reach
+pub record Small (e : RowSet) : Type 0 where
+  pub few-variables : e .n ≤ 12
+  pub few-rows : e .count ≤ 24
+  pub values-near : e .values < 1000
+  pub slopes-near : e .slopes < 1000
+
+-- what an answer says at a point (the Rust's `Evaluation`)
+pub record Evaluation : Type 0 where
+  pub constraints : Rows
+  pub sum : Rows
+
+abbrev pub evaluationOf : ℕ → ℕ → ℕ → List Float → Evaluation
+evaluationOf n m s xs = record { constraints = constraintsOf n m xs; sum = sumOf n m s xs }
+
+abbrev pub valueAt : Rows → ℕ → Scalar
+valueAt e i = at (e .list) (e .values + i)
+
+abbrev pub slopeAt : Rows → ℕ → ℕ → Scalar
+slopeAt e i j = at (e .list) (e .slopes + i * e .n + j)
+
+-- the slopes of row i, and those by variable j
+abbrev pub slopesOf : Rows → ℕ → ℕ → Scalar
+slopesOf e i = along (e .list) (e .slopes + i * e .n) 1
+
+abbrev pub slopesBy : Rows → ℕ → ℕ → Scalar
+slopesBy e j = along (e .list) (e .slopes + j) (e .n)
+
+-- `linearized`: value + slopes delta, over the first d variables. With d = 0 a zero is added to each value
+unfoldable pub linearizedAt : Rows → List Float → ℕ → ℕ → Scalar
+linearizedAt e delta d i = addOf (valueAt e i) (dotTo (slopesOf e i) (at delta) d)
+
+-- `squared`: with d = 0 it is f, `squared(&[])`
+unfoldable pub squaredOf : Rows → List Float → ℕ → Scalar
+squaredOf e delta d = dotTo (linearizedAt e delta d) (linearizedAt e delta d) (e .count)
+
+-- `transposed`: the slopes by variable j, each times its weight
+unfoldable pub transposedAt : Rows → List Float → ℕ → Scalar
+transposedAt e w j = dotTo (slopesBy e j) (at w) (e .count)
+
+-- f of a point, and its violation, from its rows
+abbrev pub sumSquared : Rows → Scalar
+sumSquared e = squaredOf e (e .list) 0
+
+unfoldable pub violationOf : Rows → Res Scalar
+violationOf e = normOf (valueAt e) (e .count)
+
+-- the violation that a step leads to, to first order
+unfoldable pub predictedOf : Rows → List Float → Res Scalar
+predictedOf e delta = normOf (linearizedAt e delta (e .n)) (e .count)
+
+-- some slope by variable j is definitely not zero
+unfoldable pub dependsOn : Rows → ℕ → Bool
+dependsOn e j = anyTo (λ i. definitelyNotEqual (slopeAt e i j) zeroS) (e .count)
+
+-- the moving marks: those of the variables that some residual definitely depends on
+unfoldable pub movingOf : ℕ → Evaluation → List Bool
+movingOf n e = marksTo (λ j. pick (ltb j n) (dependsOn (e .sum) j || dependsOn (e .constraints) j) false) 12

@@ -1,0 +1,76 @@
+-- Vectors and matrices that a step is worked out with: flat lists, a vector of 12 scalars, a matrix with rows of 12. Places that are not used are +0.
+use Prim.Native.Nat.{ℕ, zero, suc, _+_, _*_}
+use mathlib.Core.Bool.{Bool, true, false, _&&_, _||_}
+use mathlib.Core.List.{List}
+use lib.Ieee.{Float}
+use lib.ListN.{getD}
+use Rattle.interval.specs.declared.Scalar.{Scalar}
+use Rattle.interval.specs.Result.{Res, ok, refused}
+use Rattle.interval.specs.Scalar.{zeroS, isFinite, negOf, subOf, mulOf, divOf}
+use Rattle.linear.specs.Flat.{at, put, zeros, along}
+use Rattle.linear.specs.Choose.{chooseOf}
+
+abbrev pub vector : List Float
+vector = zeros 24
+
+abbrev pub matrix : List Float
+matrix = zeros 288
+
+-- row i and column j of a matrix, and one of its entries
+abbrev pub row : List Float → ℕ → ℕ → Scalar
+row a i = along a (12 * i) 1
+
+abbrev pub column : List Float → ℕ → ℕ → Scalar
+column a j = along a j 12
+
+abbrev pub entry : List Float → ℕ → ℕ → Scalar
+entry a i j = at a (12 * i + j)
+
+-- xs with f 0 to f (k - 1) stored from the place base on
+unfoldable pub fillTo : List Float → ℕ → (ℕ → Scalar) → ℕ → List Float
+fillTo xs base f zero = xs
+fillTo xs base f (suc k) = put (fillTo xs base f k) (base + k) (f k)
+
+-- a matrix with the first k entries of its first rows stored
+unfoldable pub fillRows : List Float → (ℕ → ℕ → Scalar) → ℕ → ℕ → List Float
+fillRows xs f k zero = xs
+fillRows xs f k (suc i) = fillTo (fillRows xs f k i) (12 * i) (f i) k
+
+-- whether all of the first k, or one of them
+unfoldable pub allTo : (ℕ → Bool) → ℕ → Bool
+allTo p zero = true
+allTo p (suc k) = allTo p k && p k
+
+unfoldable pub anyTo : (ℕ → Bool) → ℕ → Bool
+anyTo p zero = false
+anyTo p (suc k) = anyTo p k || p k
+
+abbrev pub allFinite : List Float → ℕ → Bool
+allFinite xs k = allTo (λ i. isFinite (at xs i)) k
+
+-- k scalars of xs from the place base on, each chosen, from the start of `to` on
+abbrev pub chosenOf : List Float → List Float → ℕ → ℕ → List Float
+chosenOf to xs base k = fillTo to 0 (λ i. chooseOf (at xs (base + i))) k
+
+-- `minus_scaled`: k places of v from v0 on, less a times those of w from w0 on, each chosen
+unfoldable pub minusScaled : List Float → ℕ → Scalar → List Float → ℕ → ℕ → List Float
+minusScaled v v0 a w w0 k = fillTo v v0 (λ p. chooseOf (subOf (at v (v0 + p)) (mulOf a (at w (w0 + p))))) k
+
+-- zero where a division is refused
+abbrev pub orZero : Res Scalar → Scalar
+orZero (ok v) = v
+orZero (refused e) = zeroS
+
+-- v p over a length, chosen
+abbrev pub unitAt : (ℕ → Scalar) → Scalar → ℕ → Scalar
+unitAt v length p = chooseOf (orZero (divOf (v p) length))
+
+-- d and the first rows of a matrix, each times its weight, chosen after each
+unfoldable pub combinedTo : ℕ → List Float → List Float → List Float → ℕ → List Float
+combinedTo k weights rows d zero = d
+combinedTo k weights rows d (suc t) = minusScaled (combinedTo k weights rows d t) 0 (negOf (at weights t)) rows (12 * t) k
+
+-- the first scalars of `from`, each at the place that the list names, into a vector
+unfoldable pub spreadTo : List ℕ → List Float → ℕ → List Float
+spreadTo places from zero = vector
+spreadTo places from (suc t) = put (spreadTo places from t) (getD places t 0) (at from t)

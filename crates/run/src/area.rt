@@ -1,0 +1,267 @@
+// The slots of the work area: what a call leaves in them.
+ghost use mathlib.Core.Path.{_≡_};
+ghost use mathlib.Core.List.{_++_};
+ghost use Prim.Native.Nat.{ℕ, _+_, _<_, _≤_};
+ghost use lib.ListN.{length, take, drop, getD};
+ghost use Rattle.interval.specs.Scalar.{pick};
+ghost use Rattle.linear.specs.Flat.{zeros};
+ghost use Rattle.run.specs.Area.{Memory, padded, written, Holds, startOf, tidiedTo, isOpen, isTried, isCorrected, memoryOf, begunMemory, onlyStanding, withStart, withTrial, withAsked, withLanded, withTaken};
+ghost use Rattle.run.specs.Run.{filterWith};
+use crate::state::Kind;
+use crate::state::Phase;
+use crate::state::State;
+use interval::Scalar;
+use linear::clear;
+use linear::put;
+
+// Where each slot begins.
+pub const STANDING: usize = 0;
+
+pub const LANDED: usize = 24;
+
+pub const ASKED: usize = 48;
+
+pub const STANDING_ROWS: usize = 72;
+
+pub const LANDED_ROWS: usize = 1008;
+
+pub const STEP: usize = 1944;
+
+pub const MULTIPLIERS: usize = 1968;
+
+pub const CURVATURE: usize = 1992;
+
+pub const FILTER: usize = 2280;
+
+pub const SPARE: usize = 3080;
+
+pub const AREA: usize = 8000;
+
+// How many numbers a point, an answer's rows, the curvature and the filter have at most.
+pub const POINT: usize = 24;
+
+pub const ROWS: usize = 936;
+
+pub const ENTRIES: usize = 288;
+
+pub const PAIRS: usize = 800;
+
+// src from the place base on.
+pub fn place(area: &mut [f64], base: usize, src: &[f64])
+    requires { ⌜ base + length (now src) ≤ length (now area) ⌝ }
+    ensures { λ _. ⌜ now (area .exit) ≡ written (now (area .entry)) base (now (src .entry)) ⌝ }
+{
+    for i in 0..src.len() {
+        area[base + i] = src[i];
+    }
+}
+
+// +0 from the place base on.
+fn clear_from(area: &mut [f64], base: usize, count: usize)
+    requires { ⌜ base + count ≤ length (now area) ⌝ }
+    ensures { λ _. ⌜ now (area .exit) ≡ written (now (area .entry)) base (zeros count) ⌝ }
+{
+    let e = base + count;
+    clear(&mut area[base..e]);
+}
+
+// A slot: src from its start on, and +0 behind.
+pub fn slot(area: &mut [f64], base: usize, size: usize, src: &[f64])
+    requires { ⌜ (length (now src) ≤ size) × (base + size ≤ length (now area)) ⌝ }
+    ensures { λ _. ⌜ now (area .exit) ≡ written (now (area .entry)) base (padded size (now (src .entry))) ⌝ }
+{
+    let n = src.len();
+    place(area, base, src);
+    clear_from(area, base + n, size - n);
+}
+
+// So many numbers to a place before them.
+fn copy(area: &mut [f64], from: usize, to: usize, count: usize)
+    requires { ⌜ (to + count ≤ from) × (from + count ≤ length (now area)) ⌝ }
+    ensures { λ _. ⌜ now (area .exit) ≡ written (now (area .entry)) to (take count (drop from (now (area .entry)))) ⌝ }
+{
+    for i in 0..count {
+        area[to + i] = area[from + i];
+    }
+}
+
+// All but so many numbers of each slot +0.
+fn tidy_slots(area: &mut [f64], sizes: &[usize], used: &[usize])
+    requires { ⌜ (length (now used) ≡ length (now sizes)) × ((startOf (now sizes) (length (now sizes)) ≤ length (now area)) × ((k : ℕ) → k < length (now sizes) → getD (now used) k 0 ≤ getD (now sizes) k 0)) ⌝ }
+    ensures { λ _. ⌜ now (area .exit) ≡ tidiedTo (now (sizes .entry)) (now (used .entry)) (now (area .entry)) (length (now (sizes .entry))) ++ drop (startOf (now (sizes .entry)) (length (now (sizes .entry)))) (now (area .entry)) ⌝ }
+{
+    let mut base = 0;
+    for k in 0..sizes.len() {
+        let size = sizes[k];
+        let kept = used[k];
+        clear_from(area, base + kept, size - kept);
+        base = base + size;
+    }
+}
+
+fn count_of(in_use: bool, count: usize) -> usize
+    ensures { λ r. ⌜ r ≡ pick «in_use» count 0 ⌝ }
+{
+    if in_use {
+        return count;
+    }
+    0
+}
+
+pub fn is_open(phase: Phase) -> bool
+    ensures { λ r. ⌜ r ≡ isOpen phase ⌝ }
+{
+    match phase {
+        Phase::Open(_) => true,
+        Phase::Over => false,
+    }
+}
+
+pub fn is_tried(phase: Phase) -> bool
+    ensures { λ r. ⌜ r ≡ isTried phase ⌝ }
+{
+    match phase {
+        Phase::Open(kind) => match kind {
+            Kind::Start => false,
+            Kind::Trial => true,
+            Kind::Correction => true,
+        },
+        Phase::Over => false,
+    }
+}
+
+pub fn is_corrected(phase: Phase) -> bool
+    ensures { λ r. ⌜ r ≡ isCorrected phase ⌝ }
+{
+    match phase {
+        Phase::Open(kind) => match kind {
+            Kind::Start => false,
+            Kind::Trial => false,
+            Kind::Correction => true,
+        },
+        Phase::Over => false,
+    }
+}
+
+// Every place that is not in use +0.
+pub fn tidy(area: &mut [f64], st: State)
+    requires { ⌜ (length (now area) ≡ 8000) × ((st .sizes .n ≤ 12) × ((st .sizes .m ≤ 12) × ((st .sizes .s ≤ 24) × (st .counts .iterations ≤ 200)))) ⌝ }
+    ensures { λ _. ⌜ Holds (memoryOf st (now (area .entry))) (now (area .exit)) ⌝ }
+{
+    let z = st.sizes;
+    let counts = st.counts;
+    let phase = st.phase;
+    let tried = is_tried(phase);
+    let corrected = is_corrected(phase);
+    let point = 2 * z.n;
+    let rows = 2 * ((z.m + z.s) * (z.n + 1));
+    let sizes = [
+        POINT,
+        POINT,
+        POINT,
+        ROWS,
+        ROWS,
+        POINT,
+        POINT,
+        ENTRIES,
+        PAIRS,
+    ];
+    let used = [
+        point,
+        count_of(corrected, point),
+        count_of(is_open(phase), point),
+        count_of(tried, rows),
+        count_of(corrected, rows),
+        count_of(tried, point),
+        count_of(tried, 2 * z.m),
+        count_of(tried, 2 * (z.n * z.n)),
+        count_of(tried, 4 * counts.iterations),
+    ];
+    tidy_slots(area, &sizes, &used);
+    clear_from(area, SPARE, AREA - SPARE);
+}
+
+// After a begin: the start point stands and is asked.
+pub fn begun(area: &mut [f64], start: &[f64])
+    requires { ⌜ (length (now area) ≡ 8000) × (length (now start) ≤ 24) ⌝ }
+    ensures { λ _. ⌜ Holds (begunMemory (now (start .entry))) (now (area .exit)) ⌝ }
+{
+    clear(area);
+    slot(area, STANDING, POINT, start);
+    slot(area, ASKED, POINT, start);
+}
+
+// After a finish, or refusal 5 or 6: only the standing point.
+pub fn only_standing(area: &mut [f64])
+    requires { ⌜ length (now area) ≡ 8000 ⌝ }
+    ensures { λ _. ⌜ ((w : Memory) → Holds w (now (area .entry)) → Holds (onlyStanding w) (now (area .exit))) ⌝ }
+{
+    clear_from(area, LANDED, AREA - LANDED);
+}
+
+// A start's answer.
+pub fn with_start(area: &mut [f64], rows: &[f64])
+    requires { ⌜ (length (now area) ≡ 8000) × (length (now rows) ≤ 936) ⌝ }
+    ensures { λ _. ⌜ ((w : Memory) → Holds w (now (area .entry)) → Holds (withStart w (now (rows .entry))) (now (area .exit))) ⌝ }
+{
+    only_standing(area);
+    slot(area, STANDING_ROWS, ROWS, rows);
+}
+
+// A trial asked: nothing has landed.
+pub fn with_trial(area: &mut [f64], next: &[f64], delta: &[f64], lambda: &[f64])
+    requires { ⌜ (length (now area) ≡ 8000) × ((length (now next) ≡ 24) × ((length (now delta) ≡ 24) × (length (now lambda) ≡ 24))) ⌝ }
+    ensures { λ _. ⌜ ((w : Memory) → Holds w (now (area .entry)) → Holds (withTrial w (now (next .entry)) (now (delta .entry)) (now (lambda .entry))) (now (area .exit))) ⌝ }
+{
+    clear_from(area, LANDED, POINT);
+    place(area, ASKED, next);
+    clear_from(area, LANDED_ROWS, ROWS);
+    place(area, STEP, delta);
+    place(area, MULTIPLIERS, lambda);
+}
+
+// A correction asked.
+pub fn with_asked(area: &mut [f64], next: &[f64])
+    requires { ⌜ (length (now area) ≡ 8000) × (length (now next) ≡ 24) ⌝ }
+    ensures { λ _. ⌜ ((w : Memory) → Holds w (now (area .entry)) → Holds (withAsked w (now (next .entry))) (now (area .exit))) ⌝ }
+{
+    place(area, ASKED, next);
+}
+
+// The asked point landed, with its rows.
+pub fn landed(area: &mut [f64], rows: &[f64])
+    requires { ⌜ (length (now area) ≡ 8000) × (length (now rows) ≤ 936) ⌝ }
+    ensures { λ _. ⌜ ((w : Memory) → Holds w (now (area .entry)) → Holds (withLanded w (now (rows .entry)) (w .step)) (now (area .exit))) ⌝ }
+{
+    copy(area, ASKED, LANDED, POINT);
+    slot(area, LANDED_ROWS, ROWS, rows);
+}
+
+// The same, with the step that led there.
+pub fn with_landed(area: &mut [f64], rows: &[f64], step: &[f64])
+    requires { ⌜ (length (now area) ≡ 8000) × ((length (now rows) ≤ 936) × (length (now step) ≡ 24)) ⌝ }
+    ensures { λ _. ⌜ ((w : Memory) → Holds w (now (area .entry)) → Holds (withLanded w (now (rows .entry)) (now (step .entry))) (now (area .exit))) ⌝ }
+{
+    landed(area, rows);
+    place(area, STEP, step);
+}
+
+// The filter with one pair more.
+fn push(filter: &mut [f64], count: usize, f: Scalar, theta: Scalar)
+    requires { ⌜ count < 200 ⌝ }
+    ensures { λ _. ⌜ now (filter .exit) ≡ filterWith (now (filter .entry)) count f theta ⌝ }
+{
+    put(filter, 2 * count, f);
+    put(filter, 2 * count + 1, theta);
+}
+
+// The landed point stands, with the curvature after it; the filter has the pair of the point that stood.
+pub fn with_taken(area: &mut [f64], curvature: &[f64], count: usize, f: Scalar, theta: Scalar)
+    requires { ⌜ (length (now area) ≡ 8000) × ((length (now curvature) ≡ 288) × (count < 200)) ⌝ }
+    ensures { λ _. ⌜ ((w : Memory) → Holds w (now (area .entry)) → Holds (withTaken w (now (curvature .entry)) (filterWith (w .filter) count f theta)) (now (area .exit))) ⌝ }
+{
+    copy(area, LANDED, STANDING, POINT);
+    copy(area, LANDED_ROWS, STANDING_ROWS, ROWS);
+    place(area, CURVATURE, curvature);
+    push(&mut area[FILTER..SPARE], count, f, theta);
+}

@@ -1,0 +1,733 @@
+// An orthonormal basis Q of the constraints' rows, and each row's coefficients in it.
+ghost use mathlib.Core.Bool.{false};
+ghost use mathlib.Core.List.{List, []};
+ghost use mathlib.Core.Path.{_≡_};
+ghost use Prim.Native.Nat.{ℕ, _+_, _*_, _/_, _%_, _<_, _≤_};
+ghost use lib.Ieee.{Float};
+ghost use lib.ListN.{length, set, take, replicate};
+ghost use Rattle.interval.specs.Result as scalar;
+ghost use Rattle.interval.specs.Scalar.{zeroS, negOf, sqrtOf};
+ghost use Rattle.interval.specs.declared.Scalar as value;
+ghost use Rattle.linear.specs.Answers.{doneOf, resultOf};
+ghost use Rattle.linear.specs.Choose.{chooseOf, sharpOf};
+ghost use Rattle.linear.specs.Dot.{dotTo, minusTo};
+ghost use Rattle.linear.specs.Flat.{at, put, listTo};
+ghost use Rattle.linear.specs.Householder.{leastSquaresOf};
+ghost use Rattle.linear.specs.Norm.{normOf};
+ghost use Rattle.linear.specs.Results.{bind, foldR};
+ghost use Rattle.linear.specs.Substitution.{storeR, solveOf};
+ghost use Rattle.run.specs.Basis.{Basis, noRows, packed, partsOut, gramStep, gramRow, extended, rowStep, basisOf, orderAt, coefficientAt, correctionOf, multiplierStep, multipliersOf, basisBy, takenBy, problemBy, rankedOf};
+ghost use Rattle.run.specs.Rows.{rowsIn, valueAt};
+ghost use Rattle.run.specs.Scratch.{vector, row, column, entry, fillTo, combinedTo};
+use crate::rows::RowSet;
+use crate::scratch::combine;
+use crate::scratch::minus_scaled;
+use crate::scratch::norm_of;
+use crate::scratch::spread;
+use crate::scratch::unit;
+use interval::Scalar;
+use interval::ScalarResult;
+use linear::Answer;
+use linear::Done;
+use linear::LinearError;
+use linear::along;
+use linear::at;
+use linear::choose;
+use linear::clear;
+use linear::minus_dot;
+use linear::plus_dot;
+use linear::put;
+
+// How many rows are in the basis, or the refusal met on the way.
+pub enum Rank {
+    Of(usize),
+    Refused(LinearError),
+}
+
+// Stores a value, or hands its refusal on.
+pub fn store(xs: &mut [f64], i: usize, q: ScalarResult) -> Done
+    ensures { λ r. ⌜ doneOf r (now (xs .exit)) ≡ storeR (now (xs .entry)) i (scalar.resultOf q) ⌝ }
+{
+    match q {
+        ScalarResult::Value(v) => {
+            put(xs, i, v);
+            Done::Finished
+        }
+        ScalarResult::Refused(e) => Done::Refused(LinearError::Arithmetic(e)),
+    }
+}
+
+// ---- a row's coefficients in the basis
+
+// The first r rows and columns of a matrix, packed.
+fn pack(r: usize, a: &[f64], to: &mut [f64])
+    requires { ⌜ (r ≤ 12) × (length (now to) ≡ 2 * (r * r)) ⌝ }
+    ensures { λ _. ⌜ now (to .exit) ≡ packed r (now (a .entry)) ⌝ }
+{
+    let n = r * r;
+    for p in 0..n {
+        put(to, p, at(a, 12 * (p / r) + p % r));
+    }
+}
+
+// What row i of `wide` has along each of r vectors.
+fn projections(k: usize, r: usize, i: usize, wide: &[f64], q: &[f64], b: &mut [f64])
+    requires { ⌜ (r ≤ 12) × ((i < 12) × (length (now b) ≡ 2 * r)) ⌝ }
+    ensures { λ _. ⌜ now (b .exit) ≡ listTo (λ j. dotTo (row (now (wide .entry)) i) (row (now (q .entry)) j) k) r ⌝ }
+{
+    for j in 0..r {
+        put(
+            b,
+            j,
+            plus_dot(wide, 12 * i, 1, q, 12 * j, 1, Scalar::ZERO, k),
+        );
+    }
+}
+
+// The coefficients of row i, with scratch slices of the right lengths.
+fn coefficients_in(
+    k: usize,
+    r: usize,
+    i: usize,
+    wide: &[f64],
+    q: &[f64],
+    gram: &[f64],
+    a: &mut [f64],
+    l: &mut [f64],
+    none: &[bool],
+    b: &mut [f64],
+) -> Done
+    requires { ⌜ (r ≤ 12) × ((i < 12) × ((length (now a) ≡ 2 * r) × ((length (now l) ≡ 2 * (r * r)) × ((now none ≡ replicate r false) × (length (now b) ≡ 2 * r))))) ⌝ }
+    ensures { λ d. ⌜ doneOf d (now (a .exit)) ≡ solveOf r (packed r (now (gram .entry))) (replicate r false) (listTo (λ j. dotTo (row (now (wide .entry)) i) (row (now (q .entry)) j) k) r) ⌝ }
+{
+    pack(r, gram, l);
+    projections(k, r, i, wide, q, b);
+    linear::solve_cholesky(r, l, none, b, a)
+}
+
+// The same with scratch slices that are long enough.
+fn coefficients_cut(
+    k: usize,
+    r: usize,
+    i: usize,
+    wide: &[f64],
+    q: &[f64],
+    gram: &[f64],
+    a: &mut [f64],
+    l: &mut [f64],
+    none: &[bool],
+    b: &mut [f64],
+) -> Done
+    requires { ⌜ (r ≤ 12) × ((i < 12) × ((length (now a) ≡ 24) × ((length (now l) ≡ 288) × ((now none ≡ replicate 12 false) × (length (now b) ≡ 24))))) ⌝ }
+    ensures { λ d. ⌜ doneOf d (take (2 * r) (now (a .exit))) ≡ solveOf r (packed r (now (gram .entry))) (replicate r false) (listTo (λ j. dotTo (row (now (wide .entry)) i) (row (now (q .entry)) j) k) r) ⌝ }
+{
+    let e = 2 * r;
+    let s = 2 * (r * r);
+    coefficients_in(
+        k,
+        r,
+        i,
+        wide,
+        q,
+        gram,
+        &mut a[..e],
+        &mut l[..s],
+        &none[..r],
+        &mut b[..e],
+    )
+}
+
+fn coefficients(
+    k: usize,
+    r: usize,
+    i: usize,
+    wide: &[f64],
+    q: &[f64],
+    gram: &[f64],
+    a: &mut [f64],
+) -> Done
+    requires { ⌜ (r ≤ 12) × ((i < 12) × (length (now a) ≡ 24)) ⌝ }
+    ensures { λ d. ⌜ doneOf d (take (2 * r) (now (a .exit))) ≡ solveOf r (packed r (now (gram .entry))) (replicate r false) (listTo (λ j. dotTo (row (now (wide .entry)) i) (row (now (q .entry)) j) k) r) ⌝ }
+{
+    let mut l = [0.0; 288];
+    let none = [false; 12];
+    let mut b = [0.0; 24];
+    coefficients_cut(k, r, i, wide, q, gram, a, &mut l, &none, &mut b)
+}
+
+// ---- what is left of a row
+
+// Row i of `wide` without its coefficients a, from the start of `out` on.
+fn outside(k: usize, r: usize, i: usize, wide: &[f64], q: &[f64], a: &[f64], out: &mut [f64])
+    requires { ⌜ (k ≤ 12) × (i < 12) ⌝ }
+    ensures { λ _. ⌜ now (out .exit) ≡ fillTo (now (out .entry)) 0 (λ p. minusTo (at (now (a .entry))) (column (now (q .entry)) p) (entry (now (wide .entry)) i p) r) k ⌝ }
+{
+    for p in 0..k {
+        put(
+            out,
+            p,
+            minus_dot(a, 0, 1, q, p, 12, at(wide, 12 * i + p), r),
+        );
+    }
+}
+
+fn left_in(
+    k: usize,
+    r: usize,
+    i: usize,
+    wide: &[f64],
+    q: &[f64],
+    a: &[f64],
+    out: &mut [f64],
+) -> Answer
+    requires { ⌜ (k ≤ 12) × ((i < 12) × (length (now out) ≡ 24)) ⌝ }
+    ensures { λ x. ⌜ resultOf x ≡ normOf (λ p. minusTo (at (now (a .entry))) (column (now (q .entry)) p) (entry (now (wide .entry)) i p) r) k ⌝ }
+{
+    outside(k, r, i, wide, q, a, out);
+    norm_of(out, k)
+}
+
+// The length of what is left of row i without its coefficients a.
+fn left(k: usize, r: usize, i: usize, wide: &[f64], q: &[f64], a: &[f64]) -> Answer
+    requires { ⌜ (k ≤ 12) × (i < 12) ⌝ }
+    ensures { λ x. ⌜ resultOf x ≡ normOf (λ p. minusTo (at (now (a .entry))) (column (now (q .entry)) p) (entry (now (wide .entry)) i p) r) k ⌝ }
+{
+    let mut out = [0.0; 24];
+    left_in(k, r, i, wide, q, a, &mut out)
+}
+
+// ---- a row that says something new
+
+// v without its parts along r vectors, which row r of the coefficients keeps.
+fn parts_out(k: usize, r: usize, q: &[f64], v: &mut [f64], coefficients: &mut [f64])
+    requires { ⌜ (k ≤ 12) × (r ≤ 12) ⌝ }
+    ensures { λ _. ⌜ takenBy (now (v .exit)) (now (coefficients .exit)) ≡ partsOut k r (now (q .entry)) (takenBy (now (v .entry)) (now (coefficients .entry))) r ⌝ }
+{
+    for j in 0..r {
+        let a = choose(plus_dot(v, 0, 1, q, 12 * j, 1, Scalar::ZERO, k));
+        minus_scaled(v, 0, a, q, 12 * j, k);
+        put(coefficients, 12 * r + j, a);
+    }
+}
+
+// Entry j of the Gram factor's row r, below its diagonal.
+fn gram_entry(k: usize, r: usize, q: &[f64], gram: &mut [f64], j: usize) -> Done
+    requires { ⌜ (r ≤ 12) × (j < r) ⌝ }
+    ensures { λ d. ⌜ doneOf d (now (gram .exit)) ≡ gramStep k r (now (q .entry)) (now (gram .entry)) j ⌝ }
+{
+    let z = plus_dot(q, 12 * r, 1, q, 12 * j, 1, Scalar::ZERO, k);
+    let s = minus_dot(gram, 12 * r, 1, gram, 12 * j, 1, z, j);
+    let d = at(gram, 12 * j + j);
+    store(gram, 12 * r + j, s.div(d))
+}
+
+fn gram_entries(k: usize, r: usize, q: &[f64], gram: &mut [f64]) -> Done
+    requires { ⌜ r ≤ 12 ⌝ }
+    ensures { λ d. ⌜ doneOf d (now (gram .exit)) ≡ foldR (gramStep k r (now (q .entry))) (now (gram .entry)) r ⌝ }
+{
+    for j in 0..r {
+        match gram_entry(k, r, q, gram, j) {
+            Done::Finished => {}
+            Done::Refused(e) => {
+                return Done::Refused(e);
+            }
+        }
+    }
+    Done::Finished
+}
+
+// Its diagonal.
+fn gram_last(k: usize, r: usize, q: &[f64], gram: &mut [f64]) -> Done
+    requires { ⌜ r ≤ 12 ⌝ }
+    ensures { λ d. ⌜ doneOf d (now (gram .exit)) ≡ storeR (now (gram .entry)) (12 * r + r) (sqrtOf (minusTo (row (now (gram .entry)) r) (row (now (gram .entry)) r) (dotTo (row (now (q .entry)) r) (row (now (q .entry)) r) k) r)) ⌝ }
+{
+    let z = plus_dot(q, 12 * r, 1, q, 12 * r, 1, Scalar::ZERO, k);
+    let s = minus_dot(gram, 12 * r, 1, gram, 12 * r, 1, z, r);
+    store(gram, 12 * r + r, s.sqrt())
+}
+
+// Row r of the Gram factor, of the newest vector.
+fn gram_row(k: usize, r: usize, q: &[f64], gram: &mut [f64]) -> Done
+    requires { ⌜ r ≤ 12 ⌝ }
+    ensures { λ d. ⌜ doneOf d (now (gram .exit)) ≡ gramRow k r (now (q .entry)) (now (gram .entry)) ⌝ }
+{
+    match gram_entries(k, r, q, gram) {
+        Done::Finished => gram_last(k, r, q, gram),
+        Done::Refused(e) => Done::Refused(e),
+    }
+}
+
+// Row i of `jc`, from the start of v on.
+fn row_of(k: usize, i: usize, jc: &[f64], v: &mut [f64])
+    requires { ⌜ (k ≤ 12) × (i < 12) ⌝ }
+    ensures { λ _. ⌜ now (v .exit) ≡ fillTo (now (v .entry)) 0 (row (now (jc .entry)) i) k ⌝ }
+{
+    for p in 0..k {
+        put(v, p, at(jc, 12 * i + p));
+    }
+}
+
+fn extend_in(
+    k: usize,
+    r: usize,
+    i: usize,
+    jc: &[f64],
+    q: &mut [f64],
+    gram: &mut [f64],
+    coefficients: &mut [f64],
+    v: &mut [f64],
+) -> Done
+    requires { ⌜ (k ≤ 12) × ((r ≤ 12) × ((i < 12) × (now v ≡ vector))) ⌝ }
+    ensures { λ d. ⌜ ((w : List Float) (o : List ℕ) → doneOf d (basisBy (r + 1) (now (q .exit)) (now (gram .exit)) (now (coefficients .exit)) w (set o r i)) ≡ extended (problemBy k 0 (λ _. zeroS) [] (now (jc .entry))) (basisBy r (now (q .entry)) (now (gram .entry)) (now (coefficients .entry)) w o) i) ⌝ }
+{
+    row_of(k, i, jc, v);
+    parts_out(k, r, q, v, coefficients);
+    match norm_of(v, k) {
+        Answer::Value(l) => {
+            let length = l.sharpen();
+            unit(v, 0, length, k, q, 12 * r);
+            put(coefficients, 12 * r + r, length);
+            gram_row(k, r, q, gram)
+        }
+        Answer::Refused(e) => Done::Refused(e),
+    }
+}
+
+// Row i of `jc` as the newest vector.
+fn extend(
+    k: usize,
+    r: usize,
+    i: usize,
+    jc: &[f64],
+    q: &mut [f64],
+    gram: &mut [f64],
+    coefficients: &mut [f64],
+) -> Done
+    requires { ⌜ (k ≤ 12) × ((r ≤ 12) × (i < 12)) ⌝ }
+    ensures { λ d. ⌜ ((w : List Float) (o : List ℕ) → doneOf d (basisBy (r + 1) (now (q .exit)) (now (gram .exit)) (now (coefficients .exit)) w (set o r i)) ≡ extended (problemBy k 0 (λ _. zeroS) [] (now (jc .entry))) (basisBy r (now (q .entry)) (now (gram .entry)) (now (coefficients .entry)) w o) i) ⌝ }
+{
+    let mut v = [0.0; 24];
+    extend_in(k, r, i, jc, q, gram, coefficients, &mut v)
+}
+
+// ---- one row after the other
+
+fn ranked(d: Done, r: usize) -> Rank
+    ensures { λ x. ⌜ ((q gram coefficients dependent : List Float) (order : List ℕ) → rankedOf x q gram coefficients dependent order ≡ doneOf d (basisBy r q gram coefficients dependent order)) ⌝ }
+{
+    match d {
+        Done::Finished => Rank::Of(r),
+        Done::Refused(e) => Rank::Refused(e),
+    }
+}
+
+// A row that says something new: into the basis.
+fn add_row(
+    k: usize,
+    r: usize,
+    i: usize,
+    jc: &[f64],
+    q: &mut [f64],
+    gram: &mut [f64],
+    coefficients: &mut [f64],
+    order: &mut [usize],
+) -> Rank
+    requires { ⌜ (k ≤ 12) × ((r ≤ i) × ((i < 12) × (length (now order) ≡ 24))) ⌝ }
+    ensures { λ x. ⌜ ((w : List Float) → rankedOf x (now (q .exit)) (now (gram .exit)) (now (coefficients .exit)) w (now (order .exit)) ≡ extended (problemBy k 0 (λ _. zeroS) [] (now (jc .entry))) (basisBy r (now (q .entry)) (now (gram .entry)) (now (coefficients .entry)) w (now (order .entry))) i) ⌝ }
+{
+    order[r] = i;
+    ranked(extend(k, r, i, jc, q, gram, coefficients), r + 1)
+}
+
+// r scalars of a, each chosen, from t0 on in `to`.
+fn chosen_at(r: usize, a: &[f64], to: &mut [f64], t0: usize)
+    requires { ⌜ (r ≤ 12) × (t0 < 65536) ⌝ }
+    ensures { λ _. ⌜ now (to .exit) ≡ fillTo (now (to .entry)) t0 (λ j. chooseOf (at (now (a .entry)) j)) r ⌝ }
+{
+    for j in 0..r {
+        put(to, t0 + j, choose(at(a, j)));
+    }
+}
+
+// The length of what is left of row i, with its coefficients in a.
+fn measure(
+    k: usize,
+    r: usize,
+    i: usize,
+    wide: &[f64],
+    q: &[f64],
+    gram: &[f64],
+    a: &mut [f64],
+) -> Answer
+    requires { ⌜ (k ≤ 12) × ((r ≤ 12) × ((i < 12) × (length (now a) ≡ 24))) ⌝ }
+    ensures { λ x. ⌜ ((f : List Float → value.Scalar → scalar.Res Basis) → bind (resultOf x) (f (take (2 * r) (now (a .exit)))) ≡ bind (solveOf r (packed r (now (gram .entry))) (replicate r false) (listTo (λ j. dotTo (row (now (wide .entry)) i) (row (now (q .entry)) j) k) r)) (λ a. bind (normOf (λ p. minusTo (at a) (column (now (q .entry)) p) (entry (now (wide .entry)) i p) r) k) (f a))) ⌝ }
+{
+    match coefficients(k, r, i, wide, q, gram, a) {
+        Done::Finished => left(k, r, i, wide, q, a),
+        Done::Refused(e) => Answer::Refused(e),
+    }
+}
+
+fn row_in(
+    k: usize,
+    r: usize,
+    i: usize,
+    wide: &[f64],
+    jc: &[f64],
+    q: &mut [f64],
+    gram: &mut [f64],
+    coefficients: &mut [f64],
+    dependent: &mut [f64],
+    order: &mut [usize],
+    a: &mut [f64],
+) -> Rank
+    requires { ⌜ (k ≤ 12) × ((r ≤ i) × ((i < 12) × ((length (now order) ≡ 24) × (length (now a) ≡ 24)))) ⌝ }
+    ensures { λ x. ⌜ rankedOf x (now (q .exit)) (now (gram .exit)) (now (coefficients .exit)) (now (dependent .exit)) (now (order .exit)) ≡ rowStep (problemBy k 0 (λ _. zeroS) (now (wide .entry)) (now (jc .entry))) (basisBy r (now (q .entry)) (now (gram .entry)) (now (coefficients .entry)) (now (dependent .entry)) (now (order .entry))) i ⌝ }
+{
+    match measure(k, r, i, wide, q, gram, a) {
+        Answer::Value(l) => {
+            if l.definitely_greater(Scalar::ZERO) {
+                return add_row(k, r, i, jc, q, gram, coefficients, order);
+            }
+            let d = i - r;
+            order[12 + d] = i;
+            chosen_at(r, a, dependent, 12 * d);
+            Rank::Of(r)
+        }
+        Answer::Refused(e) => Rank::Refused(e),
+    }
+}
+
+// Row i: into the basis, or its coefficients in it among those of the dependent rows.
+fn next_row(
+    k: usize,
+    r: usize,
+    i: usize,
+    wide: &[f64],
+    jc: &[f64],
+    q: &mut [f64],
+    gram: &mut [f64],
+    coefficients: &mut [f64],
+    dependent: &mut [f64],
+    order: &mut [usize],
+) -> Rank
+    requires { ⌜ (k ≤ 12) × ((r ≤ i) × ((i < 12) × (length (now order) ≡ 24))) ⌝ }
+    ensures { λ x. ⌜ rankedOf x (now (q .exit)) (now (gram .exit)) (now (coefficients .exit)) (now (dependent .exit)) (now (order .exit)) ≡ rowStep (problemBy k 0 (λ _. zeroS) (now (wide .entry)) (now (jc .entry))) (basisBy r (now (q .entry)) (now (gram .entry)) (now (coefficients .entry)) (now (dependent .entry)) (now (order .entry))) i ⌝ }
+{
+    let mut a = [0.0; 24];
+    row_in(
+        k,
+        r,
+        i,
+        wide,
+        jc,
+        q,
+        gram,
+        coefficients,
+        dependent,
+        order,
+        &mut a,
+    )
+}
+
+// The basis of m rows, from clear slices.
+pub fn basis(
+    k: usize,
+    m: usize,
+    wide: &[f64],
+    jc: &[f64],
+    q: &mut [f64],
+    gram: &mut [f64],
+    coefficients: &mut [f64],
+    dependent: &mut [f64],
+    order: &mut [usize],
+) -> Rank
+    requires { ⌜ (k ≤ 12) × ((m ≤ 12) × (basisBy 0 (now q) (now gram) (now coefficients) (now dependent) (now order) ≡ noRows)) ⌝ }
+    ensures { λ x. ⌜ rankedOf x (now (q .exit)) (now (gram .exit)) (now (coefficients .exit)) (now (dependent .exit)) (now (order .exit)) ≡ basisOf (problemBy k m (λ _. zeroS) (now (wide .entry)) (now (jc .entry))) ⌝ }
+{
+    let mut r = 0;
+    for i in 0..m {
+        match next_row(k, r, i, wide, jc, q, gram, coefficients, dependent, order) {
+            Rank::Of(s) => {
+                r = s;
+            }
+            Rank::Refused(e) => {
+                return Rank::Refused(e);
+            }
+        }
+    }
+    Rank::Of(r)
+}
+
+// ---- the least-squares correction of every row
+
+// Coefficient j of the t-th row in the order of the basis and then of the others.
+fn coefficient_at(r: usize, coefficients: &[f64], dependent: &[f64], t: usize, j: usize) -> Scalar
+    requires { ⌜ (t < 65536) × (j < 65536) ⌝ }
+    ensures { λ x. ⌜ x ≡ coefficientAt (basisBy r [] [] (now (coefficients .entry)) (now (dependent .entry)) []) t j ⌝ }
+{
+    if t < r {
+        return at(coefficients, 12 * t + j);
+    }
+    at(dependent, 12 * (t - r) + j)
+}
+
+// The coefficients of all rows in that order, packed.
+fn coefficient_rows(m: usize, r: usize, coefficients: &[f64], dependent: &[f64], rows: &mut [f64])
+    requires { ⌜ (m ≤ 12) × ((r ≤ 12) × (length (now rows) ≡ 2 * (m * r))) ⌝ }
+    ensures { λ _. ⌜ now (rows .exit) ≡ listTo (λ p. coefficientAt (basisBy r [] [] (now (coefficients .entry)) (now (dependent .entry)) []) (p / r) (p % r)) (m * r) ⌝ }
+{
+    let n = m * r;
+    for p in 0..n {
+        put(
+            rows,
+            p,
+            coefficient_at(r, coefficients, dependent, p / r, p % r),
+        );
+    }
+}
+
+// Which row is the t-th in that order.
+fn order_at(r: usize, order: &[usize], t: usize) -> usize
+    requires { ⌜ (t < 12) × (length (now order) ≡ 24) ⌝ }
+    ensures { λ x. ⌜ x ≡ orderAt (basisBy r [] [] [] [] (now (order .entry))) t ⌝ }
+{
+    if t < r {
+        return order[t];
+    }
+    order[12 + (t - r)]
+}
+
+// The right-hand side: the constraint values in that order, chosen, negated.
+fn sides(m: usize, r: usize, order: &[usize], xs: &[f64], values: usize, rhs: &mut [f64])
+    requires { ⌜ (m ≤ 12) × ((length (now order) ≡ 24) × (length (now rhs) ≡ 2 * m)) ⌝ }
+    ensures { λ _. ⌜ now (rhs .exit) ≡ listTo (λ t. negOf (chooseOf (at (now (xs .entry)) (values + orderAt (basisBy r [] [] [] [] (now (order .entry))) t)))) m ⌝ }
+{
+    for t in 0..m {
+        let c = along(xs, values, 1, order_at(r, order, t));
+        put(rhs, t, choose(c).neg());
+    }
+}
+
+// The correction from the coefficients and the right-hand side, with scratch slices of the right lengths.
+fn correct(
+    k: usize,
+    m: usize,
+    r: usize,
+    q: &[f64],
+    rows: &[f64],
+    rhs: &[f64],
+    delta: &mut [f64],
+    y: &mut [f64],
+    weights: &mut [f64],
+) -> Done
+    requires { ⌜ (k ≤ 12) × ((m ≤ 12) × ((r ≤ 12) × ((length (now rows) ≡ 2 * (m * r)) × ((length (now rhs) ≡ 2 * m) × ((length (now delta) ≡ 24) × ((length (now y) ≡ 2 * r) × (length (now weights) ≡ 2 * r))))))) ⌝ }
+    ensures { λ d. ⌜ doneOf d (now (delta .exit)) ≡ bind (leastSquaresOf m r (now (rows .entry)) (now (rhs .entry))) (λ y. scalar.ok (combinedTo k (sharpOf y r) (now (q .entry)) vector r)) ⌝ }
+{
+    match linear::least_squares(m, r, rows, rhs, y) {
+        Done::Finished => {
+            linear::sharp(r, y, weights);
+            clear(delta);
+            combine(k, weights, q, delta, r);
+            Done::Finished
+        }
+        Done::Refused(e) => Done::Refused(e),
+    }
+}
+
+fn correction_in(
+    k: usize,
+    m: usize,
+    r: usize,
+    q: &[f64],
+    coefficients: &[f64],
+    dependent: &[f64],
+    order: &[usize],
+    xs: &[f64],
+    values: usize,
+    delta: &mut [f64],
+    rows: &mut [f64],
+    rhs: &mut [f64],
+    y: &mut [f64],
+    weights: &mut [f64],
+) -> Done
+    requires { ⌜ (k ≤ 12) × ((m ≤ 12) × ((r ≤ 12) × ((length (now order) ≡ 24) × ((length (now delta) ≡ 24) × ((length (now rows) ≡ 2 * (m * r)) × ((length (now rhs) ≡ 2 * m) × ((length (now y) ≡ 2 * r) × (length (now weights) ≡ 2 * r)))))))) ⌝ }
+    ensures { λ d. ⌜ doneOf d (now (delta .exit)) ≡ correctionOf (problemBy k m (λ i. at (now (xs .entry)) (values + i)) [] []) (basisBy r (now (q .entry)) [] (now (coefficients .entry)) (now (dependent .entry)) (now (order .entry))) ⌝ }
+{
+    coefficient_rows(m, r, coefficients, dependent, rows);
+    sides(m, r, order, xs, values, rhs);
+    correct(k, m, r, q, rows, rhs, delta, y, weights)
+}
+
+fn correction_cut(
+    k: usize,
+    m: usize,
+    r: usize,
+    q: &[f64],
+    coefficients: &[f64],
+    dependent: &[f64],
+    order: &[usize],
+    xs: &[f64],
+    values: usize,
+    delta: &mut [f64],
+    rows: &mut [f64],
+    rhs: &mut [f64],
+    y: &mut [f64],
+    weights: &mut [f64],
+) -> Done
+    requires { ⌜ (k ≤ 12) × ((m ≤ 12) × ((r ≤ 12) × ((length (now order) ≡ 24) × ((length (now delta) ≡ 24) × ((length (now rows) ≡ 288) × ((length (now rhs) ≡ 24) × ((length (now y) ≡ 24) × (length (now weights) ≡ 24)))))))) ⌝ }
+    ensures { λ d. ⌜ doneOf d (now (delta .exit)) ≡ correctionOf (problemBy k m (λ i. at (now (xs .entry)) (values + i)) [] []) (basisBy r (now (q .entry)) [] (now (coefficients .entry)) (now (dependent .entry)) (now (order .entry))) ⌝ }
+{
+    let s = 2 * (m * r);
+    let u = 2 * m;
+    let e = 2 * r;
+    correction_in(
+        k,
+        m,
+        r,
+        q,
+        coefficients,
+        dependent,
+        order,
+        xs,
+        values,
+        delta,
+        &mut rows[..s],
+        &mut rhs[..u],
+        &mut y[..e],
+        &mut weights[..e],
+    )
+}
+
+// The least-squares correction of every row, for the constraint values in xs.
+pub fn correction(
+    k: usize,
+    m: usize,
+    r: usize,
+    q: &[f64],
+    coefficients: &[f64],
+    dependent: &[f64],
+    order: &[usize],
+    xs: &[f64],
+    e: RowSet,
+    delta: &mut [f64],
+) -> Done
+    requires { ⌜ (k ≤ 12) × ((m ≤ 12) × ((r ≤ 12) × ((length (now order) ≡ 24) × (length (now delta) ≡ 24)))) ⌝ }
+    ensures { λ d. ⌜ doneOf d (now (delta .exit)) ≡ correctionOf (problemBy k m (valueAt (rowsIn (now (xs .entry)) e)) [] []) (basisBy r (now (q .entry)) [] (now (coefficients .entry)) (now (dependent .entry)) (now (order .entry))) ⌝ }
+{
+    let mut rows = [0.0; 288];
+    let mut rhs = [0.0; 24];
+    let mut y = [0.0; 24];
+    let mut weights = [0.0; 24];
+    correction_cut(
+        k,
+        m,
+        r,
+        q,
+        coefficients,
+        dependent,
+        order,
+        xs,
+        e.values,
+        delta,
+        &mut rows,
+        &mut rhs,
+        &mut y,
+        &mut weights,
+    )
+}
+
+// ---- the multipliers
+
+// Stores a value, chosen, or hands its refusal on.
+fn store_chosen(xs: &mut [f64], i: usize, q: ScalarResult) -> Done
+    ensures { λ r. ⌜ doneOf r (now (xs .exit)) ≡ bind (scalar.resultOf q) (λ v. scalar.ok (put (now (xs .entry)) i (chooseOf v))) ⌝ }
+{
+    match q {
+        ScalarResult::Value(v) => {
+            put(xs, i, choose(v));
+            Done::Finished
+        }
+        ScalarResult::Refused(e) => Done::Refused(LinearError::Arithmetic(e)),
+    }
+}
+
+// The multiplier of vector r - 1 - u, from those behind it.
+fn multiplier(
+    k: usize,
+    r: usize,
+    q: &[f64],
+    coefficients: &[f64],
+    pull: &[f64],
+    by_row: &mut [f64],
+    u: usize,
+) -> Done
+    requires { ⌜ (r ≤ 12) × (u < r) ⌝ }
+    ensures { λ d. ⌜ doneOf d (now («by_row» .exit)) ≡ multiplierStep k (basisBy r (now (q .entry)) [] (now (coefficients .entry)) [] []) (now (pull .entry)) (now («by_row» .entry)) u ⌝ }
+{
+    let t = r - 1 - u;
+    let z = plus_dot(q, 12 * t, 1, pull, 0, 1, Scalar::ZERO, k);
+    let s = minus_dot(coefficients, 12 * (t + 1) + t, 12, by_row, t + 1, 1, z, u);
+    store_chosen(by_row, t, s.div(at(coefficients, 12 * t + t)))
+}
+
+fn multipliers_by_row(
+    k: usize,
+    r: usize,
+    q: &[f64],
+    coefficients: &[f64],
+    pull: &[f64],
+    by_row: &mut [f64],
+) -> Done
+    requires { ⌜ r ≤ 12 ⌝ }
+    ensures { λ d. ⌜ doneOf d (now («by_row» .exit)) ≡ foldR (multiplierStep k (basisBy r (now (q .entry)) [] (now (coefficients .entry)) [] []) (now (pull .entry))) (now («by_row» .entry)) r ⌝ }
+{
+    for u in 0..r {
+        match multiplier(k, r, q, coefficients, pull, by_row, u) {
+            Done::Finished => {}
+            Done::Refused(e) => {
+                return Done::Refused(e);
+            }
+        }
+    }
+    Done::Finished
+}
+
+fn multipliers_in(
+    k: usize,
+    r: usize,
+    q: &[f64],
+    coefficients: &[f64],
+    order: &[usize],
+    pull: &[f64],
+    lambda: &mut [f64],
+    by_row: &mut [f64],
+) -> Done
+    requires { ⌜ (r ≤ 12) × ((length (now order) ≡ 24) × ((length (now lambda) ≡ 24) × (now «by_row» ≡ vector))) ⌝ }
+    ensures { λ d. ⌜ doneOf d (now (lambda .exit)) ≡ multipliersOf k (basisBy r (now (q .entry)) [] (now (coefficients .entry)) [] (now (order .entry))) (now (pull .entry)) ⌝ }
+{
+    match multipliers_by_row(k, r, q, coefficients, pull, by_row) {
+        Done::Finished => {
+            spread(order, by_row, r, lambda);
+            Done::Finished
+        }
+        Done::Refused(e) => Done::Refused(e),
+    }
+}
+
+// The constraints' multipliers, against a pull.
+pub fn multipliers(
+    k: usize,
+    r: usize,
+    q: &[f64],
+    coefficients: &[f64],
+    order: &[usize],
+    pull: &[f64],
+    lambda: &mut [f64],
+) -> Done
+    requires { ⌜ (r ≤ 12) × ((length (now order) ≡ 24) × (length (now lambda) ≡ 24)) ⌝ }
+    ensures { λ d. ⌜ doneOf d (now (lambda .exit)) ≡ multipliersOf k (basisBy r (now (q .entry)) [] (now (coefficients .entry)) [] (now (order .entry))) (now (pull .entry)) ⌝ }
+{
+    let mut by_row = [0.0; 24];
+    multipliers_in(k, r, q, coefficients, order, pull, lambda, &mut by_row)
+}

@@ -1,0 +1,196 @@
+// Corrections of a step back onto the constraints.
+ghost use mathlib.Core.Path.{_≡_};
+ghost use Prim.Native.Nat.{_*_, _/_, _%_, _≤_};
+ghost use lib.ListN.{length};
+ghost use Rattle.interval.specs.Result.{ok};
+ghost use Rattle.interval.specs.Scalar.{zeroS, pick, sharpen};
+ghost use Rattle.linear.specs.Answers.{doneOf};
+ghost use Rattle.linear.specs.Choose.{chooseOf};
+ghost use Rattle.linear.specs.Flat.{at, listTo};
+ghost use Rattle.run.specs.Scratch.{vector, fillTo, allFinite};
+ghost use Rattle.run.specs.Rows.{constraintsOf};
+ghost use Rattle.run.specs.Proposal.{movedOf, sameOf};
+ghost use Rattle.run.specs.Correction.{to, stay, movingSlope, shiftOf, shiftFrom, shiftedOf, shiftedStep};
+use crate::points::moved;
+use crate::points::same;
+use crate::scratch::all_finite;
+use crate::scratch::chosen;
+use interval::Scalar;
+use linear::Done;
+use linear::LinearError;
+use linear::at;
+use linear::choose;
+use linear::clear;
+use linear::minus_solved;
+use linear::put;
+
+// Where a shift takes the landed point: to another, which is written, or nowhere.
+pub enum Shifted {
+    To,
+    Stay,
+    Refused(LinearError),
+}
+
+// A slope, chosen; zero for a variable that does not move.
+fn moving_slope(moves: bool, v: Scalar) -> Scalar
+    ensures { λ r. ⌜ r ≡ pick moves (chooseOf v) zeroS ⌝ }
+{
+    if moves {
+        return choose(v);
+    }
+    Scalar::ZERO
+}
+
+// The slopes of the constraints by the variables that move, chosen, and zero by the others.
+fn moving_slopes(n: usize, m: usize, xs: &[f64], moving: &[bool], jc: &mut [f64])
+    requires { ⌜ (n ≤ 12) × ((m ≤ 12) × ((length (now moving) ≡ 12) × (length (now jc) ≡ 2 * (m * n)))) ⌝ }
+    ensures { λ _. ⌜ now (jc .exit) ≡ listTo (λ p. movingSlope (now (moving .entry)) (constraintsOf n m (now (xs .entry))) (p / n) (p % n)) (m * n) ⌝ }
+{
+    let q = m * n;
+    for p in 0..q {
+        let v = at(xs, m + p);
+        put(jc, p, moving_slope(moving[p % n], v));
+    }
+}
+
+// The first n of `from`, sharp, into a clear vector.
+fn sharpened(n: usize, from: &[f64], to: &mut [f64])
+    requires { ⌜ length (now to) ≡ 24 ⌝ }
+    ensures { λ _. ⌜ now (to .exit) ≡ fillTo vector 0 (λ i. sharpen (at (now (from .entry)) i)) n ⌝ }
+{
+    clear(to);
+    for i in 0..n {
+        let v = at(from, i);
+        put(to, i, v.sharpen());
+    }
+}
+
+// The shift, with scratch slices of the right lengths.
+fn shift_in(
+    n: usize,
+    m: usize,
+    xs: &[f64],
+    moving: &[bool],
+    d: &mut [f64],
+    jc: &mut [f64],
+    c: &mut [f64],
+    zero: &mut [f64],
+    out: &mut [f64],
+) -> Done
+    requires { ⌜ (n ≤ 12) × ((m ≤ 12) × ((length (now moving) ≡ 12) × ((length (now d) ≡ 24) × ((length (now jc) ≡ 2 * (m * n)) × ((length (now c) ≡ 2 * m) × ((length (now zero) ≡ 2 * n) × (length (now out) ≡ 2 * n))))))) ⌝ }
+    ensures { λ r. ⌜ doneOf r (now (d .exit)) ≡ shiftOf (now (moving .entry)) (constraintsOf n m (now (xs .entry))) ⌝ }
+{
+    moving_slopes(n, m, xs, moving, jc);
+    chosen(xs, 0, m, c);
+    clear(zero);
+    match minus_solved(m, n, jc, c, zero, out) {
+        Done::Finished => {
+            sharpened(n, out, d);
+            Done::Finished
+        }
+        Done::Refused(e) => Done::Refused(e),
+    }
+}
+
+// The same with scratch slices that are long enough.
+fn shift_cut(
+    n: usize,
+    m: usize,
+    xs: &[f64],
+    moving: &[bool],
+    d: &mut [f64],
+    jc: &mut [f64],
+    c: &mut [f64],
+    zero: &mut [f64],
+    out: &mut [f64],
+) -> Done
+    requires { ⌜ (n ≤ 12) × ((m ≤ 12) × ((length (now moving) ≡ 12) × ((length (now d) ≡ 24) × ((length (now jc) ≡ 288) × ((length (now c) ≡ 24) × ((length (now zero) ≡ 24) × (length (now out) ≡ 24))))))) ⌝ }
+    ensures { λ r. ⌜ doneOf r (now (d .exit)) ≡ shiftOf (now (moving .entry)) (constraintsOf n m (now (xs .entry))) ⌝ }
+{
+    let q = 2 * (m * n);
+    let k = 2 * m;
+    let w = 2 * n;
+    shift_in(
+        n,
+        m,
+        xs,
+        moving,
+        d,
+        &mut jc[..q],
+        &mut c[..k],
+        &mut zero[..w],
+        &mut out[..w],
+    )
+}
+
+// The shortest move that meets the linearized constraints.
+pub fn shift(n: usize, m: usize, xs: &[f64], moving: &[bool], d: &mut [f64]) -> Done
+    requires { ⌜ (n ≤ 12) × ((m ≤ 12) × ((length (now moving) ≡ 12) × (length (now d) ≡ 24))) ⌝ }
+    ensures { λ r. ⌜ doneOf r (now (d .exit)) ≡ shiftOf (now (moving .entry)) (constraintsOf n m (now (xs .entry))) ⌝ }
+{
+    let mut jc = [0.0; 288];
+    let mut c = [0.0; 24];
+    let mut zero = [0.0; 24];
+    let mut out = [0.0; 24];
+    shift_cut(n, m, xs, moving, d, &mut jc, &mut c, &mut zero, &mut out)
+}
+
+// Where a shift d takes the landed point.
+fn shift_by(n: usize, landed: &[f64], d: &[f64], next: &mut [f64]) -> Shifted
+    requires { ⌜ length (now next) ≡ 24 ⌝ }
+    ensures { λ r. ⌜ shiftedOf r (now (next .exit)) ≡ ok (pick (allFinite (now (d .entry)) 12) (pick (sameOf n (movedOf n (now (landed .entry)) (now (d .entry))) (now (landed .entry))) stay (to (movedOf n (now (landed .entry)) (now (d .entry))))) stay) ⌝ }
+{
+    if all_finite(d, 12) {
+        moved(n, landed, d, next);
+        if same(n, next, landed) {
+            return Shifted::Stay;
+        }
+        return Shifted::To;
+    }
+    Shifted::Stay
+}
+
+fn shift_from_in(
+    n: usize,
+    m: usize,
+    xs: &[f64],
+    moving: &[bool],
+    landed: &[f64],
+    next: &mut [f64],
+    d: &mut [f64],
+) -> Shifted
+    requires { ⌜ (n ≤ 12) × ((m ≤ 12) × ((length (now moving) ≡ 12) × ((length (now next) ≡ 24) × (length (now d) ≡ 24)))) ⌝ }
+    ensures { λ r. ⌜ shiftedOf r (now (next .exit)) ≡ shiftFrom (now (moving .entry)) (constraintsOf n m (now (xs .entry))) (now (landed .entry)) ⌝ }
+{
+    match shift(n, m, xs, moving, d) {
+        Done::Finished => shift_by(n, landed, d, next),
+        Done::Refused(e) => Shifted::Refused(e),
+    }
+}
+
+// Where the shift takes the landed point, with its rows xs: `next` has the point where it is another.
+pub fn shift_from(
+    n: usize,
+    m: usize,
+    xs: &[f64],
+    moving: &[bool],
+    landed: &[f64],
+    next: &mut [f64],
+) -> Shifted
+    requires { ⌜ (n ≤ 12) × ((m ≤ 12) × ((length (now moving) ≡ 12) × (length (now next) ≡ 24))) ⌝ }
+    ensures { λ r. ⌜ shiftedOf r (now (next .exit)) ≡ shiftFrom (now (moving .entry)) (constraintsOf n m (now (xs .entry))) (now (landed .entry)) ⌝ }
+{
+    let mut d = [0.0; 24];
+    shift_from_in(n, m, xs, moving, landed, next, &mut d)
+}
+
+// The step with a shift added, sharp.
+pub fn shifted_step(n: usize, step: &mut [f64], d: &[f64])
+    ensures { λ _. ⌜ now (step .exit) ≡ shiftedStep n (now (step .entry)) (now (d .entry)) ⌝ }
+{
+    for i in 0..n {
+        let v = at(step, i);
+        let w = v.add(at(d, i));
+        put(step, i, w.sharpen());
+    }
+}

@@ -1,0 +1,390 @@
+// The curvature that Gauss-Newton leaves out: n rows of n.
+ghost use mathlib.Core.Bool.{not, _||_};
+ghost use mathlib.Core.Path.{_≡_};
+ghost use Prim.Native.Nat.{_*_, _<_, _≤_};
+ghost use lib.ListN.{length};
+ghost use Rattle.interval.specs.Result as scalar;
+ghost use Rattle.interval.specs.Scalar.{zeroS, subOf, isSharp, definitelyNotEqual};
+ghost use Rattle.linear.specs.Answers.{doneOf};
+ghost use Rattle.linear.specs.Choose.{chooseOf};
+ghost use Rattle.linear.specs.Dot.{dotTo};
+ghost use Rattle.linear.specs.Flat.{at, along};
+ghost use Rattle.linear.specs.Results.{bind};
+ghost use Rattle.linear.specs.Substitution.{storeR};
+ghost use Rattle.run.specs.Scratch.{vector, fillTo};
+ghost use Rattle.run.specs.Rows.{constraintsOf, evaluationOf};
+ghost use Rattle.run.specs.Curvature.{learnedOf, alongOf, turnedAt, turnedOf, chosenSum, rankOneStep, rankOneOf, correctedBy, updatedBy, updateCurvature};
+use crate::rows::constraints;
+use crate::rows::sum;
+use crate::rows::transposed_at;
+use crate::scratch::chosen;
+use interval::Scalar;
+use interval::ScalarResult;
+use linear::Done;
+use linear::LinearError;
+use linear::at;
+use linear::choose;
+use linear::clear;
+use linear::minus_solved;
+use linear::plus_dot;
+use linear::put;
+
+// Not sharp, or definitely not zero.
+fn bends(v: Scalar) -> bool
+    ensures { λ r. ⌜ r ≡ (not (isSharp v) || definitelyNotEqual v zeroS) ⌝ }
+{
+    !v.is_sharp() || v.definitely_not_equal(Scalar::ZERO)
+}
+
+// Whether any curvature was learned.
+pub fn learned(n: usize, b: &[f64]) -> bool
+    requires { ⌜ n ≤ 12 ⌝ }
+    ensures { λ r. ⌜ r ≡ learnedOf n (now (b .entry)) ⌝ }
+{
+    let q = n * n;
+    for p in 0..q {
+        if bends(at(b, p)) {
+            return true;
+        }
+    }
+    false
+}
+
+// The first n products of two lists.
+fn dot_of(a: &[f64], b: &[f64], n: usize) -> Scalar
+    ensures { λ r. ⌜ r ≡ dotTo (at (now (a .entry))) (at (now (b .entry))) n ⌝ }
+{
+    plus_dot(a, 0, 1, b, 0, 1, Scalar::ZERO, n)
+}
+
+// The first k rows of n, each times v, from the start of `out` on.
+fn products(n: usize, k: usize, rows: &[f64], v: &[f64], out: &mut [f64])
+    requires { ⌜ (n ≤ 12) × (k ≤ 12) ⌝ }
+    ensures { λ _. ⌜ now (out .exit) ≡ fillTo (now (out .entry)) 0 (λ i. dotTo (along (now (rows .entry)) (i * n) 1) (at (now (v .entry))) n) k ⌝ }
+{
+    for i in 0..k {
+        put(out, i, plus_dot(rows, i * n, 1, v, 0, 1, Scalar::ZERO, n));
+    }
+}
+
+// The part of v along the constraints, with scratch slices of the right lengths.
+fn along_in(
+    n: usize,
+    m: usize,
+    xs: &[f64],
+    v: &[f64],
+    out: &mut [f64],
+    jc: &mut [f64],
+    rhs: &mut [f64],
+) -> Done
+    requires { ⌜ (n ≤ 12) × ((m ≤ 12) × ((2 * n ≤ length (now v)) × ((length (now out) ≡ 2 * n) × ((length (now jc) ≡ 2 * (m * n)) × (length (now rhs) ≡ 2 * m))))) ⌝ }
+    ensures { λ r. ⌜ doneOf r (now (out .exit)) ≡ alongOf (constraintsOf n m (now (xs .entry))) (now (v .entry)) ⌝ }
+{
+    let w = 2 * n;
+    chosen(xs, m, m * n, jc);
+    products(n, m, jc, v, rhs);
+    minus_solved(m, n, jc, rhs, &v[..w], out)
+}
+
+// The same with scratch slices that are long enough.
+fn along_cut(
+    n: usize,
+    m: usize,
+    xs: &[f64],
+    v: &[f64],
+    out: &mut [f64],
+    jc: &mut [f64],
+    rhs: &mut [f64],
+) -> Done
+    requires { ⌜ (n ≤ 12) × ((m ≤ 12) × ((2 * n ≤ length (now v)) × ((length (now out) ≡ 2 * n) × ((length (now jc) ≡ 288) × (length (now rhs) ≡ 24))))) ⌝ }
+    ensures { λ r. ⌜ doneOf r (now (out .exit)) ≡ alongOf (constraintsOf n m (now (xs .entry))) (now (v .entry)) ⌝ }
+{
+    let q = 2 * (m * n);
+    let k = 2 * m;
+    along_in(n, m, xs, v, out, &mut jc[..q], &mut rhs[..k])
+}
+
+// The part of v along the constraints.
+pub fn along_constraints(n: usize, m: usize, xs: &[f64], v: &[f64], out: &mut [f64]) -> Done
+    requires { ⌜ (n ≤ 12) × ((m ≤ 12) × ((2 * n ≤ length (now v)) × (length (now out) ≡ 2 * n))) ⌝ }
+    ensures { λ r. ⌜ doneOf r (now (out .exit)) ≡ alongOf (constraintsOf n m (now (xs .entry))) (now (v .entry)) ⌝ }
+{
+    let mut jc = [0.0; 288];
+    let mut rhs = [0.0; 24];
+    along_cut(n, m, xs, v, out, &mut jc, &mut rhs)
+}
+
+// One entry of how far the gradient of the Lagrangian turned; r has the sum's new values, chosen.
+fn turned_at(
+    n: usize,
+    m: usize,
+    s: usize,
+    xs: &[f64],
+    next: &[f64],
+    lambda: &[f64],
+    r: &[f64],
+    j: usize,
+) -> Scalar
+    requires { ⌜ (n ≤ 12) × ((m ≤ 12) × ((s ≤ 24) × (j < 65536))) ⌝ }
+    ensures { λ y. ⌜ y ≡ turnedAt (evaluationOf n m s (now (xs .entry))) (evaluationOf n m s (now (next .entry))) (now (lambda .entry)) (now (r .entry)) j ⌝ }
+{
+    let c = constraints(n, m);
+    let q = sum(n, m, s);
+    let a = transposed_at(next, c, lambda, j).sub(transposed_at(xs, c, lambda, j));
+    let b = a.add(transposed_at(next, q, r, j));
+    b.sub(transposed_at(xs, q, r, j))
+}
+
+// All of its entries, into a clear vector.
+fn turns(
+    n: usize,
+    m: usize,
+    s: usize,
+    xs: &[f64],
+    next: &[f64],
+    lambda: &[f64],
+    r: &[f64],
+    y: &mut [f64],
+)
+    requires { ⌜ (n ≤ 12) × ((m ≤ 12) × ((s ≤ 24) × (length (now y) ≡ 24))) ⌝ }
+    ensures { λ _. ⌜ now (y .exit) ≡ fillTo vector 0 (turnedAt (evaluationOf n m s (now (xs .entry))) (evaluationOf n m s (now (next .entry))) (now (lambda .entry)) (now (r .entry))) n ⌝ }
+{
+    clear(y);
+    for j in 0..n {
+        put(y, j, turned_at(n, m, s, xs, next, lambda, r, j));
+    }
+}
+
+fn turned_in(
+    n: usize,
+    m: usize,
+    s: usize,
+    xs: &[f64],
+    next: &[f64],
+    lambda: &[f64],
+    y: &mut [f64],
+    r: &mut [f64],
+)
+    requires { ⌜ (n ≤ 12) × ((m ≤ 12) × ((s ≤ 24) × ((length (now y) ≡ 24) × (length (now r) ≡ 48)))) ⌝ }
+    ensures { λ _. ⌜ now (y .exit) ≡ turnedOf n (evaluationOf n m s (now (xs .entry))) (evaluationOf n m s (now (next .entry))) (now (lambda .entry)) ⌝ }
+{
+    let values = m * (n + 1);
+    clear(r);
+    chosen(next, values, s, r);
+    turns(n, m, s, xs, next, lambda, r, y);
+}
+
+// By how much the gradient of the Lagrangian turned between two points with their rows, beyond what the sum's slopes explain.
+pub fn turned(n: usize, m: usize, s: usize, xs: &[f64], next: &[f64], lambda: &[f64], y: &mut [f64])
+    requires { ⌜ (n ≤ 12) × ((m ≤ 12) × ((s ≤ 24) × (length (now y) ≡ 24))) ⌝ }
+    ensures { λ _. ⌜ now (y .exit) ≡ turnedOf n (evaluationOf n m s (now (xs .entry))) (evaluationOf n m s (now (next .entry))) (now (lambda .entry)) ⌝ }
+{
+    let mut r = [0.0; 48];
+    turned_in(n, m, s, xs, next, lambda, y, &mut r)
+}
+
+// Adds to the p-th scalar, chosen, or hands a refusal on.
+fn add_chosen(b: &mut [f64], p: usize, q: ScalarResult) -> Done
+    ensures { λ r. ⌜ doneOf r (now (b .exit)) ≡ storeR (now (b .entry)) p (chosenSum (at (now (b .entry)) p) (scalar.resultOf q)) ⌝ }
+{
+    match q {
+        ScalarResult::Value(v) => {
+            let a = at(b, p);
+            put(b, p, choose(a.add(v)));
+            Done::Finished
+        }
+        ScalarResult::Refused(e) => Done::Refused(LinearError::Arithmetic(e)),
+    }
+}
+
+fn rank_one_at(n: usize, b: &mut [f64], v: &[f64], vs: Scalar, p: usize) -> Done
+    requires { ⌜ 0 < n ⌝ }
+    ensures { λ r. ⌜ doneOf r (now (b .exit)) ≡ rankOneStep n (now (v .entry)) vs (now (b .entry)) p ⌝ }
+{
+    let x = at(v, p / n);
+    let y = x.mul(at(v, p % n));
+    add_chosen(b, p, y.div(vs))
+}
+
+// b + v vᵀ / vs, each entry chosen.
+pub fn rank_one(n: usize, b: &mut [f64], v: &[f64], vs: Scalar) -> Done
+    requires { ⌜ n ≤ 12 ⌝ }
+    ensures { λ r. ⌜ doneOf r (now (b .exit)) ≡ rankOneOf n (now (b .entry)) (now (v .entry)) vs ⌝ }
+{
+    let q = n * n;
+    for p in 0..q {
+        match rank_one_at(n, b, v, vs, p) {
+            Done::Finished => {}
+            Done::Refused(e) => {
+                return Done::Refused(e);
+            }
+        }
+    }
+    Done::Finished
+}
+
+// The first n of y less those of bs, chosen, into a clear vector.
+fn less_chosen(n: usize, y: &[f64], bs: &[f64], v: &mut [f64])
+    requires { ⌜ length (now v) ≡ 24 ⌝ }
+    ensures { λ _. ⌜ now (v .exit) ≡ fillTo vector 0 (λ i. chooseOf (subOf (at (now (y .entry)) i) (at (now (bs .entry)) i))) n ⌝ }
+{
+    clear(v);
+    for i in 0..n {
+        let x = at(y, i);
+        put(v, i, choose(x.sub(at(bs, i))));
+    }
+}
+
+fn corrected_in(n: usize, b: &mut [f64], y: &[f64], bs: &[f64], s: &[f64], v: &mut [f64]) -> Done
+    requires { ⌜ (n ≤ 12) × (length (now v) ≡ 24) ⌝ }
+    ensures { λ r. ⌜ doneOf r (now (b .exit)) ≡ correctedBy n (now (b .entry)) (now (y .entry)) (now (bs .entry)) (now (s .entry)) ⌝ }
+{
+    less_chosen(n, y, bs, v);
+    let vs = choose(dot_of(v, s, n));
+    if vs.definitely_not_equal(Scalar::ZERO) {
+        return rank_one(n, b, v, vs);
+    }
+    Done::Finished
+}
+
+// The update, with y along the constraints.
+pub fn corrected_by(n: usize, b: &mut [f64], y: &[f64], bs: &[f64], s: &[f64]) -> Done
+    requires { ⌜ n ≤ 12 ⌝ }
+    ensures { λ r. ⌜ doneOf r (now (b .exit)) ≡ correctedBy n (now (b .entry)) (now (y .entry)) (now (bs .entry)) (now (s .entry)) ⌝ }
+{
+    let mut v = [0.0; 24];
+    corrected_in(n, b, y, bs, s, &mut v)
+}
+
+// The update, from y and the step s along the constraints, once it is asked for.
+fn updated_along(
+    n: usize,
+    m: usize,
+    xs: &[f64],
+    b: &mut [f64],
+    y: &[f64],
+    s: &[f64],
+    bs: &[f64],
+    y_along: &mut [f64],
+) -> Done
+    requires { ⌜ (n ≤ 12) × ((m ≤ 12) × ((length (now y) ≡ 24) × (length (now «y_along») ≡ 2 * n))) ⌝ }
+    ensures { λ r. ⌜ doneOf r (now (b .exit)) ≡ bind (alongOf (constraintsOf n m (now (xs .entry))) (now (y .entry))) (λ z. correctedBy n (now (b .entry)) z (now (bs .entry)) (now (s .entry))) ⌝ }
+{
+    match along_constraints(n, m, xs, y, y_along) {
+        Done::Finished => corrected_by(n, b, y_along, bs, s),
+        Done::Refused(e) => Done::Refused(e),
+    }
+}
+
+fn updated_in(
+    n: usize,
+    m: usize,
+    xs: &[f64],
+    b: &mut [f64],
+    y: &[f64],
+    s: &[f64],
+    bs: &mut [f64],
+    y_along: &mut [f64],
+) -> Done
+    requires { ⌜ (n ≤ 12) × ((m ≤ 12) × ((length (now y) ≡ 24) × ((length (now bs) ≡ 24) × (length (now «y_along») ≡ 2 * n)))) ⌝ }
+    ensures { λ r. ⌜ doneOf r (now (b .exit)) ≡ updatedBy n (constraintsOf n m (now (xs .entry))) (now (b .entry)) (now (y .entry)) (now (s .entry)) ⌝ }
+{
+    clear(bs);
+    products(n, n, b, s, bs);
+    let d = dot_of(y, s, n).sub(dot_of(bs, s, n));
+    if d.definitely_not_equal(Scalar::ZERO) {
+        return updated_along(n, m, xs, b, y, s, bs, y_along);
+    }
+    Done::Finished
+}
+
+// The same with scratch slices that are long enough.
+fn updated_cut(
+    n: usize,
+    m: usize,
+    xs: &[f64],
+    b: &mut [f64],
+    y: &[f64],
+    s: &[f64],
+    bs: &mut [f64],
+    y_along: &mut [f64],
+) -> Done
+    requires { ⌜ (n ≤ 12) × ((m ≤ 12) × ((length (now y) ≡ 24) × ((length (now bs) ≡ 24) × (length (now «y_along») ≡ 24)))) ⌝ }
+    ensures { λ r. ⌜ doneOf r (now (b .exit)) ≡ updatedBy n (constraintsOf n m (now (xs .entry))) (now (b .entry)) (now (y .entry)) (now (s .entry)) ⌝ }
+{
+    let w = 2 * n;
+    updated_in(n, m, xs, b, y, s, bs, &mut y_along[..w])
+}
+
+// The update, from y and the step s along the constraints.
+pub fn updated(n: usize, m: usize, xs: &[f64], b: &mut [f64], y: &[f64], s: &[f64]) -> Done
+    requires { ⌜ (n ≤ 12) × ((m ≤ 12) × (length (now y) ≡ 24)) ⌝ }
+    ensures { λ r. ⌜ doneOf r (now (b .exit)) ≡ updatedBy n (constraintsOf n m (now (xs .entry))) (now (b .entry)) (now (y .entry)) (now (s .entry)) ⌝ }
+{
+    let mut bs = [0.0; 24];
+    let mut y_along = [0.0; 24];
+    updated_cut(n, m, xs, b, y, s, &mut bs, &mut y_along)
+}
+
+fn update_in(
+    n: usize,
+    m: usize,
+    s: usize,
+    b: &mut [f64],
+    step: &[f64],
+    xs: &[f64],
+    next: &[f64],
+    lambda: &[f64],
+    y: &mut [f64],
+    s_along: &mut [f64],
+) -> Done
+    requires { ⌜ (n ≤ 12) × ((m ≤ 12) × ((s ≤ 24) × ((length (now step) ≡ 24) × ((length (now y) ≡ 24) × (length (now «s_along») ≡ 2 * n))))) ⌝ }
+    ensures { λ r. ⌜ doneOf r (now (b .exit)) ≡ updateCurvature n (now (b .entry)) (now (step .entry)) (evaluationOf n m s (now (xs .entry))) (evaluationOf n m s (now (next .entry))) (now (lambda .entry)) ⌝ }
+{
+    match along_constraints(n, m, xs, step, s_along) {
+        Done::Finished => {
+            turned(n, m, s, xs, next, lambda, y);
+            updated(n, m, xs, b, y, s_along)
+        }
+        Done::Refused(e) => Done::Refused(e),
+    }
+}
+
+// The same with scratch slices that are long enough.
+fn update_cut(
+    n: usize,
+    m: usize,
+    s: usize,
+    b: &mut [f64],
+    step: &[f64],
+    xs: &[f64],
+    next: &[f64],
+    lambda: &[f64],
+    y: &mut [f64],
+    s_along: &mut [f64],
+) -> Done
+    requires { ⌜ (n ≤ 12) × ((m ≤ 12) × ((s ≤ 24) × ((length (now step) ≡ 24) × ((length (now y) ≡ 24) × (length (now «s_along») ≡ 24))))) ⌝ }
+    ensures { λ r. ⌜ doneOf r (now (b .exit)) ≡ updateCurvature n (now (b .entry)) (now (step .entry)) (evaluationOf n m s (now (xs .entry))) (evaluationOf n m s (now (next .entry))) (now (lambda .entry)) ⌝ }
+{
+    let w = 2 * n;
+    update_in(n, m, s, b, step, xs, next, lambda, y, &mut s_along[..w])
+}
+
+// The curvature b, updated from the step between two points with their rows.
+pub fn update_curvature(
+    n: usize,
+    m: usize,
+    s: usize,
+    b: &mut [f64],
+    step: &[f64],
+    xs: &[f64],
+    next: &[f64],
+    lambda: &[f64],
+) -> Done
+    requires { ⌜ (n ≤ 12) × ((m ≤ 12) × ((s ≤ 24) × (length (now step) ≡ 24))) ⌝ }
+    ensures { λ r. ⌜ doneOf r (now (b .exit)) ≡ updateCurvature n (now (b .entry)) (now (step .entry)) (evaluationOf n m s (now (xs .entry))) (evaluationOf n m s (now (next .entry))) (now (lambda .entry)) ⌝ }
+{
+    let mut y = [0.0; 24];
+    let mut s_along = [0.0; 24];
+    update_cut(n, m, s, b, step, xs, next, lambda, &mut y, &mut s_along)
+}

@@ -1,0 +1,173 @@
+// Z, an orthonormal basis of what the constraints leave free. Matrices have rows of 12.
+ghost use mathlib.Core.Path.{_≡_};
+ghost use Prim.Native.Nat.{_+_, _*_, _-_, _<_, _≤_};
+ghost use lib.ListN.{length};
+ghost use Rattle.interval.specs.Result as scalar;
+ghost use Rattle.interval.specs.Scalar.{pick, sqrtOf, definitelyGreater};
+ghost use Rattle.run.specs.Directions.{partOff, leftAfter, remaindersTo, withoutTo, squareOf, longestTo, longestIn, directionsTo, directionsOf, directionsIn, turnOf, nextOf, foundOf};
+use crate::scratch::minus_scaled;
+use crate::scratch::unit;
+use interval::Scalar;
+use interval::ScalarResult;
+use linear::LinearError;
+use linear::choose;
+use linear::clear;
+use linear::plus_dot;
+use linear::put;
+
+// Which remainder, and its square.
+pub struct Remainder {
+    pub place: usize,
+    pub square: Scalar,
+}
+
+// How the search for one more direction ended.
+pub enum Next {
+    Taken,
+    Enough,
+    Refused(LinearError),
+}
+
+// How many directions there are.
+pub enum Found {
+    Of(usize),
+    Refused(LinearError),
+}
+
+// Row p of `left` without its part along row t of w.
+fn part_off(k: usize, w: &[f64], t: usize, left: &mut [f64], p: usize)
+    requires { ⌜ (k ≤ 12) × ((t < 12) × (p < 12)) ⌝ }
+    ensures { λ _. ⌜ now (left .exit) ≡ partOff k (now (w .entry)) t (now (left .entry)) p ⌝ }
+{
+    let a = choose(plus_dot(left, 12 * p, 1, w, 12 * t, 1, Scalar::ZERO, k));
+    minus_scaled(left, 12 * p, a, w, 12 * t, k);
+}
+
+// Row p without its parts along the first r of q, one after the other.
+fn left_after(k: usize, r: usize, q: &[f64], left: &mut [f64], p: usize)
+    requires { ⌜ (k ≤ 12) × ((r ≤ 12) × (p < 12)) ⌝ }
+    ensures { λ _. ⌜ now (left .exit) ≡ leftAfter k (now (q .entry)) (now (left .entry)) p r ⌝ }
+{
+    for t in 0..r {
+        part_off(k, q, t, left, p);
+    }
+}
+
+// The unit directions, with what is left of them after Q.
+fn remainders(k: usize, r: usize, q: &[f64], left: &mut [f64])
+    requires { ⌜ (k ≤ 12) × ((r ≤ 12) × (length (now left) ≡ 288)) ⌝ }
+    ensures { λ _. ⌜ now (left .exit) ≡ remaindersTo k r (now (q .entry)) k ⌝ }
+{
+    clear(left);
+    for p in 0..k {
+        put(left, 12 * p + p, Scalar::ONE);
+        left_after(k, r, q, left, p);
+    }
+}
+
+// The remainders without their parts along row t of z.
+fn without(k: usize, z: &[f64], t: usize, left: &mut [f64])
+    requires { ⌜ (k ≤ 12) × (t < 12) ⌝ }
+    ensures { λ _. ⌜ now (left .exit) ≡ withoutTo k (now (z .entry)) t (now (left .entry)) k ⌝ }
+{
+    for p in 0..k {
+        part_off(k, z, t, left, p);
+    }
+}
+
+fn square(k: usize, left: &[f64], p: usize) -> Scalar
+    requires { ⌜ p < 12 ⌝ }
+    ensures { λ r. ⌜ r ≡ squareOf k (now (left .entry)) p ⌝ }
+{
+    plus_dot(left, 12 * p, 1, left, 12 * p, 1, Scalar::ZERO, k)
+}
+
+// The choice so far, or the remainder p where it is definitely longer.
+fn longer(best: Remainder, p: usize, square: Scalar) -> Remainder
+    ensures { λ r. ⌜ r ≡ pick (definitelyGreater square (best .square)) (record { place = p; square = square }) best ⌝ }
+{
+    if square.definitely_greater(best.square) {
+        return Remainder { place: p, square };
+    }
+    best
+}
+
+// The longest remainder.
+fn longest(k: usize, left: &[f64]) -> Remainder
+    requires { ⌜ k ≤ 12 ⌝ }
+    ensures { λ r. ⌜ r ≡ longestIn k (now (left .entry)) (k - 1) ⌝ }
+{
+    let mut best = Remainder {
+        place: 0,
+        square: square(k, left, 0),
+    };
+    for p in 1..k {
+        best = longer(best, p, square(k, left, p));
+    }
+    best
+}
+
+// The longest remainder, of length l, as one more direction.
+fn take(k: usize, count: usize, best: usize, l: Scalar, z: &mut [f64], left: &mut [f64]) -> Next
+    requires { ⌜ (k ≤ 12) × ((count < 12) × ((best ≡ longestTo k (now left) (k - 1)) × (sqrtOf (squareOf k (now left) best) ≡ scalar.ok l))) ⌝ }
+    ensures { λ r. ⌜ nextOf r count (now (z .exit)) (now (left .exit)) ≡ turnOf k (directionsIn count (now (z .entry)) (now (left .entry))) ⌝ }
+{
+    let length = l.sharpen();
+    if length.definitely_greater(Scalar::ZERO) {
+        unit(left, 12 * best, length, k, z, 12 * count);
+        without(k, z, count, left);
+        return Next::Taken;
+    }
+    Next::Enough
+}
+
+// The longest remainder as one more direction.
+fn take_longest(k: usize, count: usize, z: &mut [f64], left: &mut [f64]) -> Next
+    requires { ⌜ (k ≤ 12) × (count < 12) ⌝ }
+    ensures { λ r. ⌜ nextOf r count (now (z .exit)) (now (left .exit)) ≡ turnOf k (directionsIn count (now (z .entry)) (now (left .entry))) ⌝ }
+{
+    let best = longest(k, left);
+    match best.square.sqrt() {
+        ScalarResult::Value(l) => take(k, count, best.place, l, z, left),
+        ScalarResult::Refused(e) => Next::Refused(LinearError::Arithmetic(e)),
+    }
+}
+
+// At most `most` directions, from none.
+fn take_all(k: usize, most: usize, z: &mut [f64], left: &mut [f64]) -> Found
+    requires { ⌜ (k ≤ 12) × (most ≤ 12) ⌝ }
+    ensures { λ r. ⌜ foundOf r (now (z .exit)) (now (left .exit)) ≡ directionsTo k most (directionsIn 0 (now (z .entry)) (now (left .entry))) ⌝ }
+{
+    for count in 0..most {
+        match take_longest(k, count, z, left) {
+            Next::Taken => {}
+            Next::Enough => {
+                return Found::Of(count);
+            }
+            Next::Refused(e) => {
+                return Found::Refused(e);
+            }
+        }
+    }
+    Found::Of(most)
+}
+
+// k - r, none where r > k.
+fn less(k: usize, r: usize) -> usize
+    ensures { λ d. ⌜ d ≡ k - r ⌝ }
+{
+    if r < k {
+        return k - r;
+    }
+    0
+}
+
+// Z, from the first r rows of Q over k variables; `left` is scratch.
+pub fn free_directions(k: usize, r: usize, q: &[f64], z: &mut [f64], left: &mut [f64]) -> Found
+    requires { ⌜ (k ≤ 12) × ((r ≤ 12) × ((length (now z) ≡ 288) × (length (now left) ≡ 288))) ⌝ }
+    ensures { λ d. ⌜ foundOf d (now (z .exit)) (now (left .exit)) ≡ directionsOf k r (now (q .entry)) ⌝ }
+{
+    clear(z);
+    remainders(k, r, q, left);
+    take_all(k, less(k, r), z, left)
+}

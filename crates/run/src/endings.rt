@@ -1,0 +1,75 @@
+// How a run's call ends: a question, the finish, a refusal.
+ghost use mathlib.Core.List.{List};
+ghost use mathlib.Core.Path.{_≡_};
+ghost use Prim.Native.Nat.{_+_, _<_, _^_};
+ghost use lib.Ieee.{Float};
+ghost use lib.ListN.{length};
+ghost use Rattle.linear.specs.Answers.{numberOf};
+ghost use Rattle.run.specs.Area.{Memory, Holds};
+ghost use Rattle.run.specs.Run as run;
+ghost use Rattle.run.specs.Run.{Leaves};
+use crate::area::only_standing;
+use crate::state::Answer;
+use crate::state::Kind;
+use crate::state::Out;
+use crate::state::State;
+use crate::state::Stop;
+use crate::states::ended;
+use crate::states::with_question;
+use interval::GeopError;
+use linear::LinearError;
+
+// Document 01's number of a refusal.
+fn number_of(e: LinearError) -> usize
+    ensures { λ r. ⌜ r ≡ numberOf e ⌝ }
+{
+    match e {
+        LinearError::TooMany => 1,
+        LinearError::WrongLength => 2,
+        LinearError::Arithmetic(g) => match g {
+            GeopError::SqrtOfNegative => 5,
+            GeopError::DivisorContainsZero => 6,
+        },
+    }
+}
+
+// The run is over with its counts; the area keeps the standing point alone.
+pub fn finish(st: State, area: &mut [f64], stop: Stop) -> Out
+    requires { ⌜ length (now area) ≡ 8000 ⌝ }
+    ensures { λ r. ⌜ ((w : Memory) → Holds w (now (area .entry)) → Leaves (run.finish st w stop) r (now (area .exit))) ⌝ }
+{
+    only_standing(area);
+    let c = st.counts;
+    let x = st.search;
+    let state = ended(st);
+    Out {
+        state,
+        answer: Answer::Finish(stop, c.iterations, x.turned_down, c.standing),
+    }
+}
+
+// The run is over with the number of a refusal; the area keeps the standing point alone.
+pub fn refuse(st: State, area: &mut [f64], e: LinearError) -> Out
+    requires { ⌜ length (now area) ≡ 8000 ⌝ }
+    ensures { λ r. ⌜ ((w : Memory) → Holds w (now (area .entry)) → Leaves (run.refuse st w (numberOf e)) r (now (area .exit))) ⌝ }
+{
+    only_standing(area);
+    let state = ended(st);
+    Out {
+        state,
+        answer: Answer::Refused(number_of(e)),
+    }
+}
+
+// The next question, over an area that has its point.
+pub fn ask(st: State, kind: Kind, corrections: usize) -> Out
+    requires { ⌜ st .counts .question < 2 ^ 32 ⌝ }
+    ensures { λ r. ⌜ ((w : Memory) (a : List Float) → Holds w a → Leaves (run.question st w kind corrections) r a) ⌝ }
+{
+    let c = st.counts;
+    let state = with_question(st, kind, corrections);
+    Out {
+        state,
+        answer: Answer::Question(c.question + 1, kind, c.standing),
+    }
+}

@@ -1,0 +1,312 @@
+// The step along what the constraints leave free. Vectors have 12 scalars, matrices rows of 12.
+ghost use mathlib.Core.Bool.{false};
+ghost use mathlib.Core.Path.{_≡_};
+ghost use Prim.Native.Nat.{_+_, _*_, _/_, _%_, _<_, _≤_};
+ghost use lib.ListN.{length, getD};
+ghost use Rattle.interval.specs.Result as scalar;
+ghost use Rattle.interval.specs.Scalar.{addOf, negOf};
+ghost use Rattle.linear.specs.Choose.{chooseOf, sharpOf};
+ghost use Rattle.linear.specs.Cholesky.{factorOf};
+ghost use Rattle.linear.specs.Dot.{dotTo};
+ghost use Rattle.linear.specs.Flat.{at, along, listTo};
+ghost use Rattle.run.specs.Scratch.{vector, matrix, row, fillTo, fillRows, anyTo};
+ghost use Rattle.run.specs.Step.{bentAt, forceOf, pullOf, reducedOf, againstOf, weights, weightsOf, curved, spanned, alongOf, solvedWith, freePart};
+use crate::scratch::combine;
+use interval::Scalar;
+use linear::Done;
+use linear::LinearError;
+use linear::at;
+use linear::choose;
+use linear::clear;
+use linear::plus_dot;
+use linear::put;
+
+// How the search for weights along Z ended.
+pub enum Along {
+    Found,
+    NotPositive,
+    Refused(LinearError),
+}
+
+// Row i of H times the vector that starts at v0 in v, chosen.
+fn bent_at(k: usize, h: &[f64], v: &[f64], v0: usize, i: usize) -> Scalar
+    requires { ⌜ i < 12 ⌝ }
+    ensures { λ r. ⌜ r ≡ chooseOf (dotTo (row (now (h .entry)) i) (along (now (v .entry)) v0 1) k) ⌝ }
+{
+    choose(plus_dot(h, 12 * i, 1, v, v0, 1, Scalar::ZERO, k))
+}
+
+// Entry i of g + H v.
+fn slope_at(k: usize, h: &[f64], g: &[f64], v: &[f64], i: usize) -> Scalar
+    requires { ⌜ i < 12 ⌝ }
+    ensures { λ r. ⌜ r ≡ addOf (at (now (g .entry)) i) (bentAt (curved k (now (h .entry)) (now (g .entry))) (at (now (v .entry))) i) ⌝ }
+{
+    at(g, i).add(bent_at(k, h, v, 0, i))
+}
+
+// g + H v, chosen.
+pub fn force(k: usize, h: &[f64], g: &[f64], v: &[f64], out: &mut [f64])
+    requires { ⌜ (k ≤ 12) × (length (now out) ≡ 24) ⌝ }
+    ensures { λ _. ⌜ now (out .exit) ≡ forceOf (curved k (now (h .entry)) (now (g .entry))) (now (v .entry)) ⌝ }
+{
+    clear(out);
+    for i in 0..k {
+        put(out, i, choose(slope_at(k, h, g, v, i)));
+    }
+}
+
+// -(g + H v), chosen.
+pub fn pull(k: usize, h: &[f64], g: &[f64], v: &[f64], out: &mut [f64])
+    requires { ⌜ (k ≤ 12) × (length (now out) ≡ 24) ⌝ }
+    ensures { λ _. ⌜ now (out .exit) ≡ pullOf (curved k (now (h .entry)) (now (g .entry))) (now (v .entry)) ⌝ }
+{
+    clear(out);
+    for i in 0..k {
+        put(out, i, choose(slope_at(k, h, g, v, i).neg()));
+    }
+}
+
+// H times row t of z, as row t of hz.
+fn bent_row(k: usize, h: &[f64], z: &[f64], t: usize, hz: &mut [f64])
+    requires { ⌜ (k ≤ 12) × (t < 12) ⌝ }
+    ensures { λ _. ⌜ now (hz .exit) ≡ fillTo (now (hz .entry)) (12 * t) (λ i. chooseOf (dotTo (row (now (h .entry)) i) (row (now (z .entry)) t) k)) k ⌝ }
+{
+    for i in 0..k {
+        put(hz, 12 * t + i, bent_at(k, h, z, 12 * t, i));
+    }
+}
+
+// H times each direction.
+fn bent_rows(k: usize, count: usize, h: &[f64], z: &[f64], hz: &mut [f64])
+    requires { ⌜ (k ≤ 12) × ((count ≤ 12) × (length (now hz) ≡ 288)) ⌝ }
+    ensures { λ _. ⌜ now (hz .exit) ≡ fillRows matrix (λ t i. chooseOf (dotTo (row (now (h .entry)) i) (row (now (z .entry)) t) k)) k count ⌝ }
+{
+    clear(hz);
+    for t in 0..count {
+        bent_row(k, h, z, t, hz);
+    }
+}
+
+// The products of the directions and of H times each, packed, chosen.
+fn reduced(k: usize, count: usize, z: &[f64], hz: &[f64], out: &mut [f64])
+    requires { ⌜ (count ≤ 12) × (length (now out) ≡ 2 * (count * count)) ⌝ }
+    ensures { λ _. ⌜ now (out .exit) ≡ listTo (λ p. chooseOf (dotTo (row (now (z .entry)) (p / count)) (row (now (hz .entry)) (p % count)) k)) (count * count) ⌝ }
+{
+    let q = count * count;
+    for p in 0..q {
+        let x = 12 * (p / count);
+        let y = 12 * (p % count);
+        put(out, p, choose(plus_dot(z, x, 1, hz, y, 1, Scalar::ZERO, k)));
+    }
+}
+
+// -Zᵀ force, chosen.
+fn against(k: usize, count: usize, z: &[f64], force: &[f64], out: &mut [f64])
+    requires { ⌜ (count ≤ 12) × (length (now out) ≡ 2 * count) ⌝ }
+    ensures { λ _. ⌜ now (out .exit) ≡ listTo (λ t. chooseOf (negOf (dotTo (row (now (z .entry)) t) (at (now (force .entry))) k))) count ⌝ }
+{
+    for t in 0..count {
+        let x = plus_dot(z, 12 * t, 1, force, 0, 1, Scalar::ZERO, k);
+        put(out, t, choose(x.neg()));
+    }
+}
+
+fn any(marks: &[bool]) -> bool
+    ensures { λ r. ⌜ r ≡ anyTo (λ i. getD (now (marks .entry)) i false) (length (now (marks .entry))) ⌝ }
+{
+    for i in 0..marks.len() {
+        if marks[i] {
+            return true;
+        }
+    }
+    false
+}
+
+fn sharpened(t: usize, x: &[f64], w: &mut [f64]) -> Along
+    requires { ⌜ (t ≤ 12) × ((length (now x) ≡ 2 * t) × (length (now w) ≡ 2 * t)) ⌝ }
+    ensures { λ r. ⌜ alongOf r (now (w .exit)) ≡ scalar.ok (weights (sharpOf (now (x .entry)) t)) ⌝ }
+{
+    match linear::sharp(t, x, w) {
+        Done::Finished => Along::Found,
+        Done::Refused(e) => Along::Refused(e),
+    }
+}
+
+// The weights through a factor, where no pivot is left out; x is scratch.
+fn solved(
+    t: usize,
+    l: &[f64],
+    left_out: &[bool],
+    rhs: &[f64],
+    w: &mut [f64],
+    x: &mut [f64],
+) -> Along
+    requires { ⌜ (t ≤ 12) × ((length (now l) ≡ 2 * (t * t)) × ((length (now «left_out») ≡ t) × ((length (now rhs) ≡ 2 * t) × ((length (now w) ≡ 2 * t) × (length (now x) ≡ 2 * t))))) ⌝ }
+    ensures { λ r. ⌜ alongOf r (now (w .exit)) ≡ weightsOf t (factorOf (now (l .entry)) (now («left_out» .entry))) (now (rhs .entry)) ⌝ }
+{
+    if any(left_out) {
+        return Along::NotPositive;
+    }
+    match linear::solve_cholesky(t, l, left_out, rhs, x) {
+        Done::Finished => sharpened(t, x, w),
+        Done::Refused(e) => Along::Refused(e),
+    }
+}
+
+// The weights for a reduced matrix, with scratch slices of the right lengths.
+fn weights_in(
+    t: usize,
+    a: &[f64],
+    rhs: &[f64],
+    w: &mut [f64],
+    x: &mut [f64],
+    l: &mut [f64],
+    left_out: &mut [bool],
+) -> Along
+    requires { ⌜ (t ≤ 12) × ((length (now a) ≡ 2 * (t * t)) × ((length (now rhs) ≡ 2 * t) × ((length (now w) ≡ 2 * t) × ((length (now x) ≡ 2 * t) × ((length (now l) ≡ 2 * (t * t)) × (length (now «left_out») ≡ t)))))) ⌝ }
+    ensures { λ r. ⌜ alongOf r (now (w .exit)) ≡ solvedWith t (now (a .entry)) (now (rhs .entry)) ⌝ }
+{
+    match linear::cholesky(t, a, l, left_out) {
+        Done::Finished => solved(t, l, left_out, rhs, w, x),
+        Done::Refused(e) => Along::Refused(e),
+    }
+}
+
+// The same with scratch slices that are long enough.
+fn weights_cut(
+    t: usize,
+    a: &[f64],
+    rhs: &[f64],
+    w: &mut [f64],
+    x: &mut [f64],
+    l: &mut [f64],
+    left_out: &mut [bool],
+) -> Along
+    requires { ⌜ (t ≤ 12) × ((length (now a) ≡ 2 * (t * t)) × ((length (now rhs) ≡ 2 * t) × ((length (now w) ≡ 2 * t) × ((length (now x) ≡ 24) × ((length (now l) ≡ 288) × (length (now «left_out») ≡ 12)))))) ⌝ }
+    ensures { λ r. ⌜ alongOf r (now (w .exit)) ≡ solvedWith t (now (a .entry)) (now (rhs .entry)) ⌝ }
+{
+    let q = 2 * t;
+    let e = 2 * (t * t);
+    weights_in(t, a, rhs, w, &mut x[..q], &mut l[..e], &mut left_out[..t])
+}
+
+fn weights_sized(t: usize, a: &[f64], rhs: &[f64], w: &mut [f64]) -> Along
+    requires { ⌜ (t ≤ 12) × ((length (now a) ≡ 2 * (t * t)) × ((length (now rhs) ≡ 2 * t) × (length (now w) ≡ 2 * t))) ⌝ }
+    ensures { λ r. ⌜ alongOf r (now (w .exit)) ≡ solvedWith t (now (a .entry)) (now (rhs .entry)) ⌝ }
+{
+    let mut x = [0.0; 24];
+    let mut l = [0.0; 288];
+    let mut left_out = [false; 12];
+    weights_cut(t, a, rhs, w, &mut x, &mut l, &mut left_out)
+}
+
+// The weights along Z against a force, with scratch slices of the right lengths.
+fn weigh_in(
+    k: usize,
+    count: usize,
+    h: &[f64],
+    z: &[f64],
+    force: &[f64],
+    w: &mut [f64],
+    hz: &mut [f64],
+    a: &mut [f64],
+    rhs: &mut [f64],
+) -> Along
+    requires { ⌜ (k ≤ 12) × ((count ≤ 12) × ((length (now w) ≡ 2 * count) × ((length (now hz) ≡ 288) × ((length (now a) ≡ 2 * (count * count)) × (length (now rhs) ≡ 2 * count))))) ⌝ }
+    ensures { λ r. ⌜ alongOf r (now (w .exit)) ≡ solvedWith count (reducedOf (curved k (now (h .entry)) vector) (spanned count (now (z .entry)))) (againstOf (curved k (now (h .entry)) vector) (spanned count (now (z .entry))) (now (force .entry))) ⌝ }
+{
+    bent_rows(k, count, h, z, hz);
+    reduced(k, count, z, hz, a);
+    against(k, count, z, force, rhs);
+    weights_sized(count, a, rhs, w)
+}
+
+// The same with scratch slices that are long enough.
+fn weigh_cut(
+    k: usize,
+    count: usize,
+    h: &[f64],
+    z: &[f64],
+    force: &[f64],
+    w: &mut [f64],
+    hz: &mut [f64],
+    a: &mut [f64],
+    rhs: &mut [f64],
+) -> Along
+    requires { ⌜ (k ≤ 12) × ((count ≤ 12) × ((length (now w) ≡ 2 * count) × ((length (now hz) ≡ 288) × ((length (now a) ≡ 288) × (length (now rhs) ≡ 24))))) ⌝ }
+    ensures { λ r. ⌜ alongOf r (now (w .exit)) ≡ solvedWith count (reducedOf (curved k (now (h .entry)) vector) (spanned count (now (z .entry)))) (againstOf (curved k (now (h .entry)) vector) (spanned count (now (z .entry))) (now (force .entry))) ⌝ }
+{
+    let q = 2 * count;
+    let e = 2 * (count * count);
+    weigh_in(k, count, h, z, force, w, hz, &mut a[..e], &mut rhs[..q])
+}
+
+fn weigh(k: usize, count: usize, h: &[f64], z: &[f64], force: &[f64], w: &mut [f64]) -> Along
+    requires { ⌜ (k ≤ 12) × ((count ≤ 12) × (length (now w) ≡ 2 * count)) ⌝ }
+    ensures { λ r. ⌜ alongOf r (now (w .exit)) ≡ solvedWith count (reducedOf (curved k (now (h .entry)) vector) (spanned count (now (z .entry)))) (againstOf (curved k (now (h .entry)) vector) (spanned count (now (z .entry))) (now (force .entry))) ⌝ }
+{
+    let mut hz = [0.0; 288];
+    let mut a = [0.0; 288];
+    let mut rhs = [0.0; 24];
+    weigh_cut(k, count, h, z, force, w, &mut hz, &mut a, &mut rhs)
+}
+
+// delta with its part along Z, with scratch slices of the right lengths.
+fn along_in(
+    k: usize,
+    count: usize,
+    h: &[f64],
+    g: &[f64],
+    z: &[f64],
+    delta: &mut [f64],
+    f: &mut [f64],
+    w: &mut [f64],
+) -> Along
+    requires { ⌜ (k ≤ 12) × ((count ≤ 12) × ((length (now f) ≡ 24) × (length (now w) ≡ 2 * count))) ⌝ }
+    ensures { λ r. ⌜ alongOf r (now (delta .exit)) ≡ freePart (curved k (now (h .entry)) (now (g .entry))) (now (delta .entry)) (spanned count (now (z .entry))) ⌝ }
+{
+    force(k, h, g, delta, f);
+    match weigh(k, count, h, z, f, w) {
+        Along::Found => {
+            combine(k, w, z, delta, count);
+            Along::Found
+        }
+        Along::NotPositive => Along::NotPositive,
+        Along::Refused(e) => Along::Refused(e),
+    }
+}
+
+// The same with a scratch slice that is long enough.
+fn along_cut(
+    k: usize,
+    count: usize,
+    h: &[f64],
+    g: &[f64],
+    z: &[f64],
+    delta: &mut [f64],
+    f: &mut [f64],
+    w: &mut [f64],
+) -> Along
+    requires { ⌜ (k ≤ 12) × ((count ≤ 12) × ((length (now f) ≡ 24) × (length (now w) ≡ 24))) ⌝ }
+    ensures { λ r. ⌜ alongOf r (now (delta .exit)) ≡ freePart (curved k (now (h .entry)) (now (g .entry))) (now (delta .entry)) (spanned count (now (z .entry))) ⌝ }
+{
+    let q = 2 * count;
+    along_in(k, count, h, g, z, delta, f, &mut w[..q])
+}
+
+// delta with the step along Z that is least for the model there; none where the damped curvature is not positive along Z.
+pub fn free_part(
+    k: usize,
+    count: usize,
+    h: &[f64],
+    g: &[f64],
+    z: &[f64],
+    delta: &mut [f64],
+) -> Along
+    requires { ⌜ (k ≤ 12) × (count ≤ 12) ⌝ }
+    ensures { λ r. ⌜ alongOf r (now (delta .exit)) ≡ freePart (curved k (now (h .entry)) (now (g .entry))) (now (delta .entry)) (spanned count (now (z .entry))) ⌝ }
+{
+    let mut f = [0.0; 24];
+    let mut w = [0.0; 24];
+    along_cut(k, count, h, g, z, delta, &mut f, &mut w)
+}

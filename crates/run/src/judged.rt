@@ -1,0 +1,168 @@
+// How a step fares where it landed.
+ghost use mathlib.Core.Bool.{_&&_, _||_};
+ghost use mathlib.Core.Path.{_≡_};
+ghost use Prim.Native.Nat.{_*_, _<_, _≤_};
+ghost use lib.ListN.{length};
+ghost use Rattle.interval.specs.Scalar.{subOf, definitelyLess};
+ghost use Rattle.run.specs.Rows.{rowsIn, Small, sumOf, sumSquared, evaluationOf};
+ghost use Rattle.run.specs.Judgement.{sumChange, filterSum, filterViolation, beatsTo, rises, indefinite, contracts, judgedBy, judgeOf, judgementOf};
+use crate::rows;
+use crate::rows::RowSet;
+use crate::scratch::norm_of;
+use crate::state::Last;
+use interval::Scalar;
+use linear::Answer;
+use linear::LinearError;
+use linear::at;
+
+pub struct Judged {
+    pub length: Scalar,
+    pub lower: bool,
+    pub undecided: bool,
+    pub contracting: bool,
+}
+
+pub enum Judgement {
+    Of(Judged),
+    Refused(LinearError),
+}
+
+// The sum change from the rows of xs to those of ys.
+fn sum_change(xs: &[f64], ys: &[f64], e: RowSet) -> Scalar
+    requires { ⌜ Small e ⌝ }
+    ensures { λ r. ⌜ r ≡ sumChange (rowsIn (now (xs .entry)) e) (rowsIn (now (ys .entry)) e) ⌝ }
+{
+    let mut total = Scalar::ZERO;
+    let count = e.count;
+    for i in 0..count {
+        let a = at(xs, e.values + i);
+        let b = at(ys, e.values + i);
+        total = total.add(a.sub(b).mul(a.add(b)));
+    }
+    total
+}
+
+fn beats_pair(filter: &[f64], f: Scalar, theta: Scalar, i: usize) -> bool
+    requires { ⌜ i < 65536 ⌝ }
+    ensures { λ r. ⌜ r ≡ definitelyLess f (filterSum (now (filter .entry)) i) || definitelyLess theta (filterViolation (now (filter .entry)) i) ⌝ }
+{
+    if f.definitely_less(at(filter, 2 * i)) {
+        return true;
+    }
+    theta.definitely_less(at(filter, 2 * i + 1))
+}
+
+// Whether f or theta is definitely less than in each of the filter's first pairs.
+fn beats(filter: &[f64], f: Scalar, theta: Scalar, count: usize) -> bool
+    requires { ⌜ count < 65536 ⌝ }
+    ensures { λ r. ⌜ r ≡ beatsTo (now (filter .entry)) f theta count ⌝ }
+{
+    for i in 0..count {
+        if !beats_pair(filter, f, theta, i) {
+            return false;
+        }
+    }
+    true
+}
+
+fn is_indefinite(v: Scalar) -> bool
+    ensures { λ r. ⌜ r ≡ indefinite v ⌝ }
+{
+    !v.definitely_greater(Scalar::ZERO) && !v.definitely_less(Scalar::ZERO)
+}
+
+fn is_lower(change: Scalar, fall: Scalar, beaten: bool) -> bool
+    ensures { λ r. ⌜ r ≡ (rises change || rises fall) && beaten ⌝ }
+{
+    if change.definitely_greater(Scalar::ZERO) {
+        return beaten;
+    }
+    fall.definitely_greater(Scalar::ZERO) && beaten
+}
+
+fn is_undecided(change: Scalar, fall: Scalar) -> bool
+    ensures { λ r. ⌜ r ≡ indefinite change && indefinite fall ⌝ }
+{
+    is_indefinite(change) && is_indefinite(fall)
+}
+
+// Whether a step was taken before, and twice this length is definitely less than its length.
+fn contracts(last: Last, length: Scalar) -> bool
+    ensures { λ r. ⌜ r ≡ contracts last length ⌝ }
+{
+    match last {
+        Last::NoneYet => false,
+        Last::Taken(before) => Scalar::TWO.mul(length).definitely_less(before),
+    }
+}
+
+fn judged_by(change: Scalar, fall: Scalar, beaten: bool, length: Scalar, last: Last) -> Judged
+    ensures { λ r. ⌜ r ≡ judgedBy change fall beaten length last ⌝ }
+{
+    Judged {
+        length,
+        lower: is_lower(change, fall, beaten),
+        undecided: is_undecided(change, fall),
+        contracting: contracts(last, length),
+    }
+}
+
+// The same from the rows, with the violation theta_next where the step landed.
+fn judged_at(
+    n: usize,
+    m: usize,
+    s: usize,
+    at: &[f64],
+    next: &[f64],
+    theta: Scalar,
+    theta_next: Scalar,
+    filter: &[f64],
+    count: usize,
+    last: Last,
+    length: Scalar,
+) -> Judged
+    requires { ⌜ (n ≤ 12) × ((m ≤ 12) × ((s ≤ 24) × (count < 65536))) ⌝ }
+    ensures { λ r. ⌜ r ≡ judgedBy (sumChange (sumOf n m s (now (at .entry))) (sumOf n m s (now (next .entry)))) (subOf theta «theta_next») (beatsTo (now (filter .entry)) (sumSquared (sumOf n m s (now (next .entry)))) «theta_next» count) length last ⌝ }
+{
+    let change = sum_change(at, next, rows::sum(n, m, s));
+    let f = rows::sum_squared(next, n, m, s);
+    let beaten = beats(filter, f, theta_next, count);
+    judged_by(change, theta.sub(theta_next), beaten, length, last)
+}
+
+// How the step from the rows `at`, with violation theta, to the rows `next` fares against the first pairs of the filter.
+pub fn judge(
+    n: usize,
+    m: usize,
+    s: usize,
+    at: &[f64],
+    next: &[f64],
+    theta: Scalar,
+    filter: &[f64],
+    count: usize,
+    last: Last,
+    step: &[f64],
+) -> Judgement
+    requires { ⌜ (n ≤ 12) × ((m ≤ 12) × ((s ≤ 24) × ((2 * m ≤ length (now next)) × ((count < 65536) × (length (now step) ≡ 24))))) ⌝ }
+    ensures { λ r. ⌜ judgementOf r ≡ judgeOf n (evaluationOf n m s (now (at .entry))) (evaluationOf n m s (now (next .entry))) theta (now (filter .entry)) count last (now (step .entry)) ⌝ }
+{
+    match norm_of(step, n) {
+        Answer::Value(length) => match rows::violation(next, n, m) {
+            Answer::Value(t) => Judgement::Of(judged_at(
+                n,
+                m,
+                s,
+                at,
+                next,
+                theta,
+                t,
+                filter,
+                count,
+                last,
+                length,
+            )),
+            Answer::Refused(e) => Judgement::Refused(e),
+        },
+        Answer::Refused(e) => Judgement::Refused(e),
+    }
+}

@@ -1,0 +1,270 @@
+// The linearized problem over the variables that move: its slopes, its damped curvature, and the sum's gradient.
+ghost use mathlib.Core.Path.{_≡_};
+ghost use Prim.Native.Nat.{ℕ, _+_, _*_, _<_, _≤_};
+ghost use lib.ListN.{length, getD, replicate};
+ghost use Rattle.linear.specs.Choose.{chooseOf};
+ghost use Rattle.linear.specs.Dot.{dotTo};
+ghost use Rattle.linear.specs.Flat.{at, zeros};
+ghost use Rattle.run.specs.Curvature.{curvatureAt};
+ghost use Rattle.run.specs.Model.{keptBy, keepNext, keptTo, squeezedOf, scalingAt, dampedAt, dampedOf, gradientOf, problemOf, problemIn};
+ghost use Rattle.run.specs.Rows.{Small, rowsIn, constraintsOf, evaluationOf, valueAt, slopesBy};
+ghost use Rattle.run.specs.Scratch.{matrix, fillTo, fillRows, chosenOf};
+use crate::rows::RowSet;
+use crate::rows::constraints;
+use crate::rows::sum;
+use crate::rows::transposed_at;
+use crate::scratch::chosen;
+use interval::Scalar;
+use linear::along;
+use linear::choose;
+use linear::clear;
+use linear::plus_dot;
+use linear::put;
+
+// ---- the variables that move
+
+fn keep_next(moves: bool, index: &mut [usize], count: usize, i: usize) -> usize
+    requires { ⌜ (count < length (now index)) × (count < 12) ⌝ }
+    ensures { λ r. ⌜ keptBy r (now (index .exit)) ≡ keepNext moves (keptBy count (now (index .entry))) i ⌝ }
+{
+    if moves {
+        index[count] = i;
+        return count + 1;
+    }
+    count
+}
+
+// The variables that move, in order, into a clear slice, and how many.
+pub fn keep(moving: &[bool], n: usize, index: &mut [usize]) -> usize
+    requires { ⌜ (n ≤ 12) × ((length (now moving) ≡ 12) × (now index ≡ replicate 12 0)) ⌝ }
+    ensures { λ r. ⌜ keptBy r (now (index .exit)) ≡ keptTo (now (moving .entry)) n ⌝ }
+{
+    let mut count = 0;
+    for i in 0..n {
+        count = keep_next(moving[i], index, count, i);
+    }
+    count
+}
+
+// ---- slopes
+
+// The kept slopes of the row that stands in xs from `base` on, from t0 on in `to`.
+fn squeeze_row(xs: &[f64], base: usize, index: &[usize], k: usize, to: &mut [f64], t0: usize)
+    requires { ⌜ (k ≤ 12) × ((length (now index) ≡ 12) × (t0 < 65536)) ⌝ }
+    ensures { λ _. ⌜ now (to .exit) ≡ fillTo (now (to .entry)) t0 (λ p. at (now (xs .entry)) (base + getD (now (index .entry)) p 0)) k ⌝ }
+{
+    for p in 0..k {
+        put(to, t0 + p, along(xs, base, 1, index[p]));
+    }
+}
+
+// The slopes by the kept variables.
+pub fn squeeze(xs: &[f64], e: RowSet, index: &[usize], k: usize, to: &mut [f64])
+    requires { ⌜ Small e × ((k ≤ 12) × (length (now index) ≡ 12)) ⌝ }
+    ensures { λ _. ⌜ now (to .exit) ≡ squeezedOf (keptBy k (now (index .entry))) (rowsIn (now (xs .entry)) e) (now (to .entry)) ⌝ }
+{
+    let count = e.count;
+    for i in 0..count {
+        squeeze_row(xs, e.slopes + i * e.n, index, k, to, 12 * i);
+    }
+}
+
+// ---- the damped curvature
+
+// D's entry for the i-th kept variable.
+fn scaling(jr: &[f64], s: usize, jc: &[f64], m: usize, i: usize) -> Scalar
+    ensures { λ r. ⌜ r ≡ scalingAt (now (jr .entry)) s (now (jc .entry)) m i ⌝ }
+{
+    let d = plus_dot(jr, i, 12, jr, i, 12, Scalar::ZERO, s);
+    plus_dot(jc, i, 12, jc, i, 12, d, m)
+}
+
+// H's entry, from the curvature's entry b.
+fn damped_at(
+    jr: &[f64],
+    s: usize,
+    jc: &[f64],
+    m: usize,
+    mu: Scalar,
+    b: Scalar,
+    i: usize,
+    j: usize,
+) -> Scalar
+    ensures { λ r. ⌜ r ≡ dampedAt (now (jr .entry)) s (now (jc .entry)) m mu b i j ⌝ }
+{
+    let v = plus_dot(jr, i, 12, jr, j, 12, b, s);
+    if i == j {
+        return choose(v.add(mu.mul(scaling(jr, s, jc, m, i))));
+    }
+    choose(v)
+}
+
+// Row i of H.
+fn damped_row(
+    n: usize,
+    index: &[usize],
+    k: usize,
+    jr: &[f64],
+    s: usize,
+    jc: &[f64],
+    m: usize,
+    b: &[f64],
+    mu: Scalar,
+    h: &mut [f64],
+    i: usize,
+)
+    requires { ⌜ (k ≤ 12) × ((length (now index) ≡ 12) × (i < k)) ⌝ }
+    ensures { λ _. ⌜ now (h .exit) ≡ fillTo (now (h .entry)) (12 * i) (λ j. dampedAt (now (jr .entry)) s (now (jc .entry)) m mu (curvatureAt n (now (b .entry)) (getD (now (index .entry)) i 0) (getD (now (index .entry)) j 0)) i j) k ⌝ }
+{
+    let row = index[i];
+    for j in 0..k {
+        let start = along(b, index[j], n, row);
+        put(h, 12 * i + j, damped_at(jr, s, jc, m, mu, start, i, j));
+    }
+}
+
+fn damped_rows(
+    n: usize,
+    index: &[usize],
+    k: usize,
+    jr: &[f64],
+    s: usize,
+    jc: &[f64],
+    m: usize,
+    b: &[f64],
+    mu: Scalar,
+    h: &mut [f64],
+)
+    requires { ⌜ (k ≤ 12) × (length (now index) ≡ 12) ⌝ }
+    ensures { λ _. ⌜ now (h .exit) ≡ fillRows (now (h .entry)) (λ i j. dampedAt (now (jr .entry)) s (now (jc .entry)) m mu (curvatureAt n (now (b .entry)) (getD (now (index .entry)) i 0) (getD (now (index .entry)) j 0)) i j) k k ⌝ }
+{
+    for i in 0..k {
+        damped_row(n, index, k, jr, s, jc, m, b, mu, h, i);
+    }
+}
+
+// H = J_rᵀ J_r + B + mu D over the kept variables, chosen.
+pub fn damped(
+    n: usize,
+    index: &[usize],
+    k: usize,
+    jr: &[f64],
+    s: usize,
+    jc: &[f64],
+    m: usize,
+    b: &[f64],
+    mu: Scalar,
+    h: &mut [f64],
+)
+    requires { ⌜ (k ≤ 12) × ((length (now index) ≡ 12) × (length (now h) ≡ 288)) ⌝ }
+    ensures { λ _. ⌜ now (h .exit) ≡ dampedOf n (keptBy k (now (index .entry))) (now (jr .entry)) s (now (jc .entry)) m (now (b .entry)) mu ⌝ }
+{
+    clear(h);
+    damped_rows(n, index, k, jr, s, jc, m, b, mu, h);
+}
+
+// ---- the gradient
+
+fn gradient_by(xs: &[f64], e: RowSet, index: &[usize], k: usize, r: &[f64], g: &mut [f64])
+    requires { ⌜ Small e × ((k ≤ 12) × ((length (now index) ≡ 12) × ((p : ℕ) → getD (now index) p 0 < 65536))) ⌝ }
+    ensures { λ _. ⌜ now (g .exit) ≡ fillTo (now (g .entry)) 0 (λ p. chooseOf (dotTo (slopesBy (rowsIn (now (xs .entry)) e) (getD (now (index .entry)) p 0)) (at (now (r .entry))) (e .count))) k ⌝ }
+{
+    for p in 0..k {
+        put(g, p, choose(transposed_at(xs, e, r, index[p])));
+    }
+}
+
+fn gradient_in(xs: &[f64], e: RowSet, index: &[usize], k: usize, g: &mut [f64], r: &mut [f64])
+    requires { ⌜ Small e × ((k ≤ 12) × ((length (now index) ≡ 12) × (((p : ℕ) → getD (now index) p 0 < 65536) × ((length (now g) ≡ 24) × (now r ≡ zeros 48))))) ⌝ }
+    ensures { λ _. ⌜ now (g .exit) ≡ gradientOf (keptBy k (now (index .entry))) (rowsIn (now (xs .entry)) e) ⌝ }
+{
+    chosen(xs, e.values, e.count, r);
+    clear(g);
+    gradient_by(xs, e, index, k, r, g);
+}
+
+// The sum's gradient J_rᵀ r over the kept variables, chosen.
+pub fn gradient(xs: &[f64], e: RowSet, index: &[usize], k: usize, g: &mut [f64])
+    requires { ⌜ Small e × ((k ≤ 12) × ((length (now index) ≡ 12) × (((p : ℕ) → getD (now index) p 0 < 65536) × (length (now g) ≡ 24)))) ⌝ }
+    ensures { λ _. ⌜ now (g .exit) ≡ gradientOf (keptBy k (now (index .entry))) (rowsIn (now (xs .entry)) e) ⌝ }
+{
+    let mut r = [0.0; 48];
+    gradient_in(xs, e, index, k, g, &mut r);
+}
+
+// ---- the problem
+
+// The slopes by the kept variables, and the same chosen.
+fn slopes(xs: &[f64], e: RowSet, index: &[usize], k: usize, wide: &mut [f64], narrow: &mut [f64])
+    requires { ⌜ Small e × ((k ≤ 12) × (length (now index) ≡ 12)) ⌝ }
+    ensures { λ _. ⌜ (now (wide .exit) ≡ squeezedOf (keptBy k (now (index .entry))) (rowsIn (now (xs .entry)) e) (now (wide .entry))) × (now (narrow .exit) ≡ chosenOf (now (narrow .entry)) (now (wide .exit)) 0 (12 * e .count)) ⌝ }
+{
+    squeeze(xs, e, index, k, wide);
+    chosen(wide, 0, 12 * e.count, narrow);
+}
+
+fn curve_in(
+    n: usize,
+    index: &[usize],
+    k: usize,
+    xs: &[f64],
+    e: RowSet,
+    jc: &[f64],
+    m: usize,
+    b: &[f64],
+    mu: Scalar,
+    h: &mut [f64],
+    wide: &mut [f64],
+    jr: &mut [f64],
+)
+    requires { ⌜ Small e × ((k ≤ 12) × ((length (now index) ≡ 12) × ((length (now h) ≡ 288) × ((now wide ≡ zeros 576) × (now jr ≡ zeros 576))))) ⌝ }
+    ensures { λ _. ⌜ now (h .exit) ≡ dampedOf n (keptBy k (now (index .entry))) (chosenOf (zeros 576) (squeezedOf (keptBy k (now (index .entry))) (rowsIn (now (xs .entry)) e) (zeros 576)) 0 (12 * e .count)) (e .count) (now (jc .entry)) m (now (b .entry)) mu ⌝ }
+{
+    slopes(xs, e, index, k, wide, jr);
+    damped(n, index, k, jr, e.count, jc, m, b, mu, h);
+}
+
+// H, from the sum's rows.
+fn curve(
+    n: usize,
+    index: &[usize],
+    k: usize,
+    xs: &[f64],
+    e: RowSet,
+    jc: &[f64],
+    m: usize,
+    b: &[f64],
+    mu: Scalar,
+    h: &mut [f64],
+)
+    requires { ⌜ Small e × ((k ≤ 12) × ((length (now index) ≡ 12) × (length (now h) ≡ 288))) ⌝ }
+    ensures { λ _. ⌜ now (h .exit) ≡ dampedOf n (keptBy k (now (index .entry))) (chosenOf (zeros 576) (squeezedOf (keptBy k (now (index .entry))) (rowsIn (now (xs .entry)) e) (zeros 576)) 0 (12 * e .count)) (e .count) (now (jc .entry)) m (now (b .entry)) mu ⌝ }
+{
+    let mut wide = [0.0; 576];
+    let mut jr = [0.0; 576];
+    curve_in(n, index, k, xs, e, jc, m, b, mu, h, &mut wide, &mut jr);
+}
+
+// The problem over the k kept variables, from an answer's rows: the constraints' slopes, into clear slices, the same chosen, H, and the gradient.
+pub fn problem(
+    n: usize,
+    m: usize,
+    s: usize,
+    index: &[usize],
+    k: usize,
+    xs: &[f64],
+    b: &[f64],
+    mu: Scalar,
+    wide: &mut [f64],
+    jc: &mut [f64],
+    h: &mut [f64],
+    g: &mut [f64],
+)
+    requires { ⌜ (n ≤ 12) × ((m ≤ 12) × ((s ≤ 24) × ((k ≤ 12) × ((length (now index) ≡ 12) × (((p : ℕ) → getD (now index) p 0 < 65536) × ((now wide ≡ matrix) × ((now jc ≡ matrix) × ((length (now h) ≡ 288) × (length (now g) ≡ 24))))))))) ⌝ }
+    ensures { λ _. ⌜ problemIn k m (valueAt (constraintsOf n m (now (xs .entry)))) (now (wide .exit)) (now (jc .exit)) (now (h .exit)) (now (g .exit)) ≡ problemOf n (keptBy k (now (index .entry))) (evaluationOf n m s (now (xs .entry))) (now (b .entry)) mu ⌝ }
+{
+    let e = sum(n, m, s);
+    slopes(xs, constraints(n, m), index, k, wide, jc);
+    curve(n, index, k, xs, e, jc, m, b, mu, h);
+    gradient(xs, e, index, k, g);
+}

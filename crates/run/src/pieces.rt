@@ -1,0 +1,335 @@
+// The pieces of a run as calls of their own. They are total: 1 where a count is above its limit, then 2 where a slice has the wrong length, with nothing written; and 5 or 6 in the Rust's order of
+// operations, with what is written all +0. Rows have 2 (m + s) (n + 1) numbers, points and steps 24.
+ghost use mathlib.Core.Path.{_≡_};
+ghost use Prim.Native.Nat.{_*_, _≤_};
+ghost use lib.ListN.{length};
+ghost use Rattle.linear.specs.Answers.{resultOf, doneOf};
+ghost use Rattle.linear.specs.Flat.{zeros};
+ghost use Rattle.linear.specs.Replies.{replied, replyOf, checked};
+ghost use lib.Dec.{eqb};
+ghost use Rattle.run.specs.Curvature.{alongOf};
+ghost use Rattle.run.specs.Proposal.{expectedResult};
+ghost use Rattle.run.specs.Judgement.{judgementOf};
+ghost use Rattle.run.specs.Pieces.{sizedOf, wantsOf, reachOf, squaredReply, predictedReply, transposedReply, movingReply, judgeReply, expectsReply, alongReply, shiftReply, updateReply, learnedReply, learningOf, stepReplied, stepReplyOf, stepReply};
+ghost use Rattle.run.specs.Rows.{sumOf, constraintsOf, transposedAt};
+ghost use Rattle.run.specs.Scratch.{vector, fillTo};
+ghost use Rattle.run.specs.Step.{endOf};
+use crate::correction;
+use crate::curvature;
+use crate::judged;
+use crate::judged::Judgement;
+use crate::proposal;
+use crate::proposal::Expected;
+use crate::rows;
+use crate::state::Last;
+use crate::step;
+use crate::step::StepEnd;
+use interval::Scalar;
+use linear::Answer;
+use linear::Done;
+use linear::LinearError;
+use linear::clear;
+use linear::put;
+
+// Whether any curvature was learned.
+pub enum Learning {
+    Learned,
+    Unlearned,
+    Refused(LinearError),
+}
+
+// Whether the counts fit, and so many numbers are those of their rows.
+fn sized(n: usize, m: usize, s: usize, count: usize) -> Done
+    ensures { λ r. ⌜ doneOf r tt ≡ sizedOf n m s count ⌝ }
+{
+    if n > 12 {
+        return Done::Refused(LinearError::TooMany);
+    }
+    if m > 12 {
+        return Done::Refused(LinearError::TooMany);
+    }
+    if s > 24 {
+        return Done::Refused(LinearError::TooMany);
+    }
+    if count != 2 * ((m + s) * (n + 1)) {
+        return Done::Refused(LinearError::WrongLength);
+    }
+    Done::Finished
+}
+
+// What was checked before, then that a count is the one wanted.
+fn wants(before: Done, count: usize, wanted: usize) -> Done
+    ensures { λ r. ⌜ doneOf r tt ≡ wantsOf (doneOf before tt) count wanted ⌝ }
+{
+    match before {
+        Done::Finished => {
+            if count != wanted {
+                return Done::Refused(LinearError::WrongLength);
+            }
+            Done::Finished
+        }
+        Done::Refused(e) => Done::Refused(e),
+    }
+}
+
+fn reach(n: usize, d: usize) -> usize
+    ensures { λ r. ⌜ r ≡ reachOf n d ⌝ }
+{
+    if d == 0 {
+        return 0;
+    }
+    n
+}
+
+// |values + slopes delta|² of the sum's rows, over the first d variables: d is n, or 0 for the sum of squares.
+pub fn squared(n: usize, m: usize, s: usize, xs: &[f64], delta: &[f64], d: usize) -> Answer
+    ensures { λ r. ⌜ resultOf r ≡ squaredReply n m s (now (xs .entry)) (now (delta .entry)) d ⌝ }
+{
+    let fit = wants(sized(n, m, s, xs.len()), delta.len(), 24);
+    match wants(fit, d, reach(n, d)) {
+        Done::Finished => Answer::Value(rows::squared(xs, rows::sum(n, m, s), delta, d)),
+        Done::Refused(e) => Answer::Refused(e),
+    }
+}
+
+// The violation that a step leads to, to first order.
+pub fn predicted(n: usize, m: usize, s: usize, xs: &[f64], delta: &[f64]) -> Answer
+    ensures { λ r. ⌜ resultOf r ≡ predictedReply n m s (now (xs .entry)) (now (delta .entry)) ⌝ }
+{
+    match wants(sized(n, m, s, xs.len()), delta.len(), 24) {
+        Done::Finished => rows::predicted(xs, n, m, delta),
+        Done::Refused(e) => Answer::Refused(e),
+    }
+}
+
+fn transposed_into(n: usize, m: usize, s: usize, xs: &[f64], w: &[f64], out: &mut [f64])
+    requires { ⌜ (n ≤ 12) × ((m ≤ 12) × ((s ≤ 24) × (length (now out) ≡ 24))) ⌝ }
+    ensures { λ _. ⌜ now (out .exit) ≡ fillTo vector 0 (transposedAt (sumOf n m s (now (xs .entry))) (now (w .entry))) n ⌝ }
+{
+    clear(out);
+    for j in 0..n {
+        put(out, j, rows::transposed_at(xs, rows::sum(n, m, s), w, j));
+    }
+}
+
+// The slopes of the sum's rows by each variable, times their weights: 48 numbers in w, 24 in out.
+pub fn transposed(n: usize, m: usize, s: usize, xs: &[f64], w: &[f64], out: &mut [f64]) -> Done
+    ensures { λ r. ⌜ replied r (now (out .exit)) ≡ transposedReply n m s (now (xs .entry)) (now (w .entry)) (now (out .entry)) ⌝ }
+{
+    match wants(wants(sized(n, m, s, xs.len()), w.len(), 48), out.len(), 24) {
+        Done::Finished => {
+            transposed_into(n, m, s, xs, w, out);
+            Done::Finished
+        }
+        Done::Refused(e) => Done::Refused(e),
+    }
+}
+
+fn copy(from: &[bool], to: &mut [bool])
+    requires { ⌜ (length (now from) ≡ 12) × (length (now to) ≡ 12) ⌝ }
+    ensures { λ _. ⌜ now (to .exit) ≡ now (from .entry) ⌝ }
+{
+    for j in 0..12 {
+        to[j] = from[j];
+    }
+}
+
+// Marks of the variables that some residual definitely depends on: 12 marks.
+pub fn moving(n: usize, m: usize, s: usize, xs: &[f64], marks: &mut [bool]) -> Done
+    ensures { λ r. ⌜ replied r (now (marks .exit)) ≡ movingReply n m s (now (xs .entry)) (now (marks .entry)) ⌝ }
+{
+    match wants(sized(n, m, s, xs.len()), marks.len(), 12) {
+        Done::Finished => {
+            let found = rows::moving(xs, n, m, s);
+            copy(&found, marks);
+            Done::Finished
+        }
+        Done::Refused(e) => Done::Refused(e),
+    }
+}
+
+// How a step fares, from the rows xs with violation theta to the rows `next`, against the first pairs of the filter: at most 200 pairs, of 800 numbers.
+pub fn judge(
+    n: usize,
+    m: usize,
+    s: usize,
+    xs: &[f64],
+    next: &[f64],
+    theta: Scalar,
+    filter: &[f64],
+    count: usize,
+    last: Last,
+    step: &[f64],
+) -> Judgement
+    ensures { λ r. ⌜ judgementOf r ≡ judgeReply n m s (now (xs .entry)) (now (next .entry)) theta (now (filter .entry)) count last (now (step .entry)) ⌝ }
+{
+    if count > 200 {
+        return Judgement::Refused(LinearError::TooMany);
+    }
+    let fit = wants(sized(n, m, s, xs.len()), next.len(), xs.len());
+    match wants(wants(fit, filter.len(), 800), step.len(), 24) {
+        Done::Finished => judged::judge(n, m, s, xs, next, theta, filter, count, last, step),
+        Done::Refused(e) => Judgement::Refused(e),
+    }
+}
+
+// Whether the model expects the step to lower the sum or the violation, from f and theta: 288 numbers of curvature.
+pub fn expects(
+    n: usize,
+    m: usize,
+    s: usize,
+    xs: &[f64],
+    b: &[f64],
+    f: Scalar,
+    theta: Scalar,
+    delta: &[f64],
+) -> Expected
+    ensures { λ r. ⌜ expectedResult r ≡ expectsReply n m s (now (xs .entry)) (now (b .entry)) f theta (now (delta .entry)) ⌝ }
+{
+    match wants(
+        wants(sized(n, m, s, xs.len()), b.len(), 288),
+        delta.len(),
+        24,
+    ) {
+        Done::Finished => proposal::expects(n, m, s, xs, b, f, theta, delta),
+        Done::Refused(e) => Expected::Refused(e),
+    }
+}
+
+// Clears what was written of a piece that was refused.
+fn cleared(d: Done, x: &mut [f64]) -> Done
+    ensures { λ r. ⌜ replied r (now (x .exit)) ≡ replyOf (zeros (length (now (x .entry)))) (doneOf d (now (x .entry))) ⌝ }
+{
+    match d {
+        Done::Finished => Done::Finished,
+        Done::Refused(e) => {
+            clear(x);
+            Done::Refused(e)
+        }
+    }
+}
+
+fn along_sized(n: usize, m: usize, xs: &[f64], v: &[f64], out: &mut [f64]) -> Done
+    requires { ⌜ (n ≤ 12) × ((m ≤ 12) × (length (now v) ≡ 24)) ⌝ }
+    ensures { λ r. ⌜ replied r (now (out .exit)) ≡ checked (eqb (length (now (out .entry))) (2 * n)) 2 (now (out .entry)) (replyOf (zeros (2 * n)) (alongOf (constraintsOf n m (now (xs .entry))) (now (v .entry)))) ⌝ }
+{
+    if out.len() != 2 * n {
+        return Done::Refused(LinearError::WrongLength);
+    }
+    cleared(curvature::along_constraints(n, m, xs, v, out), out)
+}
+
+// The part of v along the constraints, 24 numbers in v, 2 n in out.
+pub fn along(n: usize, m: usize, s: usize, xs: &[f64], v: &[f64], out: &mut [f64]) -> Done
+    ensures { λ r. ⌜ replied r (now (out .exit)) ≡ alongReply n m s (now (xs .entry)) (now (v .entry)) (now (out .entry)) ⌝ }
+{
+    match wants(sized(n, m, s, xs.len()), v.len(), 24) {
+        Done::Finished => along_sized(n, m, xs, v, out),
+        Done::Refused(e) => Done::Refused(e),
+    }
+}
+
+// The shortest move that meets the linearized constraints, among the variables that move: 12 marks, 24 numbers in d.
+pub fn shift(n: usize, m: usize, s: usize, xs: &[f64], moving: &[bool], d: &mut [f64]) -> Done
+    ensures { λ r. ⌜ replied r (now (d .exit)) ≡ shiftReply n m s (now (xs .entry)) (now (moving .entry)) (now (d .entry)) ⌝ }
+{
+    match wants(
+        wants(sized(n, m, s, xs.len()), moving.len(), 12),
+        d.len(),
+        24,
+    ) {
+        Done::Finished => cleared(correction::shift(n, m, xs, moving, d), d),
+        Done::Refused(e) => Done::Refused(e),
+    }
+}
+
+// The curvature b, updated from the step between two points with their rows: 288 numbers in b, 24 in step and lambda.
+pub fn update_curvature(
+    n: usize,
+    m: usize,
+    s: usize,
+    b: &mut [f64],
+    step: &[f64],
+    xs: &[f64],
+    next: &[f64],
+    lambda: &[f64],
+) -> Done
+    ensures { λ r. ⌜ replied r (now (b .exit)) ≡ updateReply n m s (now (b .entry)) (now (step .entry)) (now (xs .entry)) (now (next .entry)) (now (lambda .entry)) ⌝ }
+{
+    let fit = wants(sized(n, m, s, xs.len()), next.len(), xs.len());
+    match wants(
+        wants(wants(fit, b.len(), 288), step.len(), 24),
+        lambda.len(),
+        24,
+    ) {
+        Done::Finished => cleared(
+            curvature::update_curvature(n, m, s, b, step, xs, next, lambda),
+            b,
+        ),
+        Done::Refused(e) => Done::Refused(e),
+    }
+}
+
+// Clears both slices where there is no step.
+fn step_cleared(end: StepEnd, delta: &mut [f64], lambda: &mut [f64]) -> StepEnd
+    ensures { λ r. ⌜ stepReplied r (now (delta .exit)) (now (lambda .exit)) ≡ stepReplyOf (zeros (length (now (delta .entry)))) (zeros (length (now (lambda .entry)))) (endOf end (now (delta .entry)) (now (lambda .entry))) ⌝ }
+{
+    match end {
+        StepEnd::Found(r) => StepEnd::Found(r),
+        StepEnd::NotPositive => {
+            clear(delta);
+            clear(lambda);
+            StepEnd::NotPositive
+        }
+        StepEnd::Refused(e) => {
+            clear(delta);
+            clear(lambda);
+            StepEnd::Refused(e)
+        }
+    }
+}
+
+// The step of the problem linearized at the rows, with curvature b and damping mu, and its multipliers: 288 numbers in b, 12 marks, 24 numbers in delta and lambda, which are +0 where there is none.
+pub fn step_at(
+    n: usize,
+    m: usize,
+    s: usize,
+    xs: &[f64],
+    b: &[f64],
+    moving: &[bool],
+    mu: Scalar,
+    delta: &mut [f64],
+    lambda: &mut [f64],
+) -> StepEnd
+    ensures { λ r. ⌜ stepReplied r (now (delta .exit)) (now (lambda .exit)) ≡ stepReply n m s (now (xs .entry)) (now (b .entry)) (now (moving .entry)) mu (now (delta .entry)) (now (lambda .entry)) ⌝ }
+{
+    let fit = wants(
+        wants(sized(n, m, s, xs.len()), b.len(), 288),
+        moving.len(),
+        12,
+    );
+    match wants(wants(fit, delta.len(), 24), lambda.len(), 24) {
+        Done::Finished => step_cleared(
+            step::step(n, m, s, xs, b, moving, mu, delta, lambda),
+            delta,
+            lambda,
+        ),
+        Done::Refused(e) => StepEnd::Refused(e),
+    }
+}
+
+// Whether any of the curvature's first n rows of n was learned: 288 numbers.
+pub fn learned(n: usize, b: &[f64]) -> Learning
+    ensures { λ r. ⌜ learningOf r ≡ learnedReply n (now (b .entry)) ⌝ }
+{
+    if n > 12 {
+        return Learning::Refused(LinearError::TooMany);
+    }
+    if b.len() != 288 {
+        return Learning::Refused(LinearError::WrongLength);
+    }
+    if curvature::learned(n, b) {
+        return Learning::Learned;
+    }
+    Learning::Unlearned
+}

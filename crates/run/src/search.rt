@@ -1,0 +1,196 @@
+// The search for a proposal, over dampings: left at the first question or stop.
+ghost use mathlib.Core.Path.{_≡_};
+ghost use mathlib.Core.Bool.{true};
+ghost use mathlib.Core.List.{List};
+ghost use Prim.Native.Nat.{_^_, _<_, _≤_};
+ghost use lib.Ieee.{Float};
+ghost use lib.ListN.{length};
+ghost use Rattle.interval.specs.Scaling.{isPositive};
+ghost use Rattle.run.specs.Proposal.{standingWith, proposalResult};
+ghost use Rattle.run.specs.Rows.{evaluationOf};
+ghost use Rattle.run.specs.Search as defined;
+ghost use Rattle.run.specs.Search.{rejectedFor, withRadius, grown, retried, anew, flatOr, damped, goesOn, stopsAt, follow, searchOf, turnOf, foundResult, turnResult};
+use crate::proposal::Proposal;
+use crate::proposal::propose;
+use crate::state::Rejection;
+use crate::state::Search;
+use crate::state::Stop;
+use crate::state::Trial;
+use interval::Scalar;
+use linear::LinearError;
+
+// Where a search is left; with a question the slices hold the step, its multipliers and the point it leads to.
+pub enum Found {
+    Ask(Search, Trial),
+    Stop(Search, Stop),
+    Refused(Search, LinearError),
+}
+
+// Gone on with more damping, or stopped.
+pub enum Damped {
+    On(Search),
+    Stop(Search, Stop),
+}
+
+// Gone on, or left.
+pub enum Turn {
+    On(Search),
+    Leave(Found),
+}
+
+pub fn rejected_for(x: Search, rejected: Rejection) -> Search
+    ensures { λ r. ⌜ r ≡ rejectedFor x rejected ⌝ }
+{
+    Search { rejected, ..x }
+}
+
+pub fn with_radius(x: Search, radius: Scalar) -> Search
+    ensures { λ r. ⌜ r ≡ withRadius x radius ⌝ }
+{
+    Search { radius, ..x }
+}
+
+// Four times the damping, and a turn-down.
+fn grow(x: Search) -> Search
+    requires { ⌜ x .«turned_down» < 2 ^ 32 ⌝ }
+    ensures { λ r. ⌜ r ≡ grown x ⌝ }
+{
+    let mu = x.mu.mul(Scalar::degenerate(4.0)).sharpen();
+    Search {
+        mu,
+        turned_down: x.turned_down + 1,
+        first: false,
+        ..x
+    }
+}
+
+// The retry without the curvature learned: a turn-down.
+pub fn retry(x: Search) -> Search
+    requires { ⌜ x .«turned_down» < 2 ^ 32 ⌝ }
+    ensures { λ r. ⌜ r ≡ retried x ⌝ }
+{
+    Search {
+        turned_down: x.turned_down + 1,
+        plain: true,
+        ..x
+    }
+}
+
+// A new iteration's.
+pub fn renew(x: Search, mu: Scalar, radius: Scalar) -> Search
+    ensures { λ r. ⌜ r ≡ anew x mu radius ⌝ }
+{
+    Search {
+        mu,
+        radius,
+        turned_down: x.turned_down,
+        first: true,
+        plain: false,
+        rejected: Rejection::NoneYet,
+    }
+}
+
+// With more damping, while that is finite.
+pub fn damp(x: Search) -> Damped
+    requires { ⌜ x .«turned_down» < 2 ^ 32 ⌝ }
+    ensures { λ r. ⌜ r ≡ damped goesOn stopsAt x ⌝ }
+{
+    let y = grow(x);
+    let mu = y.mu;
+    if mu.is_finite() {
+        return Damped::On(y);
+    }
+    let why = x.rejected;
+    Damped::Stop(y, Stop::Damped(why))
+}
+
+// No expected drop.
+fn flat(x: Search, independent: usize, m: usize) -> Stop
+    ensures { λ r. ⌜ r ≡ flatOr x independent m ⌝ }
+{
+    if x.first {
+        return Stop::Flat(independent, m);
+    }
+    let why = x.rejected;
+    Stop::Damped(why)
+}
+
+fn turned(d: Damped) -> Turn
+    ensures { λ r. ⌜ r ≡ turnOf d ⌝ }
+{
+    match d {
+        Damped::On(y) => Turn::On(y),
+        Damped::Stop(y, s) => Turn::Leave(Found::Stop(y, s)),
+    }
+}
+
+// What a proposal makes of the search.
+fn follow(p: Proposal, x: Search, m: usize, max: Scalar) -> Turn
+    requires { ⌜ x .«turned_down» < 2 ^ 32 ⌝ }
+    ensures { λ r. ⌜ ((on : Search → defined.Found) (delta lambda next : List Float) → turnResult r on delta lambda next ≡ follow on m max x (proposalResult p delta lambda next)) ⌝ }
+{
+    match p {
+        Proposal::Ask(t) => Turn::Leave(Found::Ask(x, t)),
+        Proposal::NoChange => {
+            let why = x.rejected;
+            Turn::Leave(Found::Stop(x, Stop::NoChange(why)))
+        }
+        Proposal::NoDrop(r) => Turn::Leave(Found::Stop(x, flat(x, r, m))),
+        Proposal::Refused(e) => Turn::Leave(Found::Refused(x, e)),
+        Proposal::Unresolved => {
+            turned(damp(rejected_for(with_radius(x, max), Rejection::Unresolved)))
+        }
+        Proposal::NotPositive => turned(damp(rejected_for(x, Rejection::NotPositive))),
+    }
+}
+
+// The search from a standing point x with its rows, f, violation theta, curvature b and moving marks.
+pub fn seek(
+    n: usize,
+    m: usize,
+    s: usize,
+    rows: &[f64],
+    x: &[f64],
+    b: &[f64],
+    moving: &[bool],
+    f: Scalar,
+    theta: Scalar,
+    max: Scalar,
+    from: Search,
+    delta: &mut [f64],
+    lambda: &mut [f64],
+    next: &mut [f64],
+) -> Found
+    requires { ⌜ (n ≤ 12) × ((m ≤ 12) × ((s ≤ 24) × ((length (now moving) ≡ 12) × ((length (now delta) ≡ 24) × ((length (now lambda) ≡ 24) × (length (now next) ≡ 24)))))) ⌝ }
+    requires { ⌜ (from .«turned_down» < 2 ^ 31) × (isPositive (from .mu) ≡ true) ⌝ }
+    ensures { λ r. ⌜ foundResult r (now (delta .exit)) (now (lambda .exit)) (now (next .exit)) ≡ searchOf (standingWith n (now (x .entry)) (evaluationOf n m s (now (rows .entry))) f theta (now (b .entry)) (now (moving .entry))) max from ⌝ }
+{
+    let mut state = from;
+    let found = loop {
+        let p = propose(
+            n,
+            m,
+            s,
+            rows,
+            x,
+            b,
+            moving,
+            f,
+            theta,
+            state.mu,
+            state.radius,
+            delta,
+            lambda,
+            next,
+        );
+        match follow(p, state, m, max) {
+            Turn::Leave(left) => {
+                break left;
+            }
+            Turn::On(y) => {
+                state = y;
+            }
+        }
+    };
+    found
+}

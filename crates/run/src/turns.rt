@@ -1,0 +1,204 @@
+// The search from the standing point, a new iteration, and a step turned down.
+ghost use mathlib.Core.Bool.{not, _&&_};
+ghost use mathlib.Core.Path.{_≡_};
+ghost use Prim.Native.Nat.{_^_, _<_, _≤_};
+ghost use lib.ListN.{length};
+ghost use Rattle.interval.specs.Scalar.{pick};
+ghost use Rattle.linear.specs.Flat.{zeros};
+ghost use Rattle.run.specs.Area.{Memory, Holds};
+ghost use Rattle.run.specs.Curvature.{learnedOf};
+ghost use Rattle.run.specs.Run as run;
+ghost use Rattle.run.specs.Run.{Leaves, Bounded, standingOf, leftAt};
+ghost use Rattle.run.specs.Search.{foundResult, searchOf};
+use crate::area;
+use crate::curvature::learned;
+use crate::endings::ask;
+use crate::endings::finish;
+use crate::endings::refuse;
+use crate::rows::sum_squared;
+use crate::rows::violation;
+use crate::search::Damped;
+use crate::search::Found;
+use crate::search::damp;
+use crate::search::rejected_for;
+use crate::search::retry;
+use crate::search::seek;
+use crate::search::with_radius;
+use crate::state::Kind;
+use crate::state::Out;
+use crate::state::Rejection;
+use crate::state::State;
+use crate::state::Stop;
+use crate::states::with_search;
+use crate::states::with_trial_of;
+use interval::Scalar;
+use interval::ScalarResult;
+use linear::Answer;
+use linear::LinearError;
+
+// What follows where a search was left, with the step, its multipliers and the point it leads to.
+fn left_at(
+    st: State,
+    area: &mut [f64],
+    found: Found,
+    delta: &[f64],
+    lambda: &[f64],
+    next: &[f64],
+) -> Out
+    requires { ⌜ (length (now area) ≡ 8000) × ((st .counts .question < 2 ^ 32) × ((length (now delta) ≡ 24) × ((length (now lambda) ≡ 24) × (length (now next) ≡ 24)))) ⌝ }
+    ensures { λ r. ⌜ ((w : Memory) → Holds w (now (area .entry)) → Leaves (leftAt st w (foundResult found (now (delta .entry)) (now (lambda .entry)) (now (next .entry)))) r (now (area .exit))) ⌝ }
+{
+    match found {
+        Found::Ask(x, t) => {
+            area::with_trial(area, next, delta, lambda);
+            ask(with_trial_of(st, x, t), Kind::Trial, 0)
+        }
+        Found::Stop(x, stop) => finish(with_search(st, x), area, stop),
+        Found::Refused(x, e) => refuse(with_search(st, x), area, e),
+    }
+}
+
+// The curvature that a proposal goes by, over +0: none in plain.
+fn bent(plain: bool, curvature: &[f64], b: &mut [f64])
+    requires { ⌜ length (now curvature) ≡ length (now b) ⌝ }
+    ensures { λ _. ⌜ now (b .exit) ≡ pick plain (now (b .entry)) (now (curvature .entry)) ⌝ }
+{
+    if !plain {
+        area::place(b, 0, curvature);
+    }
+}
+
+// The search from the standing point in the area, with its violation.
+fn seek_from(
+    st: State,
+    area: &[f64],
+    theta: Scalar,
+    b: &mut [f64],
+    delta: &mut [f64],
+    lambda: &mut [f64],
+    next: &mut [f64],
+) -> Found
+    requires { ⌜ (length (now area) ≡ 8000) × (Bounded 2147483648 st × ((now b ≡ zeros 288) × ((length (now delta) ≡ 24) × ((length (now lambda) ≡ 24) × (length (now next) ≡ 24))))) ⌝ }
+    ensures { λ r. ⌜ ((w : Memory) → Holds w (now (area .entry)) → foundResult r (now (delta .exit)) (now (lambda .exit)) (now (next .exit)) ≡ searchOf (standingOf st w theta) (st .«max_step») (st .search)) ⌝ }
+{
+    let z = st.sizes;
+    let from = st.search;
+    let moving = st.moving;
+    let rows = &area[area::STANDING_ROWS..area::LANDED_ROWS];
+    let f = sum_squared(rows, z.n, z.m, z.s);
+    bent(from.plain, &area[area::CURVATURE..area::FILTER], b);
+    seek(
+        z.n,
+        z.m,
+        z.s,
+        rows,
+        &area[area::STANDING..area::LANDED],
+        b,
+        &moving,
+        f,
+        theta,
+        st.max_step,
+        from,
+        delta,
+        lambda,
+        next,
+    )
+}
+
+// The search with scratch slices.
+fn search_in(
+    st: State,
+    area: &mut [f64],
+    b: &mut [f64],
+    delta: &mut [f64],
+    lambda: &mut [f64],
+    next: &mut [f64],
+) -> Out
+    requires { ⌜ (length (now area) ≡ 8000) × (Bounded 2147483648 st × ((now b ≡ zeros 288) × ((length (now delta) ≡ 24) × ((length (now lambda) ≡ 24) × (length (now next) ≡ 24))))) ⌝ }
+    ensures { λ r. ⌜ ((w : Memory) → Holds w (now (area .entry)) → Leaves (run.search st w) r (now (area .exit))) ⌝ }
+{
+    let z = st.sizes;
+    let theta = violation(&area[area::STANDING_ROWS..area::LANDED_ROWS], z.n, z.m);
+    match theta {
+        Answer::Refused(e) => refuse(st, area, e),
+        Answer::Value(v) => {
+            let found = seek_from(st, area, v, b, delta, lambda, next);
+            left_at(st, area, found, delta, lambda, next)
+        }
+    }
+}
+
+// The search for a proposal from the standing point, until a question, the finish or a refusal.
+fn search(st: State, area: &mut [f64]) -> Out
+    requires { ⌜ (length (now area) ≡ 8000) × Bounded 2147483648 st ⌝ }
+    ensures { λ r. ⌜ ((w : Memory) → Holds w (now (area .entry)) → Leaves (run.search st w) r (now (area .exit))) ⌝ }
+{
+    let mut b = [0.0; 288];
+    let mut delta = [0.0; 24];
+    let mut lambda = [0.0; 24];
+    let mut next = [0.0; 24];
+    search_in(st, area, &mut b, &mut delta, &mut lambda, &mut next)
+}
+
+// A new iteration, or the finish where the limit is reached.
+pub fn iterate(st: State, area: &mut [f64]) -> Out
+    requires { ⌜ (length (now area) ≡ 8000) × Bounded 2147483648 st ⌝ }
+    ensures { λ r. ⌜ ((w : Memory) → Holds w (now (area .entry)) → Leaves (run.iterate st w) r (now (area .exit))) ⌝ }
+{
+    let z = st.sizes;
+    let c = st.counts;
+    if z.limit <= c.iterations {
+        return finish(st, area, Stop::Budget);
+    }
+    search(st, area)
+}
+
+// With more damping, while that is finite.
+fn grow(st: State, area: &mut [f64]) -> Out
+    requires { ⌜ (length (now area) ≡ 8000) × Bounded 1073741824 st ⌝ }
+    ensures { λ r. ⌜ ((w : Memory) → Holds w (now (area .entry)) → Leaves (run.grow st w) r (now (area .exit))) ⌝ }
+{
+    let x = st.search;
+    match damp(x) {
+        Damped::On(y) => search(with_search(st, y), area),
+        Damped::Stop(y, stop) => finish(with_search(st, y), area, stop),
+    }
+}
+
+// A step turned down: a quarter of the length tried is the radius, and more damping.
+pub fn turn_down(st: State, area: &mut [f64], why: Rejection) -> Out
+    requires { ⌜ (length (now area) ≡ 8000) × Bounded 1073741824 st ⌝ }
+    ensures { λ r. ⌜ ((w : Memory) → Holds w (now (area .entry)) → Leaves (run.turnDown st w why) r (now (area .exit))) ⌝ }
+{
+    let t = st.trial;
+    let x = rejected_for(st.search, why);
+    match t.tried.div(Scalar::degenerate(4.0)) {
+        ScalarResult::Value(q) => grow(with_search(st, with_radius(x, q.sharpen())), area),
+        ScalarResult::Refused(e) => refuse(with_search(st, x), area, LinearError::Arithmetic(e)),
+    }
+}
+
+// Whether a step that is not lower is tried again without the curvature learned.
+fn may_retry(plain: bool, n: usize, area: &[f64]) -> bool
+    requires { ⌜ (n ≤ 12) × (length (now area) ≡ 8000) ⌝ }
+    ensures { λ r. ⌜ ((w : Memory) → Holds w (now (area .entry)) → r ≡ (not plain && learnedOf n (w .curvature))) ⌝ }
+{
+    if plain {
+        return false;
+    }
+    learned(n, &area[area::CURVATURE..area::FILTER])
+}
+
+// A step that is not lower: tried again without the curvature learned, once in an iteration, or turned down.
+pub fn not_lower(st: State, area: &mut [f64]) -> Out
+    requires { ⌜ (length (now area) ≡ 8000) × Bounded 1073741824 st ⌝ }
+    ensures { λ r. ⌜ ((w : Memory) → Holds w (now (area .entry)) → Leaves (run.notLower st w) r (now (area .exit))) ⌝ }
+{
+    let z = st.sizes;
+    let x = st.search;
+    if may_retry(x.plain, z.n, area) {
+        let y = retry(rejected_for(x, Rejection::NotLower));
+        return search(with_search(st, y), area);
+    }
+    turn_down(st, area, Rejection::NotLower)
+}
