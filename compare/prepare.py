@@ -21,6 +21,20 @@ FILES = {
 DERIVED = "#[derive(Clone, Copy, Debug, PartialEq, Eq"
 
 SOLVERS = ["dot", "norm", "choose", "sharp", "minus_solved", "least_squares"]
+# What a run is made of: functions, methods of `Rows`, structs and their fields.
+PIECES = ["step", "judge", "learned", "along", "update_curvature"]
+METHODS = ["linearized", "squared", "transposed"]
+STRUCTS = ["Step", "Judged"]
+FIELDS = [
+    "delta: Vec<Scalar>,\n    /// The constraints' multipliers.",
+    "lambda: Vec<Scalar>,\n    /// How many of",
+    "independent: usize,\n}\n\n/// `v - a w`",
+    "s: Vec<Scalar>,\n    length: Scalar,",
+    "length: Scalar,\n    /// It definitely improves",
+    "lower: bool,\n    /// Neither",
+    "undecided: bool,\n    /// It is at most half",
+    "contracting: bool,\n}\n\nfn judge(",
+]
 FIXED_SIZE = ["solve_linear_system<", "solve_pivoted<", "solve_banded<", "shortest_solution("]
 
 # (file, how often, old, new)
@@ -43,6 +57,14 @@ EDITS = [
     ("solvers/least_squares.rs", 2, DERIVED + ", serde::Serialize, serde::Deserialize)]", DERIVED + ")]"),
     # The comparison calls them from outside the crate.
     *[("solvers/least_squares.rs", 1, f"\nfn {name}(", f"\npub fn {name}(") for name in SOLVERS],
+    *[("solvers/least_squares.rs", 1, f"\n    {field}", f"\n    pub {field}") for field in FIELDS],
+    *[("solvers/least_squares.rs", 1, f"\nfn {name}(", f"\npub fn {name}(") for name in PIECES],
+    ("solvers/least_squares.rs", 1, "\nasync fn corrected<", "\npub async fn corrected<"),
+    *[("solvers/least_squares.rs", 1, f"\n    fn {name}(", f"\n    pub fn {name}(") for name in METHODS],
+    *[("solvers/least_squares.rs", 1, f"\nstruct {name} {{", f"\npub struct {name} {{") for name in STRUCTS],
+    # Where more rows are independent than variables move, k - r wraps and the loop may not end: here there are no directions
+    # then. It was met outside the domain only.
+    ("solvers/least_squares.rs", 1, "while z.len() < k - r {", "while z.len() < k.saturating_sub(r) {"),
     # Small matrices and vectors of fixed size are not copied, nor are the functions over them compared.
     ("solvers/linear.rs", 1, "    matrix::Matrix,\n", ""),
     ("solvers/linear.rs", 1, "    vector::{Vector, Vector3},\n", ""),

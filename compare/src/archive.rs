@@ -1,4 +1,4 @@
-//! The archives of `interval_c` and `linear_c`: each public function of the two crates.
+//! The archives of `interval_c`, `linear_c` and `run_c`: each public function of the crates interval and linear, and the pieces of a run.
 
 #[repr(C)]
 #[derive(Clone, Copy)]
@@ -13,6 +13,34 @@ pub struct Scalar {
 pub struct Answer {
     pub number: u64,
     pub value: Scalar,
+}
+
+/// `number` 0 and whether it holds, or a refusal's number.
+#[repr(C)]
+#[derive(Clone, Copy)]
+pub struct Told {
+    pub number: u64,
+    pub holds: bool,
+}
+
+/// `number` 0 and whether a step was found, with its number of independent rows, or a refusal's number.
+#[repr(C)]
+#[derive(Clone, Copy)]
+pub struct Stepped {
+    pub number: u64,
+    pub found: bool,
+    pub independent: usize,
+}
+
+/// `number` 0 and how a step fares, or a refusal's number.
+#[repr(C)]
+#[derive(Clone, Copy)]
+pub struct Fared {
+    pub number: u64,
+    pub length: Scalar,
+    pub lower: bool,
+    pub undecided: bool,
+    pub contracting: bool,
 }
 
 // Each is total: it has no `requires`, and it takes and gives plain numbers.
@@ -110,4 +138,132 @@ unsafe extern "C" {
         out: *mut f64,
         out_count: usize,
     ) -> u64;
+}
+
+// Total likewise.
+#[link(name = "run_c", kind = "static")]
+unsafe extern "C" {
+    pub fn run_squared(
+        n: usize,
+        m: usize,
+        s: usize,
+        rows: *const f64,
+        rows_count: usize,
+        delta: *const f64,
+        delta_count: usize,
+        d: usize,
+    ) -> Answer;
+    pub fn run_predicted(
+        n: usize,
+        m: usize,
+        s: usize,
+        rows: *const f64,
+        rows_count: usize,
+        delta: *const f64,
+        delta_count: usize,
+    ) -> Answer;
+    pub fn run_transposed(
+        n: usize,
+        m: usize,
+        s: usize,
+        rows: *const f64,
+        rows_count: usize,
+        w: *const f64,
+        w_count: usize,
+        out: *mut f64,
+        out_count: usize,
+    ) -> u64;
+    pub fn run_moving(
+        n: usize,
+        m: usize,
+        s: usize,
+        rows: *const f64,
+        rows_count: usize,
+        marks: *mut bool,
+        marks_count: usize,
+    ) -> u64;
+    pub fn run_judge(
+        n: usize,
+        m: usize,
+        s: usize,
+        rows: *const f64,
+        rows_count: usize,
+        next: *const f64,
+        next_count: usize,
+        theta: Scalar,
+        filter: *const f64,
+        filter_count: usize,
+        count: usize,
+        taken: bool,
+        last: Scalar,
+        step: *const f64,
+        step_count: usize,
+    ) -> Fared;
+    pub fn run_expects(
+        n: usize,
+        m: usize,
+        s: usize,
+        rows: *const f64,
+        rows_count: usize,
+        b: *const f64,
+        b_count: usize,
+        f: Scalar,
+        theta: Scalar,
+        delta: *const f64,
+        delta_count: usize,
+    ) -> Told;
+    pub fn run_along(
+        n: usize,
+        m: usize,
+        s: usize,
+        rows: *const f64,
+        rows_count: usize,
+        v: *const f64,
+        v_count: usize,
+        out: *mut f64,
+        out_count: usize,
+    ) -> u64;
+    pub fn run_shift(
+        n: usize,
+        m: usize,
+        s: usize,
+        rows: *const f64,
+        rows_count: usize,
+        moving: *const bool,
+        moving_count: usize,
+        d: *mut f64,
+        d_count: usize,
+    ) -> u64;
+    pub fn run_update_curvature(
+        n: usize,
+        m: usize,
+        s: usize,
+        b: *mut f64,
+        b_count: usize,
+        step: *const f64,
+        step_count: usize,
+        rows: *const f64,
+        rows_count: usize,
+        next: *const f64,
+        next_count: usize,
+        lambda: *const f64,
+        lambda_count: usize,
+    ) -> u64;
+    pub fn run_step(
+        n: usize,
+        m: usize,
+        s: usize,
+        rows: *const f64,
+        rows_count: usize,
+        b: *const f64,
+        b_count: usize,
+        moving: *const bool,
+        moving_count: usize,
+        mu: Scalar,
+        delta: *mut f64,
+        delta_count: usize,
+        lambda: *mut f64,
+        lambda_count: usize,
+    ) -> Stepped;
+    pub fn run_learned(n: usize, b: *const f64, b_count: usize) -> Told;
 }

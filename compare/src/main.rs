@@ -1,9 +1,10 @@
-//! Compares the crates interval and linear with the Rust that they follow, function by function: a NaN equals a NaN, other
-//! numbers compare by bits, refusals by number. The exit status is 1 where any answer differs.
+//! Compares the crates interval and linear, and the pieces of run, with the Rust that they follow, function by function: a NaN
+//! equals a NaN, other numbers compare by bits, refusals by number. The exit status is 1 where any answer differs.
 
 mod archive;
 mod interval;
 mod linear;
+mod run;
 mod words;
 
 use std::process::ExitCode;
@@ -87,6 +88,7 @@ fn main() -> ExitCode {
     }
     let mut total = interval::compare(settings.seed, settings.random);
     total += linear::compare(settings.seed, settings.random);
+    total += run::compare(settings.seed, settings.random);
     println!("{} compared, {} differ", total.compared, total.differ);
     if total.differ == 0 {
         ExitCode::SUCCESS

@@ -21,11 +21,11 @@ enum Size {
 }
 
 impl Random {
-    fn at_odds(&mut self, of: u64) -> bool {
+    pub fn at_odds(&mut self, of: u64) -> bool {
         self.below(of) == 0
     }
 
-    fn sized(&mut self, from: i64, to: i64) -> f64 {
+    pub fn sized(&mut self, from: i64, to: i64) -> f64 {
         f64::from_bits(self.scaled(from, to) | (self.word() & SIGN))
     }
 
@@ -55,7 +55,7 @@ impl Random {
         }
     }
 
-    fn numbers(&mut self, count: usize) -> Vec<f64> {
+    pub fn numbers(&mut self, count: usize) -> Vec<f64> {
         let size = self.size_of_numbers();
         (0..count).map(|_| self.number(size)).collect()
     }
@@ -80,7 +80,7 @@ impl Random {
     }
 
     /// m rows of n numbers.
-    fn matrix(&mut self, m: usize, n: usize) -> Vec<f64> {
+    pub fn matrix(&mut self, m: usize, n: usize) -> Vec<f64> {
         let entry = |f: &dyn Fn(usize, usize) -> f64| -> Vec<f64> {
             (0..m * n).map(|p| f(p / n, p % n)).collect()
         };
@@ -114,7 +114,7 @@ impl Random {
     }
 
     /// n rows of n: the products of the columns of a random matrix of more, as many or fewer rows.
-    fn gram(&mut self, n: usize) -> Vec<f64> {
+    pub fn gram(&mut self, n: usize) -> Vec<f64> {
         let k = match self.below(4) {
             0 => self.below(n as u64 + 1) as usize,
             1 => n,
@@ -162,7 +162,7 @@ impl Random {
     }
 
     /// Two ends about each number, all of one width, or each of its own.
-    fn enclosed(&mut self, points: &[f64]) -> Vec<f64> {
+    pub fn enclosed(&mut self, points: &[f64]) -> Vec<f64> {
         let (one, mixed) = (self.width(), self.at_odds(4));
         let mut flat = Vec::new();
         for x in points {
@@ -183,7 +183,7 @@ impl Random {
     }
 
     /// A few scalars made wild.
-    fn spoilt(&mut self, mut flat: Vec<f64>) -> Vec<f64> {
+    pub fn spoilt(&mut self, mut flat: Vec<f64>) -> Vec<f64> {
         let scalars = flat.len() / 2;
         if scalars == 0 || !self.at_odds(4) {
             return flat;
@@ -239,7 +239,7 @@ impl Random {
         flat
     }
 
-    fn marks(&mut self, n: usize) -> Vec<bool> {
+    pub fn marks(&mut self, n: usize) -> Vec<bool> {
         (0..n).map(|_| self.at_odds(4)).collect()
     }
 }

@@ -15,7 +15,7 @@ use interval_c::Answer;
 use linear::Done;
 use linear::LinearError;
 
-fn number_of(e: LinearError) -> u64
+pub fn number_of(e: LinearError) -> u64
     ensures { λ n. ⌜ n ≡ numberOf e ⌝ }
 {
     match e {
@@ -35,7 +35,7 @@ fn arithmetic(e: GeopError) -> u64
 }
 
 // Number 0 and the value, or the number of the refusal and zero.
-fn answer_of(r: linear::Answer) -> Answer
+pub fn answer_of(r: linear::Answer) -> Answer
     ensures { λ a. ⌜ a ≡ answerOf (resultOf r) ⌝ }
 {
     match r {
@@ -51,7 +51,7 @@ fn answer_of(r: linear::Answer) -> Answer
 }
 
 // 0 where the output is written, or the number of the refusal.
-fn number_of_done(d: Done) -> u64
+pub fn number_of_done(d: Done) -> u64
     ensures { λ n. ⌜ n ≡ numberOfEnd (doneOf d tt) ⌝ }
 {
     match d {

@@ -1,0 +1,13 @@
+-- `last_of` meets its contract.
+use borrow.Author.Needs.{needs}
+use Rattle.run_c.proofs.last_of.Statement.{statement}
+use Rattle.run_c.proofs.last_of.Tie as tie
+
+returns : tie.Need-returns
+returns c = rw (c .if1 .taken)
+
+returns-2 : tie.Need-returns-2
+returns-2 c = rw (c .if1 .left)
+
+pub last-of-spec : {M : Type 1} → statement M
+last-of-spec = tie.close (tie.spec returns returns-2)

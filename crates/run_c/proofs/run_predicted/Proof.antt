@@ -1,0 +1,18 @@
+-- `run_predicted` meets its contract: the answer is that of the result.
+use mathlib.Core.Path.{_∙_, ap}
+use Rattle.interval_c.specs.Answer.{answerOf}
+use borrow.Author.Needs.{needs}
+use Rattle.run_c.proofs.run_predicted.Statement.{statement}
+use Rattle.run_c.proofs.run_predicted.Tie as tie
+
+predicted-requires : tie.Need-predicted-requires
+predicted-requires c κs = search needs
+
+answer-of-requires : tie.Need-answer-of-requires
+answer-of-requires c κs = search needs
+
+returns : tie.Need-returns
+returns c = c .answer-of .ensures ∙ ap answerOf (c .before .predicted .ensures)
+
+pub run-predicted-spec : {M : Type 1} → statement M
+run-predicted-spec = tie.close (tie.spec predicted-requires answer-of-requires returns)

@@ -1,0 +1,18 @@
+-- `run_squared` meets its contract: the answer is that of the result.
+use mathlib.Core.Path.{_∙_, ap}
+use Rattle.interval_c.specs.Answer.{answerOf}
+use borrow.Author.Needs.{needs}
+use Rattle.run_c.proofs.run_squared.Statement.{statement}
+use Rattle.run_c.proofs.run_squared.Tie as tie
+
+squared-requires : tie.Need-squared-requires
+squared-requires c κs = search needs
+
+answer-of-requires : tie.Need-answer-of-requires
+answer-of-requires c κs = search needs
+
+returns : tie.Need-returns
+returns c = c .answer-of .ensures ∙ ap answerOf (c .before .squared .ensures)
+
+pub run-squared-spec : {M : Type 1} → statement M
+run-squared-spec = tie.close (tie.spec squared-requires answer-of-requires returns)

@@ -1,0 +1,293 @@
+// The pieces of a run for C and Rust: each by name. A slice is passed as its pointer and count. Every
+// function takes every number and every length, and equals the definition of the call beneath it.
+ghost use mathlib.Core.Path.{_≡_};
+ghost use Rattle.interval_c.specs.Answer.{answerOf};
+ghost use Rattle.linear_c.specs.Written.{written, writtenOf};
+ghost use Rattle.run.specs.Judgement.{judgementOf};
+ghost use Rattle.run.specs.Pieces.{squaredReply, predictedReply, transposedReply, movingReply, judgeReply, expectsReply, alongReply, shiftReply, updateReply, learnedReply, learningOf, stepReply, endingOf};
+ghost use Rattle.run.specs.Proposal.{expectedResult};
+ghost use Rattle.run_c.specs.Replies.{toldOf, faredOf, lastOf, steppedOf, stepWritten, stepWrittenOf};
+use interval::Scalar;
+use interval_c::Answer;
+use linear_c::answer_of;
+use linear_c::number_of;
+use linear_c::number_of_done;
+use run::Expected;
+use run::Judgement;
+use run::Last;
+use run::Learning;
+use run::StepEnd;
+
+// Number 0 and whether it holds, or the number of the refusal.
+#[repr(C)]
+pub struct Told {
+    pub number: u64,
+    pub holds: bool,
+}
+
+// Number 0 and how a step fares, or the number of the refusal.
+#[repr(C)]
+pub struct Fared {
+    pub number: u64,
+    pub length: Scalar,
+    pub lower: bool,
+    pub undecided: bool,
+    pub contracting: bool,
+}
+
+// Number 0 and whether a step was found, with how many rows are independent, or the number of the refusal.
+#[repr(C)]
+pub struct Stepped {
+    pub number: u64,
+    pub found: bool,
+    pub independent: usize,
+}
+
+fn stepped_of(e: StepEnd) -> Stepped
+    ensures { λ r. ⌜ r ≡ steppedOf (endingOf e) ⌝ }
+{
+    match e {
+        StepEnd::Found(r) => Stepped {
+            number: 0,
+            found: true,
+            independent: r,
+        },
+        StepEnd::NotPositive => Stepped {
+            number: 0,
+            found: false,
+            independent: 0,
+        },
+        StepEnd::Refused(e) => Stepped {
+            number: number_of(e),
+            found: false,
+            independent: 0,
+        },
+    }
+}
+
+fn expected_of(e: Expected) -> Told
+    ensures { λ r. ⌜ r ≡ toldOf (expectedResult e) ⌝ }
+{
+    match e {
+        Expected::Drop => Told {
+            number: 0,
+            holds: true,
+        },
+        Expected::NoDrop => Told {
+            number: 0,
+            holds: false,
+        },
+        Expected::Refused(e) => Told {
+            number: number_of(e),
+            holds: false,
+        },
+    }
+}
+
+fn learning_of(l: Learning) -> Told
+    ensures { λ r. ⌜ r ≡ toldOf (learningOf l) ⌝ }
+{
+    match l {
+        Learning::Learned => Told {
+            number: 0,
+            holds: true,
+        },
+        Learning::Unlearned => Told {
+            number: 0,
+            holds: false,
+        },
+        Learning::Refused(e) => Told {
+            number: number_of(e),
+            holds: false,
+        },
+    }
+}
+
+fn fared_of(j: Judgement) -> Fared
+    ensures { λ r. ⌜ r ≡ faredOf (judgementOf j) ⌝ }
+{
+    match j {
+        Judgement::Of(x) => {
+            let length = x.length;
+            Fared {
+                number: 0,
+                length,
+                lower: x.lower,
+                undecided: x.undecided,
+                contracting: x.contracting,
+            }
+        }
+        Judgement::Refused(e) => Fared {
+            number: number_of(e),
+            length: Scalar::ZERO,
+            lower: false,
+            undecided: false,
+            contracting: false,
+        },
+    }
+}
+
+fn last_of(taken: bool, length: Scalar) -> Last
+    ensures { λ r. ⌜ r ≡ lastOf taken length ⌝ }
+{
+    if taken {
+        return Last::Taken(length);
+    }
+    Last::NoneYet
+}
+
+#[no_mangle]
+pub extern "C" fn run_squared(
+    n: usize,
+    m: usize,
+    s: usize,
+    rows: &[f64],
+    delta: &[f64],
+    d: usize,
+) -> Answer
+    ensures { λ r. ⌜ r ≡ answerOf (squaredReply n m s (now (rows .entry)) (now (delta .entry)) d) ⌝ }
+{
+    answer_of(run::squared(n, m, s, rows, delta, d))
+}
+
+#[no_mangle]
+pub extern "C" fn run_predicted(n: usize, m: usize, s: usize, rows: &[f64], delta: &[f64]) -> Answer
+    ensures { λ r. ⌜ r ≡ answerOf (predictedReply n m s (now (rows .entry)) (now (delta .entry))) ⌝ }
+{
+    answer_of(run::predicted(n, m, s, rows, delta))
+}
+
+#[no_mangle]
+pub extern "C" fn run_transposed(
+    n: usize,
+    m: usize,
+    s: usize,
+    rows: &[f64],
+    w: &[f64],
+    out: &mut [f64],
+) -> u64
+    ensures { λ r. ⌜ written r (now (out .exit)) ≡ writtenOf (transposedReply n m s (now (rows .entry)) (now (w .entry)) (now (out .entry))) ⌝ }
+{
+    number_of_done(run::transposed(n, m, s, rows, w, out))
+}
+
+#[no_mangle]
+pub extern "C" fn run_moving(n: usize, m: usize, s: usize, rows: &[f64], marks: &mut [bool]) -> u64
+    ensures { λ r. ⌜ written r (now (marks .exit)) ≡ writtenOf (movingReply n m s (now (rows .entry)) (now (marks .entry))) ⌝ }
+{
+    number_of_done(run::moving(n, m, s, rows, marks))
+}
+
+#[no_mangle]
+pub extern "C" fn run_judge(
+    n: usize,
+    m: usize,
+    s: usize,
+    rows: &[f64],
+    next: &[f64],
+    theta: Scalar,
+    filter: &[f64],
+    count: usize,
+    taken: bool,
+    last: Scalar,
+    step: &[f64],
+) -> Fared
+    ensures { λ r. ⌜ r ≡ faredOf (judgeReply n m s (now (rows .entry)) (now (next .entry)) theta (now (filter .entry)) count (lastOf taken last) (now (step .entry))) ⌝ }
+{
+    fared_of(run::judge(
+        n,
+        m,
+        s,
+        rows,
+        next,
+        theta,
+        filter,
+        count,
+        last_of(taken, last),
+        step,
+    ))
+}
+
+#[no_mangle]
+pub extern "C" fn run_expects(
+    n: usize,
+    m: usize,
+    s: usize,
+    rows: &[f64],
+    b: &[f64],
+    f: Scalar,
+    theta: Scalar,
+    delta: &[f64],
+) -> Told
+    ensures { λ r. ⌜ r ≡ toldOf (expectsReply n m s (now (rows .entry)) (now (b .entry)) f theta (now (delta .entry))) ⌝ }
+{
+    expected_of(run::expects(n, m, s, rows, b, f, theta, delta))
+}
+
+#[no_mangle]
+pub extern "C" fn run_along(
+    n: usize,
+    m: usize,
+    s: usize,
+    rows: &[f64],
+    v: &[f64],
+    out: &mut [f64],
+) -> u64
+    ensures { λ r. ⌜ written r (now (out .exit)) ≡ writtenOf (alongReply n m s (now (rows .entry)) (now (v .entry)) (now (out .entry))) ⌝ }
+{
+    number_of_done(run::along(n, m, s, rows, v, out))
+}
+
+#[no_mangle]
+pub extern "C" fn run_shift(
+    n: usize,
+    m: usize,
+    s: usize,
+    rows: &[f64],
+    moving: &[bool],
+    d: &mut [f64],
+) -> u64
+    ensures { λ r. ⌜ written r (now (d .exit)) ≡ writtenOf (shiftReply n m s (now (rows .entry)) (now (moving .entry)) (now (d .entry))) ⌝ }
+{
+    number_of_done(run::shift(n, m, s, rows, moving, d))
+}
+
+#[no_mangle]
+pub extern "C" fn run_update_curvature(
+    n: usize,
+    m: usize,
+    s: usize,
+    b: &mut [f64],
+    step: &[f64],
+    rows: &[f64],
+    next: &[f64],
+    lambda: &[f64],
+) -> u64
+    ensures { λ r. ⌜ written r (now (b .exit)) ≡ writtenOf (updateReply n m s (now (b .entry)) (now (step .entry)) (now (rows .entry)) (now (next .entry)) (now (lambda .entry))) ⌝ }
+{
+    number_of_done(run::update_curvature(n, m, s, b, step, rows, next, lambda))
+}
+
+#[no_mangle]
+pub extern "C" fn run_learned(n: usize, b: &[f64]) -> Told
+    ensures { λ r. ⌜ r ≡ toldOf (learnedReply n (now (b .entry))) ⌝ }
+{
+    learning_of(run::learned(n, b))
+}
+
+#[no_mangle]
+pub extern "C" fn run_step(
+    n: usize,
+    m: usize,
+    s: usize,
+    rows: &[f64],
+    b: &[f64],
+    moving: &[bool],
+    mu: Scalar,
+    delta: &mut [f64],
+    lambda: &mut [f64],
+) -> Stepped
+    ensures { λ r. ⌜ stepWritten r (now (delta .exit)) (now (lambda .exit)) ≡ stepWrittenOf (stepReply n m s (now (rows .entry)) (now (b .entry)) (now (moving .entry)) mu (now (delta .entry)) (now (lambda .entry))) ⌝ }
+{
+    stepped_of(run::step_at(n, m, s, rows, b, moving, mu, delta, lambda))
+}
