@@ -31,5 +31,8 @@ pub mod ProposalLaws
 pub mod SearchLaws
 pub mod AreaSlots
 pub mod PieceLaws
+pub mod ReadLaws
+pub mod FollowLaws
 pub mod LeaveLaws
 pub mod SearchCalls
+pub mod ReplyLaws

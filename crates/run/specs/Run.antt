@@ -10,6 +10,7 @@ use Rattle.interval.specs.declared.Scalar.{Scalar}
 use Rattle.interval.specs.Result.{Res, ok, refused}
 use Rattle.interval.specs.Scalar.{two64, zeroS, degenerate, pick, subOf, mulOf, divOf, sharpen, upper, definitelyGreater, definitelyLess}
 use Rattle.interval.specs.Scaling.{three64, four64, isPositive}
+use Rattle.linear.specs.Answers.{numberOf}
 use Rattle.linear.specs.Flat.{put, zeros}
 use Rattle.run.specs.Rows.{Evaluation, evaluationOf, sumSquared, violationOf, movingOf}
 use Rattle.run.specs.Curvature.{learnedOf, updateCurvature}
@@ -33,6 +34,8 @@ use Rattle.run.specs.declared.state.Search.{Search}
 use Rattle.run.specs.declared.state.State.{State}
 use Rattle.run.specs.declared.state.Stop.{Stop}
 use Rattle.run.specs.declared.state.Stop.the-variants as stop
+use Rattle.run.specs.declared.taking.Linear.{Linear}
+use Rattle.run.specs.declared.taking.Linear.the-variants as linear
 
 -- what a call leaves: the state, the area and the answer
 pub record Outcome : Type 0 where
@@ -291,7 +294,41 @@ pub record Bounded (t : ℕ) (st : State) : Type 0 where
   pub few-sums : st .sizes .s ≤ 24
   pub few-iterations : st .sizes .limit ≤ 200
   pub within : st .counts .iterations ≤ st .sizes .limit
-  pub few-corrections : st .counts .corrections ≤ 4
+  pub few-corrections : st .counts .corrections ≤ 5
   pub few-questions : st .counts .question < 4294967296
   pub few-turned : st .search .«turned_down» < t
   pub damping : isPositive (st .search .mu) ≡ true
+
+-- the same while a trial or a correction is open: an iteration may follow
+pub record Underway (st : State) : Type 0 where
+  pub bounded : Bounded 1073741824 st
+  pub below : st .counts .iterations < st .sizes .limit
+
+-- a step taken, once the damping and the radius after it are known
+abbrev pub takenWith : State → Memory → Scalar → Scalar → Scalar → Scalar → Outcome
+takenWith st w theta length mu radius =
+    orRefuse st w (updateCurvature (st .sizes .n) (curvatureOf st w) (w .step) (standingAt st w) (landedAt st w) (w .multipliers))
+    (λ b. iterate (standingOn st length mu radius) (withTaken w b (filterWith (w .filter) (st .counts .iterations) (sumSquared (standingAt st w .sum)) theta)))
+
+-- and once it is known whether the constraints came as near as their linearization said
+abbrev pub takenAs : State → Memory → Scalar → Scalar → Bool → Outcome
+takenAs st w theta length linear =
+    orRefuse st w (divOf (st .search .mu) (degenerate three64))
+    (λ third. takenWith st w theta length (shrunk (st .search .mu) third) (reachOf length (st .search .radius) (st .«max_step») linear))
+
+-- what `linear_of` answers
+abbrev pub linearResult : Linear → Res Bool
+linearResult (linear.Told b) = ok b
+linearResult (linear.Refused e) = refused (numberOf e)
+
+-- a correction kept, once its shift is known
+abbrev pub keptBy : State → Memory → List Float → Scalar → List Float → Outcome
+keptBy st w rows theta d =
+    let t = landing st (st .counts .corrections + 1) in
+    let v = withLanded w rows (shiftedStep (st .sizes .n) (w .step) d) in
+    pick (leb CORRECTIONS (t .counts .corrections)) (judge t v theta) (correct t v theta)
+
+-- a correction's rows, once their violation is known
+abbrev pub landedNearer : State → Memory → List Float → Scalar → Scalar → Outcome
+landedNearer st w rows theta new =
+    orRefuse st w (violationOf (landedAt st w .constraints)) (λ old. pick (definitelyLess new old) (keep st w rows theta) (judge st w theta))

@@ -1,0 +1,232 @@
+-- What follows an answer, part by part: each result that is known, or refused, leaves what the definition says.
+use mathlib.Core.Bool.{Bool, true, false, not, _&&_, _||_}
+use mathlib.Core.Path.{_≡_, refl, sym, ap, subst, _∙_}
+use mathlib.Core.List.{List}
+use Prim.Native.Nat.{ℕ, _+_, _*_, _≤_}
+use native.Mathlib.Nat.{mul-le-mul}
+use native.Mathlib.Omega.{arith}
+use borrow.Author.Tests.{ltb-true, ltb-false, le-leb, lt-leb}
+use lib.Dec.{leb, ltb}
+use lib.Ieee.{Float}
+use Rattle.interval.specs.declared.Scalar.{Scalar}
+use Rattle.interval.specs.Result.{Res, ok, refused}
+use Rattle.interval.specs.Scalar.{degenerate, pick, divOf, definitelyGreater, definitelyLess}
+use Rattle.interval.specs.Scaling.{three64}
+use Rattle.run.specs.Area.{Memory, Holds, withStart, withAsked, withLanded, withTaken}
+use Rattle.run.specs.Calls.{phaseFits}
+use Rattle.run.specs.Correction.{Shift, to, stay, shiftOf, shiftFrom, shiftedStep}
+use Rattle.run.specs.Curvature.{updateCurvature}
+use Rattle.run.specs.Judgement.{Judged, judgeOf}
+use Rattle.run.specs.Rows.{rowNumbers, movingOf, sumSquared, violationOf}
+use Rattle.run.specs.Run.{Outcome, Leaves, Bounded, Underway, finish, refuse, question, curvatureOf, standingAt, landedAt, rowsAt, linearOf, shrunk, reachOf, filterWith, standingOn, moves, landing, iterate, notLower, take, takenAs, takenWith, wasTaken, decide, judge, correct, landTrial, keep, keptBy, landCorrection, landedNearer, started, answered, answeredNone}
+use Rattle.run.specs.declared.state.Kind.{Kind}
+use Rattle.run.specs.declared.state.Kind.the-variants as kind
+use Rattle.run.specs.declared.state.Out.{Out}
+use Rattle.run.specs.declared.state.Phase.the-variants.{Open}
+use Rattle.run.specs.declared.state.State.{State}
+use Rattle.run.specs.declared.state.Stop.the-variants as stop
+use Rattle.run.proofs.CheckLaws.{both}
+use Rattle.run.proofs.LeaveLaws.{or-next, or-refused, when, unless}
+
+-- ---- a step taken
+
+-- the landed point stands, with the curvature b
+abbrev pub stands : State → Memory → Scalar → Scalar → Scalar → Scalar → List Float → Outcome
+stands st w theta length mu radius b = iterate (standingOn st length mu radius) (withTaken w b (filterWith (w .filter) (st .counts .iterations) (sumSquared (standingAt st w .sum)) theta))
+
+module _ (st : State) (w : Memory) (theta length : Scalar) {o : Out} {a : List Float} where
+  pub take-told : {linear : Bool} → linearOf st w theta ≡ ok linear → Leaves (takenAs st w theta length linear) o a → Leaves (take st w theta length) o a
+  unfolding take
+  take-told e l = or-next st w (λ linear. takenAs st w theta length linear) e l
+
+  pub take-refused : {k : ℕ} → linearOf st w theta ≡ refused k → Leaves (refuse st w k) o a → Leaves (take st w theta length) o a
+  unfolding take
+  take-refused e l = or-refused st w (λ linear. takenAs st w theta length linear) e l
+
+  module _ (linear : Bool) where
+    pub third-told : {third mu radius : Scalar} → divOf (st .search .mu) (degenerate three64) ≡ ok third → mu ≡ shrunk (st .search .mu) third → radius ≡ reachOf length (st .search .radius) (st .«max_step») linear
+        → Leaves (takenWith st w theta length mu radius) o a → Leaves (takenAs st w theta length linear) o a
+    third-told {third} {mu} {radius} e m r l =
+        or-next st w (λ q. takenWith st w theta length (shrunk (st .search .mu) q) (reachOf length (st .search .radius) (st .«max_step») linear)) e
+        (subst (λ (x : Scalar). Leaves (takenWith st w theta length x (reachOf length (st .search .radius) (st .«max_step») linear)) o a) m (subst (λ (y : Scalar). Leaves (takenWith st w theta length mu y) o a) r l))
+
+    pub third-refused : {k : ℕ} → divOf (st .search .mu) (degenerate three64) ≡ refused k → Leaves (refuse st w k) o a → Leaves (takenAs st w theta length linear) o a
+    third-refused e l = or-refused st w (λ q. takenWith st w theta length (shrunk (st .search .mu) q) (reachOf length (st .search .radius) (st .«max_step») linear)) e l
+
+  module _ (mu radius : Scalar) where
+    pub learned-told : {b : List Float} → updateCurvature (st .sizes .n) (curvatureOf st w) (w .step) (standingAt st w) (landedAt st w) (w .multipliers) ≡ ok b → Leaves (stands st w theta length mu radius b) o a → Leaves (takenWith st w theta length mu radius) o a
+    learned-told e l = or-next st w (stands st w theta length mu radius) e l
+
+    pub learned-refused : {k : ℕ} → updateCurvature (st .sizes .n) (curvatureOf st w) (w .step) (standingAt st w) (landedAt st w) (w .multipliers) ≡ refused k → Leaves (refuse st w k) o a
+        → Leaves (takenWith st w theta length mu radius) o a
+    learned-refused e l = or-refused st w (stands st w theta length mu radius) e l
+
+    pub stands-on : (b : List Float) {t : State} {f : Scalar} {c : List Float} → t ≡ standingOn st length mu radius → f ≡ sumSquared (standingAt st w .sum) → Holds (withTaken w b (filterWith (w .filter) (st .counts .iterations) f theta)) c
+        → ((v : Memory) → Holds v c → Leaves (iterate t v) o a) → Leaves (stands st w theta length mu radius b) o a
+    stands-on b {t} {f} {c} e q h l =
+        subst (λ (x : State). Leaves (iterate x (withTaken w b (filterWith (w .filter) (st .counts .iterations) (sumSquared (standingAt st w .sum)) theta))) o a) e
+        (l (withTaken w b (filterWith (w .filter) (st .counts .iterations) (sumSquared (standingAt st w .sum)) theta)) (subst (λ (x : Scalar). Holds (withTaken w b (filterWith (w .filter) (st .counts .iterations) x theta)) c) q h))
+
+-- ---- the judgement
+
+abbrev taken-or : State → Memory → Scalar → Judged → Outcome
+taken-or st w theta j = pick (j .lower || (st .search .first && j .undecided && j .contracting)) (take st w theta (j .length)) (notLower st w)
+
+-- a shift by the moving marks
+shift-is : (st : State) (w : Memory) {m : List Bool} {r : Res Shift} → m ≡ st .moving → r ≡ shiftFrom m (landedAt st w .constraints) (w .landed) → shiftFrom (st .moving) (landedAt st w .constraints) (w .landed) ≡ r
+shift-is st w em er = sym (er ∙ ap (λ (x : List Bool). shiftFrom x (landedAt st w .constraints) (w .landed)) em)
+
+shift-of : (st : State) (w : Memory) {m : List Bool} {r : Res (List Float)} → m ≡ st .moving → r ≡ shiftOf m (landedAt st w .constraints) → shiftOf (st .moving) (landedAt st w .constraints) ≡ r
+shift-of st w em er = sym (er ∙ ap (λ (x : List Bool). shiftOf x (landedAt st w .constraints)) em)
+
+module _ (st : State) (w : Memory) (theta : Scalar) {o : Out} {a : List Float} where
+  pub judge-told : {j : Judged} → judgeOf (st .sizes .n) (standingAt st w) (landedAt st w) theta (w .filter) (st .counts .iterations) (st .last) (w .step) ≡ ok j → Leaves (decide st w theta j) o a → Leaves (judge st w theta) o a
+  unfolding judge
+  judge-told e l = or-next st w (λ j. decide st w theta j) e l
+
+  pub judge-refused : {k : ℕ} → judgeOf (st .sizes .n) (standingAt st w) (landedAt st w) theta (w .filter) (st .counts .iterations) (st .last) (w .step) ≡ refused k → Leaves (refuse st w k) o a → Leaves (judge st w theta) o a
+  unfolding judge
+  judge-refused e l = or-refused st w (λ j. decide st w theta j) e l
+
+  module _ (j : Judged) {s : Bool} (es : s ≡ (st .search .first && j .undecided && wasTaken (st .last) && not (j .contracting))) where
+    pub decide-stuck : s ≡ true → Leaves (finish st w stop.Undecided) o a → Leaves (decide st w theta j) o a
+    unfolding decide
+    decide-stuck e l = when (finish st w stop.Undecided) (taken-or st w theta j) (sym es ∙ e) l
+
+    module _ (f : s ≡ false) {b : Bool} (eb : b ≡ (j .lower || (st .search .first && j .undecided && j .contracting))) where
+      pub decide-better : b ≡ true → Leaves (take st w theta (j .length)) o a → Leaves (decide st w theta j) o a
+      unfolding decide
+      decide-better e l = unless (finish st w stop.Undecided) (taken-or st w theta j) (sym es ∙ f) (when (take st w theta (j .length)) (notLower st w) (sym eb ∙ e) l)
+
+      pub decide-not : b ≡ false → Leaves (notLower st w) o a → Leaves (decide st w theta j) o a
+      unfolding decide
+      decide-not e l = unless (finish st w stop.Undecided) (taken-or st w theta j) (sym es ∙ f) (unless (take st w theta (j .length)) (notLower st w) (sym eb ∙ e) l)
+
+  -- ---- corrections
+
+  module _ {m : List Bool} {r : Res Shift} (em : m ≡ st .moving) (er : r ≡ shiftFrom m (landedAt st w .constraints) (w .landed)) where
+    pub correct-asks : {next : List Float} → r ≡ ok (to next) → Leaves (question st (withAsked w next) kind.Correction (st .counts .corrections)) o a → Leaves (correct st w theta) o a
+    unfolding correct
+    correct-asks e l = rw (shift-is st w em er ∙ e) l
+
+    pub correct-stays : r ≡ ok stay → Leaves (judge st w theta) o a → Leaves (correct st w theta) o a
+    unfolding correct
+    correct-stays e l = rw (shift-is st w em er ∙ e) l
+
+    pub correct-refused : {k : ℕ} → r ≡ refused k → Leaves (refuse st w k) o a → Leaves (correct st w theta) o a
+    unfolding correct
+    correct-refused e l = rw (shift-is st w em er ∙ e) l
+
+abbrev pub landed-with : Memory → List Float → Memory
+landed-with w rows = withLanded w rows (w .step)
+
+abbrev rose-or : State → Memory → Scalar → Scalar → Outcome
+rose-or st v theta new = pick (definitelyGreater new theta) (correct st v theta) (judge st v theta)
+
+abbrev nearer-or : State → Memory → List Float → Scalar → Scalar → Scalar → Outcome
+nearer-or st w rows theta new old = pick (definitelyLess new old) (keep st w rows theta) (judge st w theta)
+
+module _ (st : State) (w : Memory) (rows : List Float) (theta : Scalar) {o : Out} {a : List Float} where
+  -- a trial's
+  module _ {t : State} (et : t ≡ landing st 0) where
+    pub trial-told : {new : Scalar} {b : Bool} → violationOf (landedAt st (landed-with w rows) .constraints) ≡ ok new → b ≡ definitelyGreater new theta
+        → Leaves (pick b (correct t (landed-with w rows) theta) (judge t (landed-with w rows) theta)) o a → Leaves (landTrial st w rows theta) o a
+    unfolding landTrial
+    trial-told {new} {b} e eb l =
+        or-next (landing st 0) (landed-with w rows) (λ x. rose-or (landing st 0) (landed-with w rows) theta x) e
+        (subst (λ (x : State). Leaves (rose-or x (landed-with w rows) theta new) o a) et (subst (λ (x : Bool). Leaves (pick x (correct t (landed-with w rows) theta) (judge t (landed-with w rows) theta)) o a) eb l))
+
+    pub trial-refused : {k : ℕ} → violationOf (landedAt st (landed-with w rows) .constraints) ≡ refused k → Leaves (refuse t (landed-with w rows) k) o a → Leaves (landTrial st w rows theta) o a
+    unfolding landTrial
+    trial-refused {k} e l = or-refused (landing st 0) (landed-with w rows) (λ x. rose-or (landing st 0) (landed-with w rows) theta x) e (subst (λ (x : State). Leaves (refuse x (landed-with w rows) k) o a) et l)
+
+  -- a correction's
+  module _ {m : List Bool} {r : Res (List Float)} (em : m ≡ st .moving) (er : r ≡ shiftOf m (landedAt st w .constraints)) where
+    pub keep-told : {d : List Float} → r ≡ ok d → Leaves (keptBy st w rows theta d) o a → Leaves (keep st w rows theta) o a
+    unfolding keep
+    keep-told e l = or-next st w (λ d. keptBy st w rows theta d) (shift-of st w em er ∙ e) l
+
+    pub keep-refused : {k : ℕ} → r ≡ refused k → Leaves (refuse st w k) o a → Leaves (keep st w rows theta) o a
+    unfolding keep
+    keep-refused e l = or-refused st w (λ d. keptBy st w rows theta d) (shift-of st w em er ∙ e) l
+
+  module _ (new : Scalar) where
+    pub nearer-kept : {old : Scalar} {b : Bool} → violationOf (landedAt st w .constraints) ≡ ok old → b ≡ definitelyLess new old → b ≡ true → Leaves (keep st w rows theta) o a → Leaves (landedNearer st w rows theta new) o a
+    nearer-kept e eb t l = or-next st w (nearer-or st w rows theta new) e (when (keep st w rows theta) (judge st w theta) (sym eb ∙ t) l)
+
+    pub nearer-not : {old : Scalar} {b : Bool} → violationOf (landedAt st w .constraints) ≡ ok old → b ≡ definitelyLess new old → b ≡ false → Leaves (judge st w theta) o a → Leaves (landedNearer st w rows theta new) o a
+    nearer-not e eb t l = or-next st w (nearer-or st w rows theta new) e (unless (keep st w rows theta) (judge st w theta) (sym eb ∙ t) l)
+
+    pub nearer-refused : {k : ℕ} → violationOf (landedAt st w .constraints) ≡ refused k → Leaves (refuse st w k) o a → Leaves (landedNearer st w rows theta new) o a
+    nearer-refused e l = or-refused st w (nearer-or st w rows theta new) e l
+
+  pub correction-told : {new : Scalar} → violationOf (rowsAt st rows .constraints) ≡ ok new → Leaves (landedNearer st w rows theta new) o a → Leaves (landCorrection st w rows theta) o a
+  unfolding landCorrection
+  correction-told e l = or-next st w (λ new. landedNearer st w rows theta new) e l
+
+  pub correction-refused : {k : ℕ} → violationOf (rowsAt st rows .constraints) ≡ refused k → Leaves (refuse st w k) o a → Leaves (landCorrection st w rows theta) o a
+  unfolding landCorrection
+  correction-refused e l = or-refused st w (λ new. landedNearer st w rows theta new) e l
+
+-- fewer than four, or four at least
+turned-about : {A : Type 0} (n : ℕ) (x y : A) → pick (ltb n 4) x y ≡ pick (leb 4 n) y x
+turned-about {A} n x y = go (ltb n 4) refl
+  where
+    go : (b : Bool) → ltb n 4 ≡ b → pick (ltb n 4) x y ≡ pick (leb 4 n) y x
+    go true e = rw (e, lt-leb 4 n (ltb-true n 4 e))
+    go false e = rw (e, le-leb 4 n (ltb-false n 4 e))
+
+pub kept-told : (st : State) (w : Memory) (rows : List Float) (theta : Scalar) (d : List Float) {t : State} {o : Out} {a : List Float} → t ≡ landing st (st .counts .corrections + 1)
+    → Leaves (pick (ltb (st .counts .corrections + 1) 4) (correct t (withLanded w rows (shiftedStep (st .sizes .n) (w .step) d)) theta) (judge t (withLanded w rows (shiftedStep (st .sizes .n) (w .step) d)) theta)) o a
+    → Leaves (keptBy st w rows theta d) o a
+kept-told st w rows theta d {t} {o} {a} e l =
+    let v : Memory = withLanded w rows (shiftedStep (st .sizes .n) (w .step) d) in
+    let u : State = landing st (st .counts .corrections + 1) in
+    subst (λ (x : Outcome). Leaves x o a) (turned-about (st .counts .corrections + 1) (correct u v theta) (judge u v theta))
+    (subst (λ (x : State). Leaves (pick (ltb (st .counts .corrections + 1) 4) (correct x v theta) (judge x v theta)) o a) e l)
+
+-- ---- an accepted answer
+
+pub started-told : (st : State) (w : Memory) (rows : List Float) {t : State} {m : List Bool} {o : Out} {a : List Float} → t ≡ moves st m → m ≡ movingOf (st .sizes .n) (rowsAt st rows) → Leaves (iterate t (withStart w rows)) o a
+    → Leaves (started st w rows) o a
+unfolding started
+started-told st w rows {t} {m} {o} {a} e q l = subst (λ (x : State). Leaves (iterate x (withStart w rows)) o a) (e ∙ ap (λ (x : List Bool). moves st x) q) l
+
+pub moved-on : {st : State} (m : List Bool) → Bounded 1073741824 st → Bounded 2147483648 (moves st m)
+moved-on m b = record {
+  few-variables = b .few-variables;
+  few-constraints = b .few-constraints;
+  few-sums = b .few-sums;
+  few-iterations = b .few-iterations;
+  within = b .within;
+  few-corrections = b .few-corrections;
+  few-questions = b .few-questions;
+  few-turned = omega (arith, b .few-turned);
+  damping = b .damping;
+}
+
+module _ {st : State} (b : Bounded 1073741824 st) where
+  pub trial-underway : {k : Kind} → k ≡ kind.Trial → phaseFits st (Open k) ≡ true → Underway st
+  trial-underway e f = let g : phaseFits st (Open kind.Trial) ≡ true = subst (λ (x : Kind). phaseFits st (Open x) ≡ true) e f in record { bounded = b; below = ltb-true _ _ (both (ltb (st .counts .iterations) (st .sizes .limit)) _ g .0) }
+
+  pub correction-underway : {k : Kind} → k ≡ kind.Correction → phaseFits st (Open k) ≡ true → Underway st
+  correction-underway e f = let g : phaseFits st (Open kind.Correction) ≡ true = subst (λ (x : Kind). phaseFits st (Open x) ≡ true) e f in record { bounded = b; below = ltb-true _ _ (both (ltb (st .counts .iterations) (st .sizes .limit)) _ g .0) }
+
+  pub rows-few : rowNumbers (st .sizes .n) (st .sizes .m) (st .sizes .s) ≤ 936
+  rows-few =
+      let h : st .sizes .m + st .sizes .s ≤ 36 = omega (arith, b .few-constraints, b .few-sums) in
+      let k : st .sizes .n + 1 ≤ 13 = omega (arith, b .few-variables) in
+      omega (arith, mul-le-mul {n₁ = st .sizes .m + st .sizes .s} {m₁ = st .sizes .n + 1} {n₂ = 36} {m₂ = 13} h k)
+
+pub rows-enough : (n m s : ℕ) → 2 * m ≤ rowNumbers n m s
+rows-enough n m s =
+    let h : m + s ≤ m + s = omega arith in
+    let k : 1 ≤ n + 1 = omega arith in
+    omega (arith, mul-le-mul {n₁ = m + s} {m₁ = 1} {n₂ = m + s} {m₂ = n + 1} h k)
+
+module _ (st : State) (w : Memory) {k k′ : Kind} {o : Out} {a : List Float} (e : k ≡ k′) where
+  pub answered-as : (rows : List Float) → Leaves (answered k′ st w rows) o a → Leaves (answered k st w rows) o a
+  answered-as rows l = subst (λ (x : Kind). Leaves (answered x st w rows) o a) (sym e) l
+
+  pub none-as : Leaves (answeredNone k′ st w) o a → Leaves (answeredNone k st w) o a
+  none-as l = subst (λ (x : Kind). Leaves (answeredNone x st w) o a) (sym e) l

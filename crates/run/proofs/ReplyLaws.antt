@@ -1,0 +1,38 @@
+-- A reply from its parts: what the program leaves as the definition's record, and the bounds that an accepted reply may rely on.
+use Prim.Native.Nat.{ℕ, _+_, _*_, _<_, _≤_}
+use mathlib.Core.Bool.{true}
+use mathlib.Core.List.{List}
+use mathlib.Core.Path.{_≡_, refl, sym, ap, _∙_}
+use native.Mathlib.Omega.{arith}
+use lib.Ieee.{Float}
+use Rattle.run.specs.Area.{areaOf}
+use Rattle.run.specs.Run.{Outcome, Leaves, Bounded}
+use Rattle.run.specs.Calls.{valid, phaseFits, leftOf, leftBy}
+use Rattle.run.specs.declared.state.Kind.{Kind}
+use Rattle.run.specs.declared.state.Out.{Out}
+use Rattle.run.specs.declared.state.Phase.the-variants.{Open}
+use Rattle.run.specs.declared.state.State.{State}
+use Rattle.run.proofs.CheckLaws.{bounds, open-mu}
+
+pub leaves-left : (o : Outcome) (r : Out) (a : List Float) → Leaves o r a → leftOf r a ≡ leftBy o
+leaves-left o r a h = rw (h .state-is, h .answer-is, h .held .is)
+
+module _ (st : State) (k : Kind) (v : valid st ≡ true) (p : st .phase ≡ Open k) where
+  pub reply-phase : phaseFits st (Open k) ≡ true
+  reply-phase = ap (phaseFits st) (sym p) ∙ bounds st v .phase
+
+  pub reply-bounded : Bounded 1073741824 st
+  reply-bounded =
+      let b = bounds st v in
+      let z = b .sizes in
+      record {
+        few-variables = z .n;
+        few-constraints = z .m;
+        few-sums = z .s;
+        few-iterations = z .limit;
+        within = b .iterations;
+        few-corrections = omega (arith, b .corrections);
+        few-questions = omega (arith, b .question, z .limit);
+        few-turned = omega (arith, b .turnedDown, b .iterations, z .limit);
+        damping = open-mu st k v p;
+      }

@@ -1,0 +1,72 @@
+-- `judge_slots` meets its contract: each part of the area is its slot.
+use native.Mathlib.Omega.{arith}
+use Rattle.run.proofs.LeaveLaws.{cut-length}
+use Rattle.run.proofs.ReadLaws.{judged-is}
+use borrow.Author.Needs.{needs}
+use Rattle.run.proofs.judging.judge_slots.Statement.{statement}
+use Rattle.run.proofs.judging.judge_slots.Tie as tie
+
+sub-judge : tie.Need-sub-judge
+sub-judge c = search needs
+
+part-judge-start : tie.Need-part-judge-start
+part-judge-start c = search needs
+
+part-judge-end : tie.Need-part-judge-end
+part-judge-end c = search needs
+
+sub-judge-2 : tie.Need-sub-judge-2
+sub-judge-2 c = search needs
+
+part-judge-start-2 : tie.Need-part-judge-start-2
+part-judge-start-2 c = search needs
+
+part-judge-end-2 : tie.Need-part-judge-end-2
+part-judge-end-2 c = search needs
+
+sub-judge-3 : tie.Need-sub-judge-3
+sub-judge-3 c = search needs
+
+part-judge-start-3 : tie.Need-part-judge-start-3
+part-judge-start-3 c = search needs
+
+part-judge-end-3 : tie.Need-part-judge-end-3
+part-judge-end-3 c = search needs
+
+sub-judge-4 : tie.Need-sub-judge-4
+sub-judge-4 c = search needs
+
+part-judge-start-4 : tie.Need-part-judge-start-4
+part-judge-start-4 c = search needs
+
+part-judge-end-4 : tie.Need-part-judge-end-4
+part-judge-end-4 c = search needs
+
+judge-requires : tie.Need-judge-requires
+judge-requires c κs =
+    let p = c .before .before .before .before .before .pre in
+    let a = c .before .before .before .before .before .args .area .now in
+    let long = cut-length 936 1008 a (omega (arith, p .1 .1 .1 .1)) in
+    (p .0, (p .1 .0, (p .1 .1 .0, (omega (arith, long, p .1 .0), (p .1 .1 .1 .0, cut-length 24 1944 a (omega (arith, p .1 .1 .1 .1)))))))
+
+returns : tie.Need-returns
+returns c w h = let a = c .before .before .before .before .before .before .args in judged-is (a .n) (a .m) (a .s) (a .theta) (a .count) (a .last) h (c .judge .ensures)
+
+pub judge-slots-spec : {M : Type 1} → statement M
+judge-slots-spec =
+    tie.close
+    (tie.spec
+    sub-judge
+    part-judge-start
+    part-judge-end
+    sub-judge-2
+    part-judge-start-2
+    part-judge-end-2
+    sub-judge-3
+    part-judge-start-3
+    part-judge-end-3
+    sub-judge-4
+    part-judge-start-4
+    part-judge-end-4
+    judge-requires
+    returns)

@@ -1,0 +1,34 @@
+-- `standing_violation` meets its contract: the part of the area is the slot.
+use mathlib.Core.Path.{ap, _∙_}
+use mathlib.Core.List.{List}
+use lib.Ieee.{Float}
+use Rattle.run.specs.Rows.{constraintsOf, violationOf}
+use Rattle.run.proofs.LeaveLaws.{standing-rows-read}
+use borrow.Author.Needs.{needs}
+use Rattle.run.proofs.landing.standing_violation.Statement.{statement}
+use Rattle.run.proofs.landing.standing_violation.Tie as tie
+
+sub-violation : tie.Need-sub-violation
+sub-violation c = search needs
+
+part-violation-start : tie.Need-part-violation-start
+part-violation-start c = search needs
+
+part-violation-end : tie.Need-part-violation-end
+part-violation-end c = search needs
+
+violation-requires : tie.Need-violation-requires
+violation-requires c κs = search needs
+
+returns : tie.Need-returns
+returns c w h = let a = c .before .before .before .args in c .violation .ensures ∙ ap (λ (l : List Float). violationOf (constraintsOf (a .n) (a .m) l)) (standing-rows-read h)
+
+pub standing-violation-spec : {M : Type 1} → statement M
+standing-violation-spec =
+    tie.close
+    (tie.spec
+    sub-violation
+    part-violation-start
+    part-violation-end
+    violation-requires
+    returns)

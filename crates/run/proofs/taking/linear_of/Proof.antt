@@ -1,0 +1,54 @@
+-- `linear_of` meets its contract: asked only where there was a violation.
+use mathlib.Core.Path.{sym, ap, _∙_}
+use lib.Ieee.{ofBits}
+use Rattle.interval.specs.Result.{ok}
+use Rattle.linear.specs.Answers.{resultOf}
+use Rattle.run.proofs.LeaveLaws.{pick-no}
+use Rattle.run.proofs.ReadLaws.{linear-told, linear-refused}
+use borrow.Author.Needs.{needs}
+use Rattle.run.proofs.taking.linear_of.Statement.{statement}
+use Rattle.run.proofs.taking.linear_of.Tie as tie
+
+definitely-greater-requires : tie.Need-definitely-greater-requires
+definitely-greater-requires c κs = search needs
+
+landed-violation-requires : tie.Need-landed-violation-requires
+landed-violation-requires c κs = search needs
+
+enum-known-new : tie.Need-enum-known-new
+enum-known-new c = search needs
+
+held-requires : tie.Need-held-requires
+held-requires c κs = search needs
+
+enum-known-e : tie.Need-enum-known-e
+enum-known-e c = search needs
+
+returns : tie.Need-returns
+unfolding ofBits
+returns c w h =
+    let a = c .before .before .before .before .before .before .before .before .args in
+    ap ok (c .held .ensures) ∙ linear-told (a .st) w (a .theta) (c .before .before .before .before .landed-violation .ensures w h) (sym (c .before .before .before .before .before .before .definitely-greater .ensures) ∙ c .before .before .before .before .before .if1 .taken) (ap resultOf (c .before .before .new .given .1))
+
+returns-2 : tie.Need-returns-2
+unfolding ofBits
+returns-2 c w h =
+    let a = c .before .before .before .before .before .before .before .args in
+    linear-refused (a .st) w (a .theta) (c .before .before .before .landed-violation .ensures w h) (sym (c .before .before .before .before .before .definitely-greater .ensures) ∙ c .before .before .before .before .if1 .taken) (ap resultOf (c .before .e .given .1))
+
+returns-3 : tie.Need-returns-3
+unfolding ofBits
+returns-3 c w h = sym (pick-no _ _ (sym (c .before .definitely-greater .ensures) ∙ c .if1 .left))
+
+pub linear-of-spec : {M : Type 1} → statement M
+linear-of-spec =
+    tie.close
+    (tie.spec
+    definitely-greater-requires
+    landed-violation-requires
+    enum-known-new
+    held-requires
+    enum-known-e
+    returns
+    returns-2
+    returns-3)

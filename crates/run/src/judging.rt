@@ -1,0 +1,119 @@
+// The judgement of the landed point, and what follows it.
+ghost use mathlib.Core.Bool.{not, _&&_, _||_};
+ghost use mathlib.Core.Path.{_≡_};
+ghost use Prim.Native.Nat.{_<_, _≤_};
+ghost use lib.ListN.{length};
+ghost use Rattle.run.specs.Area.{Memory, Holds};
+ghost use Rattle.run.specs.Judgement.{judgeOf, judgementOf};
+ghost use Rattle.run.specs.Rows.{evaluationOf};
+ghost use Rattle.run.specs.Run.{Leaves, Underway, wasTaken, decide, judge};
+use crate::area;
+use crate::endings::finish;
+use crate::endings::refuse;
+use crate::judged::Judged;
+use crate::judged::Judgement;
+use crate::judged::judge;
+use crate::state::Last;
+use crate::state::Out;
+use crate::state::State;
+use crate::state::Stop;
+use crate::taking::take;
+use crate::turns::not_lower;
+use interval::Scalar;
+
+fn was_taken(last: Last) -> bool
+    ensures { λ r. ⌜ r ≡ wasTaken last ⌝ }
+{
+    match last {
+        Last::NoneYet => false,
+        Last::Taken(_) => true,
+    }
+}
+
+// Whether a first proposal is undecided after a step taken, and does not contract.
+fn is_stuck(first: bool, last: Last, j: Judged) -> bool
+    ensures { λ r. ⌜ r ≡ (first && j .undecided && wasTaken last && not (j .contracting)) ⌝ }
+{
+    if !first {
+        return false;
+    }
+    if !j.undecided {
+        return false;
+    }
+    if !was_taken(last) {
+        return false;
+    }
+    !j.contracting
+}
+
+// Whether the step is lower, or a first proposal that is undecided and contracts.
+fn is_better(first: bool, j: Judged) -> bool
+    ensures { λ r. ⌜ r ≡ (j .lower || (first && j .undecided && j .contracting)) ⌝ }
+{
+    if j.lower {
+        return true;
+    }
+    if !first {
+        return false;
+    }
+    if !j.undecided {
+        return false;
+    }
+    j.contracting
+}
+
+// What follows a judgement, from a standing point with violation theta.
+fn decide(st: State, area: &mut [f64], theta: Scalar, j: Judged) -> Out
+    requires { ⌜ (length (now area) ≡ 8000) × Underway st ⌝ }
+    ensures { λ r. ⌜ ((w : Memory) → Holds w (now (area .entry)) → Leaves (decide st w theta j) r (now (area .exit))) ⌝ }
+{
+    let first = st.search.first;
+    let last = st.last;
+    if is_stuck(first, last, j) {
+        return finish(st, area, Stop::Undecided);
+    }
+    if is_better(first, j) {
+        return take(st, area, theta, j.length);
+    }
+    not_lower(st, area)
+}
+
+// How the step fares where it landed, from the slots.
+fn judge_slots(
+    n: usize,
+    m: usize,
+    s: usize,
+    area: &[f64],
+    theta: Scalar,
+    count: usize,
+    last: Last,
+) -> Judgement
+    requires { ⌜ (n ≤ 12) × ((m ≤ 12) × ((s ≤ 24) × ((count < 65536) × (length (now area) ≡ 8000)))) ⌝ }
+    ensures { λ r. ⌜ ((w : Memory) → Holds w (now (area .entry)) → judgementOf r ≡ judgeOf n (evaluationOf n m s (w .standingRows)) (evaluationOf n m s (w .landedRows)) theta (w .filter) count last (w .step)) ⌝ }
+{
+    judge(
+        n,
+        m,
+        s,
+        &area[area::STANDING_ROWS..area::LANDED_ROWS],
+        &area[area::LANDED_ROWS..area::STEP],
+        theta,
+        &area[area::FILTER..area::SPARE],
+        count,
+        last,
+        &area[area::STEP..area::MULTIPLIERS],
+    )
+}
+
+// The landed point is judged, from a standing point with violation theta.
+pub fn judge_landed(st: State, area: &mut [f64], theta: Scalar) -> Out
+    requires { ⌜ (length (now area) ≡ 8000) × Underway st ⌝ }
+    ensures { λ r. ⌜ ((w : Memory) → Holds w (now (area .entry)) → Leaves (judge st w theta) r (now (area .exit))) ⌝ }
+{
+    let z = st.sizes;
+    let last = st.last;
+    match judge_slots(z.n, z.m, z.s, area, theta, st.counts.iterations, last) {
+        Judgement::Of(j) => decide(st, area, theta, j),
+        Judgement::Refused(e) => refuse(st, area, e),
+    }
+}

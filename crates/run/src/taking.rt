@@ -1,0 +1,208 @@
+// A step taken: the damping, the radius and the curvature after it.
+ghost use mathlib.Core.Bool.{true};
+ghost use mathlib.Core.Path.{_≡_};
+ghost use Prim.Native.Nat.{_≤_};
+ghost use lib.ListN.{length};
+ghost use Rattle.interval.specs.Scalar.{pick};
+ghost use Rattle.interval.specs.Scaling.{isPositive};
+ghost use Rattle.linear.specs.Answers.{resultOf, doneOf};
+ghost use Rattle.linear.specs.Flat.{zeros};
+ghost use Rattle.run.specs.Area.{Memory, Holds, withTaken};
+ghost use Rattle.run.specs.Curvature.{updateCurvature};
+ghost use Rattle.run.specs.Rows.{constraintsOf, sumOf, evaluationOf, sumSquared, violationOf};
+ghost use Rattle.run.specs.Run.{Leaves, Underway, held, linearOf, linearResult, shrunk, reachOf, filterWith, standingOn, standingAt, iterate, take, takenWith, takenAs};
+use crate::area;
+use crate::curvature::update_curvature;
+use crate::endings::refuse;
+use crate::rows;
+use crate::state::Out;
+use crate::state::State;
+use crate::states::standing_on;
+use crate::turns::iterate;
+use interval::Scalar;
+use interval::ScalarResult;
+use linear::Answer;
+use linear::Done;
+use linear::LinearError;
+use linear::clear;
+
+// Whether the constraints came as near as their linearization said.
+pub enum Linear {
+    Told(bool),
+    Refused(LinearError),
+}
+
+// Whether the violation fell by three quarters of the drop that was predicted, at least.
+fn held(old: Scalar, predicted: Scalar, new: Scalar) -> bool
+    ensures { λ r. ⌜ r ≡ held old predicted new ⌝ }
+{
+    let fell = old.sub(new).mul(Scalar::degenerate(4.0));
+    fell.definitely_greater(old.sub(predicted).mul(Scalar::degenerate(3.0)))
+}
+
+// The violation of the landed point.
+pub fn landed_violation(n: usize, m: usize, area: &[f64]) -> Answer
+    requires { ⌜ (m ≤ 12) × (length (now area) ≡ 8000) ⌝ }
+    ensures { λ r. ⌜ ((w : Memory) → Holds w (now (area .entry)) → resultOf r ≡ violationOf (constraintsOf n m (w .landedRows))) ⌝ }
+{
+    rows::violation(&area[area::LANDED_ROWS..area::STEP], n, m)
+}
+
+// f of the standing point.
+fn standing_sum(n: usize, m: usize, s: usize, area: &[f64]) -> Scalar
+    requires { ⌜ (n ≤ 12) × ((m ≤ 12) × ((s ≤ 24) × (length (now area) ≡ 8000))) ⌝ }
+    ensures { λ r. ⌜ ((w : Memory) → Holds w (now (area .entry)) → r ≡ sumSquared (sumOf n m s (w .standingRows))) ⌝ }
+{
+    rows::sum_squared(&area[area::STANDING_ROWS..area::LANDED_ROWS], n, m, s)
+}
+
+// Whether they did; asked only where there was a violation.
+fn linear_of(st: State, area: &[f64], theta: Scalar) -> Linear
+    requires { ⌜ (st .sizes .m ≤ 12) × (length (now area) ≡ 8000) ⌝ }
+    ensures { λ r. ⌜ ((w : Memory) → Holds w (now (area .entry)) → linearResult r ≡ linearOf st w theta) ⌝ }
+{
+    if theta.definitely_greater(Scalar::ZERO) {
+        return match landed_violation(st.sizes.n, st.sizes.m, area) {
+            Answer::Value(new) => Linear::Told(held(theta, st.trial.predicted, new)),
+            Answer::Refused(e) => Linear::Refused(e),
+        };
+    }
+    Linear::Told(false)
+}
+
+// A third of the damping, sharp, where that is positive.
+fn shrunk(mu: Scalar, third: Scalar) -> Scalar
+    ensures { λ r. ⌜ r ≡ shrunk mu third ⌝ }
+{
+    let q = third.sharpen();
+    if q.definitely_greater(Scalar::ZERO) {
+        return q;
+    }
+    mu
+}
+
+// The radius after a step of that length.
+fn reach(length: Scalar, radius: Scalar, max: Scalar, linear: bool) -> Scalar
+    ensures { λ r. ⌜ r ≡ reachOf length radius max linear ⌝ }
+{
+    let reach = Scalar::TWO.mul(length);
+    if !reach.definitely_greater(radius) {
+        return radius;
+    }
+    if linear {
+        return reach.upper();
+    }
+    if reach.definitely_less(max) {
+        return reach.upper();
+    }
+    max
+}
+
+// The curvature that a proposal goes by: none in plain.
+fn curvature_of(plain: bool, area: &[f64], b: &mut [f64])
+    requires { ⌜ (length (now area) ≡ 8000) × (length (now b) ≡ 288) ⌝ }
+    ensures { λ _. ⌜ ((w : Memory) → Holds w (now (area .entry)) → now (b .exit) ≡ pick plain (zeros 288) (w .curvature)) ⌝ }
+{
+    if plain {
+        clear(b);
+    } else {
+        area::place(b, 0, &area[area::CURVATURE..area::FILTER]);
+    }
+}
+
+// The curvature after the step, into b.
+fn learn(n: usize, m: usize, s: usize, plain: bool, area: &[f64], b: &mut [f64]) -> Done
+    requires { ⌜ (n ≤ 12) × ((m ≤ 12) × ((s ≤ 24) × ((length (now area) ≡ 8000) × (length (now b) ≡ 288)))) ⌝ }
+    ensures { λ r. ⌜ ((w : Memory) → Holds w (now (area .entry)) → doneOf r (now (b .exit)) ≡ updateCurvature n (pick plain (zeros 288) (w .curvature)) (w .step) (evaluationOf n m s (w .standingRows)) (evaluationOf n m s (w .landedRows)) (w .multipliers)) ⌝ }
+{
+    curvature_of(plain, area, b);
+    update_curvature(
+        n,
+        m,
+        s,
+        b,
+        &area[area::STEP..area::MULTIPLIERS],
+        &area[area::STANDING_ROWS..area::LANDED_ROWS],
+        &area[area::LANDED_ROWS..area::STEP],
+        &area[area::MULTIPLIERS..area::CURVATURE],
+    )
+}
+
+// The landed point stands, with the curvature b: the next iteration.
+fn stand(
+    st: State,
+    area: &mut [f64],
+    theta: Scalar,
+    span: Scalar,
+    mu: Scalar,
+    radius: Scalar,
+    b: &[f64],
+) -> Out
+    requires { ⌜ (length (now area) ≡ 8000) × ((length (now b) ≡ 288) × (Underway st × (isPositive mu ≡ true))) ⌝ }
+    ensures { λ r. ⌜ ((w : Memory) → Holds w (now (area .entry)) → Leaves (iterate (standingOn st span mu radius) (withTaken w (now (b .entry)) (filterWith (w .filter) (st .counts .iterations) (sumSquared (standingAt st w .sum)) theta))) r (now (area .exit))) ⌝ }
+{
+    let f = standing_sum(st.sizes.n, st.sizes.m, st.sizes.s, area);
+    area::with_taken(area, b, st.counts.iterations, f, theta);
+    iterate(standing_on(st, span, mu, radius), area)
+}
+
+// The same with the curvature learned from the step, in a scratch slice.
+fn take_in(
+    st: State,
+    area: &mut [f64],
+    theta: Scalar,
+    span: Scalar,
+    mu: Scalar,
+    radius: Scalar,
+    b: &mut [f64],
+) -> Out
+    requires { ⌜ (length (now area) ≡ 8000) × ((length (now b) ≡ 288) × (Underway st × (isPositive mu ≡ true))) ⌝ }
+    ensures { λ r. ⌜ ((w : Memory) → Holds w (now (area .entry)) → Leaves (takenWith st w theta span mu radius) r (now (area .exit))) ⌝ }
+{
+    match learn(st.sizes.n, st.sizes.m, st.sizes.s, st.search.plain, area, b) {
+        Done::Finished => stand(st, area, theta, span, mu, radius, b),
+        Done::Refused(e) => refuse(st, area, e),
+    }
+}
+
+// The same with a slice of its own.
+fn take_with(
+    st: State,
+    area: &mut [f64],
+    theta: Scalar,
+    span: Scalar,
+    mu: Scalar,
+    radius: Scalar,
+) -> Out
+    requires { ⌜ (length (now area) ≡ 8000) × (Underway st × (isPositive mu ≡ true)) ⌝ }
+    ensures { λ r. ⌜ ((w : Memory) → Holds w (now (area .entry)) → Leaves (takenWith st w theta span mu radius) r (now (area .exit))) ⌝ }
+{
+    let mut b = [0.0; 288];
+    take_in(st, area, theta, span, mu, radius, &mut b)
+}
+
+// The step taken, once it is known whether the constraints came as near as they should.
+fn take_as(st: State, area: &mut [f64], theta: Scalar, span: Scalar, linear: bool) -> Out
+    requires { ⌜ (length (now area) ≡ 8000) × Underway st ⌝ }
+    ensures { λ r. ⌜ ((w : Memory) → Holds w (now (area .entry)) → Leaves (takenAs st w theta span linear) r (now (area .exit))) ⌝ }
+{
+    let mu = st.search.mu;
+    match mu.div(Scalar::degenerate(3.0)) {
+        ScalarResult::Value(third) => {
+            let radius = reach(span, st.search.radius, st.max_step, linear);
+            take_with(st, area, theta, span, shrunk(mu, third), radius)
+        }
+        ScalarResult::Refused(e) => refuse(st, area, LinearError::Arithmetic(e)),
+    }
+}
+
+// The step of that length is taken, from a point with violation theta.
+pub fn take(st: State, area: &mut [f64], theta: Scalar, span: Scalar) -> Out
+    requires { ⌜ (length (now area) ≡ 8000) × Underway st ⌝ }
+    ensures { λ r. ⌜ ((w : Memory) → Holds w (now (area .entry)) → Leaves (take st w theta span) r (now (area .exit))) ⌝ }
+{
+    match linear_of(st, area, theta) {
+        Linear::Told(linear) => take_as(st, area, theta, span, linear),
+        Linear::Refused(e) => refuse(st, area, e),
+    }
+}
