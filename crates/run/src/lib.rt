@@ -25,6 +25,7 @@ mod step;
 mod taking;
 mod turns;
 
+pub use calls::begin;
 pub use calls::point;
 pub use checks::valid;
 pub use judged::Judged;
@@ -42,6 +43,8 @@ pub use pieces::step_at;
 pub use pieces::transposed;
 pub use pieces::update_curvature;
 pub use proposal::Expected;
+pub use replies::reply;
+pub use replies::reply_none;
 pub use state::Answer;
 pub use state::Counts;
 pub use state::Kind;
