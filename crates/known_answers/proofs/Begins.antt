@@ -1,0 +1,69 @@
+-- A begin that is accepted leaves the run that `begunOf` gives: its sizes are within the limits, its area has 8,000 numbers, and number 4 does not refuse it.
+use Prim.Native.Nat.{ℕ, _+_, _-_, _*_, _≤_, zero-le}
+use mathlib.Core.Bool.{Bool, true, false, _&&_}
+use mathlib.Core.Path.{_≡_, refl, sym, ap, _∙_}
+use mathlib.Core.List.{List}
+use native.Mathlib.Omega.{arith}
+use borrow.Author.Tests.{eqb-true}
+use lib.Dec.{eqb}
+use lib.Ieee.{Float}
+use lib.ListN.{length, length-append}
+use Rattle.interval.specs.declared.Scalar.{Scalar}
+use Rattle.run.specs.Area.{AREA, POINT, SPARE, Memory, areaOf, begunMemory}
+use Rattle.run.specs.Calls.{Left, unchanged, checks, sizesFit, valid, allInDomain, stepFits, stateWith, noRun, firstMu, beginOf, begunOf}
+use Rattle.run.specs.declared.state.Answer.the-variants as answer
+use Rattle.run.specs.declared.state.Kind.the-variants as kind
+use Rattle.run.specs.declared.state.Phase.the-variants.{Open}
+use Rattle.run.specs.declared.state.Sizes.{Sizes}
+use Rattle.run.specs.declared.state.State.{State}
+use Rattle.run.proofs.AreaSlots.{length-clear, length-padded}
+use Rattle.run.proofs.Booleans.{and-left}
+use Rattle.run.proofs.CheckLaws.{size-bounds}
+use Rattle.run.proofs.Outcomes.{sound-valid}
+use Rattle.run.proofs.Growths.{growth-begin, growth-positive}
+use Rattle.known_answers.specs.KnownAnswers.{Accepted}
+
+-- a check that was passed, where what it gives otherwise is no question
+checked : (P : Left → Type 0) (b : Bool) (k : ℕ) (back : ℕ → Left) (next : Left) → P (back k) → (b ≡ true → P next) → P (checks b k back next)
+checked P true k back next p h = h refl
+checked P false k back next p h = p
+
+abbrev pub begunState : Sizes → Scalar → State
+begunState z max = stateWith z firstMu max (Open kind.Start)
+
+pub record Begins (z : Sizes) (start : List Float) (max : Scalar) (b : Left) : Type 0 where
+  pub is : b ≡ begunOf z start max
+  pub fit : sizesFit z ≡ true
+  pub size : length start ≡ 2 * z .n
+
+pub begins : (z : Sizes) (start : List Float) (max : Scalar) (a : List Float) → Accepted (beginOf z start max a) → Begins z start max (beginOf z start max a)
+unfolding beginOf
+begins z start max a =
+    checked Told (sizesFit z) 1 (unchanged noRun a) _ (not-asked 1)
+    (λ fit.
+    checked Told (eqb (length start) (2 * z .n) && eqb (length a) AREA) 2 (unchanged noRun a) _ (not-asked 2)
+    (λ g.
+    checked Told (allInDomain start (z .n) && stepFits max) 3 (unchanged noRun a) _ (not-asked 3)
+    (λ h q. record { is = refl; fit = fit; size = eqb-true _ _ (and-left (eqb (length start) (2 * z .n)) (eqb (length a) AREA) g) })))
+  where
+    Told : Left → Type 0
+    Told b = Accepted b → Begins z start max b
+
+    not-asked : (k : ℕ) → Told (unchanged noRun a k)
+    not-asked k q = absurd (let z : _≡_ {A = ℕ} 0 1 = cc in omega arith)
+
+-- how many numbers the slots have
+area-length : (w : Memory)
+    → length (areaOf w)
+    ≡ length (w .standing) + (length (w .landed) + (length (w .asked) + (length (w .standingRows) + (length (w .landedRows) + (length (w .step) + (length (w .multipliers) + (length (w .curvature) + (length (w .filter) + SPARE))))))))
+unfolding areaOf
+area-length w = simp (length-append, length-clear)
+
+pub begun-area : (start : List Float) → length start ≤ POINT → length (areaOf (begunMemory start)) ≡ AREA
+begun-area start h =
+    area-length (begunMemory start) ∙ rw (length-padded POINT start h)
+
+pub begun-valid : (z : Sizes) (max : Scalar) → sizesFit z ≡ true → valid (begunState z max) ≡ true
+begun-valid z max fit =
+    sound-valid (begunState z max)
+    (record { sizes-fit = fit; within = zero-le; few-turned = zero-le; few-asked = zero-le; few-corrections = zero-le; phase-fits = growth-positive growth-begin })

@@ -1,0 +1,77 @@
+-- The known answers, by one theorem. P1 to P10 are computed from the definitions; in P10 to P13 an accepted begin leaves the run that `begunOf` gives, and its next call passes every check.
+use Prim.Native.Nat.{ℕ, _+_, _*_, _≤_}
+use mathlib.Core.Bool.{true, false}
+use mathlib.Core.Path.{_≡_, refl, sym, ap, _∙_}
+use mathlib.Core.List.{List, []}
+use native.Mathlib.Omega.{arith}
+use borrow.Author.Tests.{eq-eqb}
+use lib.Ieee.{Float, ofBits, toBits, neg, add, lt, le, eq, div, ofInt, round}
+use lib.ListN.{length}
+use Rattle.interval.specs.declared.Scalar.{Scalar}
+use Rattle.interval.specs.Step.{nextUp}
+use Rattle.interval.specs.Root.{nearestRoot}
+use Rattle.interval.specs.Scalar.{sqrtOf, clamped, fromRatio}
+use Rattle.linear.specs.Choose.{chooseOf}
+use Rattle.run.specs.Rows.{rowNumbers}
+use Rattle.run.specs.Scratch.{allTo}
+use Rattle.run.specs.Area.{AREA, Memory, areaOf, begunMemory, memoryOf}
+use Rattle.run.specs.Run.{started, iterate}
+use Rattle.run.specs.Calls.{Left, allInDomain, firstMu, stateWith, checkOf, checkRowsOf}
+use Rattle.run.specs.declared.checks.Checked.the-variants.{Accept}
+use Rattle.run.specs.declared.state.Answer.the-variants.{Finish}
+use Rattle.run.specs.declared.state.Kind.the-variants as kind
+use Rattle.run.specs.declared.state.Phase.the-variants.{Open}
+use Rattle.run.specs.declared.state.Sizes.{Sizes}
+use Rattle.run.specs.declared.state.Stop.the-variants as stop
+use Rattle.run.proofs.CheckLaws.{size-bounds, none-accepted, rows-accepted}
+use Rattle.known_answers.specs.KnownAnswers.{KnownAnswers, sizes, answerTo, answerToNone}
+use Rattle.known_answers.proofs.Begins.{Begins, begins, begunState, begun-area, begun-valid}
+use Rattle.known_answers.proofs.NoVariables.{started-none}
+
+-- ---- a call to a run that has begun
+
+module _ (z : Sizes) (start : List Float) (max : Scalar) (b : Left) (g : Begins z start max b) where
+  whole : length (areaOf (begunMemory start)) ≡ AREA
+  whole = begun-area start (let n = size-bounds z (g .fit) .n in omega (arith, n, g .size))
+
+  accepted : checkOf (begunState z max) (length (areaOf (begunMemory start))) ≡ Accept kind.Start
+  unfolding checkOf
+  accepted = rw (begun-valid z max (g .fit), whole)
+
+  accepted-rows : (rows : List Float) → length rows ≡ rowNumbers (z .n) (z .m) (z .s) → allInDomain rows ((z .m + z .s) * (z .n + 1)) ≡ true
+      → checkRowsOf (begunState z max) (length (areaOf (begunMemory start))) rows ≡ Accept kind.Start
+  unfolding checkRowsOf
+  accepted-rows rows l d = rw (accepted, eq-eqb _ _ l, d)
+
+  none-answer : answerToNone b ≡ Finish stop.Infeasible 0 0 0
+  none-answer = ap answerToNone (g .is) ∙ ap (λ (o : Left). o .answer) (none-accepted (begunState z max) (areaOf (begunMemory start)) kind.Start accepted)
+
+  rows-answer : (rows : List Float) → length rows ≡ rowNumbers (z .n) (z .m) (z .s) → allInDomain rows ((z .m + z .s) * (z .n + 1)) ≡ true
+      → answerTo b rows ≡ started (begunState z max) (memoryOf (begunState z max) (areaOf (begunMemory start))) rows .answer
+  rows-answer rows l d =
+      ap (λ (o : Left). answerTo o rows) (g .is)
+      ∙ ap (λ (o : Left). o .answer) (rows-accepted (begunState z max) (areaOf (begunMemory start)) rows kind.Start (accepted-rows rows l d))
+
+-- ---- the table
+
+budget : (z : Sizes) (mu max : Scalar) (w : Memory) (rows : List Float) → z .limit ≡ 0 → started (stateWith z mu max (Open kind.Start)) w rows .answer ≡ Finish stop.Budget 0 0 0
+unfolding started iterate
+budget z mu max w rows e = rw e
+
+pub known-answers : KnownAnswers
+unfolding nextUp ofBits toBits neg add nearestRoot sqrtOf clamped chooseOf lt le eq div ofInt round fromRatio allTo
+known-answers = record {
+  p1 = refl;
+  p2 = refl;
+  p3 = refl;
+  p4 = refl;
+  p5 = refl;
+  p6 = refl;
+  p7 = refl;
+  p8 = refl;
+  p9 = (refl, (refl, refl));
+  p10 = (refl, λ z start max a q. ap (λ (b : Left). b .state .search .mu) (begins z start max a q .is));
+  p11 = λ n m s start max a q. none-answer (sizes n m s 0) start max _ (begins (sizes n m s 0) start max a q);
+  p12 = λ n m s start max a rows q l d. rows-answer (sizes n m s 0) start max _ (begins (sizes n m s 0) start max a q) rows l d ∙ budget (sizes n m s 0) firstMu max _ rows refl;
+  p13 = λ start max a q. rows-answer (sizes 0 0 0 5) start max _ (begins (sizes 0 0 0 5) start max a q) [] refl refl ∙ started-none firstMu max _ [];
+}
