@@ -1,29 +1,31 @@
 -- A begin that is accepted leaves the run that `begunOf` gives: its sizes are within the limits, its area has 8,000 numbers, and number 4 does not refuse it.
-use Prim.Native.Nat.{ℕ, _+_, _-_, _*_, _≤_, zero-le}
+use Prim.Native.Nat.{ℕ, _+_, _*_, _≤_, zero-le}
 use mathlib.Core.Bool.{Bool, true, false, _&&_}
-use mathlib.Core.Path.{_≡_, refl, sym, ap, _∙_}
+use mathlib.Core.Path.{_≡_, refl, _∙_}
 use mathlib.Core.List.{List}
+use native.Mathlib.Nat.{le-refl}
 use native.Mathlib.Omega.{arith}
-use borrow.Author.Tests.{eqb-true}
+use borrow.Author.Tests.{eq-eqb, eqb-true}
 use lib.Dec.{eqb}
-use lib.Ieee.{Float}
+use lib.IntN.{pos}
+use lib.Ieee.{Float, ofBits, neg, lt, le, eq, ofInt, round}
 use lib.ListN.{length, length-append}
 use Rattle.interval.specs.declared.Scalar.{Scalar}
+use Rattle.linear.specs.Flat.{zeros}
 use Rattle.run.specs.Area.{AREA, POINT, SPARE, Memory, areaOf, begunMemory}
-use Rattle.run.specs.Calls.{Left, unchanged, checks, sizesFit, valid, allInDomain, stepFits, stateWith, noRun, firstMu, beginOf, begunOf}
-use Rattle.run.specs.declared.state.Answer.the-variants as answer
+use Rattle.run.specs.Calls.{Left, unchanged, checks, sizesFit, valid, inDomain, allInDomain, stepFits, stateWith, noRun, firstMu, beginOf, begunOf}
 use Rattle.run.specs.declared.state.Kind.the-variants as kind
 use Rattle.run.specs.declared.state.Phase.the-variants.{Open}
 use Rattle.run.specs.declared.state.Sizes.{Sizes}
 use Rattle.run.specs.declared.state.State.{State}
 use Rattle.run.proofs.AreaSlots.{length-clear, length-padded}
 use Rattle.run.proofs.Booleans.{and-left}
-use Rattle.run.proofs.CheckLaws.{size-bounds}
-use Rattle.run.proofs.Outcomes.{sound-valid}
 use Rattle.run.proofs.Growths.{growth-begin, growth-positive}
-use Rattle.known_answers.specs.KnownAnswers.{Accepted}
+use Rattle.run.proofs.Outcomes.{sound-valid}
+use Rattle.known_answers.specs.KnownAnswers.{Accepted, between}
+use Rattle.known_answers.proofs.Zeros.{zeros-all}
 
--- a check that was passed, where what it gives otherwise is no question
+-- a check, passed or not
 checked : (P : Left → Type 0) (b : Bool) (k : ℕ) (back : ℕ → Left) (next : Left) → P (back k) → (b ≡ true → P next) → P (checks b k back next)
 checked P true k back next p h = h refl
 checked P false k back next p h = p
@@ -67,3 +69,12 @@ pub begun-valid : (z : Sizes) (max : Scalar) → sizesFit z ≡ true → valid (
 begun-valid z max fit =
     sound-valid (begunState z max)
     (record { sizes-fit = fit; within = zero-le; few-turned = zero-le; few-asked = zero-le; few-corrections = zero-le; phase-fits = growth-positive growth-begin })
+
+-- zeros as start, with steps up to 1
+zeros-domain : (n : ℕ) → allInDomain (zeros (2 * n)) n ≡ true
+unfolding le lt eq neg ofBits
+zeros-domain n = zeros-all inDomain refl (2 * n) n (le-refl (2 * n))
+
+pub begin-accepted : (z : Sizes) (a : List Float) → sizesFit z ≡ true → length a ≡ AREA → Accepted (beginOf z (zeros (2 * z .n)) (between (pos 1) (pos 1)) a)
+unfolding beginOf le lt eq neg ofBits ofInt round
+begin-accepted z a fit l = rw (fit, eq-eqb _ _ (length-clear (2 * z .n)), eq-eqb _ _ l, zeros-domain (z .n))

@@ -1,7 +1,7 @@
 -- The known answers, by one theorem. P1 to P10 are computed from the definitions; in P10 to P13 an accepted begin leaves the run that `begunOf` gives, and its next call passes every check.
-use Prim.Native.Nat.{ℕ, _+_, _*_, _≤_}
-use mathlib.Core.Bool.{true, false}
-use mathlib.Core.Path.{_≡_, refl, sym, ap, _∙_}
+use Prim.Native.Nat.{_+_, _*_}
+use mathlib.Core.Bool.{true}
+use mathlib.Core.Path.{_≡_, refl, ap, _∙_}
 use mathlib.Core.List.{List, []}
 use native.Mathlib.Omega.{arith}
 use borrow.Author.Tests.{eq-eqb}
@@ -25,7 +25,7 @@ use Rattle.run.specs.declared.state.Sizes.{Sizes}
 use Rattle.run.specs.declared.state.Stop.the-variants as stop
 use Rattle.run.proofs.CheckLaws.{size-bounds, none-accepted, rows-accepted}
 use Rattle.known_answers.specs.KnownAnswers.{KnownAnswers, sizes, answerTo, answerToNone}
-use Rattle.known_answers.proofs.Begins.{Begins, begins, begunState, begun-area, begun-valid}
+use Rattle.known_answers.proofs.Begins.{Begins, begins, begunState, begun-area, begun-valid, begin-accepted}
 use Rattle.known_answers.proofs.NoVariables.{started-none}
 
 -- ---- a call to a run that has begun
@@ -70,6 +70,7 @@ known-answers = record {
   p7 = refl;
   p8 = refl;
   p9 = (refl, (refl, refl));
+  accepted = λ n m s limit a fit l. begin-accepted (sizes n m s limit) a fit l;
   p10 = (refl, λ z start max a q. ap (λ (b : Left). b .state .search .mu) (begins z start max a q .is));
   p11 = λ n m s start max a q. none-answer (sizes n m s 0) start max _ (begins (sizes n m s 0) start max a q);
   p12 = λ n m s start max a rows q l d. rows-answer (sizes n m s 0) start max _ (begins (sizes n m s 0) start max a q) rows l d ∙ budget (sizes n m s 0) firstMu max _ rows refl;

@@ -1,3 +1,4 @@
+pub mod Zeros
 pub mod Begins
 pub mod NoVariables
 pub mod KnownAnswers

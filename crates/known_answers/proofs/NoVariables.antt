@@ -1,26 +1,23 @@
 -- With no variable and no row there is a step, of no length, and neither the sum nor the violation is expected to drop: each of the two drops is worked out between zeros, and stepped outward it holds 0.
-use Prim.Native.Nat.{ℕ, zero, suc, _+_, _*_, _<_, _≤_}
+use Prim.Native.Nat.{ℕ, _*_, _≤_}
 use mathlib.Core.Bool.{Bool, true, false}
-use mathlib.Core.Path.{_≡_, refl, sym, ap, _∙_}
+use mathlib.Core.Path.{_≡_, refl}
 use mathlib.Core.List.{List}
 use native.Mathlib.Omega.{arith}
-use borrow.Author.Tests.{lt-ltb}
-use lib.Ieee.{Float, nan, binary64, ofBits, toBits, neg, add, sub, round, lt, le, eq}
-use lib.ListN.{length, getD-replicate}
+use lib.Ieee.{Float, ofBits, toBits, neg, add, sub, round, lt, le, eq}
 use Rattle.interval.specs.declared.Scalar.{Scalar}
-use Rattle.interval.specs.Result.{Res, ok, refused}
+use Rattle.interval.specs.Result.{ok}
 use Rattle.interval.specs.Step.{nextUp}
 use Rattle.interval.specs.Root.{nearestRoot}
-use Rattle.interval.specs.Scalar.{zero64, zeroS, clamped, sqrtOf}
-use Rattle.linear.specs.Flat.{at, zeros}
-use Rattle.linear.proofs.FlatLaws.{at-inside}
+use Rattle.interval.specs.Scalar.{zeroS, isFinite, clamped, sqrtOf}
+use Rattle.linear.specs.Flat.{zeros}
 use Rattle.linear.specs.Results.{bind, foldR}
 use Rattle.linear.specs.Dot.{plusTo}
 use Rattle.linear.specs.Norm.{largestTo, normOf}
 use Rattle.linear.specs.Cholesky.{choleskyOf, refusedTo}
 use Rattle.linear.specs.Substitution.{solveOf}
 use Rattle.linear.specs.Householder.{leastSquaresOf}
-use Rattle.run.specs.Scratch.{vector, matrix, fillTo, fillRows, allTo, anyTo, allFinite, combinedTo, spreadTo}
+use Rattle.run.specs.Scratch.{vector, fillTo, fillRows, anyTo, allFinite, combinedTo, spreadTo}
 use Rattle.run.specs.Rows.{evaluationOf, squaredOf, predictedOf, violationOf}
 use Rattle.run.specs.Model.{keptTo, dampedOf, gradientOf, problemOf, problemIn}
 use Rattle.run.specs.Basis.{basisOf, correctionOf, multipliersOf}
@@ -37,25 +34,16 @@ use Rattle.run.specs.declared.state.Phase.the-variants.{Open}
 use Rattle.run.specs.declared.state.Search.{Search}
 use Rattle.run.specs.declared.state.Stop.the-variants as stop
 use Rattle.known_answers.specs.KnownAnswers.{bits, sizes}
-use Rattle.run.proofs.AreaSlots.{length-clear}
-
--- zeros are finite
-at-zeros : (n i : ℕ) → 2 * i + 1 < n → at (zeros n) i ≡ zeroS
-at-zeros n i h =
-    let l : 2 * i + 1 < length (zeros n) = rw (length-clear n) h in
-    let h₀ : 2 * i < n = omega arith in
-    rw (at-inside (zeros n) i (lt-ltb _ _ l), getD-replicate n (2 * i) zero64 nan h₀, getD-replicate n (2 * i + 1) zero64 nan h)
+use Rattle.known_answers.proofs.Zeros.{zeros-all}
 
 zeros-finite : (n k : ℕ) → 2 * k ≤ n → allFinite (zeros n) k ≡ true
-unfolding allTo
-zeros-finite n zero h = refl
-zeros-finite n (suc k) h = rw (zeros-finite n k (omega arith), at-zeros n k (omega arith))
+zeros-finite n k h = zeros-all isFinite refl n k h
 
 -- a norm of none is the root of zero
-abbrev pub tiny : Scalar
-tiny = bits 0x8000_0000_0000_0001 1
+abbrev pub normOfNone : Scalar
+normOfNone = bits 0x8000_0000_0000_0001 1
 
-root-of-zero : sqrtOf zeroS ≡ ok tiny
+root-of-zero : sqrtOf zeroS ≡ ok normOfNone
 unfolding sqrtOf clamped nearestRoot ofBits toBits neg lt le eq nextUp
 root-of-zero = refl
 
@@ -77,7 +65,7 @@ step-none rows b moving mu = rw (zeros-finite 288 144 (omega arith), kept-step _
 -- ---- no expected drop
 
 abbrev pub standing : List Float → List Float → List Float → List Bool → Standing
-standing x rows b moving = standingWith 0 x (evaluationOf 0 0 0 rows) zeroS tiny b moving
+standing x rows b moving = standingWith 0 x (evaluationOf 0 0 0 rows) zeroS normOfNone b moving
 
 expects-none : (x rows b delta : List Float) (moving : List Bool) → expectsOf (standing x rows b moving) delta ≡ ok false
 unfolding expectsOf bind squaredOf plusTo predictedOf ofBits toBits neg lt le eq add sub round nextUp

@@ -11,8 +11,10 @@ use Rattle.interval.specs.Step.{nextUp, nextDown}
 use Rattle.interval.specs.Result.{ok, refused}
 use Rattle.interval.specs.Scalar.{sqrtOf, couldBeEqual, definitelyLess, definitelyGreater}
 use Rattle.linear.specs.Choose.{chooseOf}
+use Rattle.linear.specs.Flat.{zeros}
+use Rattle.run.specs.Area.{AREA}
 use Rattle.run.specs.Rows.{rowNumbers}
-use Rattle.run.specs.Calls.{Left, allInDomain, firstMu, beginOf, replyOf, replyNoneOf}
+use Rattle.run.specs.Calls.{Left, sizesFit, allInDomain, firstMu, beginOf, replyOf, replyNoneOf}
 use Rattle.run.specs.declared.state.Answer.{Answer}
 use Rattle.run.specs.declared.state.Answer.the-variants.{Question, Finish}
 use Rattle.run.specs.declared.state.Kind.the-variants as kind
@@ -43,7 +45,7 @@ answerTo b rows = replyOf (b .state) (b .area) rows .answer
 abbrev pub answerToNone : Left → Answer
 answerToNone b = replyNoneOf (b .state) (b .area) .answer
 
--- the numbers of a finish: stop, iterations, turn-downs, standing
+-- `Finish` has the stop, the iterations, the turn-downs and the standing number
 pub record KnownAnswers : Type 0 where
   -- P1 `next_up`(−0) is bits 1
   pub p1 : nextUp (float 0x8000_0000_0000_0000) ≡ float 1
@@ -66,6 +68,10 @@ pub record KnownAnswers : Type 0 where
       let x = between (pos 1) (pos 2) in
       let y = between (pos 2) (pos 3) in
       (couldBeEqual x y ≡ true) × ((definitelyLess x y ≡ false) × (definitelyGreater x y ≡ false))
+  -- runs begin: from zero, with steps up to 1, in any area
+  pub accepted :
+      (n m s limit : ℕ) (a : List Float) →
+      sizesFit (sizes n m s limit) ≡ true → length a ≡ AREA → Accepted (beginOf (sizes n m s limit) (zeros (2 * n)) (between (pos 1) (pos 1)) a)
   -- P10 first mu: ends 3F50624DD2F1A9FB, 3F50624DD2F1A9FD; it is the mu of every run that begins
   pub p10 :
       let mu = bits 0x3F50_624D_D2F1_A9FB 0x3F50_624D_D2F1_A9FD in
