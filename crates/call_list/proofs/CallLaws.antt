@@ -1,0 +1,34 @@
+-- One call: over the area it leaves what the call of `run` leaves, and over no numbers of it the answer and state of that call and the area as it was.
+use Prim.Native.Nat.{ℕ, suc, _%_}
+use mathlib.Core.Path.{_≡_, ap}
+use mathlib.Core.Bool.{Bool, true, false}
+use mathlib.Core.List.{List, [], _∷_, _++_}
+use native.Mathlib.Omega.{arith}
+use borrow.Author.Tests.{eq-eqb, ne-eqb}
+use lib.Ieee.{Float}
+use lib.ListN.{length}
+use Rattle.interval.specs.Scalar.{pick}
+use Rattle.run.specs.Calls.{Left, leftOf, replyOf, replyNoneOf}
+use Rattle.run.specs.Demand.{same, Floats, rows, none, Run, playedBy, played}
+use Rattle.run.specs.declared.state.Out.{Out}
+use Rattle.run.specs.declared.state.State.{State}
+use Rattle.call_list.specs.CallList.{noArea, isNone, playedOf, Called}
+
+module _ (st : State) (a xs : List Float) (r : Out) where
+  abbrev run : Run
+  run = record { state = st; area = a }
+
+  by-same : (b : Bool) (a′ : List Float) (f : Floats xs) → leftOf r a′ ≡ pick b (replyNoneOf st a) (replyOf st a xs) → playedOf r a′ ≡ played run (pick b (none same) (rows same xs f))
+  by-same true a′ f e = ap (λ (l : Left). playedBy l (l .area)) e
+  by-same false a′ f e = ap (λ (l : Left). playedBy l (l .area)) e
+
+  pub called-same : (code : ℕ) (a′ : List Float) → code % 2 ≡ 0 → leftOf r a′ ≡ pick (isNone code) (replyNoneOf st a) (replyOf st a xs) → Called run code xs (playedOf r a′)
+  called-same code a′ even e f = rw (eq-eqb _ _ even) (by-same (isNone code) a′ f e)
+
+  by-none : (b : Bool) (f : Floats xs) → leftOf r [] ≡ pick b (replyNoneOf st []) (replyOf st [] xs) → playedOf r a ≡ played run (pick b (none noArea) (rows noArea xs f))
+  by-none true f e = ap (λ (l : Left). playedBy l a) e
+  by-none false f e = ap (λ (l : Left). playedBy l a) e
+
+  pub called-none : (code : ℕ) (ys : List Float) → (code % 2 ≡ 0 → ⊥) → length ys ≡ 0 → leftOf r ys ≡ pick (isNone code) (replyNoneOf st []) (replyOf st [] xs) → Called run code xs (playedOf r (ys ++ a))
+  called-none code [] odd l e f = rw (ne-eqb _ _ odd) (by-none (isNone code) f e)
+  called-none code (y ∷ ys) odd l e f = absurd (let m : suc (length ys) ≡ 0 = l in omega (arith, m))

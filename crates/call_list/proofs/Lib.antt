@@ -1,0 +1,4 @@
+pub mod CallLaws
+pub mod FoldLaws
+pub mod DemandLaws
+pub mod EveryLaws

@@ -1,0 +1,123 @@
+-- A list of calls from its begin, as `play` makes them: the calls that the codes name, the fold of demand 3's `played` over them, and what demand 3 (document 01; run's specs/Demand.antt) says of what is left
+-- after the last.
+use Prim.Native.Nat.{ℕ, zero, suc, _-_, _/_, _%_}
+use mathlib.Core.Path.{_≡_}
+use mathlib.Core.Bool.{Bool, false}
+use mathlib.Core.List.{List, [], _∷_, _++_}
+use native.Mathlib.Omega.{arith}
+use lib.Dec.{ltb, eqb}
+use lib.Ieee.{Float}
+use lib.ListN.{take, drop}
+use Rattle.interval.specs.declared.Scalar.{Scalar}
+use Rattle.interval.specs.Scalar.{pick}
+use Rattle.run.specs.Calls.{Left, beginOf}
+use Rattle.run.specs.Demand.{Lent, same, other, Floats, Call, rows, none, Run, runOf, Played, playedBy, played, isArithmetic, Ledger, entered, begun, Claim, Along}
+use Rattle.run.specs.declared.state.Answer.the-variants.{Question}
+use Rattle.run.specs.declared.state.Kind.the-variants as kind
+use Rattle.run.specs.declared.state.Out.{Out}
+use Rattle.run.specs.declared.state.Sizes.{Sizes}
+
+-- ---- the calls
+
+-- an area of no numbers, which refuses the call
+abbrev pub noArea : Lent
+noArea = other [] (λ e. absurd (omega (arith, e)))
+
+-- a code is even over the area that the call before left, and odd over an area of no numbers
+abbrev pub lentOf : ℕ → Lent
+lentOf code = pick (eqb (code % 2) 0) same noArea
+
+-- 0 and 1 reply none
+abbrev pub isNone : ℕ → Bool
+isNone code = ltb code 2
+
+-- 2 k + 2 and 2 k + 3 reply with rows: the next k numbers
+abbrev pub countOf : ℕ → ℕ
+countOf code = code / 2 - 1
+
+abbrev pub callOf : ℕ → (xs : List Float) → Floats xs → Call
+callOf code xs f = pick (isNone code) (none (lentOf code)) (rows (lentOf code) xs f)
+
+-- a part of numbers of binary64 is of binary64
+pub floats-take : (k : ℕ) (xs : List Float) → Floats xs → Floats (take k xs)
+floats-take zero xs f = tt
+floats-take (suc k) [] f = tt
+floats-take (suc k) (x ∷ xs) f = (f .0, floats-take k xs (f .1))
+
+pub floats-drop : (k : ℕ) (xs : List Float) → Floats xs → Floats (drop k xs)
+floats-drop zero xs f = f
+floats-drop (suc k) [] f = tt
+floats-drop (suc k) (x ∷ xs) f = floats-drop k xs (f .1)
+
+-- one call for each code, whose rows follow each other in xs; where fewer numbers are left, the rows are those
+unfoldable pub callsOf : List ℕ → (xs : List Float) → Floats xs → List Call
+callsOf [] xs f = []
+callsOf (code ∷ codes) xs f =
+    let k = countOf code in
+    callOf code (take k xs) (floats-take k xs f) ∷ callsOf codes (drop k xs) (floats-drop k xs f)
+
+-- ---- what they leave
+
+-- what a function returns, with the area after it
+abbrev pub playedOf : Out → List Float → Played
+playedOf r a = record { answer = r .answer; run = record { state = r .state; area = a } }
+
+-- the call that a code names
+abbrev pub Called : Run → ℕ → List Float → Played → Type 0
+Called r code xs p = (f : Floats xs) → p ≡ played r (callOf code xs f)
+
+-- one call after another
+unfoldable pub playedTo : Played → List Call → Played
+playedTo p [] = p
+playedTo p (c ∷ cs) = playedTo (played (p .run) c) cs
+
+-- begin, and then the calls
+abbrev pub playedFrom : Left → List Call → Played
+playedFrom b cs = playedTo (playedBy b (b .area)) cs
+
+-- what is read off their answers
+unfoldable pub ledgerTo : Ledger → Run → List Call → Ledger
+ledgerTo l r [] = l
+ledgerTo l r (c ∷ cs) =
+    let p = played r c in
+    ledgerTo (entered l c (p .answer)) (p .run) cs
+
+abbrev pub ledgerFrom : Left → List Call → Ledger
+ledgerFrom b cs = ledgerTo begun (runOf b) cs
+
+-- none of them is refused by 5 or 6
+unfoldable pub Clear : Run → List Call → Type 0
+Clear r [] = Unit
+Clear r (c ∷ cs) =
+    let p = played r c in
+    (isArithmetic (p .answer) ≡ false) × Clear (p .run) cs
+
+-- ---- the contract of `play`: begin left b, and the calls that the codes name left p
+
+abbrev pub Accepted : Left → Type 0
+Accepted b = b .answer ≡ Question 0 kind.Start 0
+
+-- demand 3 of the last of the calls, before which the run was what the calls before it leave
+abbrev pub LastClaim : Sizes → Left → List Call → List Call → Played → Type 0
+LastClaim z b before calls p = Clear (runOf b) calls → Claim z (ledgerFrom b before) (ledgerFrom b calls) (playedFrom b before .run) (p .run) (p .answer)
+
+pub record ListPlayed (z : Sizes) (b : Left) (codes : List ℕ) (xs : List Float) (p : Played) : Type 0 where
+  pub floats : Floats xs
+  pub is-fold : p ≡ playedFrom b (callsOf codes xs floats)
+  pub along : Accepted b → Along z begun (runOf b) (callsOf codes xs floats)  -- demand 3 of all the calls
+  pub last : Accepted b → (before : List ℕ) (code : ℕ) → codes ≡ before ++ (code ∷ []) → LastClaim z b (callsOf before xs floats) (callsOf codes xs floats) p
+
+abbrev pub Plays : Sizes → List Float → Scalar → List Float → List ℕ → List Float → Played → Type 0
+Plays z start max a codes xs p = ListPlayed z (beginOf z start max a) codes xs p
+
+-- ---- every list of demand 3 can be played
+
+-- codes and numbers whose calls leave what the calls cs leave
+pub record Named (cs : List Call) : Type 0 where
+  pub codes : List ℕ
+  pub numbers : List Float
+  pub floats : Floats numbers
+  pub leaves : (f : Floats numbers) (p : Played) → playedTo p (callsOf codes numbers f) ≡ playedTo p cs
+
+abbrev pub EveryList : Type 0
+EveryList = (cs : List Call) → Named cs
