@@ -1,0 +1,115 @@
+// What a call answers, as numbers. The cases are told in specs/AnswerNumbers.antt; a number that an answer does not tell is 0.
+use crate::mirror::Run;
+use crate::mirror::kind_number;
+use crate::mirror::mirror_of;
+use crate::mirror::rejection_number;
+use run::Answer;
+use run::Out;
+use run::Stop;
+
+#[repr(C)]
+pub struct Told {
+    pub which: u8,
+    pub kind: u8,
+    pub stop: u8,
+    pub rejected: u8,
+    pub number: usize,
+    pub standing: usize,
+    pub independent: usize,
+    pub constraints: usize,
+    pub iterations: usize,
+    pub turned_down: usize,
+}
+
+// The run after a call, and its answer.
+#[repr(C)]
+pub struct Reply {
+    pub run: Run,
+    pub answer: Told,
+}
+
+// Why a run stopped.
+pub struct Ending {
+    pub stop: u8,
+    pub rejected: u8,
+    pub independent: usize,
+    pub constraints: usize,
+}
+
+fn ended(stop: u8, rejected: u8, independent: usize, constraints: usize) -> Ending {
+    Ending {
+        stop,
+        rejected,
+        independent,
+        constraints,
+    }
+}
+
+fn ending_of(s: Stop) -> Ending {
+    match s {
+        Stop::Infeasible => ended(0, 0, 0, 0),
+        Stop::NoChange(r) => ended(1, rejection_number(r), 0, 0),
+        Stop::Undecided => ended(2, 0, 0, 0),
+        Stop::Flat(independent, constraints) => ended(3, 0, independent, constraints),
+        Stop::Damped(r) => ended(4, rejection_number(r), 0, 0),
+        Stop::Budget => ended(5, 0, 0, 0),
+    }
+}
+
+fn finished(e: Ending, iterations: usize, turned_down: usize, standing: usize) -> Told {
+    Told {
+        which: 1,
+        kind: 0,
+        stop: e.stop,
+        rejected: e.rejected,
+        number: 0,
+        standing,
+        independent: e.independent,
+        constraints: e.constraints,
+        iterations,
+        turned_down,
+    }
+}
+
+// A question, or a refusal with the kind and the standing 0.
+fn asked(which: u8, kind: u8, number: usize, standing: usize) -> Told {
+    Told {
+        which,
+        kind,
+        stop: 0,
+        rejected: 0,
+        number,
+        standing,
+        independent: 0,
+        constraints: 0,
+        iterations: 0,
+        turned_down: 0,
+    }
+}
+
+fn told_of(a: Answer) -> Told {
+    match a {
+        Answer::Question(number, kind, standing) => asked(0, kind_number(kind), number, standing),
+        Answer::Finish(stop, iterations, turned_down, standing) => {
+            finished(ending_of(stop), iterations, turned_down, standing)
+        }
+        Answer::Refused(number) => asked(2, 0, number, 0),
+    }
+}
+
+pub fn reply_of(o: Out) -> Reply {
+    let state = o.state;
+    let answer = o.answer;
+    Reply {
+        run: mirror_of(state),
+        answer: told_of(answer),
+    }
+}
+
+// Refusal 4 with the run as it was.
+pub fn altered(run: Run) -> Reply {
+    Reply {
+        run,
+        answer: asked(2, 0, 4, 0),
+    }
+}

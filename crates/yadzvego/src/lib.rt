@@ -1,0 +1,83 @@
+// The calls of a run for C and Rust, each by name. A slice is passed as its pointer and count. Every function takes every number and every length, and equals the definition of the call beneath it.
+mod answers;
+mod mirror;
+
+use crate::answers::altered;
+use crate::answers::reply_of;
+use crate::mirror::numbers_fit;
+use crate::mirror::state_at;
+pub use answers::Reply;
+pub use answers::Told;
+use interval::Scalar;
+pub use mirror::Run;
+use run::Phase;
+use run::State;
+
+#[no_mangle]
+pub extern "C" fn yadzvego_begin(
+    n: usize,
+    m: usize,
+    s: usize,
+    limit: usize,
+    start: &[f64],
+    max_step: Scalar,
+    area: &mut [f64],
+) -> Reply {
+    reply_of(run::begin(n, m, s, limit, start, max_step, area))
+}
+
+// Answers the open question with rows.
+#[no_mangle]
+pub extern "C" fn yadzvego_reply(run: Run, area: &mut [f64], rows: &[f64]) -> Reply {
+    if !numbers_fit(run) {
+        return altered(run);
+    }
+    reply_of(run::reply(state_at(run), area, rows))
+}
+
+// Answers the open question with none: the point cannot be evaluated.
+#[no_mangle]
+pub extern "C" fn yadzvego_reply_none(run: Run, area: &mut [f64]) -> Reply {
+    if !numbers_fit(run) {
+        return altered(run);
+    }
+    reply_of(run::reply_none(state_at(run), area))
+}
+
+fn phase_place(p: Phase) -> usize {
+    match p {
+        Phase::Open(_) => 48,
+        Phase::Over => 0,
+    }
+}
+
+fn has_point(run: Run, area: usize) -> bool {
+    if !numbers_fit(run) {
+        return false;
+    }
+    run::valid(state_at(run)) && area == 8000
+}
+
+// Where in the area the point begins: the asked one, or the standing one where no question is open.
+#[no_mangle]
+pub extern "C" fn yadzvego_point_place(run: Run, area_len: usize) -> usize {
+    if !has_point(run, area_len) {
+        return 0;
+    }
+    let st = state_at(run);
+    let phase = st.phase;
+    phase_place(phase)
+}
+
+// How many numbers the point has: 0 where there is none.
+#[no_mangle]
+pub extern "C" fn yadzvego_point_length(run: Run, area_len: usize) -> usize {
+    if !has_point(run, area_len) {
+        return 0;
+    }
+    let n = run.n;
+    if n > 12 {
+        return 0;
+    }
+    2 * n
+}
