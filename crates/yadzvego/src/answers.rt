@@ -1,4 +1,7 @@
-// What a call answers, as numbers. The cases are told in specs/AnswerNumbers.antt; a number that an answer does not tell is 0.
+// What a call answers, as numbers. The cases are told in specs/Answers.antt; a number that an answer does not tell is 0.
+ghost use mathlib.Core.Path.{_≡_};
+ghost use Rattle.yadzvego.specs.Answers.{ended, endingOf, asked, finished, toldOf};
+ghost use Rattle.yadzvego.specs.Exports.{replyFrom, refusedWith};
 use crate::mirror::Run;
 use crate::mirror::kind_number;
 use crate::mirror::mirror_of;
@@ -36,7 +39,9 @@ pub struct Ending {
     pub constraints: usize,
 }
 
-fn ended(stop: u8, rejected: u8, independent: usize, constraints: usize) -> Ending {
+fn ended(stop: u8, rejected: u8, independent: usize, constraints: usize) -> Ending
+    ensures { λ r. ⌜ r ≡ ended stop rejected independent constraints ⌝ }
+{
     Ending {
         stop,
         rejected,
@@ -45,7 +50,9 @@ fn ended(stop: u8, rejected: u8, independent: usize, constraints: usize) -> Endi
     }
 }
 
-fn ending_of(s: Stop) -> Ending {
+fn ending_of(s: Stop) -> Ending
+    ensures { λ r. ⌜ r ≡ endingOf s ⌝ }
+{
     match s {
         Stop::Infeasible => ended(0, 0, 0, 0),
         Stop::NoChange(r) => ended(1, rejection_number(r), 0, 0),
@@ -56,7 +63,9 @@ fn ending_of(s: Stop) -> Ending {
     }
 }
 
-fn finished(e: Ending, iterations: usize, turned_down: usize, standing: usize) -> Told {
+fn finished(e: Ending, iterations: usize, turned_down: usize, standing: usize) -> Told
+    ensures { λ r. ⌜ r ≡ finished e iterations «turned_down» standing ⌝ }
+{
     Told {
         which: 1,
         kind: 0,
@@ -72,7 +81,9 @@ fn finished(e: Ending, iterations: usize, turned_down: usize, standing: usize) -
 }
 
 // A question, or a refusal with the kind and the standing 0.
-fn asked(which: u8, kind: u8, number: usize, standing: usize) -> Told {
+fn asked(which: u8, kind: u8, number: usize, standing: usize) -> Told
+    ensures { λ r. ⌜ r ≡ asked which kind number standing ⌝ }
+{
     Told {
         which,
         kind,
@@ -87,7 +98,9 @@ fn asked(which: u8, kind: u8, number: usize, standing: usize) -> Told {
     }
 }
 
-fn told_of(a: Answer) -> Told {
+fn told_of(a: Answer) -> Told
+    ensures { λ r. ⌜ r ≡ toldOf a ⌝ }
+{
     match a {
         Answer::Question(number, kind, standing) => asked(0, kind_number(kind), number, standing),
         Answer::Finish(stop, iterations, turned_down, standing) => {
@@ -97,7 +110,9 @@ fn told_of(a: Answer) -> Told {
     }
 }
 
-pub fn reply_of(o: Out) -> Reply {
+pub fn reply_of(o: Out) -> Reply
+    ensures { λ r. ⌜ r ≡ replyFrom o ⌝ }
+{
     let state = o.state;
     let answer = o.answer;
     Reply {
@@ -107,7 +122,9 @@ pub fn reply_of(o: Out) -> Reply {
 }
 
 // Refusal 4 with the run as it was.
-pub fn altered(run: Run) -> Reply {
+pub fn altered(run: Run) -> Reply
+    ensures { λ r. ⌜ r ≡ refusedWith run 4 ⌝ }
+{
     Reply {
         run,
         answer: asked(2, 0, 4, 0),

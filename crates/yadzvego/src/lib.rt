@@ -1,4 +1,8 @@
 // The calls of a run for C and Rust, each by name. A slice is passed as its pointer and count. Every function takes every number and every length, and equals the definition of the call beneath it.
+ghost use mathlib.Core.Path.{_≡_};
+ghost use Rattle.run.specs.Calls.{pointAt};
+ghost use Rattle.yadzvego.specs.Exports.{handed, beginExport, replyExport, replyNoneExport, hasPoint, pointPlace, pointLength};
+
 mod answers;
 mod mirror;
 
@@ -22,13 +26,17 @@ pub extern "C" fn yadzvego_begin(
     start: &[f64],
     max_step: Scalar,
     area: &mut [f64],
-) -> Reply {
+) -> Reply
+    ensures { λ r. ⌜ handed r (now (area .exit)) ≡ beginExport (record { n = n; m = m; s = s; limit = limit }) (now (start .entry)) «max_step» (now (area .entry)) ⌝ }
+{
     reply_of(run::begin(n, m, s, limit, start, max_step, area))
 }
 
 // Answers the open question with rows.
 #[no_mangle]
-pub extern "C" fn yadzvego_reply(run: Run, area: &mut [f64], rows: &[f64]) -> Reply {
+pub extern "C" fn yadzvego_reply(run: Run, area: &mut [f64], rows: &[f64]) -> Reply
+    ensures { λ r. ⌜ handed r (now (area .exit)) ≡ replyExport run (now (area .entry)) (now (rows .entry)) ⌝ }
+{
     if !numbers_fit(run) {
         return altered(run);
     }
@@ -37,21 +45,27 @@ pub extern "C" fn yadzvego_reply(run: Run, area: &mut [f64], rows: &[f64]) -> Re
 
 // Answers the open question with none: the point cannot be evaluated.
 #[no_mangle]
-pub extern "C" fn yadzvego_reply_none(run: Run, area: &mut [f64]) -> Reply {
+pub extern "C" fn yadzvego_reply_none(run: Run, area: &mut [f64]) -> Reply
+    ensures { λ r. ⌜ handed r (now (area .exit)) ≡ replyNoneExport run (now (area .entry)) ⌝ }
+{
     if !numbers_fit(run) {
         return altered(run);
     }
     reply_of(run::reply_none(state_at(run), area))
 }
 
-fn phase_place(p: Phase) -> usize {
+fn phase_place(p: Phase) -> usize
+    ensures { λ r. ⌜ r ≡ pointAt p ⌝ }
+{
     match p {
         Phase::Open(_) => 48,
         Phase::Over => 0,
     }
 }
 
-fn has_point(run: Run, area: usize) -> bool {
+fn has_point(run: Run, area: usize) -> bool
+    ensures { λ r. ⌜ r ≡ hasPoint run area ⌝ }
+{
     if !numbers_fit(run) {
         return false;
     }
@@ -60,7 +74,9 @@ fn has_point(run: Run, area: usize) -> bool {
 
 // Where in the area the point begins: the asked one, or the standing one where no question is open.
 #[no_mangle]
-pub extern "C" fn yadzvego_point_place(run: Run, area_len: usize) -> usize {
+pub extern "C" fn yadzvego_point_place(run: Run, area_len: usize) -> usize
+    ensures { λ r. ⌜ r ≡ pointPlace run «area_len» ⌝ }
+{
     if !has_point(run, area_len) {
         return 0;
     }
@@ -71,13 +87,11 @@ pub extern "C" fn yadzvego_point_place(run: Run, area_len: usize) -> usize {
 
 // How many numbers the point has: 0 where there is none.
 #[no_mangle]
-pub extern "C" fn yadzvego_point_length(run: Run, area_len: usize) -> usize {
+pub extern "C" fn yadzvego_point_length(run: Run, area_len: usize) -> usize
+    ensures { λ r. ⌜ r ≡ pointLength run «area_len» ⌝ }
+{
     if !has_point(run, area_len) {
         return 0;
     }
-    let n = run.n;
-    if n > 12 {
-        return 0;
-    }
-    2 * n
+    2 * run.n
 }

@@ -1,4 +1,6 @@
 // The run as C and Rust hold it between two calls: its enums are numbers, told in specs/Mirror.antt, which `numbers_fit` checks.
+ghost use mathlib.Core.Path.{_≡_};
+ghost use Rattle.yadzvego.specs.Mirror.{kindNumber, phaseNumber, rejectionNumber, lastNumber, lastLength, mirrorOf, numbersFit, phaseAt, rejectionAt, lastAt, sizesAt, countsAt, searchAt, stateAt};
 use interval::Scalar;
 use run::Counts;
 use run::Kind;
@@ -36,7 +38,9 @@ pub struct Run {
     pub moving: [bool; 12],
 }
 
-pub fn kind_number(k: Kind) -> u8 {
+pub fn kind_number(k: Kind) -> u8
+    ensures { λ r. ⌜ r ≡ kindNumber k ⌝ }
+{
     match k {
         Kind::Start => 0,
         Kind::Trial => 1,
@@ -44,14 +48,18 @@ pub fn kind_number(k: Kind) -> u8 {
     }
 }
 
-fn phase_number(p: Phase) -> u8 {
+fn phase_number(p: Phase) -> u8
+    ensures { λ r. ⌜ r ≡ phaseNumber p ⌝ }
+{
     match p {
         Phase::Open(k) => kind_number(k),
         Phase::Over => 3,
     }
 }
 
-pub fn rejection_number(r: Rejection) -> u8 {
+pub fn rejection_number(r: Rejection) -> u8
+    ensures { λ k. ⌜ k ≡ rejectionNumber r ⌝ }
+{
     match r {
         Rejection::NoneYet => 0,
         Rejection::NotPositive => 1,
@@ -61,21 +69,27 @@ pub fn rejection_number(r: Rejection) -> u8 {
     }
 }
 
-fn last_number(l: Last) -> u8 {
+fn last_number(l: Last) -> u8
+    ensures { λ r. ⌜ r ≡ lastNumber l ⌝ }
+{
     match l {
         Last::NoneYet => 0,
         Last::Taken(_) => 1,
     }
 }
 
-fn last_length(l: Last) -> Scalar {
+fn last_length(l: Last) -> Scalar
+    ensures { λ r. ⌜ r ≡ lastLength l ⌝ }
+{
     match l {
         Last::NoneYet => Scalar::ZERO,
         Last::Taken(x) => x,
     }
 }
 
-fn phase_at(k: u8) -> Phase {
+fn phase_at(k: u8) -> Phase
+    ensures { λ r. ⌜ r ≡ phaseAt k ⌝ }
+{
     match k {
         0 => Phase::Open(Kind::Start),
         1 => Phase::Open(Kind::Trial),
@@ -84,7 +98,9 @@ fn phase_at(k: u8) -> Phase {
     }
 }
 
-fn rejection_at(k: u8) -> Rejection {
+fn rejection_at(k: u8) -> Rejection
+    ensures { λ r. ⌜ r ≡ rejectionAt k ⌝ }
+{
     match k {
         0 => Rejection::NoneYet,
         1 => Rejection::NotPositive,
@@ -94,7 +110,9 @@ fn rejection_at(k: u8) -> Rejection {
     }
 }
 
-fn last_at(k: u8, length: Scalar) -> Last {
+fn last_at(k: u8, length: Scalar) -> Last
+    ensures { λ r. ⌜ r ≡ lastAt k length ⌝ }
+{
     match k {
         0 => Last::NoneYet,
         _ => Last::Taken(length),
@@ -102,11 +120,21 @@ fn last_at(k: u8, length: Scalar) -> Last {
 }
 
 // Whether each number of an enum is one of its cases.
-pub fn numbers_fit(r: Run) -> bool {
-    r.phase < 4 && r.rejected < 5 && r.last < 2
+pub fn numbers_fit(r: Run) -> bool
+    ensures { λ b. ⌜ b ≡ numbersFit r ⌝ }
+{
+    if r.phase >= 4 {
+        return false;
+    }
+    if r.rejected >= 5 {
+        return false;
+    }
+    r.last < 2
 }
 
-pub fn mirror_of(st: State) -> Run {
+pub fn mirror_of(st: State) -> Run
+    ensures { λ r. ⌜ r ≡ mirrorOf st ⌝ }
+{
     let z = st.sizes;
     let c = st.counts;
     let x = st.search;
@@ -146,7 +174,9 @@ pub fn mirror_of(st: State) -> Run {
     }
 }
 
-fn sizes_at(r: Run) -> Sizes {
+fn sizes_at(r: Run) -> Sizes
+    ensures { λ z. ⌜ z ≡ sizesAt r ⌝ }
+{
     Sizes {
         n: r.n,
         m: r.m,
@@ -155,7 +185,9 @@ fn sizes_at(r: Run) -> Sizes {
     }
 }
 
-fn counts_at(r: Run) -> Counts {
+fn counts_at(r: Run) -> Counts
+    ensures { λ c. ⌜ c ≡ countsAt r ⌝ }
+{
     Counts {
         iterations: r.iterations,
         question: r.question,
@@ -165,7 +197,9 @@ fn counts_at(r: Run) -> Counts {
     }
 }
 
-fn search_at(r: Run) -> Search {
+fn search_at(r: Run) -> Search
+    ensures { λ x. ⌜ x ≡ searchAt r ⌝ }
+{
     let mu = r.mu;
     let radius = r.radius;
     Search {
@@ -179,7 +213,9 @@ fn search_at(r: Run) -> Search {
 }
 
 // The state of a run whose numbers fit.
-pub fn state_at(r: Run) -> State {
+pub fn state_at(r: Run) -> State
+    ensures { λ st. ⌜ st ≡ stateAt r ⌝ }
+{
     let predicted = r.predicted;
     let tried = r.tried;
     let length = r.last_length;

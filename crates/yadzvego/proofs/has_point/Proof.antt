@@ -1,0 +1,34 @@
+-- `has_point` meets its contract: the checks in their order.
+use mathlib.Core.Path.{_∙_, sym, ap}
+use borrow.Author.Tests.{not-true, not-false}
+use Rattle.run.specs.Calls.{valid}
+use Rattle.yadzvego.specs.Exports.{hasPoint}
+use borrow.Author.Needs.{needs}
+use Rattle.yadzvego.proofs.has_point.Statement.{statement}
+use Rattle.yadzvego.proofs.has_point.Tie as tie
+
+numbers-fit-requires : tie.Need-numbers-fit-requires
+numbers-fit-requires c κs = search needs
+
+returns : tie.Need-returns
+unfolding hasPoint
+returns c = rw (sym (c .before .numbers-fit .ensures) ∙ not-true _ (c .if1 .taken))
+
+state-at-requires : tie.Need-state-at-requires
+state-at-requires c κs = search needs
+
+valid-requires : tie.Need-valid-requires
+valid-requires c κs = search needs
+
+returns-2 : tie.Need-returns-2
+unfolding hasPoint
+returns-2 c = rw (sym (c .before .before .before .before .numbers-fit .ensures) ∙ not-false _ (c .before .before .before .if1 .left), ap valid (sym (c .before .before .state-at .ensures)) ∙ sym (c .before .valid .ensures) ∙ c .if2 .taken)
+
+returns-3 : tie.Need-returns-3
+unfolding hasPoint
+returns-3 c = rw (sym (c .before .before .before .before .numbers-fit .ensures) ∙ not-false _ (c .before .before .before .if1 .left), ap valid (sym (c .before .before .state-at .ensures)) ∙ sym (c .before .valid .ensures) ∙ c .if2 .left) (c .if2 .left)
+
+pub has-point-spec : {M : Type 1} → statement M
+has-point-spec =
+    tie.close
+    (tie.spec numbers-fit-requires returns state-at-requires valid-requires returns-2 returns-3)

@@ -1,0 +1,71 @@
+-- The calls of a run as C and Rust make them: each is the call of run beneath it, over the state that the mirror holds (document 01, "A run by question and reply"). A mirror with a number that is none of
+-- an enum's cases is refused by number 4 and handed back with all as it was; it has no point.
+use Prim.Native.Nat.{ℕ, _*_}
+use mathlib.Core.Bool.{Bool, _&&_}
+use mathlib.Core.List.{List, []}
+use lib.Dec.{eqb}
+use lib.Ieee.{Float}
+use Rattle.interval.specs.declared.Scalar.{Scalar}
+use Rattle.interval.specs.Result.{Res, ok, refused}
+use Rattle.interval.specs.Scalar.{pick}
+use Rattle.run.specs.Area.{AREA}
+use Rattle.run.specs.Calls.{Left, valid, beginOf, replyOf, replyNoneOf, pointAt, pointOf}
+use Rattle.run.specs.declared.state.Out.{Out}
+use Rattle.run.specs.declared.state.Sizes.{Sizes}
+use Rattle.run.specs.declared.state.State.{State}
+use Rattle.yadzvego.specs.Mirror.{mirrorOf, numbersFit, stateAt, stateOf}
+use Rattle.yadzvego.specs.Answers.{asked, toldOf}
+use Rattle.yadzvego.specs.declared.answers.Reply.{Reply}
+use Rattle.yadzvego.specs.declared.mirror.Run.{Run}
+
+-- what a call returns, with the area after it
+pub record Handed : Type 0 where
+  pub reply : Reply
+  pub area : List Float
+
+abbrev pub handed : Reply → List Float → Handed
+handed r a = record { reply = r; area = a }
+
+abbrev pub replyFrom : Out → Reply
+replyFrom o = record { run = mirrorOf (o .state); answer = toldOf (o .answer) }
+
+-- what a call of run leaves
+abbrev pub handedBy : Left → Handed
+handedBy l = handed (record { run = mirrorOf (l .state); answer = toldOf (l .answer) }) (l .area)
+
+-- refused, with all as it was
+abbrev pub refusedWith : Run → ℕ → Reply
+refusedWith r k = record { run = r; answer = asked 2 0 k 0 }
+
+-- a call over the state, if the mirror holds one
+abbrev pub calledWith : Run → List Float → (State → Left) → Res State → Handed
+calledWith r a call (ok st) = handedBy (call st)
+calledWith r a call (refused k) = handed (refusedWith r k) a
+
+unfoldable pub beginExport : Sizes → List Float → Scalar → List Float → Handed
+beginExport z start max a = handedBy (beginOf z start max a)
+
+unfoldable pub replyExport : Run → List Float → List Float → Handed
+replyExport r a rows = calledWith r a (λ st. replyOf st a rows) (stateOf r)
+
+unfoldable pub replyNoneExport : Run → List Float → Handed
+replyNoneExport r a = calledWith r a (λ st. replyNoneOf st a) (stateOf r)
+
+-- ---- the point, as a place in an area of that length, and a count of numbers
+
+unfoldable pub hasPoint : Run → ℕ → Bool
+hasPoint r area = numbersFit r && (valid (stateAt r) && eqb area AREA)
+
+unfoldable pub pointPlace : Run → ℕ → ℕ
+pointPlace r area = pick (hasPoint r area) (pointAt (stateAt r .phase)) 0
+
+unfoldable pub pointLength : Run → ℕ → ℕ
+pointLength r area = pick (hasPoint r area) (2 * r .n) 0
+
+-- the part of the area that `point` gives
+abbrev pub pointIn : List Float → Res State → List Float
+pointIn a (ok st) = pointOf st a
+pointIn a (refused k) = []
+
+abbrev pub pointPart : Run → List Float → List Float
+pointPart r a = pointIn a (stateOf r)

@@ -1,0 +1,3 @@
+pub mod Mirror
+pub mod Answers
+pub mod Exports
