@@ -50,7 +50,7 @@ typedef struct {
     YadzvegoScalar predicted;
     YadzvegoScalar tried;
     YadzvegoScalar max_step;
-    YadzvegoScalar last_length; /* of the last step taken; 0 where last is 0 */
+    YadzvegoScalar last_length; /* of the last step taken; where last is 0 it is 0, and not read */
     uint8_t phase;
     uint8_t rejected;
     uint8_t last; /* 0 none taken yet, 1 taken */

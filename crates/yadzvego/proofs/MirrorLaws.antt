@@ -1,8 +1,14 @@
--- The conversion there and back loses nothing: each enum's number is read as the case that it is the number of, and the other fields are the same.
+-- The conversion there and back loses nothing: each enum's number is read as the case that it is the number of, and the other fields are the same. So it is the other way, for a mirror that a call may leave.
+use Prim.Native.Nat.{ℕ, zero, suc}
 use mathlib.Core.Bool.{true}
-use mathlib.Core.Path.{_≡_, refl}
+use mathlib.Core.Path.{_≡_, refl, sym}
+use native.Mathlib.Omega.{arith}
+use borrow.Author.Tests.{ltb-true, ne-eqb}
 use lib.Dec.{ltb}
+use Rattle.interval.specs.declared.Scalar.{Scalar}
 use Rattle.interval.specs.Result.{ok}
+use Rattle.interval.specs.Scalar.{zeroS}
+use Rattle.run.proofs.CheckLaws.{both}
 use Rattle.run.specs.declared.state.Kind.the-variants as kind
 use Rattle.run.specs.declared.state.Last.{Last}
 use Rattle.run.specs.declared.state.Last.the-variants as last
@@ -12,6 +18,7 @@ use Rattle.run.specs.declared.state.Rejection.{Rejection}
 use Rattle.run.specs.declared.state.Rejection.the-variants as why
 use Rattle.run.specs.declared.state.State.{State}
 use Rattle.yadzvego.specs.Mirror.{phaseNumber, phaseAt, rejectionNumber, rejectionAt, lastNumber, lastLength, lastAt, mirrorOf, numbersFit, stateAt, stateOf}
+use Rattle.yadzvego.specs.declared.mirror.Run.{Run}
 
 -- ---- each number, read back
 
@@ -64,3 +71,36 @@ state-back st = rw (phase-back (st .phase), rejection-back (st .search .rejected
 pub there-and-back : (st : State) → stateOf (mirrorOf st) ≡ ok st
 unfolding stateOf
 there-and-back st = rw (numbers-fit st, state-back st)
+
+-- ---- the other way: where the numbers fit, and the length of no step is 0, the mirror of the state is the mirror
+
+phase-there : (k : ℕ) → ltb k 4 ≡ true → phaseNumber (phaseAt k) ≡ k
+phase-there zero h = refl
+phase-there (suc zero) h = refl
+phase-there (suc (suc zero)) h = refl
+phase-there (suc (suc (suc zero))) h = refl
+phase-there (suc (suc (suc (suc k)))) h = omega (arith, ltb-true (suc (suc (suc (suc k)))) 4 h)
+
+rejection-there : (k : ℕ) → ltb k 5 ≡ true → rejectionNumber (rejectionAt k) ≡ k
+rejection-there zero h = refl
+rejection-there (suc zero) h = refl
+rejection-there (suc (suc zero)) h = refl
+rejection-there (suc (suc (suc zero))) h = refl
+rejection-there (suc (suc (suc (suc zero)))) h = refl
+rejection-there (suc (suc (suc (suc (suc k))))) h = omega (arith, ltb-true (suc (suc (suc (suc (suc k))))) 5 h)
+
+last-there : (k : ℕ) (x : Scalar) → ltb k 2 ≡ true → lastNumber (lastAt k x) ≡ k
+last-there zero x h = refl
+last-there (suc zero) x h = refl
+last-there (suc (suc k)) x h = omega (arith, ltb-true (suc (suc k)) 2 h)
+
+length-there : (k : ℕ) (x : Scalar) → (k ≡ 0 → x ≡ zeroS) → lastLength (lastAt k x) ≡ x
+length-there zero x z = sym (z refl)
+length-there (suc k) x z = rw (ne-eqb (suc k) 0 (λ e. omega (arith, e)))
+
+pub back-and-there : (r : Run) → numbersFit r ≡ true → (r .last ≡ 0 → r .«last_length» ≡ zeroS) → mirrorOf (stateAt r) ≡ r
+unfolding numbersFit stateAt mirrorOf
+back-and-there r e z =
+    let p = both (ltb (r .phase) 4) _ e in
+    let q = both (ltb (r .rejected) 5) _ (p .1) in
+    rw (phase-there (r .phase) (p .0), rejection-there (r .rejected) (q .0), last-there (r .last) (r .«last_length») (q .1), length-there (r .last) (r .«last_length») z)
