@@ -15,8 +15,8 @@ pub use answers::Told;
 use interval::Scalar;
 pub use mirror::Run;
 use run::Phase;
-use run::State;
 
+// Begins a run: its first question asks for the rows of `start`.
 #[no_mangle]
 pub extern "C" fn yadzvego_begin(
     n: usize,
