@@ -1,4 +1,4 @@
-// What a run carries from call to call, by value, and what a call answers. Document 01's numbers of the cases are in specs/Answers.antt.
+// What a run carries from call to call, by value, and what a call answers.
 use interval::Scalar;
 
 pub enum Kind {

@@ -6,7 +6,7 @@ use Rattle.run.specs.declared.state.Stop.{Stop}
 use Rattle.run.specs.declared.state.Stop.the-variants as stop
 use Rattle.yadzvego.specs.Mirror.{kindNumber, rejectionNumber}
 use Rattle.yadzvego.specs.declared.answers.Ending.{Ending}
-use Rattle.yadzvego.specs.declared.answers.Told.{Told}
+use Rattle.yadzvego.specs.declared.answers.AnswerNumbers.{AnswerNumbers}
 
 -- the stop, the rejection, how many constraints are independent, and of how many
 abbrev pub ended : ℕ → ℕ → ℕ → ℕ → Ending
@@ -21,7 +21,7 @@ endingOf (stop.Damped r) = ended 4 (rejectionNumber r) 0 0
 endingOf stop.Budget = ended 5 0 0 0
 
 -- which, kind, number, standing
-abbrev pub asked : ℕ → ℕ → ℕ → ℕ → Told
+abbrev pub asked : ℕ → ℕ → ℕ → ℕ → AnswerNumbers
 asked which k number standing = record {
   which = which;
   kind = k;
@@ -36,7 +36,7 @@ asked which k number standing = record {
 }
 
 -- iterations, turn-downs, standing
-abbrev pub finished : Ending → ℕ → ℕ → ℕ → Told
+abbrev pub finished : Ending → ℕ → ℕ → ℕ → AnswerNumbers
 finished e iterations turned standing = record {
   which = 1;
   kind = 0;
@@ -50,7 +50,7 @@ finished e iterations turned standing = record {
   «turned_down» = turned;
 }
 
-abbrev pub toldOf : Answer → Told
-toldOf (answer.Question number k standing) = asked 0 (kindNumber k) number standing
-toldOf (answer.Finish s iterations turned standing) = finished (endingOf s) iterations turned standing
-toldOf (answer.Refused number) = asked 2 0 number 0
+abbrev pub numbersOf : Answer → AnswerNumbers
+numbersOf (answer.Question number k standing) = asked 0 (kindNumber k) number standing
+numbersOf (answer.Finish s iterations turned standing) = finished (endingOf s) iterations turned standing
+numbersOf (answer.Refused number) = asked 2 0 number 0

@@ -14,7 +14,7 @@ use Rattle.run.specs.declared.state.Out.{Out}
 use Rattle.run.specs.declared.state.Sizes.{Sizes}
 use Rattle.run.specs.declared.state.State.{State}
 use Rattle.yadzvego.specs.Mirror.{mirrorOf, numbersFit, stateAt, stateOf}
-use Rattle.yadzvego.specs.Answers.{asked, toldOf}
+use Rattle.yadzvego.specs.Answers.{asked, numbersOf}
 use Rattle.yadzvego.specs.declared.answers.Reply.{Reply}
 use Rattle.yadzvego.specs.declared.mirror.Run.{Run}
 
@@ -27,11 +27,11 @@ abbrev pub handed : Reply → List Float → Handed
 handed r a = record { reply = r; area = a }
 
 abbrev pub replyFrom : Out → Reply
-replyFrom o = record { run = mirrorOf (o .state); answer = toldOf (o .answer) }
+replyFrom o = record { run = mirrorOf (o .state); answer = numbersOf (o .answer) }
 
 -- what a call of run leaves
 abbrev pub handedBy : Left → Handed
-handedBy l = handed (record { run = mirrorOf (l .state); answer = toldOf (l .answer) }) (l .area)
+handedBy l = handed (record { run = mirrorOf (l .state); answer = numbersOf (l .answer) }) (l .area)
 
 -- refused, with all as it was
 abbrev pub refusedWith : Run → ℕ → Reply

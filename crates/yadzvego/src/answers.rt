@@ -1,6 +1,6 @@
-// What a call answers, as numbers. The cases are told in specs/Answers.antt; a number that an answer does not tell is 0.
+// What a call answers, as numbers. The cases are numbered in specs/Answers.antt; a number that an answer does not tell is 0.
 ghost use mathlib.Core.Path.{_≡_};
-ghost use Rattle.yadzvego.specs.Answers.{ended, endingOf, asked, finished, toldOf};
+ghost use Rattle.yadzvego.specs.Answers.{ended, endingOf, asked, finished, numbersOf};
 ghost use Rattle.yadzvego.specs.Exports.{replyFrom, refusedWith};
 use crate::mirror::Run;
 use crate::mirror::kind_number;
@@ -11,7 +11,7 @@ use run::Out;
 use run::Stop;
 
 #[repr(C)]
-pub struct Told {
+pub struct AnswerNumbers {
     pub which: u8,
     pub kind: u8,
     pub stop: u8,
@@ -28,7 +28,7 @@ pub struct Told {
 #[repr(C)]
 pub struct Reply {
     pub run: Run,
-    pub answer: Told,
+    pub answer: AnswerNumbers,
 }
 
 // Why a run stopped.
@@ -63,10 +63,10 @@ fn ending_of(s: Stop) -> Ending
     }
 }
 
-fn finished(e: Ending, iterations: usize, turned_down: usize, standing: usize) -> Told
+fn finished(e: Ending, iterations: usize, turned_down: usize, standing: usize) -> AnswerNumbers
     ensures { λ r. ⌜ r ≡ finished e iterations «turned_down» standing ⌝ }
 {
-    Told {
+    AnswerNumbers {
         which: 1,
         kind: 0,
         stop: e.stop,
@@ -81,10 +81,10 @@ fn finished(e: Ending, iterations: usize, turned_down: usize, standing: usize) -
 }
 
 // A question, or a refusal with the kind and the standing 0.
-fn asked(which: u8, kind: u8, number: usize, standing: usize) -> Told
+fn asked(which: u8, kind: u8, number: usize, standing: usize) -> AnswerNumbers
     ensures { λ r. ⌜ r ≡ asked which kind number standing ⌝ }
 {
-    Told {
+    AnswerNumbers {
         which,
         kind,
         stop: 0,
@@ -98,8 +98,8 @@ fn asked(which: u8, kind: u8, number: usize, standing: usize) -> Told
     }
 }
 
-fn told_of(a: Answer) -> Told
-    ensures { λ r. ⌜ r ≡ toldOf a ⌝ }
+fn numbers_of(a: Answer) -> AnswerNumbers
+    ensures { λ r. ⌜ r ≡ numbersOf a ⌝ }
 {
     match a {
         Answer::Question(number, kind, standing) => asked(0, kind_number(kind), number, standing),
@@ -117,7 +117,7 @@ pub fn reply_of(o: Out) -> Reply
     let answer = o.answer;
     Reply {
         run: mirror_of(state),
-        answer: told_of(answer),
+        answer: numbers_of(answer),
     }
 }
 

@@ -11,7 +11,7 @@ use crate::answers::reply_of;
 use crate::mirror::numbers_fit;
 use crate::mirror::state_at;
 pub use answers::Reply;
-pub use answers::Told;
+pub use answers::AnswerNumbers;
 use interval::Scalar;
 pub use mirror::Run;
 use run::Phase;

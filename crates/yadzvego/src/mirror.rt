@@ -1,4 +1,4 @@
-// The run as C and Rust hold it between two calls: its enums are numbers, told in specs/Mirror.antt, which `numbers_fit` checks.
+// The run as C and Rust hold it between two calls: its enums are numbers, by specs/Mirror.antt, which `numbers_fit` checks.
 ghost use mathlib.Core.Path.{_≡_};
 ghost use Rattle.yadzvego.specs.Mirror.{kindNumber, phaseNumber, rejectionNumber, lastNumber, lastLength, mirrorOf, numbersFit, phaseAt, rejectionAt, lastAt, sizesAt, countsAt, searchAt, stateAt};
 use interval::Scalar;

@@ -1,7 +1,7 @@
--- `told_of` meets its contract: each arm is given the answer that it binds.
+-- `numbers_of` meets its contract: each arm is given the answer that it binds.
 use borrow.Author.Needs.{needs}
-use Rattle.yadzvego.proofs.answers.told_of.Statement.{statement}
-use Rattle.yadzvego.proofs.answers.told_of.Tie as tie
+use Rattle.yadzvego.proofs.answers.numbers_of.Statement.{statement}
+use Rattle.yadzvego.proofs.answers.numbers_of.Tie as tie
 
 enum-known-a : tie.Need-enum-known-a
 enum-known-a c = search needs
@@ -36,8 +36,8 @@ returns-2 c = rw (c .before .before .before .a2 .given .1, c .finished .ensures,
 returns-3 : tie.Need-returns-3
 returns-3 c = rw (c .before .before .a3 .given .1, c .asked2 .ensures)
 
-pub told-of-spec : {M : Type 1} → statement M
-told-of-spec =
+pub numbers-of-spec : {M : Type 1} → statement M
+numbers-of-spec =
     tie.close
     (tie.spec
     enum-known-a
