@@ -18,7 +18,7 @@ pub struct Answer {
 /// `number` 0 and whether it holds, or a refusal's number.
 #[repr(C)]
 #[derive(Clone, Copy)]
-pub struct Told {
+pub struct Decision {
     pub number: u64,
     pub holds: bool,
 }
@@ -35,7 +35,7 @@ pub struct Stepped {
 /// `number` 0 and how a step fares, or a refusal's number.
 #[repr(C)]
 #[derive(Clone, Copy)]
-pub struct Fared {
+pub struct JudgedStep {
     pub number: u64,
     pub length: Scalar,
     pub lower: bool,
@@ -198,7 +198,7 @@ unsafe extern "C" {
         last: Scalar,
         step: *const f64,
         step_count: usize,
-    ) -> Fared;
+    ) -> JudgedStep;
     pub fn run_expects(
         n: usize,
         m: usize,
@@ -211,7 +211,7 @@ unsafe extern "C" {
         theta: Scalar,
         delta: *const f64,
         delta_count: usize,
-    ) -> Told;
+    ) -> Decision;
     pub fn run_along(
         n: usize,
         m: usize,
@@ -234,6 +234,7 @@ unsafe extern "C" {
         d: *mut f64,
         d_count: usize,
     ) -> u64;
+    pub fn run_cut(n: usize, radius: Scalar, delta: *mut f64, delta_count: usize) -> u64;
     pub fn run_update_curvature(
         n: usize,
         m: usize,
@@ -265,5 +266,5 @@ unsafe extern "C" {
         lambda: *mut f64,
         lambda_count: usize,
     ) -> Stepped;
-    pub fn run_learned(n: usize, b: *const f64, b_count: usize) -> Told;
+    pub fn run_learned(n: usize, b: *const f64, b_count: usize) -> Decision;
 }

@@ -258,6 +258,11 @@ fn rust_shift(call: &Call) -> Reply {
     }
 }
 
+fn rust_cut(call: &Call) -> Reply {
+    let delta = first(&call.out[0], call.n);
+    written(call, rust::cut(&delta, call.scalars[0]))
+}
+
 fn rust_update_curvature(call: &Call) -> Reply {
     let (e, e_next) = (
         evaluation(call, &call.inputs[1]),
@@ -309,8 +314,8 @@ fn answered(answer: archive::Answer) -> (u64, Vec<u64>) {
     )
 }
 
-fn held(told: archive::Told) -> (u64, Vec<u64>) {
-    (told.number, vec![u64::from(told.holds)])
+fn held(decision: archive::Decision) -> (u64, Vec<u64>) {
+    (decision.number, vec![u64::from(decision.holds)])
 }
 
 fn archive_squared(call: &Call, _out: &mut [Vec<f64>], _marks: &mut [bool]) -> (u64, Vec<u64>) {
@@ -387,7 +392,7 @@ fn archive_judge(call: &Call, _out: &mut [Vec<f64>], _marks: &mut [bool]) -> (u6
     let [rows, next, filter, step] = &call.inputs[..] else {
         panic!("four slices")
     };
-    let fared = unsafe {
+    let judged = unsafe {
         archive::run_judge(
             n,
             m,
@@ -406,9 +411,9 @@ fn archive_judge(call: &Call, _out: &mut [Vec<f64>], _marks: &mut [bool]) -> (u6
             step.len(),
         )
     };
-    let mut value = vec![word(fared.length.lo), word(fared.length.hi)];
-    value.extend([fared.lower, fared.undecided, fared.contracting].map(u64::from));
-    (fared.number, value)
+    let mut value = vec![word(judged.length.lo), word(judged.length.hi)];
+    value.extend([judged.lower, judged.undecided, judged.contracting].map(u64::from));
+    (judged.number, value)
 }
 
 fn archive_expects(call: &Call, _out: &mut [Vec<f64>], _marks: &mut [bool]) -> (u64, Vec<u64>) {
@@ -473,6 +478,13 @@ fn archive_shift(call: &Call, out: &mut [Vec<f64>], marks: &mut [bool]) -> (u64,
     let shift = first(&out[0], n);
     let asked = rust::asked(&e, &first(&call.inputs[1], n), number, &shift);
     (number, asked)
+}
+
+fn archive_cut(call: &Call, out: &mut [Vec<f64>], _marks: &mut [bool]) -> (u64, Vec<u64>) {
+    let delta = &mut out[0];
+    let radius = lent(call.scalars[0]);
+    let number = unsafe { archive::run_cut(call.n, radius, delta.as_mut_ptr(), delta.len()) };
+    (number, Vec::new())
 }
 
 fn archive_update_curvature(
@@ -547,7 +559,7 @@ fn shape(inputs: &[usize], marks: usize, out: &[usize]) -> Shape {
     }
 }
 
-pub static PIECES: [Piece; 11] = [
+pub static PIECES: [Piece; 12] = [
     Piece {
         name: "squared",
         code: 1,
@@ -640,6 +652,22 @@ pub static PIECES: [Piece; 11] = [
                 "asks nothing"
             } else {
                 "asks"
+            }
+        },
+    },
+    Piece {
+        name: "cut",
+        code: 12,
+        value: 0,
+        shape: |_, _, _| shape(&[], 0, &[POINT]),
+        draw: problems::for_cut,
+        rust: rust_cut,
+        rattle: archive_cut,
+        says: |call, reply| {
+            if reply.out == words(&call.out[0]) {
+                "as it was"
+            } else {
+                "cut"
             }
         },
     },

@@ -376,6 +376,22 @@ pub fn for_shift(random: &mut Random, n: usize, m: usize, s: usize) -> Call {
     call
 }
 
+/// A step, and a radius that is near its length or anything.
+pub fn for_cut(random: &mut Random, n: usize, m: usize, s: usize) -> Call {
+    let delta = random.listed(n, POINT);
+    let [near, other] = [random.listed(1, 2), random.listed(1, 2)].map(|ends| scalars(&ends)[0]);
+    let radius = match solver::norm(&scalars(&delta[..2 * n])) {
+        Ok(length) if random.at_odds(2) => length.mul(near.abs()),
+        Ok(length) if random.at_odds(2) => length.div(Scalar::TWO).unwrap_or(length),
+        _ => other,
+    };
+    Call {
+        scalars: vec![radius],
+        out: vec![delta],
+        ..random.call(n, m, s, Vec::new(), &[])
+    }
+}
+
 pub fn for_update_curvature(random: &mut Random, n: usize, m: usize, s: usize) -> Call {
     let rows = random.problem(n, m, s);
     let next = if random.at_odds(4) {

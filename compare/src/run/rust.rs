@@ -47,6 +47,17 @@ pub fn expects(
             .definitely_greater(Scalar::ZERO))
 }
 
+/// `minimize`'s cut to the radius.
+pub fn cut(delta: &[Scalar], radius: Scalar) -> GeopResult<Vec<Scalar>> {
+    let mut delta = delta.to_vec();
+    let length = norm(&delta)?;
+    if length.definitely_greater(radius) {
+        let shrink = radius.div(length)?;
+        delta.iter_mut().for_each(|d| *d = choose(d.mul(shrink)));
+    }
+    Ok(delta)
+}
+
 /// `corrected`'s `d`.
 pub fn shift(e: &Evaluation, moving: &[bool], n: usize) -> GeopResult<Vec<Scalar>> {
     let jc: Vec<Vec<Scalar>> = e

@@ -11,7 +11,7 @@ use Rattle.linear.specs.Flat.{at}
 use Rattle.linear.specs.Norm.{normOf}
 use Rattle.linear.specs.Results.{bind}
 use Rattle.linear.proofs.Folds.{bind-ok, bind-refused}
-use Rattle.run.specs.Proposal.{Standing, noDrop, unresolved, noChange, ask, movedOf, sameOf, expectsOf, trialOf, cutOf, shortenedOf, withinOf, proposedBy, proposalOf, stillOf, modelOf, pointOf}
+use Rattle.run.specs.Proposal.{Standing, noDrop, unresolved, noChange, ask, movedOf, sameOf, expectsOf, trialOf, cutOf, cutWithin, shortenedOf, withinOf, proposedBy, proposalOf, stillOf, modelOf, pointOf}
 use Rattle.run.specs.Rows.{predictedOf}
 use Rattle.run.specs.Scratch.{vector, chosenOf}
 use Rattle.run.specs.Step.{Step, Stepped, found, stepOf}
@@ -73,6 +73,20 @@ module _ (S : Standing) (radius : Scalar) (d lambda : List Float) where
       → withinOf S radius d lambda ≡ bind (divOf radius l) (λ shrink. shortenedOf S (cutOf (S .n) d shrink) lambda)
   unfolding withinOf
   within-cut l e g = bind-ok _ e ∙ rw g
+
+-- the cut alone
+module _ (n : ℕ) (radius : Scalar) (d : List Float) where
+  pub cut-refused : {k : ℕ} → normOf (at d) n ≡ refused k → cutWithin n radius d ≡ refused k
+  unfolding cutWithin
+  cut-refused e = bind-refused _ e
+
+  pub cut-whole : (l : Scalar) → normOf (at d) n ≡ ok l → definitelyGreater l radius ≡ false → cutWithin n radius d ≡ ok d
+  unfolding cutWithin
+  cut-whole l e g = bind-ok _ e ∙ rw g
+
+  pub cut-by : (l : Scalar) → normOf (at d) n ≡ ok l → definitelyGreater l radius ≡ true → cutWithin n radius d ≡ bind (divOf radius l) (λ shrink. ok (cutOf n d shrink))
+  unfolding cutWithin
+  cut-by l e g = bind-ok _ e ∙ rw g
 
 -- what a step proposes
 module _ (S : Standing) (mu radius : Scalar) where

@@ -15,7 +15,7 @@ use Rattle.linear.specs.Results.{bind}
 use Rattle.run.specs.Scratch.{vector, fillTo}
 use Rattle.run.specs.Rows.{rowNumbers, sumOf, constraintsOf, evaluationOf, squaredOf, transposedAt, predictedOf, movingOf}
 use Rattle.run.specs.Curvature.{learnedOf, alongOf, updateCurvature}
-use Rattle.run.specs.Proposal.{modelOf, expectsOf}
+use Rattle.run.specs.Proposal.{modelOf, expectsOf, cutWithin}
 use Rattle.run.specs.Judgement.{Judged, judgeOf}
 use Rattle.run.specs.Correction.{shiftOf}
 use Rattle.run.specs.Step.{Stepped, found, notPositive, stepOf}
@@ -75,6 +75,9 @@ judgeReply n m s rows next theta filter count last step =
 
 unfoldable pub expectsReply : ℕ → ℕ → ℕ → List Float → List Float → Scalar → Scalar → List Float → Res Bool
 expectsReply n m s rows b f theta delta = then (wantsOf (wantsOf (sizedOf n m s (length rows)) (length b) 288) (length delta) 24) (expectsOf (modelOf n (evaluationOf n m s rows) f theta b) delta)
+
+unfoldable pub cutReply : ℕ → Scalar → List Float → Reply (List Float)
+cutReply n radius delta = checked (leb n 12) 1 delta (checked (eqb (length delta) 24) 2 delta (replyOf vector (cutWithin n radius delta)))
 
 unfoldable pub alongReply : ℕ → ℕ → ℕ → List Float → List Float → List Float → Reply (List Float)
 alongReply n m s rows v out =

@@ -81,6 +81,11 @@ trialOf S step lambda =
 unfoldable pub cutOf : ℕ → List Float → Scalar → List Float
 cutOf n delta shrink = fillTo delta 0 (λ i. chooseOf (mulOf (at delta i) shrink)) n
 
+-- a step, cut where it is definitely longer than the radius
+unfoldable pub cutWithin : ℕ → Scalar → List Float → Res (List Float)
+unfolding bind
+cutWithin n radius delta = bind (normOf (at delta) n) (λ length. pick (definitelyGreater length radius) (bind (divOf radius length) (λ shrink. ok (cutOf n delta shrink))) (ok delta))
+
 unfoldable pub shortenedOf : Standing → List Float → List Float → Res Proposal
 unfolding bind
 shortenedOf S cut lambda = bind (expectsOf S cut) (λ drop. pick drop (trialOf S cut lambda) (ok unresolved))

@@ -32,6 +32,7 @@ pub use judged::Judged;
 pub use judged::Judgement;
 pub use pieces::Learning;
 pub use pieces::along;
+pub use pieces::cut;
 pub use pieces::expects;
 pub use pieces::judge;
 pub use pieces::learned;

@@ -8,9 +8,9 @@ ghost use Rattle.linear.specs.Flat.{zeros};
 ghost use Rattle.linear.specs.Replies.{replied, replyOf, checked};
 ghost use lib.Dec.{eqb};
 ghost use Rattle.run.specs.Curvature.{alongOf};
-ghost use Rattle.run.specs.Proposal.{expectedResult};
+ghost use Rattle.run.specs.Proposal.{expectedResult, cutWithin};
 ghost use Rattle.run.specs.Judgement.{judgementOf};
-ghost use Rattle.run.specs.Pieces.{sizedOf, wantsOf, reachOf, squaredReply, predictedReply, transposedReply, movingReply, judgeReply, expectsReply, alongReply, shiftReply, updateReply, learnedReply, learningOf, stepReplied, stepReplyOf, stepReply};
+ghost use Rattle.run.specs.Pieces.{sizedOf, wantsOf, reachOf, squaredReply, predictedReply, transposedReply, movingReply, judgeReply, expectsReply, cutReply, alongReply, shiftReply, updateReply, learnedReply, learningOf, stepReplied, stepReplyOf, stepReply};
 ghost use Rattle.run.specs.Rows.{sumOf, constraintsOf, transposedAt};
 ghost use Rattle.run.specs.Scratch.{vector, fillTo};
 ghost use Rattle.run.specs.Step.{endOf};
@@ -21,10 +21,12 @@ use crate::judged::Judgement;
 use crate::proposal;
 use crate::proposal::Expected;
 use crate::rows;
+use crate::scratch::norm_of;
 use crate::state::Last;
 use crate::step;
 use crate::step::StepEnd;
 use interval::Scalar;
+use interval::ScalarResult;
 use linear::Answer;
 use linear::Done;
 use linear::LinearError;
@@ -217,6 +219,41 @@ fn along_sized(n: usize, m: usize, xs: &[f64], v: &[f64], out: &mut [f64]) -> Do
         return Done::Refused(LinearError::WrongLength);
     }
     cleared(curvature::along_constraints(n, m, xs, v, out), out)
+}
+
+// `cut`, of at most 12 variables.
+fn cut_within(n: usize, radius: Scalar, delta: &mut [f64]) -> Done
+    requires { ⌜ (n ≤ 12) × (length (now delta) ≡ 24) ⌝ }
+    ensures { λ r. ⌜ doneOf r (now (delta .exit)) ≡ cutWithin n radius (now (delta .entry)) ⌝ }
+{
+    match norm_of(delta, n) {
+        Answer::Value(length) => {
+            if !length.definitely_greater(radius) {
+                return Done::Finished;
+            }
+            match radius.div(length) {
+                ScalarResult::Value(shrink) => {
+                    proposal::cut(n, delta, shrink);
+                    Done::Finished
+                }
+                ScalarResult::Refused(e) => Done::Refused(LinearError::Arithmetic(e)),
+            }
+        }
+        Answer::Refused(e) => Done::Refused(e),
+    }
+}
+
+// A step cut to the radius where it is definitely longer: 24 numbers in delta.
+pub fn cut(n: usize, radius: Scalar, delta: &mut [f64]) -> Done
+    ensures { λ r. ⌜ replied r (now (delta .exit)) ≡ cutReply n radius (now (delta .entry)) ⌝ }
+{
+    if n > 12 {
+        return Done::Refused(LinearError::TooMany);
+    }
+    if delta.len() != 24 {
+        return Done::Refused(LinearError::WrongLength);
+    }
+    cleared(cut_within(n, radius, delta), delta)
 }
 
 // The part of v along the constraints, 24 numbers in v, 2 n in out.

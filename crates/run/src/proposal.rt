@@ -100,7 +100,7 @@ pub fn expects(
 }
 
 // A step times shrink, chosen.
-fn cut(n: usize, delta: &mut [f64], shrink: Scalar)
+pub fn cut(n: usize, delta: &mut [f64], shrink: Scalar)
     ensures { λ _. ⌜ now (delta .exit) ≡ cutOf n (now (delta .entry)) shrink ⌝ }
 {
     for i in 0..n {

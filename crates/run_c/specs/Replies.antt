@@ -11,16 +11,16 @@ use Rattle.run.specs.declared.state.Last.{Last}
 use Rattle.run.specs.declared.state.Last.the-variants.{NoneYet, Taken}
 use Rattle.run.specs.Pieces.{Ending, independent, none, StepReply}
 use Rattle.run_c.specs.declared.Stepped.{Stepped}
-use Rattle.run_c.specs.declared.Told.{Told}
-use Rattle.run_c.specs.declared.Fared.{Fared}
+use Rattle.run_c.specs.declared.Decision.{Decision}
+use Rattle.run_c.specs.declared.JudgedStep.{JudgedStep}
 
-abbrev pub toldOf : Res Bool → Told
-toldOf (ok b) = record { number = 0; holds = b }
-toldOf (refused k) = record { number = k; holds = false }
+abbrev pub decisionOf : Res Bool → Decision
+decisionOf (ok b) = record { number = 0; holds = b }
+decisionOf (refused k) = record { number = k; holds = false }
 
-abbrev pub faredOf : Res Judged → Fared
-faredOf (ok j) = record { number = 0; length = j .length; lower = j .lower; undecided = j .undecided; contracting = j .contracting }
-faredOf (refused k) = record { number = k; length = zeroS; lower = false; undecided = false; contracting = false }
+abbrev pub judgedOf : Res Judged → JudgedStep
+judgedOf (ok j) = record { number = 0; length = j .length; lower = j .lower; undecided = j .undecided; contracting = j .contracting }
+judgedOf (refused k) = record { number = k; length = zeroS; lower = false; undecided = false; contracting = false }
 
 -- the last step's length, if one was taken
 abbrev pub lastOf : Bool → Scalar → Last

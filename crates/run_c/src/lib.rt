@@ -4,9 +4,9 @@ ghost use mathlib.Core.Path.{_≡_};
 ghost use Rattle.interval_c.specs.Answer.{answerOf};
 ghost use Rattle.linear_c.specs.Written.{written, writtenOf};
 ghost use Rattle.run.specs.Judgement.{judgementOf};
-ghost use Rattle.run.specs.Pieces.{squaredReply, predictedReply, transposedReply, movingReply, judgeReply, expectsReply, alongReply, shiftReply, updateReply, learnedReply, learningOf, stepReply, endingOf};
+ghost use Rattle.run.specs.Pieces.{squaredReply, predictedReply, transposedReply, movingReply, judgeReply, expectsReply, cutReply, alongReply, shiftReply, updateReply, learnedReply, learningOf, stepReply, endingOf};
 ghost use Rattle.run.specs.Proposal.{expectedResult};
-ghost use Rattle.run_c.specs.Replies.{toldOf, faredOf, lastOf, steppedOf, stepWritten, stepWrittenOf};
+ghost use Rattle.run_c.specs.Replies.{decisionOf, judgedOf, lastOf, steppedOf, stepWritten, stepWrittenOf};
 use interval::Scalar;
 use interval_c::Answer;
 use linear_c::answer_of;
@@ -20,14 +20,14 @@ use run::StepEnd;
 
 // Number 0 and whether it holds, or the number of the refusal.
 #[repr(C)]
-pub struct Told {
+pub struct Decision {
     pub number: u64,
     pub holds: bool,
 }
 
 // Number 0 and how a step fares, or the number of the refusal.
 #[repr(C)]
-pub struct Fared {
+pub struct JudgedStep {
     pub number: u64,
     pub length: Scalar,
     pub lower: bool,
@@ -65,51 +65,51 @@ fn stepped_of(e: StepEnd) -> Stepped
     }
 }
 
-fn expected_of(e: Expected) -> Told
-    ensures { λ r. ⌜ r ≡ toldOf (expectedResult e) ⌝ }
+fn expected_of(e: Expected) -> Decision
+    ensures { λ r. ⌜ r ≡ decisionOf (expectedResult e) ⌝ }
 {
     match e {
-        Expected::Drop => Told {
+        Expected::Drop => Decision {
             number: 0,
             holds: true,
         },
-        Expected::NoDrop => Told {
+        Expected::NoDrop => Decision {
             number: 0,
             holds: false,
         },
-        Expected::Refused(e) => Told {
+        Expected::Refused(e) => Decision {
             number: number_of(e),
             holds: false,
         },
     }
 }
 
-fn learning_of(l: Learning) -> Told
-    ensures { λ r. ⌜ r ≡ toldOf (learningOf l) ⌝ }
+fn learning_of(l: Learning) -> Decision
+    ensures { λ r. ⌜ r ≡ decisionOf (learningOf l) ⌝ }
 {
     match l {
-        Learning::Learned => Told {
+        Learning::Learned => Decision {
             number: 0,
             holds: true,
         },
-        Learning::Unlearned => Told {
+        Learning::Unlearned => Decision {
             number: 0,
             holds: false,
         },
-        Learning::Refused(e) => Told {
+        Learning::Refused(e) => Decision {
             number: number_of(e),
             holds: false,
         },
     }
 }
 
-fn fared_of(j: Judgement) -> Fared
-    ensures { λ r. ⌜ r ≡ faredOf (judgementOf j) ⌝ }
+fn judged_of(j: Judgement) -> JudgedStep
+    ensures { λ r. ⌜ r ≡ judgedOf (judgementOf j) ⌝ }
 {
     match j {
         Judgement::Of(x) => {
             let length = x.length;
-            Fared {
+            JudgedStep {
                 number: 0,
                 length,
                 lower: x.lower,
@@ -117,7 +117,7 @@ fn fared_of(j: Judgement) -> Fared
                 contracting: x.contracting,
             }
         }
-        Judgement::Refused(e) => Fared {
+        Judgement::Refused(e) => JudgedStep {
             number: number_of(e),
             length: Scalar::ZERO,
             lower: false,
@@ -191,10 +191,10 @@ pub extern "C" fn run_judge(
     taken: bool,
     last: Scalar,
     step: &[f64],
-) -> Fared
-    ensures { λ r. ⌜ r ≡ faredOf (judgeReply n m s (now (rows .entry)) (now (next .entry)) theta (now (filter .entry)) count (lastOf taken last) (now (step .entry))) ⌝ }
+) -> JudgedStep
+    ensures { λ r. ⌜ r ≡ judgedOf (judgeReply n m s (now (rows .entry)) (now (next .entry)) theta (now (filter .entry)) count (lastOf taken last) (now (step .entry))) ⌝ }
 {
-    fared_of(run::judge(
+    judged_of(run::judge(
         n,
         m,
         s,
@@ -218,8 +218,8 @@ pub extern "C" fn run_expects(
     f: Scalar,
     theta: Scalar,
     delta: &[f64],
-) -> Told
-    ensures { λ r. ⌜ r ≡ toldOf (expectsReply n m s (now (rows .entry)) (now (b .entry)) f theta (now (delta .entry))) ⌝ }
+) -> Decision
+    ensures { λ r. ⌜ r ≡ decisionOf (expectsReply n m s (now (rows .entry)) (now (b .entry)) f theta (now (delta .entry))) ⌝ }
 {
     expected_of(run::expects(n, m, s, rows, b, f, theta, delta))
 }
@@ -253,6 +253,13 @@ pub extern "C" fn run_shift(
 }
 
 #[no_mangle]
+pub extern "C" fn run_cut(n: usize, radius: Scalar, delta: &mut [f64]) -> u64
+    ensures { λ r. ⌜ written r (now (delta .exit)) ≡ writtenOf (cutReply n radius (now (delta .entry))) ⌝ }
+{
+    number_of_done(run::cut(n, radius, delta))
+}
+
+#[no_mangle]
 pub extern "C" fn run_update_curvature(
     n: usize,
     m: usize,
@@ -269,8 +276,8 @@ pub extern "C" fn run_update_curvature(
 }
 
 #[no_mangle]
-pub extern "C" fn run_learned(n: usize, b: &[f64]) -> Told
-    ensures { λ r. ⌜ r ≡ toldOf (learnedReply n (now (b .entry))) ⌝ }
+pub extern "C" fn run_learned(n: usize, b: &[f64]) -> Decision
+    ensures { λ r. ⌜ r ≡ decisionOf (learnedReply n (now (b .entry))) ⌝ }
 {
     learning_of(run::learned(n, b))
 }

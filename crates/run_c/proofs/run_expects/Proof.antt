@@ -1,6 +1,6 @@
 -- `run_expects` meets its contract: the answer is that of the result.
 use mathlib.Core.Path.{_∙_, ap}
-use Rattle.run_c.specs.Replies.{toldOf}
+use Rattle.run_c.specs.Replies.{decisionOf}
 use borrow.Author.Needs.{needs}
 use Rattle.run_c.proofs.run_expects.Statement.{statement}
 use Rattle.run_c.proofs.run_expects.Tie as tie
@@ -12,7 +12,7 @@ expected-of-requires : tie.Need-expected-of-requires
 expected-of-requires c κs = search needs
 
 returns : tie.Need-returns
-returns c = c .expected-of .ensures ∙ ap toldOf (c .before .expects .ensures)
+returns c = c .expected-of .ensures ∙ ap decisionOf (c .before .expects .ensures)
 
 pub run-expects-spec : {M : Type 1} → statement M
 run-expects-spec = tie.close (tie.spec expects-requires expected-of-requires returns)

@@ -1,6 +1,6 @@
 -- `run_learned` meets its contract: the answer is that of the result.
 use mathlib.Core.Path.{_∙_, ap}
-use Rattle.run_c.specs.Replies.{toldOf}
+use Rattle.run_c.specs.Replies.{decisionOf}
 use borrow.Author.Needs.{needs}
 use Rattle.run_c.proofs.run_learned.Statement.{statement}
 use Rattle.run_c.proofs.run_learned.Tie as tie
@@ -12,7 +12,7 @@ learning-of-requires : tie.Need-learning-of-requires
 learning-of-requires c κs = search needs
 
 returns : tie.Need-returns
-returns c = c .learning-of .ensures ∙ ap toldOf (c .before .learned .ensures)
+returns c = c .learning-of .ensures ∙ ap decisionOf (c .before .learned .ensures)
 
 pub run-learned-spec : {M : Type 1} → statement M
 run-learned-spec = tie.close (tie.spec learned-requires learning-of-requires returns)
