@@ -1,5 +1,6 @@
 #!/usr/bin/env python3
-"""Copies the scalars of geop-core-math and two of its solvers to a folder, as a crate that rustc compiles alone.
+"""Copies the scalars of geop-core-math and two of its solvers to a folder, as a crate that rustc compiles alone and that
+tells what a run does.
 
 usage: prepare.py SOURCE OUT      SOURCE: the folder that holds core/geop-core-math; OUT: where the crate is written
 
@@ -35,7 +36,15 @@ FIELDS = [
     "undecided: bool,\n    /// It is at most half",
     "contracting: bool,\n}\n\nfn judge(",
 ]
+REJECTIONS = ["NotPositive", "Infeasible", "Unresolved", "NotLower"]
+# Where a point is moved on: the end of a loop in `corrected`, and of one in `minimize`.
+KEPT = "        (x, e) = (next, e_next);\n    }\n"
 FIXED_SIZE = ["solve_linear_system<", "solve_pivoted<", "solve_banded<", "shortest_solution("]
+
+
+def told(event):
+    return f"crate::trace::tell(crate::trace::Event::{event});"
+
 
 # (file, how often, old, new)
 EDITS = [
@@ -65,6 +74,46 @@ EDITS = [
     # Where more rows are independent than variables move, k - r wraps and the loop may not end: here there are no directions
     # then. It was met outside the domain only.
     ("solvers/least_squares.rs", 1, "while z.len() < k - r {", "while z.len() < k.saturating_sub(r) {"),
+    # A run tells the kind of each question, what it turns down, and when the point of a question is kept or stands.
+    (
+        "solvers/least_squares.rs",
+        1,
+        "    let Some(mut e) = evaluate(&x).await else {",
+        f"    {told('Start')}\n    let Some(mut e) = evaluate(&x).await else {{",
+    ),
+    (
+        "solvers/least_squares.rs",
+        1,
+        "Some(next) => match evaluate(&next).await {",
+        f"Some(next) => match {{ {told('Trial')} evaluate(&next).await }} {{",
+    ),
+    (
+        "solvers/least_squares.rs",
+        1,
+        "        let Some(e_next) = evaluate(&next).await else {",
+        f"        {told('Correction')}\n        let Some(e_next) = evaluate(&next).await else {{",
+    ),
+    ("solvers/least_squares.rs", 1, KEPT + "    Ok((x, e, taken))", f"        {told('Kept')}\n{KEPT}    Ok((x, e, taken))"),
+    ("solvers/least_squares.rs", 1, KEPT + "    Ok(Outcome {", f"        {told('Stands')}\n{KEPT}    Ok(Outcome {{"),
+    (
+        "solvers/least_squares.rs",
+        1,
+        "if first && judged.undecided && last.is_some() && !judged.contracting {",
+        f"if first && judged.undecided && last.is_none() {{ {told('Unstopped')} }}\n"
+        "if first && judged.undecided && last.is_some() && !judged.contracting {",
+    ),
+    (
+        "solvers/least_squares.rs",
+        1,
+        "if taken(&judged) {",
+        f"if taken(&judged) {{ if !judged.lower {{ {told('Contracts')} }}",
+    ),
+    ("solvers/least_squares.rs", 2, "turned_down += 1;", f"turned_down += 1; {told('TurnedDown')}"),
+    ("solvers/least_squares.rs", 1, "plain = true;", f"plain = true; {told('Retried')}"),
+    *[
+        ("solvers/least_squares.rs", 1, f"rejected = Some(Rejection::{why});", f"rejected = Some(Rejection::{why}); {told(why)}")
+        for why in REJECTIONS
+    ],
     # Small matrices and vectors of fixed size are not copied, nor are the functions over them compared.
     ("solvers/linear.rs", 1, "    matrix::Matrix,\n", ""),
     ("solvers/linear.rs", 1, "    vector::{Vector, Vector3},\n", ""),
@@ -80,6 +129,46 @@ pub mod solvers {
 
     // The Rust counts its work here, for tests of its own.
     fn factorised(_rows: usize, _columns: usize) {}
+}
+
+// What a run on this thread did, in order, for the comparison.
+pub mod trace {
+    use std::cell::RefCell;
+
+    #[derive(Clone, Copy, Debug, PartialEq, Eq)]
+    pub enum Event {
+        // A question of this kind is asked next.
+        Start,
+        Trial,
+        Correction,
+        // The point of the last question is kept as a correction.
+        Kept,
+        // The point that landed last stands.
+        Stands,
+        // A first step is undecided with no step before, which is no stop; or it is taken since it contracts.
+        Unstopped,
+        Contracts,
+        // A step was turned down, and why.
+        TurnedDown,
+        Retried,
+        NotPositive,
+        Infeasible,
+        Unresolved,
+        NotLower,
+    }
+
+    thread_local! {
+        static EVENTS: RefCell<Vec<Event>> = const { RefCell::new(Vec::new()) };
+    }
+
+    pub fn tell(event: Event) {
+        EVENTS.with_borrow_mut(|events| events.push(event));
+    }
+
+    // What was told since this was last asked.
+    pub fn told() -> Vec<Event> {
+        EVENTS.take()
+    }
 }
 
 // f64::min and f64::max, and of two equal numbers the first.

@@ -1,7 +1,8 @@
-//! The archives of `interval_c`, `linear_c` and `run_c`: each public function of the crates interval and linear, and the pieces of a run.
+//! The archives of `interval_c`, `linear_c` and `run_c`: each public function of the crates interval and linear, and the pieces
+//! of a run. The archive of `yadzvego`: the calls of a run.
 
 #[repr(C)]
-#[derive(Clone, Copy)]
+#[derive(Clone, Copy, Debug)]
 pub struct Scalar {
     pub lo: f64,
     pub hi: f64,
@@ -41,6 +42,57 @@ pub struct JudgedStep {
     pub lower: bool,
     pub undecided: bool,
     pub contracting: bool,
+}
+
+/// A run between two calls, as include/yadzvego.h has it.
+#[repr(C)]
+#[derive(Clone, Copy, Debug)]
+pub struct Run {
+    pub n: usize,
+    pub m: usize,
+    pub s: usize,
+    pub limit: usize,
+    pub iterations: usize,
+    pub question: usize,
+    pub standing: usize,
+    pub landed: usize,
+    pub corrections: usize,
+    pub turned_down: usize,
+    pub mu: Scalar,
+    pub radius: Scalar,
+    pub predicted: Scalar,
+    pub tried: Scalar,
+    pub max_step: Scalar,
+    pub last_length: Scalar,
+    pub phase: u8,
+    pub rejected: u8,
+    pub last: u8,
+    pub first: bool,
+    pub plain: bool,
+    pub moving: [bool; 12],
+}
+
+/// What a call of a run answers: `which` is 0 for a question, 1 for the finish and 2 for a refusal.
+#[repr(C)]
+#[derive(Clone, Copy, Debug)]
+pub struct RunAnswer {
+    pub which: u8,
+    pub kind: u8,
+    pub stop: u8,
+    pub rejected: u8,
+    pub number: usize,
+    pub standing: usize,
+    pub independent: usize,
+    pub constraints: usize,
+    pub iterations: usize,
+    pub turned_down: usize,
+}
+
+#[repr(C)]
+#[derive(Clone, Copy, Debug)]
+pub struct RunReply {
+    pub run: Run,
+    pub answer: RunAnswer,
 }
 
 // Each is total: it has no `requires`, and it takes and gives plain numbers.
@@ -267,4 +319,30 @@ unsafe extern "C" {
         lambda_count: usize,
     ) -> Stepped;
     pub fn run_learned(n: usize, b: *const f64, b_count: usize) -> Decision;
+}
+
+// Total likewise.
+#[link(name = "yadzvego", kind = "static")]
+unsafe extern "C" {
+    pub fn yadzvego_begin(
+        n: usize,
+        m: usize,
+        s: usize,
+        limit: usize,
+        start: *const f64,
+        start_count: usize,
+        max_step: Scalar,
+        area: *mut f64,
+        area_count: usize,
+    ) -> RunReply;
+    pub fn yadzvego_reply(
+        run: Run,
+        area: *mut f64,
+        area_count: usize,
+        rows: *const f64,
+        rows_count: usize,
+    ) -> RunReply;
+    pub fn yadzvego_reply_none(run: Run, area: *mut f64, area_count: usize) -> RunReply;
+    pub safe fn yadzvego_point_place(run: Run, area_count: usize) -> usize;
+    pub safe fn yadzvego_point_length(run: Run, area_count: usize) -> usize;
 }

@@ -1,10 +1,13 @@
-//! Compares the crates interval and linear, and the pieces of run, with the Rust that they follow, function by function: a NaN
-//! equals a NaN, other numbers compare by bits, refusals by number. The exit status is 1 where any answer differs.
+//! Compares the crates interval, linear and run with the Rust that they follow: function by function, the pieces of a run, whole
+//! runs question by question, and calls that must be refused. A NaN equals a NaN, other numbers compare by bits, refusals by
+//! number. The exit status is 1 where any answer differs, or where runs never show what they must.
 
 mod archive;
+mod hostile;
 mod interval;
 mod linear;
 mod run;
+mod runs;
 mod words;
 
 use std::process::ExitCode;
@@ -72,6 +75,7 @@ fn write_list(name: &str, path: &str, seed: u64) {
     let lines = match name {
         "interval_replay" => interval::list::lines(seed),
         "linear_replay" => linear::list::lines(seed),
+        "run_replay" => runs::list::runs(seed),
         _ => refuse(&format!("no list for {name}")),
     };
     std::fs::write(path, lines.concat()).unwrap_or_else(|error| panic!("{path}: {error}"));
@@ -89,6 +93,8 @@ fn main() -> ExitCode {
     let mut total = interval::compare(settings.seed, settings.random);
     total += linear::compare(settings.seed, settings.random);
     total += run::compare(settings.seed, settings.random);
+    total += runs::compare(settings.seed, settings.random);
+    total += hostile::compare(settings.seed, settings.random);
     println!("{} compared, {} differ", total.compared, total.differ);
     if total.differ == 0 {
         ExitCode::SUCCESS

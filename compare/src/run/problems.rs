@@ -13,7 +13,7 @@ use geop_core_math::solvers::least_squares::{self as solver, Evaluation};
 const MOST: f64 = f64::from_bits(0x58F0_0000_0000_0000);
 
 /// The nearest ends in the domain: of magnitude at most 2^400, in order.
-fn bounded(ends: [f64; 2]) -> [f64; 2] {
+pub fn bounded(ends: [f64; 2]) -> [f64; 2] {
     let [a, b] = ends.map(|x| {
         if x.is_nan() {
             0.0
@@ -163,7 +163,7 @@ impl Random {
     }
 
     /// Rows beside others: as where a step leads.
-    fn rows_beside(&mut self, rows: &[f64]) -> Vec<f64> {
+    pub fn rows_beside(&mut self, rows: &[f64]) -> Vec<f64> {
         let size = self.between(-50, -1);
         let moved = rows
             .chunks_exact(2)

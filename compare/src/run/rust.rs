@@ -80,7 +80,7 @@ pub fn shift(e: &Evaluation, moving: &[bool], n: usize) -> GeopResult<Vec<Scalar
 }
 
 /// Nothing here waits.
-fn finished<T>(future: impl Future<Output = T>) -> T {
+pub fn finished<T>(future: impl Future<Output = T>) -> T {
     match pin!(future).poll(&mut Context::from_waker(Waker::noop())) {
         Poll::Ready(value) => value,
         Poll::Pending => panic!("it waits"),

@@ -1,0 +1,107 @@
+//! The area after a call: which slots are in use, what they hold, and +0 everywhere else.
+
+use crate::archive::Run;
+use crate::runs::rattle::AREA;
+use crate::runs::rust::{Played, evaluated};
+use crate::words::words;
+use geop_core_math::scalars::Scalar;
+use geop_core_math::solvers::least_squares::norm;
+
+/// Where a slot begins, and how many numbers it has.
+type Slot = (usize, usize);
+
+const STANDING: Slot = (0, 24);
+const LANDED: Slot = (24, 24);
+const ASKED: Slot = (48, 24);
+const STANDING_ROWS: Slot = (72, 936);
+const LANDED_ROWS: Slot = (1008, 936);
+const STEP: Slot = (1944, 24);
+const MULTIPLIERS: Slot = (1968, 24);
+const CURVATURE: Slot = (1992, 288);
+const FILTER: Slot = (2280, 800);
+const SPARE: Slot = (3080, 4920);
+
+const OVER: u8 = 3;
+
+/// How many numbers of each slot are used after a call that left this run.
+fn used(run: &Run) -> [(Slot, usize); 10] {
+    let (n, m, s) = (run.n, run.m, run.s);
+    let rows = 2 * (m + s) * (n + 1);
+    let open = run.phase != OVER;
+    let tried = run.phase == 1 || run.phase == 2;
+    let corrected = run.phase == 2;
+    let of = |in_use: bool, count: usize| if in_use { count } else { 0 };
+    [
+        (STANDING, 2 * n),
+        (LANDED, of(corrected, 2 * n)),
+        (ASKED, of(open, 2 * n)),
+        (STANDING_ROWS, of(tried, rows)),
+        (LANDED_ROWS, of(corrected, rows)),
+        (STEP, of(tried, 2 * n)),
+        (MULTIPLIERS, of(tried, 2 * m)),
+        (CURVATURE, of(tried, 2 * n * n)),
+        (FILTER, of(tried, 4 * run.iterations)),
+        (SPARE, 0),
+    ]
+}
+
+/// Whether all that is not in use is +0.
+pub fn is_canonical(run: &Run, area: &[f64]) -> bool {
+    area.len() == AREA
+        && used(run).iter().all(|&((base, size), count)| {
+            let unused = &area[base + count..base + size];
+            unused.iter().all(|x| x.to_bits() == 0)
+        })
+}
+
+/// The sum and the violation of each point that stood before, in order.
+#[derive(Default)]
+pub struct Stood {
+    standing: usize,
+    pairs: Vec<Scalar>,
+}
+
+impl Stood {
+    /// Where another question's point stands now.
+    pub fn stands(&mut self, played: &Played, standing: usize) {
+        if standing != self.standing {
+            let e = evaluated(played.sizes, played.rows(self.standing));
+            let violation = norm(&e.constraints.values).expect("it was worked out in the run");
+            self.pairs.extend([e.sum.squared(&[]), violation]);
+            self.standing = standing;
+        }
+    }
+}
+
+/// What is wrong with the area after a call that left an open question or an end: of the points and rows that the caller
+/// knows, and of the filter.
+pub fn fault(run: &Run, area: &[f64], played: &Played, stood: &Stood) -> Option<&'static str> {
+    if !is_canonical(run, area) {
+        return Some("the area is not canonical");
+    }
+    let holds =
+        |(base, _): Slot, expected: &[u64]| words(&area[base..base + expected.len()]) == expected;
+    let rows = |question: usize| words(played.rows(question));
+    if !holds(STANDING, played.point(run.standing)) {
+        return Some("the standing point is another");
+    }
+    if run.phase == 0 || run.phase == OVER {
+        return None;
+    }
+    if !holds(STANDING_ROWS, &rows(run.standing)) {
+        return Some("the standing rows are others");
+    }
+    let filter: Vec<f64> = stood.pairs.iter().flat_map(|x| [x.lo, x.hi]).collect();
+    if filter.len() != 4 * run.iterations || !holds(FILTER, &words(&filter)) {
+        return Some("the filter is another");
+    }
+    if run.phase == 2 {
+        if !holds(LANDED, played.point(run.landed)) {
+            return Some("the landed point is another");
+        }
+        if !holds(LANDED_ROWS, &rows(run.landed)) {
+            return Some("the landed rows are others");
+        }
+    }
+    None
+}

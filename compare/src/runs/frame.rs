@@ -1,0 +1,163 @@
+//! Frames: points in a plane, held by spans, level and plumb lines, each coordinate preferred where it started. The rows
+//! are worked out by the interval operations, in the order that a sheet's are.
+
+use crate::interval::operands::Random;
+use crate::run::pieces::flat;
+use crate::runs::problem::Sizes;
+use geop_core_math::scalars::Scalar;
+
+const POINTS: u64 = 6;
+const RULES: u64 = 12;
+/// Micrometres.
+const FARTHEST: i64 = 10_000_000;
+
+#[derive(Clone, Copy)]
+enum Rule {
+    Span(usize, usize, i64),
+    Level(usize, usize),
+    Plumb(usize, usize),
+}
+
+pub struct Frame {
+    pub start: Vec<Scalar>,
+    rules: Vec<Rule>,
+    /// The size of its coordinates.
+    size: i64,
+}
+
+/// A value and its slopes.
+type Row = (Scalar, Vec<Scalar>);
+
+/// Where the points are in a plane, whole.
+type Places = Vec<[i64; 2]>;
+
+impl Random {
+    fn places(&mut self, points: u64, size: i64) -> Places {
+        (0..points)
+            .map(|_| [self.between(-size, size), self.between(-size, size)])
+            .collect()
+    }
+
+    fn pair(&mut self, points: u64) -> (usize, usize) {
+        let i = self.below(points);
+        let j = (i + 1 + self.below(points - 1)) % points;
+        (i as usize, j as usize)
+    }
+
+    /// A rule that holds at these places, but for the rounding of a span.
+    fn rule_of(&mut self, at: &Places) -> Rule {
+        let (i, j) = self.pair(at.len() as u64);
+        let [dx, dy] = [0, 1].map(|axis| (at[i][axis] - at[j][axis]) as f64);
+        if dy == 0.0 {
+            return Rule::Level(i, j);
+        }
+        if dx == 0.0 {
+            return Rule::Plumb(i, j);
+        }
+        Rule::Span(i, j, (dx.hypot(dy).round() as i64).clamp(1, FARTHEST))
+    }
+
+    fn any_rule(&mut self, points: u64, size: i64) -> Rule {
+        let (i, j) = self.pair(points);
+        match self.below(4) {
+            0 => Rule::Level(i, j),
+            1 => Rule::Plumb(i, j),
+            _ => Rule::Span(i, j, self.between(1, 2 * size).min(FARTHEST)),
+        }
+    }
+}
+
+impl Frame {
+    pub fn drawn(random: &mut Random) -> Frame {
+        let small = !random.at_odds(4);
+        let points = 1 + random.below(if small { 3 } else { POINTS });
+        let size = [4, 100, 30_000, FARTHEST][random.below(4) as usize];
+        let start = random.places(points, size);
+        // On a coarse grid, so that many are level or plumb.
+        let goal: Places = random
+            .places(points, 3)
+            .iter()
+            .map(|at| at.map(|x| x * (size / 3).max(1)))
+            .collect();
+        let rules = if points == 1 {
+            0
+        } else {
+            random.below(if small { 5 } else { RULES + 1 })
+        };
+        let consistent = !random.at_odds(3);
+        let rules = (0..rules)
+            .map(|_| {
+                if consistent && !random.at_odds(16) {
+                    random.rule_of(&goal)
+                } else {
+                    random.any_rule(points, size)
+                }
+            })
+            .collect();
+        let start = start.iter().flatten().map(|&x| Scalar::from_i64(x));
+        Frame {
+            start: start.collect(),
+            rules,
+            size,
+        }
+    }
+
+    pub fn sizes(&self, random: &mut Random) -> Sizes {
+        let n = self.start.len();
+        Sizes {
+            n,
+            m: self.rules.len(),
+            s: n,
+            limit: random.limit(n),
+        }
+    }
+
+    pub fn reach(&self, random: &mut Random) -> Scalar {
+        let most = match random.below(4) {
+            0 => 3,
+            1 => FARTHEST,
+            _ => self.size,
+        };
+        Scalar::from_i64(random.between(1, most))
+    }
+
+    fn row(&self, rule: Rule, x: &[Scalar]) -> Row {
+        let mut slopes = vec![Scalar::ZERO; x.len()];
+        let mut along = |axis: usize, i: usize, j: usize| {
+            slopes[2 * i + axis] = Scalar::ONE;
+            slopes[2 * j + axis] = Scalar::ONE.neg();
+            x[2 * i + axis].sub(x[2 * j + axis])
+        };
+        match rule {
+            Rule::Level(i, j) => (along(1, i, j), slopes),
+            Rule::Plumb(i, j) => (along(0, i, j), slopes),
+            Rule::Span(i, j, d) => {
+                let (dx, dy) = (along(0, i, j), along(1, i, j));
+                let d = Scalar::from_i64(d);
+                for (axis, by) in [dx, dy].into_iter().enumerate() {
+                    slopes[2 * i + axis] = Scalar::TWO.mul(by);
+                    slopes[2 * j + axis] = Scalar::TWO.mul(by).neg();
+                }
+                (dx.mul(dx).add(dy.mul(dy)).sub(d.mul(d)), slopes)
+            }
+        }
+    }
+
+    pub fn rows(&self, x: &[Scalar]) -> Option<Vec<f64>> {
+        let n = x.len();
+        let constraints: Vec<Row> = self.rules.iter().map(|&rule| self.row(rule, x)).collect();
+        let sum: Vec<Row> = (0..n)
+            .map(|i| {
+                let mut slopes = vec![Scalar::ZERO; n];
+                slopes[i] = Scalar::ONE;
+                (x[i].sub(self.start[i]), slopes)
+            })
+            .collect();
+        let mut numbers = Vec::new();
+        for rows in [constraints, sum] {
+            numbers.extend(rows.iter().flat_map(|(v, _)| [v.lo, v.hi]));
+            numbers.extend(rows.iter().flat_map(|(_, slopes)| flat(slopes)));
+        }
+        Some(numbers)
+    }
+}

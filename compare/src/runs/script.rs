@@ -1,0 +1,141 @@
+//! Scripts: rows drawn at random, whatever the point is. So the run is led where no smooth problem leads it.
+
+use crate::interval::operands::Random;
+use crate::run::problems::bounded;
+use crate::runs::problem::{MOST, Sizes};
+
+/// What most replies of a script are.
+#[derive(Clone, Copy)]
+enum Manner {
+    /// Rows of a problem of its own.
+    Fresh,
+    /// The rows before, a little altered.
+    Beside,
+    /// The slopes before, the values nearer zero.
+    Nearer,
+    /// Zeros, 2^400, the smallest numbers, ones, and wide intervals about zero.
+    Extreme,
+    /// Ones and zeros, and numbers whose square or reciprocal is at the end of the floats.
+    Tiny,
+}
+
+pub struct Script {
+    random: Random,
+    sizes: Sizes,
+    manner: Manner,
+    /// One reply in so many is none, and one is of another manner.
+    nones: u64,
+    strays: u64,
+    before: Vec<f64>,
+}
+
+impl Random {
+    fn manner(&mut self) -> Manner {
+        match self.below(8) {
+            0 | 1 => Manner::Fresh,
+            2 | 3 => Manner::Beside,
+            4 | 5 => Manner::Nearer,
+            _ => Manner::Extreme,
+        }
+    }
+
+    fn tiny(&mut self) -> f64 {
+        match self.below(8) {
+            0 | 1 => 0.0,
+            2 => f64::MIN_POSITIVE / (1u64 << self.below(5)) as f64,
+            3 => self.sized(-1030, -1018),
+            4 => self.sized(-545, -530),
+            _ => 1.0,
+        }
+    }
+
+    fn extreme(&mut self) -> [f64; 2] {
+        let sign = if self.at_odds(2) { 1.0 } else { -1.0 };
+        let point = |x: f64| [sign * x, sign * x];
+        match self.below(12) {
+            0 | 1 => [0.0, 0.0],
+            2 => point(MOST),
+            3 => point(self.sized(-1074, -1020).abs()),
+            4 => point(self.sized(-545, -530).abs()),
+            5 => point(self.sized(380, 399).abs()),
+            6 => [-self.sized(-3, 3).abs(), self.sized(-3, 3).abs()],
+            7 => bounded([self.sized(-3, 3), self.sized(-3, 3)]),
+            8 => [-MOST, MOST],
+            9 => point(self.sized(-1030, 399).abs()),
+            _ => point(1.0),
+        }
+    }
+}
+
+impl Script {
+    pub fn new(word: u64, sizes: Sizes, tiny: bool) -> Script {
+        let mut random = Random::new(word);
+        Script {
+            manner: if tiny { Manner::Tiny } else { random.manner() },
+            nones: [3, 8, 40][random.below(3) as usize],
+            strays: [4, 40][random.below(2) as usize],
+            random,
+            sizes,
+            before: Vec::new(),
+        }
+    }
+
+    fn fresh(&mut self) -> Vec<f64> {
+        let Sizes { n, m, s, .. } = self.sizes;
+        self.random.problem(n, m, s)
+    }
+
+    /// Each value times a factor, the slopes kept but for a few.
+    fn nearer(&mut self) -> Vec<f64> {
+        let Sizes { n, m, s, .. } = self.sizes;
+        let mut rows = self.before.clone();
+        let factor = self.random.sized(-6, -1);
+        let values = (0..m).chain(m * (n + 1)..m * (n + 1) + s);
+        for i in values {
+            rows[2 * i] *= factor;
+            rows[2 * i + 1] *= factor;
+        }
+        if self.random.at_odds(3) {
+            rows = self.random.rows_beside(&rows);
+        }
+        rows
+    }
+
+    fn extremes(&mut self) -> Vec<f64> {
+        let scalars = self.sizes.row_numbers() / 2;
+        (0..scalars).flat_map(|_| self.random.extreme()).collect()
+    }
+
+    fn tinies(&mut self) -> Vec<f64> {
+        let scalars = self.sizes.row_numbers() / 2;
+        let numbers = (0..scalars).map(|_| self.random.tiny());
+        numbers.flat_map(|x| [x, x]).collect()
+    }
+
+    /// None where there is none; rows in the domain else.
+    pub fn next(&mut self) -> Option<Vec<f64>> {
+        let first = self.before.is_empty();
+        if self
+            .random
+            .at_odds(if first { 8 * self.nones } else { self.nones })
+        {
+            return None;
+        }
+        let manner = if self.random.at_odds(self.strays) {
+            self.random.manner()
+        } else {
+            self.manner
+        };
+        let rows = match manner {
+            Manner::Extreme => self.extremes(),
+            Manner::Tiny => self.tinies(),
+            Manner::Beside if !first => self.random.rows_beside(&self.before.clone()),
+            Manner::Nearer if !first => self.nearer(),
+            _ => self.fresh(),
+        };
+        let ends = rows.chunks_exact(2);
+        let rows: Vec<f64> = ends.flat_map(|ends| bounded([ends[0], ends[1]])).collect();
+        self.before.clone_from(&rows);
+        Some(rows)
+    }
+}
