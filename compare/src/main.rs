@@ -8,6 +8,7 @@ mod interval;
 mod linear;
 mod run;
 mod runs;
+mod settle;
 mod words;
 
 use std::process::ExitCode;
@@ -76,6 +77,7 @@ fn write_list(name: &str, path: &str, seed: u64) {
         "interval_replay" => interval::list::lines(seed),
         "linear_replay" => linear::list::lines(seed),
         "run_replay" => runs::list::runs(seed),
+        "settle" => settle::lines(),
         _ => refuse(&format!("no list for {name}")),
     };
     std::fs::write(path, lines.concat()).unwrap_or_else(|error| panic!("{path}: {error}"));
@@ -95,6 +97,7 @@ fn main() -> ExitCode {
     total += run::compare(settings.seed, settings.random);
     total += runs::compare(settings.seed, settings.random);
     total += hostile::compare(settings.seed, settings.random);
+    total += settle::compare();
     println!("{} compared, {} differ", total.compared, total.differ);
     if total.differ == 0 {
         ExitCode::SUCCESS
