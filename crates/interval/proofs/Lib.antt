@@ -24,4 +24,3 @@ pub mod OneSided
 pub mod OrderUnits
 pub mod Bounded
 pub mod Scaling
-pub mod KnownAnswers
