@@ -8,7 +8,9 @@ use lib.Ieee.{Float}
 use Rattle.interval.specs.declared.Scalar.{Scalar}
 use Rattle.interval.specs.Result.{Res, ok, refused}
 use Rattle.interval.specs.Scalar.{zeroS, pick}
+use Rattle.linear.specs.Answers.{numberOf}
 use Rattle.linear.specs.Results.{bind}
+use Rattle.linear.specs.declared.answers.LinearError.{LinearError}
 use Rattle.linear.specs.Cholesky.{Factor, choleskyOf}
 use Rattle.run.specs.Scratch.{allFinite}
 use Rattle.run.specs.Rows.{Evaluation}
@@ -139,8 +141,16 @@ module _ (P : Problem) where
     each-based (rank.Refused e) = refl
 
     module _ (x : Rank) (e : rankedOf x q gram coefficients dependent order ≡ basisOf (problemBy (P .k) (P .m) (λ _. zeroS) (P .wide) (P .jc))) where
-      pub kept-based : {y : Res Stepped} → y ≡ bind (rankedOf x q [] coefficients dependent order) (basedStep plain) → y ≡ keptStep P
+      kept-based : {y : Res Stepped} → y ≡ bind (rankedOf x q [] coefficients dependent order) (basedStep plain) → y ≡ keptStep P
       kept-based ey = ey ∙ each-based x ∙ ap (λ z. bind z (λ b. basedStep P b)) (e ∙ basis-reads P) ∙ sym kept-by
+
+      pub kept-on : {r : ℕ} {y : Res Stepped} → x ≡ rank.Of r → y ≡ basedStep plain (basisBy r q [] coefficients dependent order) → y ≡ keptStep P
+      unfolding bind
+      kept-on ex ey = kept-based (rw ex ey)
+
+      pub kept-refused : {o : LinearError} → x ≡ rank.Refused o → refused (numberOf o) ≡ keptStep P
+      unfolding bind
+      kept-refused ex = kept-based (rw ex)
 
 pub rank-bound : (P : Problem) (q gram coefficients dependent : List Float) (order : List ℕ) (x : Rank) → rankedOf x q gram coefficients dependent order ≡ basisOf P → rankOf x ≤ P .m
 rank-bound P q gram coefficients dependent order (rank.Of r) e = rank-small P (sym e)

@@ -105,38 +105,7 @@ fn coefficients_in(
     linear::solve_cholesky(r, l, none, b, a)
 }
 
-// The same with scratch slices that are long enough.
-fn coefficients_cut(
-    k: usize,
-    r: usize,
-    i: usize,
-    wide: &[f64],
-    q: &[f64],
-    gram: &[f64],
-    a: &mut [f64],
-    l: &mut [f64],
-    none: &[bool],
-    b: &mut [f64],
-) -> Done
-    requires { ⌜ (r ≤ 12) × ((i < 12) × ((length (now a) ≡ 24) × ((length (now l) ≡ 288) × ((now none ≡ replicate 12 false) × (length (now b) ≡ 24))))) ⌝ }
-    ensures { λ d. ⌜ doneOf d (take (2 * r) (now (a .exit))) ≡ solveOf r (packed r (now (gram .entry))) (replicate r false) (listTo (λ j. dotTo (row (now (wide .entry)) i) (row (now (q .entry)) j) k) r) ⌝ }
-{
-    let e = 2 * r;
-    let s = 2 * (r * r);
-    coefficients_in(
-        k,
-        r,
-        i,
-        wide,
-        q,
-        gram,
-        &mut a[..e],
-        &mut l[..s],
-        &none[..r],
-        &mut b[..e],
-    )
-}
-
+// The coefficients of row i, at the start of a.
 fn coefficients(
     k: usize,
     r: usize,
@@ -149,10 +118,23 @@ fn coefficients(
     requires { ⌜ (r ≤ 12) × ((i < 12) × (length (now a) ≡ 24)) ⌝ }
     ensures { λ d. ⌜ doneOf d (take (2 * r) (now (a .exit))) ≡ solveOf r (packed r (now (gram .entry))) (replicate r false) (listTo (λ j. dotTo (row (now (wide .entry)) i) (row (now (q .entry)) j) k) r) ⌝ }
 {
+    let e = 2 * r;
+    let s = 2 * (r * r);
     let mut l = [0.0; 288];
     let none = [false; 12];
     let mut b = [0.0; 24];
-    coefficients_cut(k, r, i, wide, q, gram, a, &mut l, &none, &mut b)
+    coefficients_in(
+        k,
+        r,
+        i,
+        wide,
+        q,
+        gram,
+        &mut a[..e],
+        &mut l[..s],
+        &none[..r],
+        &mut b[..e],
+    )
 }
 
 // ---- what is left of a row
@@ -171,29 +153,14 @@ fn outside(k: usize, r: usize, i: usize, wide: &[f64], q: &[f64], a: &[f64], out
     }
 }
 
-fn left_in(
-    k: usize,
-    r: usize,
-    i: usize,
-    wide: &[f64],
-    q: &[f64],
-    a: &[f64],
-    out: &mut [f64],
-) -> Answer
-    requires { ⌜ (k ≤ 12) × ((i < 12) × (length (now out) ≡ 24)) ⌝ }
-    ensures { λ x. ⌜ resultOf x ≡ normOf (λ p. minusTo (at (now (a .entry))) (column (now (q .entry)) p) (entry (now (wide .entry)) i p) r) k ⌝ }
-{
-    outside(k, r, i, wide, q, a, out);
-    norm_of(out, k)
-}
-
 // The length of what is left of row i without its coefficients a.
 fn left(k: usize, r: usize, i: usize, wide: &[f64], q: &[f64], a: &[f64]) -> Answer
     requires { ⌜ (k ≤ 12) × (i < 12) ⌝ }
     ensures { λ x. ⌜ resultOf x ≡ normOf (λ p. minusTo (at (now (a .entry))) (column (now (q .entry)) p) (entry (now (wide .entry)) i p) r) k ⌝ }
 {
     let mut out = [0.0; 24];
-    left_in(k, r, i, wide, q, a, &mut out)
+    outside(k, r, i, wide, q, a, &mut out);
+    norm_of(&out, k)
 }
 
 // ---- a row that says something new
@@ -267,32 +234,6 @@ fn row_of(k: usize, i: usize, jc: &[f64], v: &mut [f64])
     }
 }
 
-fn extend_in(
-    k: usize,
-    r: usize,
-    i: usize,
-    jc: &[f64],
-    q: &mut [f64],
-    gram: &mut [f64],
-    coefficients: &mut [f64],
-    v: &mut [f64],
-) -> Done
-    requires { ⌜ (k ≤ 12) × ((r ≤ 12) × ((i < 12) × (now v ≡ vector))) ⌝ }
-    ensures { λ d. ⌜ ((w : List Float) (o : List ℕ) → doneOf d (basisBy (r + 1) (now (q .exit)) (now (gram .exit)) (now (coefficients .exit)) w (set o r i)) ≡ extended (problemBy k 0 (λ _. zeroS) [] (now (jc .entry))) (basisBy r (now (q .entry)) (now (gram .entry)) (now (coefficients .entry)) w o) i) ⌝ }
-{
-    row_of(k, i, jc, v);
-    parts_out(k, r, q, v, coefficients);
-    match norm_of(v, k) {
-        Answer::Value(l) => {
-            let length = l.sharpen();
-            unit(v, 0, length, k, q, 12 * r);
-            put(coefficients, 12 * r + r, length);
-            gram_row(k, r, q, gram)
-        }
-        Answer::Refused(e) => Done::Refused(e),
-    }
-}
-
 // Row i of `jc` as the newest vector.
 fn extend(
     k: usize,
@@ -307,7 +248,17 @@ fn extend(
     ensures { λ d. ⌜ ((w : List Float) (o : List ℕ) → doneOf d (basisBy (r + 1) (now (q .exit)) (now (gram .exit)) (now (coefficients .exit)) w (set o r i)) ≡ extended (problemBy k 0 (λ _. zeroS) [] (now (jc .entry))) (basisBy r (now (q .entry)) (now (gram .entry)) (now (coefficients .entry)) w o) i) ⌝ }
 {
     let mut v = [0.0; 24];
-    extend_in(k, r, i, jc, q, gram, coefficients, &mut v)
+    row_of(k, i, jc, &mut v);
+    parts_out(k, r, q, &mut v, coefficients);
+    match norm_of(&v, k) {
+        Answer::Value(l) => {
+            let length = l.sharpen();
+            unit(&v, 0, length, k, q, 12 * r);
+            put(coefficients, 12 * r + r, length);
+            gram_row(k, r, q, gram)
+        }
+        Answer::Refused(e) => Done::Refused(e),
+    }
 }
 
 // ---- one row after the other
@@ -368,36 +319,6 @@ fn measure(
     }
 }
 
-fn row_in(
-    k: usize,
-    r: usize,
-    i: usize,
-    wide: &[f64],
-    jc: &[f64],
-    q: &mut [f64],
-    gram: &mut [f64],
-    coefficients: &mut [f64],
-    dependent: &mut [f64],
-    order: &mut [usize],
-    a: &mut [f64],
-) -> Rank
-    requires { ⌜ (k ≤ 12) × ((r ≤ i) × ((i < 12) × ((length (now order) ≡ 24) × (length (now a) ≡ 24)))) ⌝ }
-    ensures { λ x. ⌜ rankedOf x (now (q .exit)) (now (gram .exit)) (now (coefficients .exit)) (now (dependent .exit)) (now (order .exit)) ≡ rowStep (problemBy k 0 (λ _. zeroS) (now (wide .entry)) (now (jc .entry))) (basisBy r (now (q .entry)) (now (gram .entry)) (now (coefficients .entry)) (now (dependent .entry)) (now (order .entry))) i ⌝ }
-{
-    match measure(k, r, i, wide, q, gram, a) {
-        Answer::Value(l) => {
-            if l.definitely_greater(Scalar::ZERO) {
-                return add_row(k, r, i, jc, q, gram, coefficients, order);
-            }
-            let d = i - r;
-            order[12 + d] = i;
-            chosen_at(r, a, dependent, 12 * d);
-            Rank::Of(r)
-        }
-        Answer::Refused(e) => Rank::Refused(e),
-    }
-}
-
 // Row i: into the basis, or its coefficients in it among those of the dependent rows.
 fn next_row(
     k: usize,
@@ -415,19 +336,18 @@ fn next_row(
     ensures { λ x. ⌜ rankedOf x (now (q .exit)) (now (gram .exit)) (now (coefficients .exit)) (now (dependent .exit)) (now (order .exit)) ≡ rowStep (problemBy k 0 (λ _. zeroS) (now (wide .entry)) (now (jc .entry))) (basisBy r (now (q .entry)) (now (gram .entry)) (now (coefficients .entry)) (now (dependent .entry)) (now (order .entry))) i ⌝ }
 {
     let mut a = [0.0; 24];
-    row_in(
-        k,
-        r,
-        i,
-        wide,
-        jc,
-        q,
-        gram,
-        coefficients,
-        dependent,
-        order,
-        &mut a,
-    )
+    match measure(k, r, i, wide, q, gram, &mut a) {
+        Answer::Value(l) => {
+            if l.definitely_greater(Scalar::ZERO) {
+                return add_row(k, r, i, jc, q, gram, coefficients, order);
+            }
+            let d = i - r;
+            order[12 + d] = i;
+            chosen_at(r, &a, dependent, 12 * d);
+            Rank::Of(r)
+        }
+        Answer::Refused(e) => Rank::Refused(e),
+    }
 }
 
 // The basis of m rows, from clear slices.
@@ -559,46 +479,6 @@ fn correction_in(
     correct(k, m, r, q, rows, rhs, delta, y, weights)
 }
 
-fn correction_cut(
-    k: usize,
-    m: usize,
-    r: usize,
-    q: &[f64],
-    coefficients: &[f64],
-    dependent: &[f64],
-    order: &[usize],
-    xs: &[f64],
-    values: usize,
-    delta: &mut [f64],
-    rows: &mut [f64],
-    rhs: &mut [f64],
-    y: &mut [f64],
-    weights: &mut [f64],
-) -> Done
-    requires { ⌜ (k ≤ 12) × ((m ≤ 12) × ((r ≤ 12) × ((length (now order) ≡ 24) × ((length (now delta) ≡ 24) × ((length (now rows) ≡ 288) × ((length (now rhs) ≡ 24) × ((length (now y) ≡ 24) × (length (now weights) ≡ 24)))))))) ⌝ }
-    ensures { λ d. ⌜ doneOf d (now (delta .exit)) ≡ correctionOf (problemBy k m (λ i. at (now (xs .entry)) (values + i)) [] []) (basisBy r (now (q .entry)) [] (now (coefficients .entry)) (now (dependent .entry)) (now (order .entry))) ⌝ }
-{
-    let s = 2 * (m * r);
-    let u = 2 * m;
-    let e = 2 * r;
-    correction_in(
-        k,
-        m,
-        r,
-        q,
-        coefficients,
-        dependent,
-        order,
-        xs,
-        values,
-        delta,
-        &mut rows[..s],
-        &mut rhs[..u],
-        &mut y[..e],
-        &mut weights[..e],
-    )
-}
-
 // The least-squares correction of every row, for the constraint values in xs.
 pub fn correction(
     k: usize,
@@ -615,11 +495,14 @@ pub fn correction(
     requires { ⌜ (k ≤ 12) × ((m ≤ 12) × ((r ≤ 12) × ((length (now order) ≡ 24) × (length (now delta) ≡ 24)))) ⌝ }
     ensures { λ d. ⌜ doneOf d (now (delta .exit)) ≡ correctionOf (problemBy k m (valueAt (rowsIn (now (xs .entry)) e)) [] []) (basisBy r (now (q .entry)) [] (now (coefficients .entry)) (now (dependent .entry)) (now (order .entry))) ⌝ }
 {
+    let s = 2 * (m * r);
+    let u = 2 * m;
+    let w = 2 * r;
     let mut rows = [0.0; 288];
     let mut rhs = [0.0; 24];
     let mut y = [0.0; 24];
     let mut weights = [0.0; 24];
-    correction_cut(
+    correction_in(
         k,
         m,
         r,
@@ -630,10 +513,10 @@ pub fn correction(
         xs,
         e.values,
         delta,
-        &mut rows,
-        &mut rhs,
-        &mut y,
-        &mut weights,
+        &mut rows[..s],
+        &mut rhs[..u],
+        &mut y[..w],
+        &mut weights[..w],
     )
 }
 
@@ -693,28 +576,6 @@ fn multipliers_by_row(
     Done::Finished
 }
 
-fn multipliers_in(
-    k: usize,
-    r: usize,
-    q: &[f64],
-    coefficients: &[f64],
-    order: &[usize],
-    pull: &[f64],
-    lambda: &mut [f64],
-    by_row: &mut [f64],
-) -> Done
-    requires { ⌜ (r ≤ 12) × ((length (now order) ≡ 24) × ((length (now lambda) ≡ 24) × (now «by_row» ≡ vector))) ⌝ }
-    ensures { λ d. ⌜ doneOf d (now (lambda .exit)) ≡ multipliersOf k (basisBy r (now (q .entry)) [] (now (coefficients .entry)) [] (now (order .entry))) (now (pull .entry)) ⌝ }
-{
-    match multipliers_by_row(k, r, q, coefficients, pull, by_row) {
-        Done::Finished => {
-            spread(order, by_row, r, lambda);
-            Done::Finished
-        }
-        Done::Refused(e) => Done::Refused(e),
-    }
-}
-
 // The constraints' multipliers, against a pull.
 pub fn multipliers(
     k: usize,
@@ -729,5 +590,11 @@ pub fn multipliers(
     ensures { λ d. ⌜ doneOf d (now (lambda .exit)) ≡ multipliersOf k (basisBy r (now (q .entry)) [] (now (coefficients .entry)) [] (now (order .entry))) (now (pull .entry)) ⌝ }
 {
     let mut by_row = [0.0; 24];
-    multipliers_in(k, r, q, coefficients, order, pull, lambda, &mut by_row)
+    match multipliers_by_row(k, r, q, coefficients, pull, &mut by_row) {
+        Done::Finished => {
+            spread(order, &by_row, r, lambda);
+            Done::Finished
+        }
+        Done::Refused(e) => Done::Refused(e),
+    }
 }

@@ -92,24 +92,18 @@ fn shift_in(
     }
 }
 
-// The same with scratch slices that are long enough.
-fn shift_cut(
-    n: usize,
-    m: usize,
-    xs: &[f64],
-    moving: &[bool],
-    d: &mut [f64],
-    jc: &mut [f64],
-    c: &mut [f64],
-    zero: &mut [f64],
-    out: &mut [f64],
-) -> Done
-    requires { ⌜ (n ≤ 12) × ((m ≤ 12) × ((length (now moving) ≡ 12) × ((length (now d) ≡ 24) × ((length (now jc) ≡ 288) × ((length (now c) ≡ 24) × ((length (now zero) ≡ 24) × (length (now out) ≡ 24))))))) ⌝ }
+// The shortest move that meets the linearized constraints.
+pub fn shift(n: usize, m: usize, xs: &[f64], moving: &[bool], d: &mut [f64]) -> Done
+    requires { ⌜ (n ≤ 12) × ((m ≤ 12) × ((length (now moving) ≡ 12) × (length (now d) ≡ 24))) ⌝ }
     ensures { λ r. ⌜ doneOf r (now (d .exit)) ≡ shiftOf (now (moving .entry)) (constraintsOf n m (now (xs .entry))) ⌝ }
 {
     let q = 2 * (m * n);
     let k = 2 * m;
     let w = 2 * n;
+    let mut jc = [0.0; 288];
+    let mut c = [0.0; 24];
+    let mut zero = [0.0; 24];
+    let mut out = [0.0; 24];
     shift_in(
         n,
         m,
@@ -121,18 +115,6 @@ fn shift_cut(
         &mut zero[..w],
         &mut out[..w],
     )
-}
-
-// The shortest move that meets the linearized constraints.
-pub fn shift(n: usize, m: usize, xs: &[f64], moving: &[bool], d: &mut [f64]) -> Done
-    requires { ⌜ (n ≤ 12) × ((m ≤ 12) × ((length (now moving) ≡ 12) × (length (now d) ≡ 24))) ⌝ }
-    ensures { λ r. ⌜ doneOf r (now (d .exit)) ≡ shiftOf (now (moving .entry)) (constraintsOf n m (now (xs .entry))) ⌝ }
-{
-    let mut jc = [0.0; 288];
-    let mut c = [0.0; 24];
-    let mut zero = [0.0; 24];
-    let mut out = [0.0; 24];
-    shift_cut(n, m, xs, moving, d, &mut jc, &mut c, &mut zero, &mut out)
 }
 
 // Where a shift d takes the landed point.
@@ -150,24 +132,6 @@ fn shift_by(n: usize, landed: &[f64], d: &[f64], next: &mut [f64]) -> Shifted
     Shifted::Stay
 }
 
-fn shift_from_in(
-    n: usize,
-    m: usize,
-    xs: &[f64],
-    moving: &[bool],
-    landed: &[f64],
-    next: &mut [f64],
-    d: &mut [f64],
-) -> Shifted
-    requires { ⌜ (n ≤ 12) × ((m ≤ 12) × ((length (now moving) ≡ 12) × ((length (now next) ≡ 24) × (length (now d) ≡ 24)))) ⌝ }
-    ensures { λ r. ⌜ shiftedOf r (now (next .exit)) ≡ shiftFrom (now (moving .entry)) (constraintsOf n m (now (xs .entry))) (now (landed .entry)) ⌝ }
-{
-    match shift(n, m, xs, moving, d) {
-        Done::Finished => shift_by(n, landed, d, next),
-        Done::Refused(e) => Shifted::Refused(e),
-    }
-}
-
 // Where the shift takes the landed point, with its rows xs: `next` has the point where it is another.
 pub fn shift_from(
     n: usize,
@@ -181,7 +145,10 @@ pub fn shift_from(
     ensures { λ r. ⌜ shiftedOf r (now (next .exit)) ≡ shiftFrom (now (moving .entry)) (constraintsOf n m (now (xs .entry))) (now (landed .entry)) ⌝ }
 {
     let mut d = [0.0; 24];
-    shift_from_in(n, m, xs, moving, landed, next, &mut d)
+    match shift(n, m, xs, moving, &mut d) {
+        Done::Finished => shift_by(n, landed, &d, next),
+        Done::Refused(e) => Shifted::Refused(e),
+    }
 }
 
 // The step with a shift added, sharp.

@@ -86,32 +86,16 @@ fn along_in(
     minus_solved(m, n, jc, rhs, &v[..w], out)
 }
 
-// The same with scratch slices that are long enough.
-fn along_cut(
-    n: usize,
-    m: usize,
-    xs: &[f64],
-    v: &[f64],
-    out: &mut [f64],
-    jc: &mut [f64],
-    rhs: &mut [f64],
-) -> Done
-    requires { ⌜ (n ≤ 12) × ((m ≤ 12) × ((2 * n ≤ length (now v)) × ((length (now out) ≡ 2 * n) × ((length (now jc) ≡ 288) × (length (now rhs) ≡ 24))))) ⌝ }
-    ensures { λ r. ⌜ doneOf r (now (out .exit)) ≡ alongOf (constraintsOf n m (now (xs .entry))) (now (v .entry)) ⌝ }
-{
-    let q = 2 * (m * n);
-    let k = 2 * m;
-    along_in(n, m, xs, v, out, &mut jc[..q], &mut rhs[..k])
-}
-
 // The part of v along the constraints.
 pub fn along_constraints(n: usize, m: usize, xs: &[f64], v: &[f64], out: &mut [f64]) -> Done
     requires { ⌜ (n ≤ 12) × ((m ≤ 12) × ((2 * n ≤ length (now v)) × (length (now out) ≡ 2 * n))) ⌝ }
     ensures { λ r. ⌜ doneOf r (now (out .exit)) ≡ alongOf (constraintsOf n m (now (xs .entry))) (now (v .entry)) ⌝ }
 {
+    let q = 2 * (m * n);
+    let k = 2 * m;
     let mut jc = [0.0; 288];
     let mut rhs = [0.0; 24];
-    along_cut(n, m, xs, v, out, &mut jc, &mut rhs)
+    along_in(n, m, xs, v, out, &mut jc[..q], &mut rhs[..k])
 }
 
 // One entry of how far the gradient of the Lagrangian turned; r has the sum's new values, chosen.
@@ -155,32 +139,14 @@ fn turns(
     }
 }
 
-fn turned_in(
-    n: usize,
-    m: usize,
-    s: usize,
-    xs: &[f64],
-    next: &[f64],
-    lambda: &[f64],
-    y: &mut [f64],
-    r: &mut [f64],
-)
-    requires { ⌜ (n ≤ 12) × ((m ≤ 12) × ((s ≤ 24) × ((length (now y) ≡ 24) × (length (now r) ≡ 48)))) ⌝ }
-    ensures { λ _. ⌜ now (y .exit) ≡ turnedOf n (evaluationOf n m s (now (xs .entry))) (evaluationOf n m s (now (next .entry))) (now (lambda .entry)) ⌝ }
-{
-    let values = m * (n + 1);
-    clear(r);
-    chosen(next, values, s, r);
-    turns(n, m, s, xs, next, lambda, r, y);
-}
-
 // By how much the gradient of the Lagrangian turned between two points with their rows, beyond what the sum's slopes explain.
 pub fn turned(n: usize, m: usize, s: usize, xs: &[f64], next: &[f64], lambda: &[f64], y: &mut [f64])
     requires { ⌜ (n ≤ 12) × ((m ≤ 12) × ((s ≤ 24) × (length (now y) ≡ 24))) ⌝ }
     ensures { λ _. ⌜ now (y .exit) ≡ turnedOf n (evaluationOf n m s (now (xs .entry))) (evaluationOf n m s (now (next .entry))) (now (lambda .entry)) ⌝ }
 {
     let mut r = [0.0; 48];
-    turned_in(n, m, s, xs, next, lambda, y, &mut r)
+    chosen(next, m * (n + 1), s, &mut r);
+    turns(n, m, s, xs, next, lambda, &r, y);
 }
 
 // Adds to the p-th scalar, chosen, or hands a refusal on.
@@ -235,25 +201,18 @@ fn less_chosen(n: usize, y: &[f64], bs: &[f64], v: &mut [f64])
     }
 }
 
-fn corrected_in(n: usize, b: &mut [f64], y: &[f64], bs: &[f64], s: &[f64], v: &mut [f64]) -> Done
-    requires { ⌜ (n ≤ 12) × (length (now v) ≡ 24) ⌝ }
-    ensures { λ r. ⌜ doneOf r (now (b .exit)) ≡ correctedBy n (now (b .entry)) (now (y .entry)) (now (bs .entry)) (now (s .entry)) ⌝ }
-{
-    less_chosen(n, y, bs, v);
-    let vs = choose(dot_of(v, s, n));
-    if vs.definitely_not_equal(Scalar::ZERO) {
-        return rank_one(n, b, v, vs);
-    }
-    Done::Finished
-}
-
 // The update, with y along the constraints.
 pub fn corrected_by(n: usize, b: &mut [f64], y: &[f64], bs: &[f64], s: &[f64]) -> Done
     requires { ⌜ n ≤ 12 ⌝ }
     ensures { λ r. ⌜ doneOf r (now (b .exit)) ≡ correctedBy n (now (b .entry)) (now (y .entry)) (now (bs .entry)) (now (s .entry)) ⌝ }
 {
     let mut v = [0.0; 24];
-    corrected_in(n, b, y, bs, s, &mut v)
+    less_chosen(n, y, bs, &mut v);
+    let vs = choose(dot_of(&v, s, n));
+    if vs.definitely_not_equal(Scalar::ZERO) {
+        return rank_one(n, b, &v, vs);
+    }
+    Done::Finished
 }
 
 // The update, from y and the step s along the constraints, once it is asked for.
@@ -298,32 +257,15 @@ fn updated_in(
     Done::Finished
 }
 
-// The same with scratch slices that are long enough.
-fn updated_cut(
-    n: usize,
-    m: usize,
-    xs: &[f64],
-    b: &mut [f64],
-    y: &[f64],
-    s: &[f64],
-    bs: &mut [f64],
-    y_along: &mut [f64],
-) -> Done
-    requires { ⌜ (n ≤ 12) × ((m ≤ 12) × ((length (now y) ≡ 24) × ((length (now bs) ≡ 24) × (length (now «y_along») ≡ 24)))) ⌝ }
-    ensures { λ r. ⌜ doneOf r (now (b .exit)) ≡ updatedBy n (constraintsOf n m (now (xs .entry))) (now (b .entry)) (now (y .entry)) (now (s .entry)) ⌝ }
-{
-    let w = 2 * n;
-    updated_in(n, m, xs, b, y, s, bs, &mut y_along[..w])
-}
-
 // The update, from y and the step s along the constraints.
 pub fn updated(n: usize, m: usize, xs: &[f64], b: &mut [f64], y: &[f64], s: &[f64]) -> Done
     requires { ⌜ (n ≤ 12) × ((m ≤ 12) × (length (now y) ≡ 24)) ⌝ }
     ensures { λ r. ⌜ doneOf r (now (b .exit)) ≡ updatedBy n (constraintsOf n m (now (xs .entry))) (now (b .entry)) (now (y .entry)) (now (s .entry)) ⌝ }
 {
+    let w = 2 * n;
     let mut bs = [0.0; 24];
     let mut y_along = [0.0; 24];
-    updated_cut(n, m, xs, b, y, s, &mut bs, &mut y_along)
+    updated_in(n, m, xs, b, y, s, &mut bs, &mut y_along[..w])
 }
 
 fn update_in(
@@ -350,26 +292,6 @@ fn update_in(
     }
 }
 
-// The same with scratch slices that are long enough.
-fn update_cut(
-    n: usize,
-    m: usize,
-    s: usize,
-    b: &mut [f64],
-    step: &[f64],
-    xs: &[f64],
-    next: &[f64],
-    lambda: &[f64],
-    y: &mut [f64],
-    s_along: &mut [f64],
-) -> Done
-    requires { ⌜ (n ≤ 12) × ((m ≤ 12) × ((s ≤ 24) × ((length (now step) ≡ 24) × ((length (now y) ≡ 24) × (length (now «s_along») ≡ 24))))) ⌝ }
-    ensures { λ r. ⌜ doneOf r (now (b .exit)) ≡ updateCurvature n (now (b .entry)) (now (step .entry)) (evaluationOf n m s (now (xs .entry))) (evaluationOf n m s (now (next .entry))) (now (lambda .entry)) ⌝ }
-{
-    let w = 2 * n;
-    update_in(n, m, s, b, step, xs, next, lambda, y, &mut s_along[..w])
-}
-
 // The curvature b, updated from the step between two points with their rows.
 pub fn update_curvature(
     n: usize,
@@ -384,7 +306,19 @@ pub fn update_curvature(
     requires { ⌜ (n ≤ 12) × ((m ≤ 12) × ((s ≤ 24) × (length (now step) ≡ 24))) ⌝ }
     ensures { λ r. ⌜ doneOf r (now (b .exit)) ≡ updateCurvature n (now (b .entry)) (now (step .entry)) (evaluationOf n m s (now (xs .entry))) (evaluationOf n m s (now (next .entry))) (now (lambda .entry)) ⌝ }
 {
+    let w = 2 * n;
     let mut y = [0.0; 24];
     let mut s_along = [0.0; 24];
-    update_cut(n, m, s, b, step, xs, next, lambda, &mut y, &mut s_along)
+    update_in(
+        n,
+        m,
+        s,
+        b,
+        step,
+        xs,
+        next,
+        lambda,
+        &mut y,
+        &mut s_along[..w],
+    )
 }

@@ -172,32 +172,16 @@ fn weights_in(
     }
 }
 
-// The same with scratch slices that are long enough.
-fn weights_cut(
-    t: usize,
-    a: &[f64],
-    rhs: &[f64],
-    w: &mut [f64],
-    x: &mut [f64],
-    l: &mut [f64],
-    left_out: &mut [bool],
-) -> Along
-    requires { ⌜ (t ≤ 12) × ((length (now a) ≡ 2 * (t * t)) × ((length (now rhs) ≡ 2 * t) × ((length (now w) ≡ 2 * t) × ((length (now x) ≡ 24) × ((length (now l) ≡ 288) × (length (now «left_out») ≡ 12)))))) ⌝ }
-    ensures { λ r. ⌜ alongOf r (now (w .exit)) ≡ solvedWith t (now (a .entry)) (now (rhs .entry)) ⌝ }
-{
-    let q = 2 * t;
-    let e = 2 * (t * t);
-    weights_in(t, a, rhs, w, &mut x[..q], &mut l[..e], &mut left_out[..t])
-}
-
 fn weights_sized(t: usize, a: &[f64], rhs: &[f64], w: &mut [f64]) -> Along
     requires { ⌜ (t ≤ 12) × ((length (now a) ≡ 2 * (t * t)) × ((length (now rhs) ≡ 2 * t) × (length (now w) ≡ 2 * t))) ⌝ }
     ensures { λ r. ⌜ alongOf r (now (w .exit)) ≡ solvedWith t (now (a .entry)) (now (rhs .entry)) ⌝ }
 {
+    let q = 2 * t;
+    let e = 2 * (t * t);
     let mut x = [0.0; 24];
     let mut l = [0.0; 288];
     let mut left_out = [false; 12];
-    weights_cut(t, a, rhs, w, &mut x, &mut l, &mut left_out)
+    weights_in(t, a, rhs, w, &mut x[..q], &mut l[..e], &mut left_out[..t])
 }
 
 // The weights along Z against a force, with scratch slices of the right lengths.
@@ -221,34 +205,26 @@ fn weigh_in(
     weights_sized(count, a, rhs, w)
 }
 
-// The same with scratch slices that are long enough.
-fn weigh_cut(
-    k: usize,
-    count: usize,
-    h: &[f64],
-    z: &[f64],
-    force: &[f64],
-    w: &mut [f64],
-    hz: &mut [f64],
-    a: &mut [f64],
-    rhs: &mut [f64],
-) -> Along
-    requires { ⌜ (k ≤ 12) × ((count ≤ 12) × ((length (now w) ≡ 2 * count) × ((length (now hz) ≡ 288) × ((length (now a) ≡ 288) × (length (now rhs) ≡ 24))))) ⌝ }
-    ensures { λ r. ⌜ alongOf r (now (w .exit)) ≡ solvedWith count (reducedOf (curved k (now (h .entry)) vector) (spanned count (now (z .entry)))) (againstOf (curved k (now (h .entry)) vector) (spanned count (now (z .entry))) (now (force .entry))) ⌝ }
-{
-    let q = 2 * count;
-    let e = 2 * (count * count);
-    weigh_in(k, count, h, z, force, w, hz, &mut a[..e], &mut rhs[..q])
-}
-
 fn weigh(k: usize, count: usize, h: &[f64], z: &[f64], force: &[f64], w: &mut [f64]) -> Along
     requires { ⌜ (k ≤ 12) × ((count ≤ 12) × (length (now w) ≡ 2 * count)) ⌝ }
     ensures { λ r. ⌜ alongOf r (now (w .exit)) ≡ solvedWith count (reducedOf (curved k (now (h .entry)) vector) (spanned count (now (z .entry)))) (againstOf (curved k (now (h .entry)) vector) (spanned count (now (z .entry))) (now (force .entry))) ⌝ }
 {
+    let q = 2 * count;
+    let e = 2 * (count * count);
     let mut hz = [0.0; 288];
     let mut a = [0.0; 288];
     let mut rhs = [0.0; 24];
-    weigh_cut(k, count, h, z, force, w, &mut hz, &mut a, &mut rhs)
+    weigh_in(
+        k,
+        count,
+        h,
+        z,
+        force,
+        w,
+        &mut hz,
+        &mut a[..e],
+        &mut rhs[..q],
+    )
 }
 
 // delta with its part along Z, with scratch slices of the right lengths.
@@ -276,24 +252,6 @@ fn along_in(
     }
 }
 
-// The same with a scratch slice that is long enough.
-fn along_cut(
-    k: usize,
-    count: usize,
-    h: &[f64],
-    g: &[f64],
-    z: &[f64],
-    delta: &mut [f64],
-    f: &mut [f64],
-    w: &mut [f64],
-) -> Along
-    requires { ⌜ (k ≤ 12) × ((count ≤ 12) × ((length (now f) ≡ 24) × (length (now w) ≡ 24))) ⌝ }
-    ensures { λ r. ⌜ alongOf r (now (delta .exit)) ≡ freePart (curved k (now (h .entry)) (now (g .entry))) (now (delta .entry)) (spanned count (now (z .entry))) ⌝ }
-{
-    let q = 2 * count;
-    along_in(k, count, h, g, z, delta, f, &mut w[..q])
-}
-
 // delta with the step along Z that is least for the model there; none where the damped curvature is not positive along Z.
 pub fn free_part(
     k: usize,
@@ -306,7 +264,8 @@ pub fn free_part(
     requires { ⌜ (k ≤ 12) × (count ≤ 12) ⌝ }
     ensures { λ r. ⌜ alongOf r (now (delta .exit)) ≡ freePart (curved k (now (h .entry)) (now (g .entry))) (now (delta .entry)) (spanned count (now (z .entry))) ⌝ }
 {
+    let q = 2 * count;
     let mut f = [0.0; 24];
     let mut w = [0.0; 24];
-    along_cut(k, count, h, g, z, delta, &mut f, &mut w)
+    along_in(k, count, h, g, z, delta, &mut f, &mut w[..q])
 }

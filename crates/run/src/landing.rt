@@ -74,18 +74,6 @@ fn ask_correction(st: State, area: &mut [f64], next: &[f64]) -> Out
     ask(st, Kind::Correction, st.counts.corrections)
 }
 
-// `correct`, with the moving marks and a scratch point.
-fn correct_in(st: State, area: &mut [f64], theta: Scalar, moving: &[bool], next: &mut [f64]) -> Out
-    requires { ⌜ (length (now area) ≡ 8000) × ((length (now moving) ≡ 12) × ((length (now next) ≡ 24) × ((now moving ≡ st .moving) × Underway st))) ⌝ }
-    ensures { λ r. ⌜ ((w : Memory) → Holds w (now (area .entry)) → Leaves (correct st w theta) r (now (area .exit))) ⌝ }
-{
-    match shift_landed(st.sizes.n, st.sizes.m, area, moving, next) {
-        Shifted::To => ask_correction(st, area, next),
-        Shifted::Stay => judge_landed(st, area, theta),
-        Shifted::Refused(e) => refuse(st, area, e),
-    }
-}
-
 // The landed point is shifted back onto the constraints, and that point asked, or it is judged.
 fn correct(st: State, area: &mut [f64], theta: Scalar) -> Out
     requires { ⌜ (length (now area) ≡ 8000) × Underway st ⌝ }
@@ -93,7 +81,11 @@ fn correct(st: State, area: &mut [f64], theta: Scalar) -> Out
 {
     let moving = st.moving;
     let mut next = [0.0; 24];
-    correct_in(st, area, theta, &moving, &mut next)
+    match shift_landed(st.sizes.n, st.sizes.m, area, &moving, &mut next) {
+        Shifted::To => ask_correction(st, area, &next),
+        Shifted::Stay => judge_landed(st, area, theta),
+        Shifted::Refused(e) => refuse(st, area, e),
+    }
 }
 
 fn correct_or_judge(st: State, area: &mut [f64], theta: Scalar, corrects: bool) -> Out
@@ -139,24 +131,6 @@ fn keep_by(st: State, area: &mut [f64], rows: &[f64], theta: Scalar, d: &[f64]) 
     correct_or_judge(t, area, theta, corrections < 4)
 }
 
-// `keep`, with the moving marks and a scratch shift.
-fn keep_in(
-    st: State,
-    area: &mut [f64],
-    rows: &[f64],
-    theta: Scalar,
-    moving: &[bool],
-    d: &mut [f64],
-) -> Out
-    requires { ⌜ (length (now area) ≡ 8000) × ((length (now rows) ≤ 936) × ((length (now moving) ≡ 12) × ((length (now d) ≡ 24) × ((now moving ≡ st .moving) × (Underway st × (st .counts .corrections ≤ 4)))))) ⌝ }
-    ensures { λ r. ⌜ ((w : Memory) → Holds w (now (area .entry)) → Leaves (keep st w (now (rows .entry)) theta) r (now (area .exit))) ⌝ }
-{
-    match landed_shift(st.sizes.n, st.sizes.m, area, moving, d) {
-        Done::Finished => keep_by(st, area, rows, theta, d),
-        Done::Refused(e) => refuse(st, area, e),
-    }
-}
-
 // A correction's rows, nearer the constraints.
 fn keep(st: State, area: &mut [f64], rows: &[f64], theta: Scalar) -> Out
     requires { ⌜ (length (now area) ≡ 8000) × ((length (now rows) ≤ 936) × (Underway st × (st .counts .corrections ≤ 4))) ⌝ }
@@ -164,7 +138,10 @@ fn keep(st: State, area: &mut [f64], rows: &[f64], theta: Scalar) -> Out
 {
     let moving = st.moving;
     let mut d = [0.0; 24];
-    keep_in(st, area, rows, theta, &moving, &mut d)
+    match landed_shift(st.sizes.n, st.sizes.m, area, &moving, &mut d) {
+        Done::Finished => keep_by(st, area, rows, theta, &d),
+        Done::Refused(e) => refuse(st, area, e),
+    }
 }
 
 // A correction's rows with violation new: kept where they are nearer than the landed ones.

@@ -174,22 +174,15 @@ fn gradient_by(xs: &[f64], e: RowSet, index: &[usize], k: usize, r: &[f64], g: &
     }
 }
 
-fn gradient_in(xs: &[f64], e: RowSet, index: &[usize], k: usize, g: &mut [f64], r: &mut [f64])
-    requires { ⌜ Small e × ((k ≤ 12) × ((length (now index) ≡ 12) × (((p : ℕ) → getD (now index) p 0 < 65536) × ((length (now g) ≡ 24) × (now r ≡ zeros 48))))) ⌝ }
-    ensures { λ _. ⌜ now (g .exit) ≡ gradientOf (keptBy k (now (index .entry))) (rowsIn (now (xs .entry)) e) ⌝ }
-{
-    chosen(xs, e.values, e.count, r);
-    clear(g);
-    gradient_by(xs, e, index, k, r, g);
-}
-
 // The sum's gradient J_rᵀ r over the kept variables, chosen.
 pub fn gradient(xs: &[f64], e: RowSet, index: &[usize], k: usize, g: &mut [f64])
     requires { ⌜ Small e × ((k ≤ 12) × ((length (now index) ≡ 12) × (((p : ℕ) → getD (now index) p 0 < 65536) × (length (now g) ≡ 24)))) ⌝ }
     ensures { λ _. ⌜ now (g .exit) ≡ gradientOf (keptBy k (now (index .entry))) (rowsIn (now (xs .entry)) e) ⌝ }
 {
     let mut r = [0.0; 48];
-    gradient_in(xs, e, index, k, g, &mut r);
+    chosen(xs, e.values, e.count, &mut r);
+    clear(g);
+    gradient_by(xs, e, index, k, &r, g);
 }
 
 // ---- the problem
@@ -201,27 +194,6 @@ fn slopes(xs: &[f64], e: RowSet, index: &[usize], k: usize, wide: &mut [f64], na
 {
     squeeze(xs, e, index, k, wide);
     chosen(wide, 0, 12 * e.count, narrow);
-}
-
-fn curve_in(
-    n: usize,
-    index: &[usize],
-    k: usize,
-    xs: &[f64],
-    e: RowSet,
-    jc: &[f64],
-    m: usize,
-    b: &[f64],
-    mu: Scalar,
-    h: &mut [f64],
-    wide: &mut [f64],
-    jr: &mut [f64],
-)
-    requires { ⌜ Small e × ((k ≤ 12) × ((length (now index) ≡ 12) × ((length (now h) ≡ 288) × ((now wide ≡ zeros 576) × (now jr ≡ zeros 576))))) ⌝ }
-    ensures { λ _. ⌜ now (h .exit) ≡ dampedOf n (keptBy k (now (index .entry))) (chosenOf (zeros 576) (squeezedOf (keptBy k (now (index .entry))) (rowsIn (now (xs .entry)) e) (zeros 576)) 0 (12 * e .count)) (e .count) (now (jc .entry)) m (now (b .entry)) mu ⌝ }
-{
-    slopes(xs, e, index, k, wide, jr);
-    damped(n, index, k, jr, e.count, jc, m, b, mu, h);
 }
 
 // H, from the sum's rows.
@@ -242,7 +214,8 @@ fn curve(
 {
     let mut wide = [0.0; 576];
     let mut jr = [0.0; 576];
-    curve_in(n, index, k, xs, e, jc, m, b, mu, h, &mut wide, &mut jr);
+    slopes(xs, e, index, k, &mut wide, &mut jr);
+    damped(n, index, k, &jr, e.count, jc, m, b, mu, h);
 }
 
 // The problem over the k kept variables, from an answer's rows: the constraints' slopes, into clear slices, the same chosen, H, and the gradient.

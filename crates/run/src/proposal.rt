@@ -206,38 +206,6 @@ fn within(
     }
 }
 
-// `propose`, with a scratch vector for the step as it was found.
-fn propose_in(
-    n: usize,
-    m: usize,
-    s: usize,
-    rows: &[f64],
-    x: &[f64],
-    b: &[f64],
-    moving: &[bool],
-    f: Scalar,
-    theta: Scalar,
-    mu: Scalar,
-    radius: Scalar,
-    raw: &mut [f64],
-    delta: &mut [f64],
-    lambda: &mut [f64],
-    next: &mut [f64],
-) -> Proposal
-    requires { ⌜ (n ≤ 12) × ((m ≤ 12) × ((s ≤ 24) × ((length (now moving) ≡ 12) × ((length (now raw) ≡ 24) × ((length (now delta) ≡ 24) × ((length (now lambda) ≡ 24) × (length (now next) ≡ 24))))))) ⌝ }
-    ensures { λ r. ⌜ proposalResult r (now (delta .exit)) (now (lambda .exit)) (now (next .exit)) ≡ proposalOf (standingWith n (now (x .entry)) (evaluationOf n m s (now (rows .entry))) f theta (now (b .entry)) (now (moving .entry))) mu radius ⌝ }
-{
-    match step(n, m, s, rows, b, moving, mu, raw, lambda) {
-        StepEnd::Found(r) => match expects(n, m, s, rows, b, f, theta, raw) {
-            Expected::Drop => within(n, m, s, rows, x, b, f, theta, radius, raw, delta, next),
-            Expected::NoDrop => Proposal::NoDrop(r),
-            Expected::Refused(e) => Proposal::Refused(e),
-        },
-        StepEnd::NotPositive => Proposal::NotPositive,
-        StepEnd::Refused(e) => Proposal::Refused(e),
-    }
-}
-
 // What the damping mu proposes, within the radius; where it asks, delta, lambda and next hold the step, its multipliers and the point it leads to.
 pub fn propose(
     n: usize,
@@ -259,21 +227,13 @@ pub fn propose(
     ensures { λ r. ⌜ proposalResult r (now (delta .exit)) (now (lambda .exit)) (now (next .exit)) ≡ proposalOf (standingWith n (now (x .entry)) (evaluationOf n m s (now (rows .entry))) f theta (now (b .entry)) (now (moving .entry))) mu radius ⌝ }
 {
     let mut raw = [0.0; 24];
-    propose_in(
-        n,
-        m,
-        s,
-        rows,
-        x,
-        b,
-        moving,
-        f,
-        theta,
-        mu,
-        radius,
-        &mut raw,
-        delta,
-        lambda,
-        next,
-    )
+    match step(n, m, s, rows, b, moving, mu, &mut raw, lambda) {
+        StepEnd::Found(r) => match expects(n, m, s, rows, b, f, theta, &raw) {
+            Expected::Drop => within(n, m, s, rows, x, b, f, theta, radius, &mut raw, delta, next),
+            Expected::NoDrop => Proposal::NoDrop(r),
+            Expected::Refused(e) => Proposal::Refused(e),
+        },
+        StepEnd::NotPositive => Proposal::NotPositive,
+        StepEnd::Refused(e) => Proposal::Refused(e),
+    }
 }

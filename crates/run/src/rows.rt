@@ -104,21 +104,14 @@ fn linearized(xs: &[f64], e: RowSet, delta: &[f64], d: usize, out: &mut [f64])
     }
 }
 
-fn predicted_in(xs: &[f64], n: usize, m: usize, delta: &[f64], out: &mut [f64]) -> Answer
-    requires { ⌜ (n ≤ 12) × ((m ≤ 12) × (length (now out) ≡ 24)) ⌝ }
-    ensures { λ r. ⌜ resultOf r ≡ predictedOf (constraintsOf n m (now (xs .entry))) (now (delta .entry)) ⌝ }
-{
-    linearized(xs, constraints(n, m), delta, n, out);
-    norm_of(out, m)
-}
-
 // The violation that a step leads to, to first order.
 pub fn predicted(xs: &[f64], n: usize, m: usize, delta: &[f64]) -> Answer
     requires { ⌜ (n ≤ 12) × (m ≤ 12) ⌝ }
     ensures { λ r. ⌜ resultOf r ≡ predictedOf (constraintsOf n m (now (xs .entry))) (now (delta .entry)) ⌝ }
 {
     let mut out = [0.0; 24];
-    predicted_in(xs, n, m, delta, &mut out)
+    linearized(xs, constraints(n, m), delta, n, &mut out);
+    norm_of(&out, m)
 }
 
 // Whether some slope by variable j is definitely not zero.

@@ -4,14 +4,13 @@ ghost use mathlib.Core.List.{List, []};
 ghost use mathlib.Core.Path.{_≡_};
 ghost use Prim.Native.Nat.{ℕ, _<_, _≤_};
 ghost use lib.Ieee.{Float};
-ghost use lib.ListN.{length, getD, replicate};
+ghost use lib.ListN.{length, getD};
 ghost use Rattle.linear.specs.Answers.{doneOf};
-ghost use Rattle.linear.specs.Results.{bind};
-ghost use Rattle.run.specs.Basis.{noRows, basisBy, rankedOf};
+ghost use Rattle.run.specs.Basis.{basisBy};
 ghost use Rattle.run.specs.Model.{keptBy, problemOf, problemIn};
 ghost use Rattle.run.specs.Rows.{rowsIn, evaluationOf, valueAt};
-ghost use Rattle.run.specs.Scratch.{matrix, allFinite};
-ghost use Rattle.run.specs.Step.{pullOf, steppedBy, freeStep, curved, spanned, endOf, withMultipliers, spreadEnd, basisFor, correctedStep, basedStep, keptStep, testedStep, rankOf, stepOf};
+ghost use Rattle.run.specs.Scratch.{allFinite};
+ghost use Rattle.run.specs.Step.{pullOf, freeStep, curved, spanned, endOf, withMultipliers, spreadEnd, basisFor, basedStep, keptStep, testedStep, stepOf};
 use crate::basis::Rank;
 use crate::basis::basis;
 use crate::basis::correction;
@@ -81,29 +80,7 @@ pub fn spread_end(
     }
 }
 
-// The kept step with its multipliers, where it and what pulls against it are finite; p is scratch.
-fn stepped_by(
-    k: usize,
-    r: usize,
-    h: &[f64],
-    g: &[f64],
-    q: &[f64],
-    coefficients: &[f64],
-    order: &[usize],
-    kept: &[f64],
-    lambda: &mut [f64],
-    p: &mut [f64],
-) -> StepEnd
-    requires { ⌜ (k ≤ 12) × ((r ≤ 12) × ((length (now order) ≡ 24) × ((length (now lambda) ≡ 24) × (length (now p) ≡ 24)))) ⌝ }
-    ensures { λ e. ⌜ endOf e (now (kept .entry)) (now (lambda .exit)) ≡ steppedBy (curved k (now (h .entry)) (now (g .entry))) (basisFor r (now (q .entry)) (now (coefficients .entry)) (now (order .entry))) (now (kept .entry)) ⌝ }
-{
-    if pulled(k, h, g, kept, p) {
-        return multiplied(multipliers(k, r, q, coefficients, order, p, lambda), r);
-    }
-    StepEnd::NotPositive
-}
-
-// The step along `count` directions z, from the correction delta on.
+// The step along `count` directions z, from the correction delta on, with its multipliers, where it and what pulls against it are finite.
 fn freed(
     k: usize,
     r: usize,
@@ -116,87 +93,21 @@ fn freed(
     z: &[f64],
     delta: &mut [f64],
     lambda: &mut [f64],
-    p: &mut [f64],
 ) -> StepEnd
-    requires { ⌜ (k ≤ 12) × ((r ≤ 12) × ((count ≤ 12) × ((length (now order) ≡ 24) × ((length (now lambda) ≡ 24) × (length (now p) ≡ 24))))) ⌝ }
+    requires { ⌜ (k ≤ 12) × ((r ≤ 12) × ((count ≤ 12) × ((length (now order) ≡ 24) × (length (now lambda) ≡ 24)))) ⌝ }
     ensures { λ e. ⌜ endOf e (now (delta .exit)) (now (lambda .exit)) ≡ freeStep (curved k (now (h .entry)) (now (g .entry))) (basisFor r (now (q .entry)) (now (coefficients .entry)) (now (order .entry))) (now (delta .entry)) (spanned count (now (z .entry))) ⌝ }
 {
+    let mut p = [0.0; 24];
     match free_part(k, count, h, g, z, delta) {
-        Along::Found => stepped_by(k, r, h, g, q, coefficients, order, delta, lambda, p),
+        Along::Found => {
+            if pulled(k, h, g, delta, &mut p) {
+                return multiplied(multipliers(k, r, q, coefficients, order, &p, lambda), r);
+            }
+            StepEnd::NotPositive
+        }
         Along::NotPositive => StepEnd::NotPositive,
         Along::Refused(e) => StepEnd::Refused(e),
     }
-}
-
-// The step from the correction delta on, with scratch slices.
-fn corrected_in(
-    k: usize,
-    r: usize,
-    h: &[f64],
-    g: &[f64],
-    q: &[f64],
-    coefficients: &[f64],
-    order: &[usize],
-    delta: &mut [f64],
-    lambda: &mut [f64],
-    z: &mut [f64],
-    left: &mut [f64],
-    p: &mut [f64],
-) -> StepEnd
-    requires { ⌜ (k ≤ 12) × ((r ≤ 12) × ((length (now order) ≡ 24) × ((length (now lambda) ≡ 24) × ((length (now z) ≡ 288) × ((length (now left) ≡ 288) × (length (now p) ≡ 24)))))) ⌝ }
-    ensures { λ e. ⌜ endOf e (now (delta .exit)) (now (lambda .exit)) ≡ correctedStep (curved k (now (h .entry)) (now (g .entry))) (basisFor r (now (q .entry)) (now (coefficients .entry)) (now (order .entry))) (now (delta .entry)) ⌝ }
-{
-    match free_directions(k, r, q, z, left) {
-        Found::Of(count) => freed(
-            k,
-            r,
-            count,
-            h,
-            g,
-            q,
-            coefficients,
-            order,
-            z,
-            delta,
-            lambda,
-            p,
-        ),
-        Found::Refused(e) => StepEnd::Refused(e),
-    }
-}
-
-// The step from the correction delta on.
-pub fn corrected(
-    k: usize,
-    r: usize,
-    h: &[f64],
-    g: &[f64],
-    q: &[f64],
-    coefficients: &[f64],
-    order: &[usize],
-    delta: &mut [f64],
-    lambda: &mut [f64],
-) -> StepEnd
-    requires { ⌜ (k ≤ 12) × ((r ≤ 12) × ((length (now order) ≡ 24) × (length (now lambda) ≡ 24))) ⌝ }
-    ensures { λ e. ⌜ endOf e (now (delta .exit)) (now (lambda .exit)) ≡ correctedStep (curved k (now (h .entry)) (now (g .entry))) (basisFor r (now (q .entry)) (now (coefficients .entry)) (now (order .entry))) (now (delta .entry)) ⌝ }
-{
-    let mut z = [0.0; 288];
-    let mut left = [0.0; 288];
-    let mut p = [0.0; 24];
-    corrected_in(
-        k,
-        r,
-        h,
-        g,
-        q,
-        coefficients,
-        order,
-        delta,
-        lambda,
-        &mut z,
-        &mut left,
-        &mut p,
-    )
 }
 
 // ---- over the kept variables
@@ -220,87 +131,17 @@ fn based(
     requires { ⌜ (k ≤ 12) × ((m ≤ 12) × ((r ≤ 12) × ((length (now order) ≡ 24) × ((length (now kept) ≡ 24) × (length (now lambda) ≡ 24))))) ⌝ }
     ensures { λ x. ⌜ endOf x (now (kept .exit)) (now (lambda .exit)) ≡ basedStep (problemIn k m (valueAt (rowsIn (now (xs .entry)) c)) [] [] (now (h .entry)) (now (g .entry))) (basisBy r (now (q .entry)) [] (now (coefficients .entry)) (now (dependent .entry)) (now (order .entry))) ⌝ }
 {
+    let mut z = [0.0; 288];
+    let mut left = [0.0; 288];
     match correction(k, m, r, q, coefficients, dependent, order, xs, c, kept) {
-        Done::Finished => corrected(k, r, h, g, q, coefficients, order, kept, lambda),
+        Done::Finished => match free_directions(k, r, q, &mut z, &mut left) {
+            Found::Of(count) => {
+                freed(k, r, count, h, g, q, coefficients, order, &z, kept, lambda)
+            }
+            Found::Refused(e) => StepEnd::Refused(e),
+        },
         Done::Refused(e) => StepEnd::Refused(e),
     }
-}
-
-// The same, where there is a basis.
-fn ranked_on(
-    rank: Rank,
-    k: usize,
-    m: usize,
-    h: &[f64],
-    g: &[f64],
-    q: &[f64],
-    coefficients: &[f64],
-    dependent: &[f64],
-    order: &[usize],
-    xs: &[f64],
-    c: RowSet,
-    kept: &mut [f64],
-    lambda: &mut [f64],
-) -> StepEnd
-    requires { ⌜ (k ≤ 12) × ((m ≤ 12) × ((rankOf rank ≤ 12) × ((length (now order) ≡ 24) × ((length (now kept) ≡ 24) × (length (now lambda) ≡ 24))))) ⌝ }
-    ensures { λ x. ⌜ endOf x (now (kept .exit)) (now (lambda .exit)) ≡ bind (rankedOf rank (now (q .entry)) [] (now (coefficients .entry)) (now (dependent .entry)) (now (order .entry))) (basedStep (problemIn k m (valueAt (rowsIn (now (xs .entry)) c)) [] [] (now (h .entry)) (now (g .entry)))) ⌝ }
-{
-    match rank {
-        Rank::Of(r) => based(
-            k,
-            m,
-            r,
-            h,
-            g,
-            q,
-            coefficients,
-            dependent,
-            order,
-            xs,
-            c,
-            kept,
-            lambda,
-        ),
-        Rank::Refused(e) => StepEnd::Refused(e),
-    }
-}
-
-fn kept_in(
-    k: usize,
-    m: usize,
-    wide: &[f64],
-    jc: &[f64],
-    h: &[f64],
-    g: &[f64],
-    xs: &[f64],
-    c: RowSet,
-    kept: &mut [f64],
-    lambda: &mut [f64],
-    q: &mut [f64],
-    gram: &mut [f64],
-    coefficients: &mut [f64],
-    dependent: &mut [f64],
-    order: &mut [usize],
-) -> StepEnd
-    requires { ⌜ (k ≤ 12) × ((m ≤ 12) × ((length (now kept) ≡ 24) × ((length (now lambda) ≡ 24) × (basisBy 0 (now q) (now gram) (now coefficients) (now dependent) (now order) ≡ noRows)))) ⌝ }
-    ensures { λ x. ⌜ endOf x (now (kept .exit)) (now (lambda .exit)) ≡ keptStep (problemIn k m (valueAt (rowsIn (now (xs .entry)) c)) (now (wide .entry)) (now (jc .entry)) (now (h .entry)) (now (g .entry))) ⌝ }
-{
-    let rank = basis(k, m, wide, jc, q, gram, coefficients, dependent, order);
-    ranked_on(
-        rank,
-        k,
-        m,
-        h,
-        g,
-        q,
-        coefficients,
-        dependent,
-        order,
-        xs,
-        c,
-        kept,
-        lambda,
-    )
 }
 
 // The step over the kept variables, for the constraint values in xs.
@@ -324,71 +165,37 @@ fn kept_step(
     let mut coefficients = [0.0; 288];
     let mut dependent = [0.0; 288];
     let mut order = [0; 24];
-    kept_in(
+    match basis(
         k,
         m,
         wide,
         jc,
-        h,
-        g,
-        xs,
-        c,
-        kept,
-        lambda,
         &mut q,
         &mut gram,
         &mut coefficients,
         &mut dependent,
         &mut order,
-    )
-}
-
-// The same, where H is finite.
-fn tested(
-    k: usize,
-    m: usize,
-    wide: &[f64],
-    jc: &[f64],
-    h: &[f64],
-    g: &[f64],
-    xs: &[f64],
-    c: RowSet,
-    kept: &mut [f64],
-    lambda: &mut [f64],
-) -> StepEnd
-    requires { ⌜ (k ≤ 12) × ((m ≤ 12) × ((length (now kept) ≡ 24) × (length (now lambda) ≡ 24))) ⌝ }
-    ensures { λ x. ⌜ endOf x (now (kept .exit)) (now (lambda .exit)) ≡ testedStep (problemIn k m (valueAt (rowsIn (now (xs .entry)) c)) (now (wide .entry)) (now (jc .entry)) (now (h .entry)) (now (g .entry))) ⌝ }
-{
-    if all_finite(h, 144) {
-        return kept_step(k, m, wide, jc, h, g, xs, c, kept, lambda);
+    ) {
+        Rank::Of(r) => based(
+            k,
+            m,
+            r,
+            h,
+            g,
+            &q,
+            &coefficients,
+            &dependent,
+            &order,
+            xs,
+            c,
+            kept,
+            lambda,
+        ),
+        Rank::Refused(e) => StepEnd::Refused(e),
     }
-    StepEnd::NotPositive
 }
 
-fn modelled_in(
-    n: usize,
-    m: usize,
-    s: usize,
-    index: &[usize],
-    k: usize,
-    xs: &[f64],
-    b: &[f64],
-    mu: Scalar,
-    kept: &mut [f64],
-    lambda: &mut [f64],
-    wide: &mut [f64],
-    jc: &mut [f64],
-    h: &mut [f64],
-    g: &mut [f64],
-) -> StepEnd
-    requires { ⌜ (n ≤ 12) × ((m ≤ 12) × ((s ≤ 24) × ((k ≤ 12) × ((length (now index) ≡ 12) × (((p : ℕ) → getD (now index) p 0 < 65536) × ((length (now kept) ≡ 24) × ((length (now lambda) ≡ 24) × ((now wide ≡ matrix) × ((now jc ≡ matrix) × ((length (now h) ≡ 288) × (length (now g) ≡ 24))))))))))) ⌝ }
-    ensures { λ x. ⌜ endOf x (now (kept .exit)) (now (lambda .exit)) ≡ testedStep (problemOf n (keptBy k (now (index .entry))) (evaluationOf n m s (now (xs .entry))) (now (b .entry)) mu) ⌝ }
-{
-    problem(n, m, s, index, k, xs, b, mu, wide, jc, h, g);
-    tested(k, m, wide, jc, h, g, xs, constraints(n, m), kept, lambda)
-}
-
-// The step over k kept variables, from an answer's rows.
+// The step over k kept variables, from an answer's rows; none where H is not finite.
 fn modelled(
     n: usize,
     m: usize,
@@ -408,7 +215,7 @@ fn modelled(
     let mut jc = [0.0; 288];
     let mut h = [0.0; 288];
     let mut g = [0.0; 24];
-    modelled_in(
+    problem(
         n,
         m,
         s,
@@ -417,37 +224,19 @@ fn modelled(
         xs,
         b,
         mu,
-        kept,
-        lambda,
         &mut wide,
         &mut jc,
         &mut h,
         &mut g,
-    )
+    );
+    let c = constraints(n, m);
+    if all_finite(&h, 144) {
+        return kept_step(k, m, &wide, &jc, &h, &g, xs, c, kept, lambda);
+    }
+    StepEnd::NotPositive
 }
 
 // ---- over all variables
-
-fn step_in(
-    n: usize,
-    m: usize,
-    s: usize,
-    rows: &[f64],
-    b: &[f64],
-    moving: &[bool],
-    mu: Scalar,
-    delta: &mut [f64],
-    lambda: &mut [f64],
-    index: &mut [usize],
-    kept: &mut [f64],
-) -> StepEnd
-    requires { ⌜ (n ≤ 12) × ((m ≤ 12) × ((s ≤ 24) × ((length (now moving) ≡ 12) × ((length (now delta) ≡ 24) × ((length (now lambda) ≡ 24) × ((now index ≡ replicate 12 0) × (length (now kept) ≡ 24))))))) ⌝ }
-    ensures { λ r. ⌜ endOf r (now (delta .exit)) (now (lambda .exit)) ≡ stepOf n (evaluationOf n m s (now (rows .entry))) (now (b .entry)) (now (moving .entry)) mu ⌝ }
-{
-    let k = keep(moving, n, index);
-    let end = modelled(n, m, s, index, k, rows, b, mu, kept, lambda);
-    spread_end(end, index, kept, k, delta)
-}
 
 // The step of the linearized problem, from an answer's rows and the curvature b, over the variables that move, with the constraints' multipliers.
 pub fn step(
@@ -466,17 +255,7 @@ pub fn step(
 {
     let mut index = [0; 12];
     let mut kept = [0.0; 24];
-    step_in(
-        n,
-        m,
-        s,
-        rows,
-        b,
-        moving,
-        mu,
-        delta,
-        lambda,
-        &mut index,
-        &mut kept,
-    )
+    let k = keep(moving, n, &mut index);
+    let end = modelled(n, m, s, &index, k, rows, b, mu, &mut kept, lambda);
+    spread_end(end, &index, &kept, k, delta)
 }

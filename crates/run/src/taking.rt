@@ -146,26 +146,7 @@ fn stand(
     iterate(standing_on(st, span, mu, radius), area)
 }
 
-// The same with the curvature learned from the step, in a scratch slice.
-fn take_in(
-    st: State,
-    area: &mut [f64],
-    theta: Scalar,
-    span: Scalar,
-    mu: Scalar,
-    radius: Scalar,
-    b: &mut [f64],
-) -> Out
-    requires { ⌜ (length (now area) ≡ 8000) × ((length (now b) ≡ 288) × (Underway st × (isPositive mu ≡ true))) ⌝ }
-    ensures { λ r. ⌜ ((w : Memory) → Holds w (now (area .entry)) → Leaves (takenWith st w theta span mu radius) r (now (area .exit))) ⌝ }
-{
-    match learn(st.sizes.n, st.sizes.m, st.sizes.s, st.search.plain, area, b) {
-        Done::Finished => stand(st, area, theta, span, mu, radius, b),
-        Done::Refused(e) => refuse(st, area, e),
-    }
-}
-
-// The same with a slice of its own.
+// The same with the curvature learned from the step.
 fn take_with(
     st: State,
     area: &mut [f64],
@@ -178,7 +159,17 @@ fn take_with(
     ensures { λ r. ⌜ ((w : Memory) → Holds w (now (area .entry)) → Leaves (takenWith st w theta span mu radius) r (now (area .exit))) ⌝ }
 {
     let mut b = [0.0; 288];
-    take_in(st, area, theta, span, mu, radius, &mut b)
+    match learn(
+        st.sizes.n,
+        st.sizes.m,
+        st.sizes.s,
+        st.search.plain,
+        area,
+        &mut b,
+    ) {
+        Done::Finished => stand(st, area, theta, span, mu, radius, &b),
+        Done::Refused(e) => refuse(st, area, e),
+    }
 }
 
 // The step taken, once it is known whether the constraints came as near as they should.

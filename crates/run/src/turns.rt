@@ -105,29 +105,6 @@ fn seek_from(
     )
 }
 
-// The search with scratch slices.
-fn search_in(
-    st: State,
-    area: &mut [f64],
-    b: &mut [f64],
-    delta: &mut [f64],
-    lambda: &mut [f64],
-    next: &mut [f64],
-) -> Out
-    requires { ⌜ (length (now area) ≡ 8000) × (Bounded 2147483648 st × ((now b ≡ zeros 288) × ((length (now delta) ≡ 24) × ((length (now lambda) ≡ 24) × (length (now next) ≡ 24))))) ⌝ }
-    ensures { λ r. ⌜ ((w : Memory) → Holds w (now (area .entry)) → Leaves (run.search st w) r (now (area .exit))) ⌝ }
-{
-    let z = st.sizes;
-    let theta = violation(&area[area::STANDING_ROWS..area::LANDED_ROWS], z.n, z.m);
-    match theta {
-        Answer::Refused(e) => refuse(st, area, e),
-        Answer::Value(v) => {
-            let found = seek_from(st, area, v, b, delta, lambda, next);
-            left_at(st, area, found, delta, lambda, next)
-        }
-    }
-}
-
 // The search for a proposal from the standing point, until a question, the finish or a refusal.
 fn search(st: State, area: &mut [f64]) -> Out
     requires { ⌜ (length (now area) ≡ 8000) × Bounded 2147483648 st ⌝ }
@@ -137,7 +114,15 @@ fn search(st: State, area: &mut [f64]) -> Out
     let mut delta = [0.0; 24];
     let mut lambda = [0.0; 24];
     let mut next = [0.0; 24];
-    search_in(st, area, &mut b, &mut delta, &mut lambda, &mut next)
+    let z = st.sizes;
+    let theta = violation(&area[area::STANDING_ROWS..area::LANDED_ROWS], z.n, z.m);
+    match theta {
+        Answer::Refused(e) => refuse(st, area, e),
+        Answer::Value(v) => {
+            let found = seek_from(st, area, v, &mut b, &mut delta, &mut lambda, &mut next);
+            left_at(st, area, found, &delta, &lambda, &next)
+        }
+    }
 }
 
 // A new iteration, or the finish where the limit is reached.

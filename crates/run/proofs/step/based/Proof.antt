@@ -1,7 +1,9 @@
--- `based` meets its contract: the correction decides, and each arm is the definition's.
-use mathlib.Core.Path.{_∙_}
+-- `based` meets its contract: the correction decides, then the directions, and each arm is the definition's.
+use mathlib.Core.Path.{refl, _∙_}
+use native.Mathlib.Omega.{arith}
 use Rattle.run.proofs.BasisLaws.{correction-reads}
-use Rattle.run.proofs.StepLaws.{corrected-read, based-refused, based-on}
+use Rattle.run.proofs.DirectionLaws.{directions-few}
+use Rattle.run.proofs.StepLaws.{free-read, corrected-refused, corrected-on, based-refused, based-on}
 use borrow.Author.Needs.{needs}
 use Rattle.run.proofs.step.based.Statement.{statement}
 use Rattle.run.proofs.step.based.Tie as tie
@@ -12,11 +14,32 @@ correction-requires c κs = search needs
 enum-told : tie.Need-enum-told
 enum-told c = search needs
 
-corrected-requires : tie.Need-corrected-requires
-corrected-requires c κs = search needs
+slice-aggregate-free-directions : tie.Need-slice-aggregate-free-directions
+slice-aggregate-free-directions c = search needs
+
+slice-aggregate-free-directions-2 : tie.Need-slice-aggregate-free-directions-2
+slice-aggregate-free-directions-2 c = search needs
+
+free-directions-requires : tie.Need-free-directions-requires
+free-directions-requires c κs = search needs
+
+enum-known-count : tie.Need-enum-known-count
+enum-known-count c = search needs
+
+slice-aggregate-freed : tie.Need-slice-aggregate-freed
+slice-aggregate-freed c = search needs
+
+freed-requires : tie.Need-freed-requires
+freed-requires c κs =
+    let p = c .before .before .before .before .before .before .before .before .before .before .before .before .before .before .before .before .before .before .before .before .before .before .before .before .before .before .pre in
+    let few = directions-few _ _ _ (rw (c .before .before .before .before .count .given .1) at (c .before .before .before .before .before .before .before .before .free-directions .ensures)) in
+    (p .0, (p .1 .1 .0, (omega (arith, few, p .0), (p .1 .1 .1 .0, p .1 .1 .1 .1 .1))))
 
 enum-known-e : tie.Need-enum-known-e
 enum-known-e c = search needs
+
+enum-known-e-2 : tie.Need-enum-known-e-2
+enum-known-e-2 c = search needs
 
 same-length : tie.Need-same-length
 same-length c = search needs
@@ -25,13 +48,23 @@ same-length-2 : tie.Need-same-length-2
 same-length-2 c = search needs
 
 returns : tie.Need-returns
-returns c = based-on _ _ (rw (c .before .before .before .before .before .before .before .enum-told .given .1) at (c .before .before .before .before .before .before .before .before .before .before .before .correction .ensures) ∙ correction-reads _ _) (c .before .before .before .before .corrected .ensures ∙ corrected-read _ _ _)
+returns c =
+    based-on _ _ (rw (c .before .before .before .before .before .before .before .before .before .before .before .before .before .before .before .before .enum-told .given .1) at (c .before .before .before .before .before .before .before .before .before .before .before .before .before .before .before .before .before .before .before .before .correction .ensures) ∙ correction-reads _ _)
+    (corrected-on _ _ _ (rw (c .before .before .before .before .before .before .before .before .before .count .given .1) at (c .before .before .before .before .before .before .before .before .before .before .before .before .before .free-directions .ensures)) (c .before .before .before .before .freed .ensures ∙ free-read _ _ _ _))
 
 same-length-3 : tie.Need-same-length-3
 same-length-3 c = search needs
 
 returns-2 : tie.Need-returns-2
-returns-2 c = based-refused _ _ (rw (c .before .e .given .1) at (c .before .before .before .before .before .correction .ensures) ∙ correction-reads _ _)
+returns-2 c =
+    based-on _ _ (rw (c .before .before .before .before .before .before .before .before .enum-told .given .1) at (c .before .before .before .before .before .before .before .before .before .before .before .before .correction .ensures) ∙ correction-reads _ _)
+    (corrected-refused _ _ _ (rw (c .before .e .given .1) at (c .before .before .before .before .before .free-directions .ensures)))
+
+same-length-4 : tie.Need-same-length-4
+same-length-4 c = search needs
+
+returns-3 : tie.Need-returns-3
+returns-3 c = based-refused _ _ (rw (c .before .e2 .given .1) at (c .before .before .before .before .before .correction .ensures) ∙ correction-reads _ _)
 
 pub based-spec : {M : Type 1} → statement M
 based-spec =
@@ -39,10 +72,18 @@ based-spec =
     (tie.spec
     correction-requires
     enum-told
-    corrected-requires
+    slice-aggregate-free-directions
+    slice-aggregate-free-directions-2
+    free-directions-requires
+    enum-known-count
+    slice-aggregate-freed
+    freed-requires
     enum-known-e
+    enum-known-e-2
     same-length
     same-length-2
     returns
     same-length-3
-    returns-2)
+    returns-2
+    same-length-4
+    returns-3)

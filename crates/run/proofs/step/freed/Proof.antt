@@ -1,8 +1,9 @@
--- `freed` meets its contract: the weights along the directions decide, and each arm is the definition's.
+-- `freed` meets its contract: the weights along the directions decide, then whether the step and what pulls against it are finite; the multipliers end it.
 use mathlib.Core.Path.{_∙_}
-use borrow.Author.Needs.{needs}
 use Rattle.linear.specs.Results.{bind}
-use Rattle.run.proofs.StepLaws.{free-step}
+use Rattle.run.proofs.BasisLaws.{multipliers-reads}
+use Rattle.run.proofs.StepLaws.{free-step, stepped-not, stepped-on}
+use borrow.Author.Needs.{needs}
 use Rattle.run.proofs.step.freed.Statement.{statement}
 use Rattle.run.proofs.step.freed.Tie as tie
 
@@ -12,14 +13,20 @@ free-part-requires c κs = search needs
 enum-told : tie.Need-enum-told
 enum-told c = search needs
 
-stepped-by-requires : tie.Need-stepped-by-requires
-stepped-by-requires c κs = search needs
+slice-aggregate-pulled : tie.Need-slice-aggregate-pulled
+slice-aggregate-pulled c = search needs
 
-enum-told-2 : tie.Need-enum-told-2
-enum-told-2 c = search needs
+pulled-requires : tie.Need-pulled-requires
+pulled-requires c κs = search needs
 
-enum-known-e : tie.Need-enum-known-e
-enum-known-e c = search needs
+slice-aggregate-multipliers : tie.Need-slice-aggregate-multipliers
+slice-aggregate-multipliers c = search needs
+
+multipliers-requires : tie.Need-multipliers-requires
+multipliers-requires c κs = search needs
+
+multiplied-requires : tie.Need-multiplied-requires
+multiplied-requires c κs = search needs
 
 same-length : tie.Need-same-length
 same-length c = search needs
@@ -27,26 +34,41 @@ same-length c = search needs
 same-length-2 : tie.Need-same-length-2
 same-length-2 c = search needs
 
+returns : tie.Need-returns
+unfolding bind
+returns c =
+    let e = c .before .before .before .before .before .before .before .before .pulled .ensures in
+    c .multiplied .ensures _ _ ∙ stepped-on _ _ _ (e .0) (e .1) (c .before .before .before .before .before .before .if1 .taken) (c .before .before .before .multipliers .ensures ∙ multipliers-reads _ _ _)
+    ∙ free-step _ _ _ _ (rw (c .before .before .before .before .before .before .before .before .before .before .before .enum-told .given .1) at (c .before .before .before .before .before .before .before .before .before .before .before .before .before .before .before .free-part .ensures))
+
+enum-told-2 : tie.Need-enum-told-2
+enum-told-2 c = search needs
+
+enum-known-e : tie.Need-enum-known-e
+enum-known-e c = search needs
+
 same-length-3 : tie.Need-same-length-3
 same-length-3 c = search needs
 
-returns : tie.Need-returns
+returns-2 : tie.Need-returns-2
 unfolding bind
-returns c = c .before .before .before .before .stepped-by .ensures ∙ free-step _ _ _ _ (rw (c .before .before .before .before .before .before .before .before .enum-told .given .1) at (c .before .before .before .before .before .before .before .before .before .before .before .before .free-part .ensures))
+returns-2 c =
+    let e = c .before .before .pulled .ensures in
+    stepped-not _ _ _ (e .0) (e .1) (c .if1 .left) ∙ free-step _ _ _ _ (rw (c .before .before .before .before .before .enum-told .given .1) at (c .before .before .before .before .before .before .before .before .before .free-part .ensures))
 
 same-length-4 : tie.Need-same-length-4
 same-length-4 c = search needs
 
-returns-2 : tie.Need-returns-2
+returns-3 : tie.Need-returns-3
 unfolding bind
-returns-2 c = free-step _ _ _ _ (rw (c .enum-told2 .given .1) at (c .before .before .before .before .free-part .ensures))
+returns-3 c = free-step _ _ _ _ (rw (c .enum-told2 .given .1) at (c .before .before .before .before .free-part .ensures))
 
 same-length-5 : tie.Need-same-length-5
 same-length-5 c = search needs
 
-returns-3 : tie.Need-returns-3
+returns-4 : tie.Need-returns-4
 unfolding bind
-returns-3 c = free-step _ _ _ _ (rw (c .before .e .given .1) at (c .before .before .before .before .before .free-part .ensures))
+returns-4 c = free-step _ _ _ _ (rw (c .before .e .given .1) at (c .before .before .before .before .before .free-part .ensures))
 
 pub freed-spec : {M : Type 1} → statement M
 freed-spec =
@@ -54,14 +76,19 @@ freed-spec =
     (tie.spec
     free-part-requires
     enum-told
-    stepped-by-requires
-    enum-told-2
-    enum-known-e
+    slice-aggregate-pulled
+    pulled-requires
+    slice-aggregate-multipliers
+    multipliers-requires
+    multiplied-requires
     same-length
     same-length-2
-    same-length-3
     returns
-    same-length-4
+    enum-told-2
+    enum-known-e
+    same-length-3
     returns-2
+    same-length-4
+    returns-3
     same-length-5
-    returns-3)
+    returns-4)

@@ -1,30 +1,54 @@
--- `kept_step` meets its contract: the arrays start clear.
+-- `kept_step` meets its contract: the basis, from clear arrays, and the step from it on.
 use mathlib.Core.Path.{refl}
+use native.Mathlib.Omega.{arith}
 use lib.Ieee.{ofBits}
+use Rattle.run.proofs.StepLaws.{rank-bound, kept-on, kept-refused}
 use borrow.Author.Needs.{needs}
 use Rattle.run.proofs.step.kept_step.Statement.{statement}
 use Rattle.run.proofs.step.kept_step.Tie as tie
 
-slice-aggregate-kept-in : tie.Need-slice-aggregate-kept-in
-slice-aggregate-kept-in c = search needs
+slice-aggregate-basis : tie.Need-slice-aggregate-basis
+slice-aggregate-basis c = search needs
 
-slice-aggregate-kept-in-2 : tie.Need-slice-aggregate-kept-in-2
-slice-aggregate-kept-in-2 c = search needs
+slice-aggregate-basis-2 : tie.Need-slice-aggregate-basis-2
+slice-aggregate-basis-2 c = search needs
 
-slice-aggregate-kept-in-3 : tie.Need-slice-aggregate-kept-in-3
-slice-aggregate-kept-in-3 c = search needs
+slice-aggregate-basis-3 : tie.Need-slice-aggregate-basis-3
+slice-aggregate-basis-3 c = search needs
 
-slice-aggregate-kept-in-4 : tie.Need-slice-aggregate-kept-in-4
-slice-aggregate-kept-in-4 c = search needs
+slice-aggregate-basis-4 : tie.Need-slice-aggregate-basis-4
+slice-aggregate-basis-4 c = search needs
 
-slice-aggregate-kept-in-5 : tie.Need-slice-aggregate-kept-in-5
-slice-aggregate-kept-in-5 c = search needs
+slice-aggregate-basis-5 : tie.Need-slice-aggregate-basis-5
+slice-aggregate-basis-5 c = search needs
 
-kept-in-requires : tie.Need-kept-in-requires
+basis-requires : tie.Need-basis-requires
 unfolding ofBits
-kept-in-requires c κs =
-    let p = c .before .before .before .before .before .before .before .before .before .before .before .before .before .before .pre in
-    (p .0, (p .1 .0, (p .1 .1 .0, (p .1 .1 .1, refl))))
+basis-requires c κs = let p = c .before .before .before .before .before .before .before .before .before .before .before .before .pre in (p .0, (p .1 .0, refl))
+
+enum-known-r : tie.Need-enum-known-r
+enum-known-r c = search needs
+
+slice-aggregate-based : tie.Need-slice-aggregate-based
+slice-aggregate-based c = search needs
+
+slice-aggregate-based-2 : tie.Need-slice-aggregate-based-2
+slice-aggregate-based-2 c = search needs
+
+slice-aggregate-based-3 : tie.Need-slice-aggregate-based-3
+slice-aggregate-based-3 c = search needs
+
+slice-aggregate-based-4 : tie.Need-slice-aggregate-based-4
+slice-aggregate-based-4 c = search needs
+
+based-requires : tie.Need-based-requires
+based-requires c κs =
+    let p = c .before .before .before .before .before .before .before .before .before .before .before .before .before .before .before .before .before .before .before .before .before .before .before .before .before .before .before .pre in
+    let b = c .before .before .before .before .before .before .before .before .before .before .before .before .before .before .basis in
+    (p .0, (p .1 .0, (omega (arith, rw (c .before .before .before .before .before .before .before .r .given .1) at (rank-bound _ _ _ _ _ _ (b .result) (b .ensures)), p .1 .0), (b .kept .1 .1 .1 .1 .1 .1 .1 .1 .0, (p .1 .1 .0, p .1 .1 .1)))))
+
+enum-known-e : tie.Need-enum-known-e
+enum-known-e c = search needs
 
 same-length : tie.Need-same-length
 same-length c = search needs
@@ -33,18 +57,29 @@ same-length-2 : tie.Need-same-length-2
 same-length-2 c = search needs
 
 returns : tie.Need-returns
-returns c = search needs
+returns c = let b = c .before .before .before .before .before .before .before .before .before .before .before .before .before .before .before .before .before .before .before .basis in kept-on _ _ _ _ _ _ (b .result) (b .ensures) (c .before .before .before .before .before .before .before .before .before .before .before .before .r .given .1) (c .before .before .before .before .based .ensures)
+
+returns-2 : tie.Need-returns-2
+returns-2 c = let b = c .before .before .before .before .before .before .before .before .basis in kept-refused _ _ _ _ _ _ (b .result) (b .ensures) (c .before .e .given .1)
 
 pub kept-step-spec : {M : Type 1} → statement M
 kept-step-spec =
     tie.close
     (tie.spec
-    slice-aggregate-kept-in
-    slice-aggregate-kept-in-2
-    slice-aggregate-kept-in-3
-    slice-aggregate-kept-in-4
-    slice-aggregate-kept-in-5
-    kept-in-requires
+    slice-aggregate-basis
+    slice-aggregate-basis-2
+    slice-aggregate-basis-3
+    slice-aggregate-basis-4
+    slice-aggregate-basis-5
+    basis-requires
+    enum-known-r
+    slice-aggregate-based
+    slice-aggregate-based-2
+    slice-aggregate-based-3
+    slice-aggregate-based-4
+    based-requires
+    enum-known-e
     same-length
     same-length-2
-    returns)
+    returns
+    returns-2)

@@ -1,0 +1,141 @@
+-- `next_row` meets its contract: the length that is left decides the arm.
+use mathlib.Core.Path.{_≡_, refl, sym, ap, _∙_}
+use Prim.Native.Nat.{_+_, _*_, _-_, _≤_}
+use native.Mathlib.Omega.{arith}
+use lib.Ieee.{ofBits}
+use lib.ListN.{length, set, take}
+use Rattle.interval.specs.Result.{ok}
+use Rattle.linear.specs.Choose.{chooseOf}
+use Rattle.linear.specs.Flat.{at}
+use Rattle.run.specs.Basis.{basisBy}
+use Rattle.run.proofs.BasisLaws.{row-refused, row-new, row-dependent}
+use Rattle.run.proofs.ScratchLaws.{at-take}
+use Rattle.run.proofs.ScratchLaws.{fill-ext}
+use borrow.Author.Needs.{needs}
+use Rattle.run.proofs.basis.next_row.Statement.{statement}
+use Rattle.run.proofs.basis.next_row.Tie as tie
+
+slice-aggregate-measure : tie.Need-slice-aggregate-measure
+slice-aggregate-measure c = search needs
+
+measure-requires : tie.Need-measure-requires
+measure-requires c κs = let p = c .before .before .before .before .before .before .before .before .before .before .pre in (p .0, (omega (arith, p .1 .0, p .1 .1 .0), (p .1 .1 .0, refl)))
+
+enum-known-l : tie.Need-enum-known-l
+enum-known-l c = search needs
+
+definitely-greater-requires : tie.Need-definitely-greater-requires
+definitely-greater-requires c κs = search needs
+
+add-row-requires : tie.Need-add-row-requires
+add-row-requires c κs = search needs
+
+same-length : tie.Need-same-length
+same-length c = search needs
+
+same-length-2 : tie.Need-same-length-2
+same-length-2 c = search needs
+
+same-length-3 : tie.Need-same-length-3
+same-length-3 c = search needs
+
+same-length-4 : tie.Need-same-length-4
+same-length-4 c = search needs
+
+returns : tie.Need-returns
+unfolding ofBits
+returns c =
+    let a = c .before .before .before .before .before .before .before .before .before .before .before .before .before .before .before .before .before .before .before .before .before .before .before .before .before .before .before .before .before .before .args in
+    let k = c .before .before .before .before .before .before .before .before .before .before .before .before .before .before .before .before .before .before .before .measure in
+    row-new (a .k) (a .r) (a .i) (a .wide .now) (a .jc .now) (a .q .now) (a .gram .now) (a .coefficients .now) (a .dependent .now) (a .order .now) (k .result) (take (2 * a .r) (k .last .1 .1 .1 .1 .1 .1 .0)) (k .ensures) (c .before .before .before .before .before .before .before .before .before .before .before .before .before .before .before .before .l .given .1) (c .before .before .before .before .before .before .before .before .before .before .before .before .before .before .definitely-greater .ensures) (c .before .before .before .before .before .before .before .before .before .before .before .before .before .if1 .taken) (c .before .before .before .before .before .before .before .before .add-row .ensures (a .dependent .now))
+
+sub-d : tie.Need-sub-d
+sub-d c = search needs
+
+add-order : tie.Need-add-order
+add-order c = search needs
+
+mul-order : tie.Need-mul-order
+mul-order c = search needs
+
+slice-write-order : tie.Need-slice-write-order
+slice-write-order c = search needs
+
+slice-aggregate-chosen-at : tie.Need-slice-aggregate-chosen-at
+slice-aggregate-chosen-at c = search needs
+
+mul-chosen-at : tie.Need-mul-chosen-at
+mul-chosen-at c = search needs
+
+chosen-at-requires : tie.Need-chosen-at-requires
+chosen-at-requires c κs = search needs
+
+enum-known-e : tie.Need-enum-known-e
+enum-known-e c = search needs
+
+same-length-5 : tie.Need-same-length-5
+same-length-5 c = search needs
+
+same-length-6 : tie.Need-same-length-6
+same-length-6 c = search needs
+
+same-length-7 : tie.Need-same-length-7
+same-length-7 c = search needs
+
+same-length-8 : tie.Need-same-length-8
+same-length-8 c = search needs
+
+returns-2 : tie.Need-returns-2
+unfolding ofBits
+returns-2 c =
+    let s = c .before .before .before .before .before .before .before .before .before .before .before .before .before .before .before .before .before .before .before .before .before .before in
+    let a = s .args in
+    let k = c .before .before .before .before .before .before .before .before .before .before .before .measure in
+    let x = k .last .1 .1 .1 .1 .1 .1 .0 in
+    let d = a .i - a .r in
+    let l : length x ≡ 24 = k .kept .1 .1 .1 .1 .1 .1 .0 in
+    let e = c .before .before .chosen-at .ensures ∙ fill-ext (a .dependent .now) (12 * d) (λ j. chooseOf (at x j)) (λ j. chooseOf (at (take (2 * a .r) x) j)) (a .r) (λ j h. ap chooseOf (sym (at-take x (a .r) j h (omega (arith, l, s .pre .1 .0, s .pre .1 .1 .0))))) in
+    ap (λ z. ok (basisBy (a .r) (a .q .now) (a .gram .now) (a .coefficients .now) z (set (a .order .now) (12 + d) (a .i)))) e ∙ row-dependent (a .k) (a .r) (a .i) (a .wide .now) (a .jc .now) (a .q .now) (a .gram .now) (a .coefficients .now) (a .dependent .now) (a .order .now) (k .result) (take (2 * a .r) x) (k .ensures) (c .before .before .before .before .before .before .before .before .l .given .1) (c .before .before .before .before .before .before .definitely-greater .ensures) (c .before .before .before .before .before .if1 .left)
+
+same-length-9 : tie.Need-same-length-9
+same-length-9 c = search needs
+
+same-length-10 : tie.Need-same-length-10
+same-length-10 c = search needs
+
+returns-3 : tie.Need-returns-3
+returns-3 c =
+    let a = c .before .before .before .before .before .before .before .before .before .before .before .before .before .before .before .args in
+    let k = c .before .before .before .before .measure in
+    row-refused (a .k) (a .r) (a .i) (a .wide .now) (a .jc .now) (a .q .now) (a .gram .now) (a .coefficients .now) (a .dependent .now) (a .order .now) (k .result) (take (2 * a .r) (k .last .1 .1 .1 .1 .1 .1 .0)) (k .ensures) (c .before .e .given .1)
+
+pub next-row-spec : {M : Type 1} → statement M
+next-row-spec =
+    tie.close
+    (tie.spec
+    slice-aggregate-measure
+    measure-requires
+    enum-known-l
+    definitely-greater-requires
+    add-row-requires
+    same-length
+    same-length-2
+    same-length-3
+    same-length-4
+    returns
+    sub-d
+    add-order
+    mul-order
+    slice-write-order
+    slice-aggregate-chosen-at
+    mul-chosen-at
+    chosen-at-requires
+    enum-known-e
+    same-length-5
+    same-length-6
+    same-length-7
+    same-length-8
+    returns-2
+    same-length-9
+    same-length-10
+    returns-3)

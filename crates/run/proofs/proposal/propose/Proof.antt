@@ -1,0 +1,145 @@
+-- `propose` meets its contract: each arm is the definition's.
+use mathlib.Core.Path.{_≡_, refl, sym, ap, _∙_}
+use mathlib.Core.List.{List}
+use native.Mathlib.Omega.{arith}
+use lib.Ieee.{Float}
+use Rattle.run.specs.Proposal.{Standing, standingWith, expectsOf, expectedResult}
+use Rattle.run.specs.Rows.{evaluationOf}
+use Rattle.run.specs.Step.{Step, found, notPositive, stepOf, endOf}
+use Rattle.run.specs.declared.step.StepEnd as declared
+use Rattle.run.proofs.ProposalLaws.{expects-reads, within-reads, proposal-refused, proposal-by, proposed-refused, proposed-drop, proposed-not}
+use borrow.Author.Needs.{needs}
+use Rattle.run.proofs.proposal.propose.Statement.{statement}
+use Rattle.run.proofs.proposal.propose.Tie as tie
+
+-- what it stands on, and the step
+module _ (k : tie.After-step) where
+  abbrev from : Standing
+  from = let a = k .before .before .before .before .before .before .before .before .before .before .args in standingWith (a .n) (a .x .now) (evaluationOf (a .n) (a .m) (a .s) (a .rows .now)) (a .f) (a .theta) (a .b .now) (a .moving .now)
+
+  abbrev raw : List Float
+  raw = k .step .last .1 .1 .1 .1 .1 .1 .1 .0
+
+  abbrev lambda : List Float
+  lambda = k .step .last .1 .1 .1 .1 .1 .1 .1 .1 .0
+
+  stepped : (r : declared.StepEnd) → k .step .result ≡ r → stepOf (from .n) (from .e) (from .b) (from .moving) (k .before .before .before .before .before .before .before .before .before .before .args .mu) ≡ endOf r raw lambda
+  stepped r e = sym (k .step .ensures) ∙ ap (λ s. endOf s raw lambda) e
+
+-- what the model expects of it
+expected : (k : tie.After-expects) → let s = k .before .before .before .before .before .before .before .before in expectsOf (from s) (raw s) ≡ expectedResult (k .expects .result)
+expected k = let s = k .before .before .before .before .before .before .before .before in sym (k .expects .ensures ∙ expects-reads (from s) (raw s))
+
+slice-aggregate-step : tie.Need-slice-aggregate-step
+slice-aggregate-step c = search needs
+
+step-requires : tie.Need-step-requires
+step-requires c κs = let p = c .before .before .before .before .before .before .before .before .before .pre in (p .0, (p .1 .0, (p .1 .1 .0, (p .1 .1 .1 .0, (refl, p .1 .1 .1 .1 .1 .0)))))
+
+enum-known-r : tie.Need-enum-known-r
+enum-known-r c = search needs
+
+slice-aggregate-expects : tie.Need-slice-aggregate-expects
+slice-aggregate-expects c = search needs
+
+expects-requires : tie.Need-expects-requires
+expects-requires c κs = let p = c .before .before .before .before .before .before .before .before .before .before .before .before .before .before .before .before .before .pre in (p .0, (p .1 .0, p .1 .1 .0))
+
+enum-told : tie.Need-enum-told
+enum-told c = search needs
+
+slice-aggregate-within : tie.Need-slice-aggregate-within
+slice-aggregate-within c = search needs
+
+within-requires : tie.Need-within-requires
+within-requires c κs = let p = c .before .before .before .before .before .before .before .before .before .before .before .before .before .before .before .before .before .before .before .before .before .before .before .pre in (p .0, (p .1 .0, (p .1 .1 .0, (c .before .before .before .before .before .before .before .before .before .before .before .before .before .step .kept .1 .1 .1 .1 .1 .1 .1 .0, (p .1 .1 .1 .1 .0, p .1 .1 .1 .1 .1 .1)))))
+
+enum-told-2 : tie.Need-enum-told-2
+enum-told-2 c = search needs
+
+enum-known-e : tie.Need-enum-known-e
+enum-known-e c = search needs
+
+enum-told-3 : tie.Need-enum-told-3
+enum-told-3 c = search needs
+
+enum-known-e-2 : tie.Need-enum-known-e-2
+enum-known-e-2 c = search needs
+
+same-length : tie.Need-same-length
+same-length c = search needs
+
+same-length-2 : tie.Need-same-length-2
+same-length-2 c = search needs
+
+same-length-3 : tie.Need-same-length-3
+same-length-3 c = search needs
+
+returns : tie.Need-returns
+returns c =
+    let k = c .before .before .before .before .before .before .before .before .before .before .before .before .before .before .before .before .before .before .before in
+    let a = c .before .before .before .before .before .before .before .before .before .before .before .before .before .before .before .before .before .before .before .before .before .before .before .before .before .before .before .before .before .args in
+    let x : Step = record { delta = raw k; lambda = lambda k; independent = c .before .before .before .before .before .before .before .before .before .before .before .before .before .before .r .given .0 .0 } in
+    c .before .before .before .before .before .within .ensures (lambda k) ∙ within-reads (from k) (a .radius) (raw k) (lambda k)
+    ∙ sym (proposal-by (from k) (a .mu) (a .radius) (found x) (stepped k _ (c .before .before .before .before .before .before .before .before .before .before .before .before .before .before .r .given .1)) ∙ proposed-drop (from k) (a .mu) (a .radius) x (expected (c .before .before .before .before .before .before .before .before .before .before .before) ∙ ap expectedResult (c .before .before .before .before .before .before .before .before .before .enum-told .given .1)))
+
+same-length-4 : tie.Need-same-length-4
+same-length-4 c = search needs
+
+returns-2 : tie.Need-returns-2
+returns-2 c =
+    let k = c .before .before .before .before .before .before .before .before .before .before in
+    let a = c .before .before .before .before .before .before .before .before .before .before .before .before .before .before .before .before .before .before .before .before .args in
+    let x : Step = record { delta = raw k; lambda = lambda k; independent = c .before .before .before .before .before .r .given .0 .0 } in
+    sym (proposal-by (from k) (a .mu) (a .radius) (found x) (stepped k _ (c .before .before .before .before .before .r .given .1)) ∙ proposed-not (from k) (a .mu) (a .radius) x (expected (c .before .before) ∙ ap expectedResult (c .enum-told2 .given .1)))
+
+same-length-5 : tie.Need-same-length-5
+same-length-5 c = search needs
+
+returns-3 : tie.Need-returns-3
+returns-3 c =
+    let k = c .before .before .before .before .before .before .before .before .before .before .before in
+    let a = c .before .before .before .before .before .before .before .before .before .before .before .before .before .before .before .before .before .before .before .before .before .args in
+    let x : Step = record { delta = raw k; lambda = lambda k; independent = c .before .before .before .before .before .before .r .given .0 .0 } in
+    sym (proposal-by (from k) (a .mu) (a .radius) (found x) (stepped k _ (c .before .before .before .before .before .before .r .given .1)) ∙ proposed-refused (from k) (a .mu) (a .radius) x (expected (c .before .before .before) ∙ ap expectedResult (c .before .e .given .1)))
+
+same-length-6 : tie.Need-same-length-6
+same-length-6 c = search needs
+
+returns-4 : tie.Need-returns-4
+returns-4 c = let k = c .before .before .before .before .before in let a = c .before .before .before .before .before .before .before .before .before .before .before .before .before .before .before .args in sym (proposal-by (from k) (a .mu) (a .radius) notPositive (stepped k _ (c .enum-told3 .given .1)))
+
+same-length-7 : tie.Need-same-length-7
+same-length-7 c = search needs
+
+returns-5 : tie.Need-returns-5
+returns-5 c = let k = c .before .before .before .before .before .before in let a = c .before .before .before .before .before .before .before .before .before .before .before .before .before .before .before .before .args in sym (proposal-refused (from k) (a .mu) (a .radius) (stepped k _ (c .before .e2 .given .1)))
+
+pub propose-spec : {M : Type 1} → statement M
+propose-spec =
+    tie.close
+    (tie.spec
+    slice-aggregate-step
+    step-requires
+    enum-known-r
+    slice-aggregate-expects
+    expects-requires
+    enum-told
+    slice-aggregate-within
+    within-requires
+    enum-told-2
+    enum-known-e
+    enum-told-3
+    enum-known-e-2
+    same-length
+    same-length-2
+    same-length-3
+    returns
+    same-length-4
+    returns-2
+    same-length-5
+    returns-3
+    same-length-6
+    returns-4
+    same-length-7
+    returns-5)
