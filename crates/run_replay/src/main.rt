@@ -46,7 +46,7 @@ fn print_summary(t: Tally) {
     io::print_decimal(STDOUT_FILENO, t.differ);
     io::write_all(STDOUT_FILENO, b" differ\n");
     if !t.whole {
-        io::write_all(STDOUT_FILENO, b"the last run is malformed\n");
+        io::write_all(STDOUT_FILENO, b"the list is malformed\n");
     }
 }
 
