@@ -22,14 +22,14 @@ use Rattle.run.specs.declared.state.State.{State}
 use Rattle.run.proofs.ScratchLaws.{length-fillTo}
 use Rattle.run.proofs.Yields.{Long, violation-yields, shift-yields, shifted-yields}
 use Rattle.run.proofs.ExactLaws.{ExactLaws}
-use Rattle.run.proofs.Invariant.{Scene, Live, After}
+use Rattle.run.proofs.Invariant.{CallContext, Consistent, After}
 use Rattle.run.proofs.Outcomes.{either-after, or-refuse-after, correction-after}
 use Rattle.run.proofs.Landings.{Landing, judge-after}
 
 -- ---- corrections
 
-abbrev asked-live : (S : Scene) (z : Sizes) (k : Counts) (last : Last) (w : Memory) (next : List Float) → Long POINT next → Live S z k last w → Live S z k last (withAsked w next)
-asked-live S z k last w next e v =
+abbrev asked-consistent : (S : CallContext) (z : Sizes) (k : Counts) (last : Last) (w : Memory) (next : List Float) → Long POINT next → Consistent S z k last w → Consistent S z k last (withAsked w next)
+asked-consistent S z k last w next e v =
     record {
       before = v .before;
       way = v .way;
@@ -53,21 +53,21 @@ asked-live S z k last w next e v =
       few-corrections = v .few-corrections;
     }
 
-below-landed : (S : Scene) (st : State) (w : Memory) (since : ℕ) (L : Landing S st w since) (e : ℕ) → In e (st .counts .standing ∷ L .live .before) → e < st .counts .landed
+below-landed : (S : CallContext) (st : State) (w : Memory) (since : ℕ) (L : Landing S st w since) (e : ℕ) → In e (st .counts .standing ∷ L .consistent .before) → e < st .counts .landed
 below-landed S st w since L e i = L .newer e (subst (In e) (sym (S .stood-is)) (subst (λ (s : ℕ). In e (s ∷ S .before)) (L .still) (subst (λ (b : List ℕ). In e (st .counts .standing ∷ b)) (L .still-before) i)))
 
-pub correct-after : (law : ExactLaws) (S : Scene) (st : State) (w : Memory) → Landing S st w (1 + st .counts .corrections) → st .counts .corrections ≤ 3 → (theta : Scalar) → violationOf (standingAt st w .constraints) ≡ ok theta → After S (st .sizes) (correct st w theta)
+pub correct-after : (law : ExactLaws) (S : CallContext) (st : State) (w : Memory) → Landing S st w (1 + st .counts .corrections) → st .counts .corrections ≤ 3 → (theta : Scalar) → violationOf (standingAt st w .constraints) ≡ ok theta → After S (st .sizes) (correct st w theta)
 unfolding correct
 correct-after law S st w L few theta theta-is =
     or-refuse-after S (st .sizes) st w (shiftFrom (st .moving) (landedAt st w .constraints) (w .landed)) _ (shifted-yields (st .moving) (landedAt st w .constraints) (w .landed))
     (λ s. elim s [
-      | to next ↦ λ e size. correction-after S st (withAsked w next) (asked-live S (st .sizes) (st .counts) (st .last) w next size (L .live)) (L .pace) (L .below-limit) few (L .landed-slot) (L .landed-asked) (below-landed S st w (1 + st .counts .corrections) L)
+      | to next ↦ λ e size. correction-after S st (withAsked w next) (asked-consistent S (st .sizes) (st .counts) (st .last) w next size (L .consistent)) (L .count-bounds) (L .below-limit) few (L .landed-slot) (L .landed-asked) (below-landed S st w (1 + st .counts .corrections) L)
       | stay ↦ λ e u. judge-after law S st w (1 + st .counts .corrections) L (omega arith) theta theta-is
     ])
 
 -- ---- where a point lands
 
-pub land-trial-after : (law : ExactLaws) (S : Scene) (st : State) (w : Memory) (rows : List Float) → Landing S (landing st 0) (withLanded w rows (w .step)) 1 → (theta : Scalar) → violationOf (standingAt st w .constraints) ≡ ok theta → After S (st .sizes) (landTrial st w rows theta)
+pub land-trial-after : (law : ExactLaws) (S : CallContext) (st : State) (w : Memory) (rows : List Float) → Landing S (landing st 0) (withLanded w rows (w .step)) 1 → (theta : Scalar) → violationOf (standingAt st w .constraints) ≡ ok theta → After S (st .sizes) (landTrial st w rows theta)
 unfolding landTrial
 land-trial-after law S st w rows L theta theta-is =
     let t = landing st 0 in
@@ -75,7 +75,7 @@ land-trial-after law S st w rows L theta theta-is =
     or-refuse-after S (st .sizes) t v (violationOf (landedAt t v .constraints)) _ (violation-yields (landedAt t v .constraints))
     (λ new e u. either-after S (st .sizes) (definitelyGreater new theta) (correct t v theta) (judge t v theta) (λ h. correct-after law S t v L zero-le theta theta-is) (λ h. judge-after law S t v 1 L (omega arith) theta theta-is))
 
-keep-after : (law : ExactLaws) (S : Scene) (st : State) (w : Memory) (rows : List Float) → length (w .step) ≡ POINT → ((step : List Float) → length step ≡ POINT → Landing S (landing st (st .counts .corrections + 1)) (withLanded w rows step) (1 + (st .counts .corrections + 1))) → st .counts .corrections ≤ 3
+keep-after : (law : ExactLaws) (S : CallContext) (st : State) (w : Memory) (rows : List Float) → length (w .step) ≡ POINT → ((step : List Float) → length step ≡ POINT → Landing S (landing st (st .counts .corrections + 1)) (withLanded w rows step) (1 + (st .counts .corrections + 1))) → st .counts .corrections ≤ 3
     → (theta : Scalar) → violationOf (standingAt st w .constraints) ≡ ok theta → After S (st .sizes) (keep st w rows theta)
 unfolding keep shiftedStep
 keep-after law S st w rows size land few theta theta-is =
@@ -88,7 +88,7 @@ keep-after law S st w rows size land few theta theta-is =
     (λ h. judge-after law S t v (1 + (st .counts .corrections + 1)) L (omega arith) theta theta-is)
     (λ h. let l = leb-false CORRECTIONS (st .counts .corrections + 1) h in correct-after law S t v L (omega arith) theta theta-is))
 
-pub land-correction-after : (law : ExactLaws) (S : Scene) (st : State) (w : Memory) (rows : List Float) → Landing S st w (2 + st .counts .corrections) → ((step : List Float) → length step ≡ POINT → Landing S (landing st (st .counts .corrections + 1)) (withLanded w rows step) (1 + (st .counts .corrections + 1))) → st .counts .corrections ≤ 3
+pub land-correction-after : (law : ExactLaws) (S : CallContext) (st : State) (w : Memory) (rows : List Float) → Landing S st w (2 + st .counts .corrections) → ((step : List Float) → length step ≡ POINT → Landing S (landing st (st .counts .corrections + 1)) (withLanded w rows step) (1 + (st .counts .corrections + 1))) → st .counts .corrections ≤ 3
     → (theta : Scalar) → violationOf (standingAt st w .constraints) ≡ ok theta → After S (st .sizes) (landCorrection st w rows theta)
 unfolding landCorrection
 land-correction-after law S st w rows L land few theta theta-is =
@@ -97,5 +97,5 @@ land-correction-after law S st w rows L land few theta theta-is =
     or-refuse-after S (st .sizes) st w (violationOf (landedAt st w .constraints)) _ (violation-yields (landedAt st w .constraints))
     (λ old d v.
     either-after S (st .sizes) (definitelyLess new old) (keep st w rows theta) (judge st w theta)
-    (λ h. keep-after law S st w rows (L .live .sized .step-size) land few theta theta-is)
+    (λ h. keep-after law S st w rows (L .consistent .sized .step-size) land few theta theta-is)
     (λ h. judge-after law S st w (2 + st .counts .corrections) L (omega arith) theta theta-is)))

@@ -152,7 +152,7 @@ begun-holds z start max fit =
         standing-is = refl;
         stood-is = refl;
         own-standing = refl;
-        pace = record { growths = 0; growth = growth-begin; turned = zero-le; few = zero-le };
+        count-bounds = record { growths = 0; growth = growth-begin; turned = zero-le; few = zero-le };
       };
     }
 

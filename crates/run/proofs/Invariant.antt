@@ -56,7 +56,7 @@ abbrev pub once : Bool → ℕ
 once b = cond b 1 0
 
 -- at most 1,049 turn-downs an iteration: its growths and the retry. And five questions for each turn-down and iteration, but for the open ones
-pub record Pace (k : Counts) (x : Search) (since : ℕ) : Type 0 where
+pub record CountBounds (k : Counts) (x : Search) (since : ℕ) : Type 0 where
   pub growths : ℕ
   pub growth : Growth (x .mu) growths
   pub turned : x .«turned_down» ≤ 1049 * k .iterations + growths + once (x .plain)
@@ -85,7 +85,7 @@ pub record Tried (l : Ledger) (r : Run) (since top : ℕ) : Type 0 where
   pub stood-is : l .stood ≡ l .standing ∷ before
   pub before-many : length before ≡ r .state .counts .iterations
   pub below : (e : ℕ) → In e (l .stood) → e < top
-  pub pace : Pace (r .state .counts) (r .state .search) since
+  pub count-bounds : CountBounds (r .state .counts) (r .state .search) since
   pub below-limit : r .state .counts .iterations < r .state .sizes .limit
   pub stands : Stands (r .state .sizes) (l .rows) (l .standing) before (memoryOf (r .state) (r .area))
 
@@ -101,7 +101,7 @@ pub record Started (l : Ledger) (r : Run) : Type 0 where
   pub standing-is : l .standing ≡ 0
   pub stood-is : l .stood ≡ 0 ∷ []
   pub own-standing : r .state .counts .standing ≡ 0
-  pub pace : Pace (r .state .counts) (r .state .search) 0
+  pub count-bounds : CountBounds (r .state .counts) (r .state .search) 0
 
 abbrev pub Phased : Ledger → Run → Phase → Type 0
 Phased l r (Open kind.Start) = Started l r
@@ -118,7 +118,7 @@ pub record Inv (z : Sizes) (l : Ledger) (r : Run) : Type 0 where
 -- ---- inside a call
 
 -- a call whose answer is no refusal enters these rows
-pub record Scene : Type 0 where
+pub record CallContext : Type 0 where
   pub ledger : Ledger
   pub call : Call
   pub run : Run
@@ -128,21 +128,21 @@ pub record Scene : Type 0 where
   pub stood-is : ledger .stood ≡ ledger .standing ∷ before
   pub changes-are : ledger .changes ≡ length before
 
-pub record Halves (S : Scene) (z : Sizes) (standing : ℕ) (last : Last) : Type 0 where
+pub record Halves (S : CallContext) (z : Sizes) (standing : ℕ) (last : Last) : Type 0 where
   pub not-damped : S .run .state .search .first ≡ true
   pub undecided : Undecided z (S .rows (S .ledger .standing)) (S .rows standing)
   pub shorter : T (halves (S .run .state .last) last)
 
-abbrev pub Forward : Scene → Sizes → ℕ → Last → Type 0
+abbrev pub Forward : CallContext → Sizes → ℕ → Last → Type 0
 Forward S z standing last = ((e : ℕ) → In e (S .ledger .stood) → Lower z (S .rows e) (S .rows standing)) ⊎ Halves S z standing last
 
 -- the point that stood still stands, or the landed one does
-pub data Way (S : Scene) (z : Sizes) (standing : ℕ) (before : List ℕ) (last : Last) : Type 0 where
+pub data Way (S : CallContext) (z : Sizes) (standing : ℕ) (before : List ℕ) (last : Last) : Type 0 where
   unmoved : standing ≡ S .ledger .standing → before ≡ S .before → Way S z standing before last
   moved : standing ≢ S .ledger .standing → before ≡ S .ledger .standing ∷ S .before → Forward S z standing last → Way S z standing before last
 
 -- a state, by its sizes, counts and last length, with its memory
-pub record Live (S : Scene) (z : Sizes) (k : Counts) (last : Last) (w : Memory) : Type 0 where
+pub record Consistent (S : CallContext) (z : Sizes) (k : Counts) (last : Last) (w : Memory) : Type 0 where
   pub before : List ℕ
   pub way : Way S z (k .standing) before last
   pub before-many : length before ≡ k .iterations
@@ -155,7 +155,7 @@ pub record Live (S : Scene) (z : Sizes) (k : Counts) (last : Last) (w : Memory) 
   pub few-corrections : k .corrections ≤ 4
 
 -- what a call leaves, unless its answer is 5 or 6
-abbrev pub After : Scene → Sizes → Outcome → Type 0
+abbrev pub After : CallContext → Sizes → Outcome → Type 0
 After S z o =
     let l′ = entered (S .ledger) (S .call) (o .answer) in
     let r′ = runOf (leftBy o) in

@@ -35,20 +35,20 @@ use Rattle.run.proofs.Slots.{violation-padded, squared-padded, change-p
 use Rattle.run.proofs.Yields.{Yields, gives, Any, Long, div-yields, judge-yields, curvature-yields}
 use Rattle.run.proofs.Growths.{growth-third}
 use Rattle.run.proofs.ExactLaws.{ExactLaws}
-use Rattle.run.proofs.Invariant.{Slot, Pairs, Pace, Scene, Halves, Forward, moved, Live, After}
+use Rattle.run.proofs.Invariant.{Slot, Pairs, CountBounds, CallContext, Halves, Forward, moved, Consistent, After}
 use Rattle.run.proofs.Outcomes.{pairs-filter, either-after, or-refuse-after, finish-after}
-use Rattle.run.proofs.TurnLaws.{paced-few, iterate-after, not-lower-after}
+use Rattle.run.proofs.TurnLaws.{bounds-few, iterate-after, not-lower-after}
 use Rattle.run.proofs.Judgements.{sums, constraints, lower-definite, undecided-rows, lower-pairs}
 
 -- a point has landed, with so many questions since the last turn-down or iteration; what stood before the call still stands
-pub record Landing (S : Scene) (st : State) (w : Memory) (since : ℕ) : Type 0 where
-  pub live : Live S (st .sizes) (st .counts) (st .last) w
+pub record Landing (S : CallContext) (st : State) (w : Memory) (since : ℕ) : Type 0 where
+  pub consistent : Consistent S (st .sizes) (st .counts) (st .last) w
   pub still : st .counts .standing ≡ S .ledger .standing
-  pub still-before : live .before ≡ S .before
+  pub still-before : consistent .before ≡ S .before
   pub newer : (e : ℕ) → In e (S .ledger .stood) → e < st .counts .landed
   pub landed-asked : st .counts .landed ≤ st .counts .question
   pub landed-slot : Slot (st .sizes) (S .rows (st .counts .landed)) (w .landedRows)
-  pub pace : Pace (st .counts) (st .search) since
+  pub count-bounds : CountBounds (st .counts) (st .search) since
   pub below-limit : st .counts .iterations < st .sizes .limit
   pub first-same : S .run .state .search .first ≡ st .search .first
   pub last-same : S .run .state .last ≡ st .last
@@ -88,45 +88,45 @@ module _ (filter : List Float) (count : ℕ) (f theta : Scalar) (room : 4 * coun
   unfolding filterWith
   filter-violation = at-put-same (put filter (2 * count) f) (2 * count + 1) theta (omega (arith, length-put filter (2 * count) f))
 
-module _ (S : Scene) (st : State) (w : Memory) (since : ℕ) (L : Landing S st w since) (theta : Scalar) (theta-is : violationOf (standingAt st w .constraints) ≡ ok theta) where
+module _ (S : CallContext) (st : State) (w : Memory) (since : ℕ) (L : Landing S st w since) (theta : Scalar) (theta-is : violationOf (standingAt st w .constraints) ≡ ok theta) where
   room : 4 * st .counts .iterations + 3 < length (w .filter)
-  room = let s = size-bounds (st .sizes) (L .live .sizes-fit) in let b = L .below-limit in omega (arith, L .live .sized .filter-size)
+  room = let s = size-bounds (st .sizes) (L .consistent .sizes-fit) in let b = L .below-limit in omega (arith, L .consistent .sized .filter-size)
 
   filter′ : List Float
   filter′ = filterWith (w .filter) (st .counts .iterations) (sumSquared (standingAt st w .sum)) theta
 
   -- the point that stood, as the newest pair, and those before it
-  taken-pairs : Pairs (st .sizes) (S .rows) filter′ (st .counts .standing ∷ L .live .before)
+  taken-pairs : Pairs (st .sizes) (S .rows) filter′ (st .counts .standing ∷ L .consistent .before)
   unfolding filter′
   taken-pairs =
       let z = st .sizes in
       let it = st .counts .iterations in
       let f = sumSquared (standingAt st w .sum) in
-      let s = L .live .stands .slot in
+      let s = L .consistent .stands .slot in
       let xs = S .rows (st .counts .standing) in
-      let many = L .live .before-many in (
+      let many = L .consistent .before-many in (
         record {
           good = s .good;
           pair-sum = rw many (filter-sum (w .filter) it f theta room) ∙ slot-squared z xs (w .standingRows) s;
           pair-violation = sym (slot-violation z xs (w .standingRows) s) ∙ theta-is ∙ ap ok (sym (rw many (filter-violation (w .filter) it f theta room)));
         },
-        pairs-filter z (S .rows) (w .filter) (filterWith (w .filter) it f theta) (L .live .before) (λ i h. filter-kept (w .filter) it f theta room i (omega arith)) (L .live .stands .pairs),
+        pairs-filter z (S .rows) (w .filter) (filterWith (w .filter) it f theta) (L .consistent .before) (λ i h. filter-kept (w .filter) it f theta room i (omega arith)) (L .consistent .stands .pairs),
       )
 
   taken-new : st .counts .landed ≢ S .ledger .standing
   unfolding In
   taken-new e = let h = L .newer (S .ledger .standing) (subst (In (S .ledger .standing)) (sym (S .stood-is)) (inl refl)) in omega arith
 
-  taken-below : (e : ℕ) → In e (st .counts .landed ∷ (st .counts .standing ∷ L .live .before)) → e ≤ st .counts .question
+  taken-below : (e : ℕ) → In e (st .counts .landed ∷ (st .counts .standing ∷ L .consistent .before)) → e ≤ st .counts .question
   unfolding In
   taken-below e (inl q) = let h = L .landed-asked in omega arith
-  taken-below e (inr i) = L .live .below e i
+  taken-below e (inr i) = L .consistent .below e i
 
-  taken-live : (length mu radius : Scalar) (b : List Float) → Long CURVATURE b → Forward S (st .sizes) (st .counts .landed) (last.Taken length)
-      → Live S (st .sizes) (standingOn st length mu radius .counts) (last.Taken length) (withTaken w b filter′)
+  taken-consistent : (length mu radius : Scalar) (b : List Float) → Long CURVATURE b → Forward S (st .sizes) (st .counts .landed) (last.Taken length)
+      → Consistent S (st .sizes) (standingOn st length mu radius .counts) (last.Taken length) (withTaken w b filter′)
   unfolding filter′
-  taken-live length mu radius b size f =
-      let v = L .live in
+  taken-consistent length mu radius b size f =
+      let v = L .consistent in
       record {
         before = st .counts .standing ∷ v .before;
         way = moved taken-new (ap₂ (λ (e : ℕ) (es : List ℕ). e ∷ es) (L .still) (L .still-before)) f;
@@ -155,14 +155,14 @@ module _ (S : Scene) (st : State) (w : Memory) (since : ℕ) (L : Landing S st w
     where
       go : (b : Bool) → Long CURVATURE (pick b (zeros CURVATURE) (w .curvature))
       go true = length-replicate CURVATURE zero64
-      go false = L .live .sized .curvature-size
+      go false = L .consistent .sized .curvature-size
 
   pub take-after : since ≤ 5 → (new : Scalar) → violationOf (landedAt st w .constraints) ≡ ok new → (length : Scalar) → Forward S (st .sizes) (st .counts .landed) (last.Taken length) → After S (st .sizes) (take st w theta length)
   unfolding take filter′
   take-after few new new-is length f =
       let z = st .sizes in
-      let t = paced-few (st .counts) (st .search) since (L .pace) in
-      let q = L .pace .few in
+      let t = bounds-few (st .counts) (st .search) since (L .count-bounds) in
+      let q = L .count-bounds .few in
       or-refuse-after S z st w (linearOf st w theta) _ (linear-yields st w theta new new-is)
       (λ linear u v.
       or-refuse-after S z st w (divOf (st .search .mu) (degenerate three64)) _ (div-yields (st .search .mu) (degenerate three64))
@@ -171,12 +171,12 @@ module _ (S : Scene) (st : State) (w : Memory) (since : ℕ) (L : Landing S st w
       (curvature-yields CURVATURE (st .sizes .n) (curvatureOf st w) (w .step) (standingAt st w) (landedAt st w) (w .multipliers) curvature-long)
       (λ b u size.
       iterate-after S (standingOn st length (shrunk (st .search .mu) third) (reachOf length (st .search .radius) (st .«max_step») linear)) (withTaken w b filter′)
-      (taken-live length (shrunk (st .search .mu) third) (reachOf length (st .search .radius) (st .«max_step») linear) b size f)
-      (record { growths = 0; growth = growth-third (L .pace .growth) is-third; turned = omega arith; few = omega arith }))))
+      (taken-consistent length (shrunk (st .search .mu) third) (reachOf length (st .search .radius) (st .«max_step») linear) b size f)
+      (record { growths = 0; growth = growth-third (L .count-bounds .growth) is-third; turned = omega arith; few = omega arith }))))
 
 -- ---- the judgement
 
-module _ (law : ExactLaws) (S : Scene) (st : State) (w : Memory) (since : ℕ) (L : Landing S st w since) (theta new : Scalar) (theta-is : violationOf (standingAt st w .constraints) ≡ ok theta) (new-is : violationOf (landedAt st w .constraints) ≡ ok new) (length : Scalar) where
+module _ (law : ExactLaws) (S : CallContext) (st : State) (w : Memory) (since : ℕ) (L : Landing S st w since) (theta new : Scalar) (theta-is : violationOf (standingAt st w .constraints) ≡ ok theta) (new-is : violationOf (landedAt st w .constraints) ≡ ok new) (length : Scalar) where
   z : Sizes
   z = st .sizes
 
@@ -197,11 +197,11 @@ module _ (law : ExactLaws) (S : Scene) (st : State) (w : Memory) (since : ℕ) (
 
   change-is : change ≡ sumChange (sums z xs) (sums z ys)
   unfolding z xs ys change
-  change-is = slot-change z xs ys (w .standingRows) (w .landedRows) (L .live .stands .slot) (L .landed-slot)
+  change-is = slot-change z xs ys (w .standingRows) (w .landedRows) (L .consistent .stands .slot) (L .landed-slot)
 
   x-violation : violationOf (constraints z xs) ≡ ok theta
   unfolding z xs
-  x-violation = sym (slot-violation z xs (w .standingRows) (L .live .stands .slot)) ∙ theta-is
+  x-violation = sym (slot-violation z xs (w .standingRows) (L .consistent .stands .slot)) ∙ theta-is
 
   y-violation : violationOf (constraints z ys) ≡ ok new
   unfolding z ys
@@ -215,12 +215,12 @@ module _ (law : ExactLaws) (S : Scene) (st : State) (w : Memory) (since : ℕ) (
       definite : (rises (sumChange (sums z xs) (sums z ys)) || rises (subOf theta new)) ≡ true
       definite = ap (λ (v : Scalar). rises v || rises (subOf theta new)) (sym change-is) ∙ and-left (rises change || rises (subOf theta new)) beats h
 
-      beaten : beatsTo (w .filter) (sumSquared (sums z ys)) new (lib.ListN.length (L .live .before)) ≡ true
-      beaten = rw (L .live .before-many, ← slot-squared z ys (w .landedRows) (L .landed-slot)) (and-right (rises change || rises (subOf theta new)) beats h)
+      beaten : beatsTo (w .filter) (sumSquared (sums z ys)) new (lib.ListN.length (L .consistent .before)) ≡ true
+      beaten = rw (L .consistent .before-many, ← slot-squared z ys (w .landedRows) (L .landed-slot)) (and-right (rises change || rises (subOf theta new)) beats h)
 
       by : In e (S .ledger .standing ∷ S .before) → Lower z (S .rows e) ys
-      by (inl q) = subst (λ (k : ℕ). Lower z (S .rows k) ys) (L .still ∙ sym q) (lower-definite law z xs ys (L .live .stands .slot .good) (L .landed-slot .good) theta new x-violation y-violation definite)
-      by (inr k) = lower-pairs law z (S .rows) (w .filter) ys (L .landed-slot .good) new y-violation (L .live .before) (L .live .stands .pairs) beaten e (subst (In e) (sym (L .still-before)) k)
+      by (inl q) = subst (λ (k : ℕ). Lower z (S .rows k) ys) (L .still ∙ sym q) (lower-definite law z xs ys (L .consistent .stands .slot .good) (L .landed-slot .good) theta new x-violation y-violation definite)
+      by (inr k) = lower-pairs law z (S .rows) (w .filter) ys (L .landed-slot .good) new y-violation (L .consistent .before) (L .consistent .stands .pairs) beaten e (subst (In e) (sym (L .still-before)) k)
 
   -- undecided, and half as long as the last
   halves-last : (st .search .first && j .undecided && j .contracting) ≡ true → Halves S z (st .counts .landed) (last.Taken length)
@@ -233,23 +233,23 @@ module _ (law : ExactLaws) (S : Scene) (st : State) (w : Memory) (since : ℕ) (
       let open-sum : (indefinite (sumChange (sums z xs) (sums z ys)) && indefinite (subOf theta new)) ≡ true = ap (λ (v : Scalar). indefinite v && indefinite (subOf theta new)) (sym change-is) ∙ and-right f u fu in
       record {
         not-damped = L .first-same ∙ and-left f u fu;
-        undecided = subst (λ (k : ℕ). Undecided z (S .rows k) ys) (L .still) (undecided-rows law z xs ys (L .live .stands .slot .good) (L .landed-slot .good) theta new x-violation y-violation open-sum);
+        undecided = subst (λ (k : ℕ). Undecided z (S .rows k) ys) (L .still) (undecided-rows law z xs ys (L .consistent .stands .slot .good) (L .landed-slot .good) theta new x-violation y-violation open-sum);
         shorter = yes (ap (λ (b : Last). contracts b length) (L .last-same) ∙ and-right (f && u) c h);
       }
 
   decide-after : since ≤ 5 → After S (st .sizes) (decide st w theta j)
   unfolding decide j z ys
   decide-after few =
-      let p : Pace (st .counts) (st .search) 5 = let q = L .pace .few in record { growths = L .pace .growths; growth = L .pace .growth; turned = L .pace .turned; few = omega arith } in
+      let p : CountBounds (st .counts) (st .search) 5 = let q = L .count-bounds .few in record { growths = L .count-bounds .growths; growth = L .count-bounds .growth; turned = L .count-bounds .turned; few = omega arith } in
       let b = st .search .first && j .undecided && j .contracting in
       either-after S z (st .search .first && j .undecided && wasTaken (st .last) && not (j .contracting)) _ _
-      (λ e. finish-after S st w stop.Undecided (L .live) (omega (arith, paced-few (st .counts) (st .search) since (L .pace))))
+      (λ e. finish-after S st w stop.Undecided (L .consistent) (omega (arith, bounds-few (st .counts) (st .search) since (L .count-bounds))))
       (λ e.
       either-after S z (j .lower || b) (take st w theta length) (notLower st w)
       (λ t. take-after S st w since L theta theta-is few new new-is length (⊎-elim (λ h. inl (lower-all h)) (λ h. inr (halves-last h)) (or-either (j .lower) b t)))
-      (λ t. not-lower-after S st w (L .live) p (L .below-limit)))
+      (λ t. not-lower-after S st w (L .consistent) p (L .below-limit)))
 
-pub judge-after : (law : ExactLaws) (S : Scene) (st : State) (w : Memory) (since : ℕ) → Landing S st w since → since ≤ 5 → (theta : Scalar) → violationOf (standingAt st w .constraints) ≡ ok theta → After S (st .sizes) (judge st w theta)
+pub judge-after : (law : ExactLaws) (S : CallContext) (st : State) (w : Memory) (since : ℕ) → Landing S st w since → since ≤ 5 → (theta : Scalar) → violationOf (standingAt st w .constraints) ≡ ok theta → After S (st .sizes) (judge st w theta)
 unfolding judge judgeOf
 judge-after law S st w since L few theta theta-is =
     or-refuse-after S (st .sizes) st w (judgeOf (st .sizes .n) (standingAt st w) (landedAt st w) theta (w .filter) (st .counts .iterations) (st .last) (w .step)) _

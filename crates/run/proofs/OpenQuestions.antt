@@ -29,7 +29,7 @@ use Rattle.run.proofs.AreaSlots.{length-padded}
 use Rattle.run.proofs.CheckLaws.{size-bounds}
 use Rattle.run.proofs.Yields.{violation-yields}
 use Rattle.run.proofs.ExactLaws.{Good, ExactLaws}
-use Rattle.run.proofs.Invariant.{Slot, Stands, Sound, Tried, Corrected, Started, Phased, Inv, Scene, unmoved, Live, After}
+use Rattle.run.proofs.Invariant.{Slot, Stands, Sound, Tried, Corrected, Started, Phased, Inv, CallContext, unmoved, Consistent, After}
 use Rattle.run.proofs.Outcomes.{pairs-rows, or-refuse-after, finish-counts}
 use Rattle.run.proofs.TurnLaws.{iterate-after, turn-down-after}
 use Rattle.run.proofs.Landings.{Landing, judge-after}
@@ -46,11 +46,11 @@ enters-rows l lent xs f (answer.Question k t s) e = refl
 enters-rows l lent xs f (answer.Finish s i t n) e = refl
 enters-rows l lent xs f (answer.Refused k) e = absurd (let z : _≡_ {A = ℕ} 0 1 = cc in omega arith)
 
-abbrev rows-scene : (l : Ledger) → Run → Lent → (xs : List Float) → Floats xs → (before : List ℕ) → l .stood ≡ l .standing ∷ before → l .changes ≡ length before → Scene
-rows-scene l r lent xs f before s c = record { ledger = l; call = demand.rows lent xs f; run = r; rows = with-rows l xs; before = before; enters = enters-rows l lent xs f; stood-is = s; changes-are = c }
+abbrev rows-context : (l : Ledger) → Run → Lent → (xs : List Float) → Floats xs → (before : List ℕ) → l .stood ≡ l .standing ∷ before → l .changes ≡ length before → CallContext
+rows-context l r lent xs f before s c = record { ledger = l; call = demand.rows lent xs f; run = r; rows = with-rows l xs; before = before; enters = enters-rows l lent xs f; stood-is = s; changes-are = c }
 
-abbrev none-scene : (l : Ledger) → Run → Lent → (before : List ℕ) → l .stood ≡ l .standing ∷ before → l .changes ≡ length before → Scene
-none-scene l r lent before s c = record { ledger = l; call = demand.none lent; run = r; rows = l .rows; before = before; enters = λ a e. refl; stood-is = s; changes-are = c }
+abbrev none-context : (l : Ledger) → Run → Lent → (before : List ℕ) → l .stood ≡ l .standing ∷ before → l .changes ≡ length before → CallContext
+none-context l r lent before s c = record { ledger = l; call = demand.none lent; run = r; rows = l .rows; before = before; enters = λ a e. refl; stood-is = s; changes-are = c }
 
 asked-rows : (l : Ledger) (xs : List Float) (k : ℕ) → k ≡ l .asked → with-rows l xs k ≡ xs
 asked-rows l xs k e = rw (eq-eqb k (l .asked) e)
@@ -60,7 +60,7 @@ other-rows l xs k h = let d : eqb k (l .asked) ≡ false = ne-eqb k (l .asked) (
 
 -- ---- a trial or correction is open
 
-module _ (S : Scene) (since top : ℕ) (sound : Sound (S .run .state)) (T : Tried (S .ledger) (S .run) since top) (same-before : T .before ≡ S .before) (agree : (e : ℕ) → e < top → S .ledger .rows e ≡ S .rows e) (asked : top ≤ S .run .state .counts .question) where
+module _ (S : CallContext) (since top : ℕ) (sound : Sound (S .run .state)) (T : Tried (S .ledger) (S .run) since top) (same-before : T .before ≡ S .before) (agree : (e : ℕ) → e < top → S .ledger .rows e ≡ S .rows e) (asked : top ≤ S .run .state .counts .question) where
   st : State
   st = S .run .state
 
@@ -82,9 +82,9 @@ module _ (S : Scene) (since top : ℕ) (sound : Sound (S .run .state)) (T : Trie
         pairs = pairs-rows (st .sizes) (S .ledger .rows) (S .rows) (w .filter) (T .before) (λ e i. agree e (T .below e (subst (In e) (sym (T .stood-is)) (inr i)))) (s .pairs);
       }
 
-  tried-live : Live S (st .sizes) (st .counts) (st .last) w
+  tried-consistent : Consistent S (st .sizes) (st .counts) (st .last) w
   unfolding st w
-  tried-live =
+  tried-consistent =
       record {
         before = T .before;
         way = unmoved (sym (T .standing-is)) same-before;
@@ -100,11 +100,11 @@ module _ (S : Scene) (since top : ℕ) (sound : Sound (S .run .state)) (T : Trie
 
   -- the answered point has landed
   landed-landing : (n : ℕ) → n ≤ 4 → (xs : List Float) → Good (st .sizes) xs → S .rows (st .counts .question) ≡ xs → (step : List Float) → length step ≡ POINT → Landing S (landing st n) (withLanded w xs step) since
-  unfolding st w tried-live
+  unfolding st w tried-consistent
   landed-landing n few xs good is step size =
-      let v = tried-live in
+      let v = tried-consistent in
       record {
-        live = record {
+        consistent = record {
           before = v .before;
           way = v .way;
           before-many = v .before-many;
@@ -131,7 +131,7 @@ module _ (S : Scene) (since top : ℕ) (sound : Sound (S .run .state)) (T : Trie
         newer = λ e i. let h = T .below e i in omega arith;
         landed-asked = omega arith;
         landed-slot = record { good = subst (Good (st .sizes)) (sym is) good; in-slot = ap (padded ROWS) (sym is) };
-        pace = record { growths = T .pace .growths; growth = T .pace .growth; turned = T .pace .turned; few = T .pace .few };
+        count-bounds = record { growths = T .count-bounds .growths; growth = T .count-bounds .growth; turned = T .count-bounds .turned; few = T .count-bounds .few };
         below-limit = T .below-limit;
         first-same = refl;
         last-same = refl;
@@ -139,16 +139,16 @@ module _ (S : Scene) (since top : ℕ) (sound : Sound (S .run .state)) (T : Trie
 
   -- the point that landed before stays
   stayed-landing : st .counts .landed ≡ top → Slot (st .sizes) (S .rows (st .counts .landed)) (w .landedRows) → Landing S st w since
-  unfolding st w tried-live
+  unfolding st w tried-consistent
   stayed-landing e slot =
       record {
-        live = tried-live;
+        consistent = tried-consistent;
         still = sym (T .standing-is);
         still-before = same-before;
         newer = λ d i. let h = T .below d i in omega arith;
         landed-asked = omega arith;
         landed-slot = slot;
-        pace = T .pace;
+        count-bounds = T .count-bounds;
         below-limit = T .below-limit;
         first-same = refl;
         last-same = refl;
@@ -170,10 +170,10 @@ module _ (law : ExactLaws) (l : Ledger) (r : Run) (lent : Lent) (sound : Sound (
   abbrev own : Memory
   own = memoryOf (r .state) (r .area)
 
-  trial-rows : (T : Tried l r 1 (r .state .counts .question)) (xs : List Float) (f : Floats xs) → Good (r .state .sizes) xs → After (rows-scene l r lent xs f (T .before) (T .stood-is) (many (T .before) (T .before-many))) (r .state .sizes) (answered kind.Trial (r .state) own xs)
+  trial-rows : (T : Tried l r 1 (r .state .counts .question)) (xs : List Float) (f : Floats xs) → Good (r .state .sizes) xs → After (rows-context l r lent xs f (T .before) (T .stood-is) (many (T .before) (T .before-many))) (r .state .sizes) (answered kind.Trial (r .state) own xs)
   unfolding st w
   trial-rows T xs f good =
-      let S = rows-scene l r lent xs f (T .before) (T .stood-is) (many (T .before) (T .before-many)) in
+      let S = rows-context l r lent xs f (T .before) (T .stood-is) (many (T .before) (T .before-many)) in
       let q = r .state .counts .question in
       let asked = T .asked-is in
       let agree : (e : ℕ) → e < q → l .rows e ≡ with-rows l xs e = λ e h. other-rows l xs e (omega arith) in
@@ -182,11 +182,11 @@ module _ (law : ExactLaws) (l : Ledger) (r : Run) (lent : Lent) (sound : Sound (
       or-refuse-after S (r .state .sizes) (r .state) own (violationOf (standingAt (r .state) own .constraints)) _ (violation-yields (standingAt (r .state) own .constraints))
       (λ theta e u. land-trial-after law S (r .state) own xs L theta e)
 
-  correction-rows : (C : Corrected l r) (xs : List Float) (f : Floats xs) → Good (r .state .sizes) xs → After (rows-scene l r lent xs f (C .tried .before) (C .tried .stood-is) (many (C .tried .before) (C .tried .before-many))) (r .state .sizes) (answered kind.Correction (r .state) own xs)
+  correction-rows : (C : Corrected l r) (xs : List Float) (f : Floats xs) → Good (r .state .sizes) xs → After (rows-context l r lent xs f (C .tried .before) (C .tried .stood-is) (many (C .tried .before) (C .tried .before-many))) (r .state .sizes) (answered kind.Correction (r .state) own xs)
   unfolding st w
   correction-rows C xs f good =
       let T = C .tried in
-      let S = rows-scene l r lent xs f (T .before) (T .stood-is) (many (T .before) (T .before-many)) in
+      let S = rows-context l r lent xs f (T .before) (T .stood-is) (many (T .before) (T .before-many)) in
       let q = r .state .counts .question in
       let n = r .state .counts .corrections in
       let k = r .state .counts .landed in
@@ -202,19 +202,19 @@ module _ (law : ExactLaws) (l : Ledger) (r : Run) (lent : Lent) (sound : Sound (
       or-refuse-after S (r .state .sizes) (r .state) own (violationOf (standingAt (r .state) own .constraints)) _ (violation-yields (standingAt (r .state) own .constraints))
       (λ theta e u. land-correction-after law S (r .state) own xs L land few theta e)
 
-  trial-none : (T : Tried l r 1 (r .state .counts .question)) → After (none-scene l r lent (T .before) (T .stood-is) (many (T .before) (T .before-many))) (r .state .sizes) (answeredNone kind.Trial (r .state) own)
+  trial-none : (T : Tried l r 1 (r .state .counts .question)) → After (none-context l r lent (T .before) (T .stood-is) (many (T .before) (T .before-many))) (r .state .sizes) (answeredNone kind.Trial (r .state) own)
   unfolding st w
   trial-none T =
-      let S = none-scene l r lent (T .before) (T .stood-is) (many (T .before) (T .before-many)) in
-      let v : Live S (r .state .sizes) (r .state .counts) (r .state .last) own = (tried-live S 1 (r .state .counts .question) sound T refl (λ e h. refl) (omega arith)) in
-      let f = T .pace .few in
-      turn-down-after S (r .state) own why.Infeasible v (record { growths = T .pace .growths; growth = T .pace .growth; turned = T .pace .turned; few = omega arith }) (T .below-limit)
+      let S = none-context l r lent (T .before) (T .stood-is) (many (T .before) (T .before-many)) in
+      let v : Consistent S (r .state .sizes) (r .state .counts) (r .state .last) own = (tried-consistent S 1 (r .state .counts .question) sound T refl (λ e h. refl) (omega arith)) in
+      let f = T .count-bounds .few in
+      turn-down-after S (r .state) own why.Infeasible v (record { growths = T .count-bounds .growths; growth = T .count-bounds .growth; turned = T .count-bounds .turned; few = omega arith }) (T .below-limit)
 
-  correction-none : (C : Corrected l r) → After (none-scene l r lent (C .tried .before) (C .tried .stood-is) (many (C .tried .before) (C .tried .before-many))) (r .state .sizes) (answeredNone kind.Correction (r .state) own)
+  correction-none : (C : Corrected l r) → After (none-context l r lent (C .tried .before) (C .tried .stood-is) (many (C .tried .before) (C .tried .before-many))) (r .state .sizes) (answeredNone kind.Correction (r .state) own)
   unfolding st w
   correction-none C =
       let T = C .tried in
-      let S = none-scene l r lent (T .before) (T .stood-is) (many (T .before) (T .before-many)) in
+      let S = none-context l r lent (T .before) (T .stood-is) (many (T .before) (T .before-many)) in
       let n = r .state .counts .corrections in
       let k = r .state .counts .landed in
       let under = C .landed-below in
@@ -227,10 +227,10 @@ module _ (law : ExactLaws) (l : Ledger) (r : Run) (lent : Lent) (sound : Sound (
   start-stood s = s .stood-is ∙ ap (λ (n : ℕ). n ∷ []) (sym (s .standing-is))
 
   -- the start point stands, with its rows
-  start-rows : (s : Started l r) (xs : List Float) (f : Floats xs) → Good (r .state .sizes) xs → After (rows-scene l r lent xs f [] (start-stood s) (s .changes-are)) (r .state .sizes) (answered kind.Start (r .state) own xs)
+  start-rows : (s : Started l r) (xs : List Float) (f : Floats xs) → Good (r .state .sizes) xs → After (rows-context l r lent xs f [] (start-stood s) (s .changes-are)) (r .state .sizes) (answered kind.Start (r .state) own xs)
   unfolding started In
   start-rows s xs f good =
-      let S = rows-scene l r lent xs f [] (start-stood s) (s .changes-are) in
+      let S = rows-context l r lent xs f [] (start-stood s) (s .changes-are) in
       let z = r .state .sizes in
       let v = read-sized (r .state) (r .area) (size-bounds z (sound .sizes-fit)) (sound .within) in
       let is : with-rows l xs (r .state .counts .standing) ≡ xs = asked-rows l xs (r .state .counts .standing) (s .own-standing ∙ sym (s .asked-is)) in
@@ -258,15 +258,15 @@ module _ (law : ExactLaws) (l : Ledger) (r : Run) (lent : Lent) (sound : Sound (
         few-asked = sound .few-asked;
         few-corrections = sound .few-corrections;
       })
-      (s .pace)
+      (s .count-bounds)
     where
       only : (e : ℕ) → In e (r .state .counts .standing ∷ []) → e ≤ r .state .counts .question
       only e (inl q) = let h = s .own-standing in omega arith
       only e (inr i) = absurd i
 
-  start-none : (s : Started l r) → After (none-scene l r lent [] (start-stood s) (s .changes-are)) (r .state .sizes) (answeredNone kind.Start (r .state) own)
+  start-none : (s : Started l r) → After (none-context l r lent [] (start-stood s) (s .changes-are)) (r .state .sizes) (answeredNone kind.Start (r .state) own)
   start-none s =
-      finish-counts (none-scene l r lent [] (start-stood s) (s .changes-are)) (r .state) own stop.Infeasible [] (unmoved (s .own-standing ∙ sym (s .standing-is)) refl) (sym (counted ∙ s .changes-are))
+      finish-counts (none-context l r lent [] (start-stood s) (s .changes-are)) (r .state) own stop.Infeasible [] (unmoved (s .own-standing ∙ sym (s .standing-is)) refl) (sym (counted ∙ s .changes-are))
       (record { sizes-fit = sound .sizes-fit; within = sound .within; few-turned = sound .few-turned; few-asked = sound .few-asked; few-corrections = sound .few-corrections; phase-fits = refl })
 
   -- what the call leaves, whichever question was open

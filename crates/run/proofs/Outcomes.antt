@@ -30,7 +30,7 @@ use Rattle.run.proofs.CheckLaws.{size-bounds}
 use Rattle.run.proofs.Slots.{standing-rows-back, landed-rows-back, filter-back}
 use Rattle.run.proofs.Yields.{Yields, gives, refuses}
 use Rattle.run.proofs.Growths.{growth-few, growth-positive}
-use Rattle.run.proofs.Invariant.{Slot, Pair, Pairs, Stands, once-few, Pace, Sound, Tried, Phased, Scene, Forward, Way, unmoved, moved, Live, After}
+use Rattle.run.proofs.Invariant.{Slot, Pair, Pairs, Stands, once-few, CountBounds, Sound, Tried, Phased, CallContext, Forward, Way, unmoved, moved, Consistent, After}
 
 -- ---- number 4 lets it pass
 
@@ -54,21 +54,21 @@ pairs-rows z rows rows′ f (e ∷ es) h p = (subst (λ (xs : List Float). Pair 
 
 -- ---- one more than the other
 
-pub either-after : (S : Scene) (z : Sizes) (b : Bool) (o o′ : Outcome) → (b ≡ true → After S z o) → (b ≡ false → After S z o′) → After S z (pick b o o′)
+pub either-after : (S : CallContext) (z : Sizes) (b : Bool) (o o′ : Outcome) → (b ≡ true → After S z o) → (b ≡ false → After S z o′) → After S z (pick b o o′)
 either-after S z true o o′ h k = h refl
 either-after S z false o o′ h k = k refl
 
-pub refuse-after : (S : Scene) (z : Sizes) (st : State) (w : Memory) (k : ℕ) → T (eqb k 5 || eqb k 6) → After S z (refuse st w k)
+pub refuse-after : (S : CallContext) (z : Sizes) (st : State) (w : Memory) (k : ℕ) → T (eqb k 5 || eqb k 6) → After S z (refuse st w k)
 refuse-after S z st w k h e = clash (eqb k 5 || eqb k 6) h e
 
 -- what may be refused, and what follows it
-pub or-refuse-after : (S : Scene) (z : Sizes) (st : State) (w : Memory) {A : Type 0} {P : A → Type 0} (x : Res A) (next : A → Outcome) → Yields P x → ((a : A) → x ≡ ok a → P a → After S z (next a)) → After S z (orRefuse st w x next)
+pub or-refuse-after : (S : CallContext) (z : Sizes) (st : State) (w : Memory) {A : Type 0} {P : A → Type 0} (x : Res A) (next : A → Outcome) → Yields P x → ((a : A) → x ≡ ok a → P a → After S z (next a)) → After S z (orRefuse st w x next)
 or-refuse-after S z st w (ok a) next (gives p) h = h a refl p
 or-refuse-after S z st w (refused k) next (refuses p) h = refuse-after S z st w k p
 
 -- ---- the ledger after an answer that names what stands
 
-module _ (S : Scene) (z : Sizes) (standing : ℕ) (before : List ℕ) (last : Last) where
+module _ (S : CallContext) (z : Sizes) (standing : ℕ) (before : List ℕ) (last : Last) where
   record Entered (a : Answer) : Type 0 where
     pub changes-are : entered (S .ledger) (S .call) a .changes ≡ length before
     pub stood-are : entered (S .ledger) (S .call) a .stood ≡ standing ∷ before
@@ -91,7 +91,7 @@ module _ (S : Scene) (z : Sizes) (standing : ℕ) (before : List ℕ) (last : La
       }
 
 -- each change is exact progress or halves
-module _ (S : Scene) (z : Sizes) (r′ : Run) (a : Answer) (accepts : isRefused a ≡ false) where
+module _ (S : CallContext) (z : Sizes) (r′ : Run) (a : Answer) (accepts : isRefused a ≡ false) where
   goes-forward : Forward S z (standingBy a (S .ledger .standing)) (r′ .state .last) → Progress z (S .ledger) (entered (S .ledger) (S .call) a) ⊎ Halving z (S .ledger) (entered (S .ledger) (S .call) a) (S .run) r′
   goes-forward (inl f) = inl (λ e i. subst (λ (rows : ℕ → List Float). Lower z (rows e) (rows (standingBy a (S .ledger .standing)))) (sym (S .enters a accepts)) (f e i))
   goes-forward (inr h) =
@@ -103,7 +103,7 @@ module _ (S : Scene) (z : Sizes) (r′ : Run) (a : Answer) (accepts : isRefused 
 
 -- ---- a finish
 
-module _ (S : Scene) (st : State) (w : Memory) (s : Stop) (before : List ℕ) (way : Way S (st .sizes) (st .counts .standing) before (st .last)) (before-many : length before ≡ st .counts .iterations) (sound : Sound (over st)) where
+module _ (S : CallContext) (st : State) (w : Memory) (s : Stop) (before : List ℕ) (way : Way S (st .sizes) (st .counts .standing) before (st .last)) (before-many : length before ≡ st .counts .iterations) (sound : Sound (over st)) where
   -- of a state of which only the counts are known
   pub finish-counts : After S (st .sizes) (finish st w s)
   finish-counts q =
@@ -124,7 +124,7 @@ module _ (S : Scene) (st : State) (w : Memory) (s : Stop) (before : List ℕ) (w
         },
       )
 
-pub finish-after : (S : Scene) (st : State) (w : Memory) (s : Stop) → Live S (st .sizes) (st .counts) (st .last) w → st .search .«turned_down» ≤ 1100 * (st .counts .iterations + 1) → After S (st .sizes) (finish st w s)
+pub finish-after : (S : CallContext) (st : State) (w : Memory) (s : Stop) → Consistent S (st .sizes) (st .counts) (st .last) w → st .search .«turned_down» ≤ 1100 * (st .counts .iterations + 1) → After S (st .sizes) (finish st w s)
 finish-after S st w s v few =
     finish-counts S st w s (v .before) (v .way) (v .before-many)
     (record { sizes-fit = v .sizes-fit; within = v .within; few-turned = few; few-asked = v .few-asked; few-corrections = v .few-corrections; phase-fits = refl })
@@ -134,7 +134,7 @@ finish-after S st w s v few =
 no-finish : {A : Type 0} {k i t s n : ℕ} {e : Stop} {q : _} → answer.Question k q n ≡ answer.Finish e i t s → A
 no-finish p = absurd (let z : _≡_ {A = ℕ} 0 1 = cc in omega arith)
 
-module _ (S : Scene) (st : State) (w : Memory) (k : Kind) (corrections since : ℕ) (v : Live S (st .sizes) (st .counts) (st .last) w) (pace : Pace (st .counts) (st .search) since) (below-limit : st .counts .iterations < st .sizes .limit) where
+module _ (S : CallContext) (st : State) (w : Memory) (k : Kind) (corrections since : ℕ) (v : Consistent S (st .sizes) (st .counts) (st .last) w) (count-bounds : CountBounds (st .counts) (st .search) since) (below-limit : st .counts .iterations < st .sizes .limit) where
   st′ : State
   st′ = asking st k corrections
 
@@ -158,16 +158,16 @@ module _ (S : Scene) (st : State) (w : Memory) (k : Kind) (corrections since : �
   asked-sound : since ≤ 4 → corrections ≤ 4 → phaseFits st′ (Open k) ≡ true → Sound st′
   unfolding st′
   asked-sound few c p =
-      let g = growth-few (pace .growth) in
+      let g = growth-few (count-bounds .growth) in
       let b = once-few (st .search .plain) in
-      let t = pace .turned in
-      let q = pace .few in
+      let t = count-bounds .turned in
+      let q = count-bounds .few in
       let turned : st .search .«turned_down» ≤ 1049 * (st .counts .iterations + 1) = omega arith in
       record { sizes-fit = v .sizes-fit; within = v .within; few-turned = omega arith; few-asked = omega arith; few-corrections = c; phase-fits = p }
 
-  asked-pace : (n : ℕ) → suc since ≤ n → Pace (st′ .counts) (st .search) n
+  asked-bounds : (n : ℕ) → suc since ≤ n → CountBounds (st′ .counts) (st .search) n
   unfolding st′
-  asked-pace n h = record { growths = pace .growths; growth = pace .growth; turned = pace .turned; few = let q = pace .few in omega arith }
+  asked-bounds n h = record { growths = count-bounds .growths; growth = count-bounds .growth; turned = count-bounds .turned; few = let q = count-bounds .few in omega arith }
 
   asked-tried : (n top : ℕ) → isTried (Open k) ≡ true → suc since ≤ n → ((e : ℕ) → In e (st .counts .standing ∷ v .before) → e < top) → Tried l′ r′ n top
   unfolding r′ st′ l′ a
@@ -186,7 +186,7 @@ module _ (S : Scene) (st : State) (w : Memory) (k : Kind) (corrections since : �
         stood-is = entry .stood-are;
         before-many = v .before-many;
         below = λ e i. below e (subst (In e) (entry .stood-are) i);
-        pace = asked-pace n h;
+        count-bounds = asked-bounds n h;
         below-limit = below-limit;
         stands = subst (λ (rows : ℕ → List Float). Stands z rows (st .counts .standing) (v .before) (memoryOf st′ (areaOf w))) (sym rows-are) (record { slot = slot; pairs = pairs });
       }
@@ -207,27 +207,27 @@ module _ (S : Scene) (st : State) (w : Memory) (k : Kind) (corrections since : �
         },
       )
 
-pub trial-after : (S : Scene) (st : State) (w : Memory) → Live S (st .sizes) (st .counts) (st .last) w → Pace (st .counts) (st .search) 0 → st .counts .iterations < st .sizes .limit → After S (st .sizes) (question st w kind.Trial 0)
-trial-after S st w v pace lim =
+pub trial-after : (S : CallContext) (st : State) (w : Memory) → Consistent S (st .sizes) (st .counts) (st .last) w → CountBounds (st .counts) (st .search) 0 → st .counts .iterations < st .sizes .limit → After S (st .sizes) (question st w kind.Trial 0)
+trial-after S st w v count-bounds lim =
     unfold st′ r′ l′ a in
-    asked-after S st w kind.Trial 0 0 v pace lim
-    (asked-sound S st w kind.Trial 0 0 v pace lim zero-le zero-le (rw (lt-ltb _ _ lim) (growth-positive (pace .growth))))
-    (asked-tried S st w kind.Trial 0 0 v pace lim 1 (st .counts .question + 1) refl (omega arith) (λ e i. let h = v .below e i in omega arith))
+    asked-after S st w kind.Trial 0 0 v count-bounds lim
+    (asked-sound S st w kind.Trial 0 0 v count-bounds lim zero-le zero-le (rw (lt-ltb _ _ lim) (growth-positive (count-bounds .growth))))
+    (asked-tried S st w kind.Trial 0 0 v count-bounds lim 1 (st .counts .question + 1) refl (omega arith) (λ e i. let h = v .below e i in omega arith))
 
-pub correction-after : (S : Scene) (st : State) (w : Memory) (v : Live S (st .sizes) (st .counts) (st .last) w) → Pace (st .counts) (st .search) (1 + st .counts .corrections) → st .counts .iterations < st .sizes .limit → st .counts .corrections ≤ 3
+pub correction-after : (S : CallContext) (st : State) (w : Memory) (v : Consistent S (st .sizes) (st .counts) (st .last) w) → CountBounds (st .counts) (st .search) (1 + st .counts .corrections) → st .counts .iterations < st .sizes .limit → st .counts .corrections ≤ 3
     → Slot (st .sizes) (S .rows (st .counts .landed)) (w .landedRows) → st .counts .landed ≤ st .counts .question → ((e : ℕ) → In e (st .counts .standing ∷ v .before) → e < st .counts .landed)
     → After S (st .sizes) (question st w kind.Correction (st .counts .corrections))
-correction-after S st w v pace lim few slot asked below =
+correction-after S st w v count-bounds lim few slot asked below =
     let n = st .counts .corrections in
-    let rows-back = rows-are S st w kind.Correction n (1 + n) v pace lim in
+    let rows-back = rows-are S st w kind.Correction n (1 + n) v count-bounds lim in
     let small = size-bounds (st .sizes) (v .sizes-fit) in
     let k = st .counts .landed in
     unfold st′ r′ l′ a in
     let back : Slot (st .sizes) (S .rows k) (memoryOf (asking st kind.Correction n) (areaOf w) .landedRows) = record { good = slot .good; in-slot = landed-rows-back (asking st kind.Correction n) w (v .sized) small refl (S .rows k) (slot .good .size) (slot .in-slot) } in
-    asked-after S st w kind.Correction n (1 + n) v pace lim
-    (asked-sound S st w kind.Correction n (1 + n) v pace lim (omega arith) (omega arith) (rw (lt-ltb _ _ lim) (growth-positive (pace .growth))))
+    asked-after S st w kind.Correction n (1 + n) v count-bounds lim
+    (asked-sound S st w kind.Correction n (1 + n) v count-bounds lim (omega arith) (omega arith) (rw (lt-ltb _ _ lim) (growth-positive (count-bounds .growth))))
     (record {
-      tried = asked-tried S st w kind.Correction n (1 + n) v pace lim (2 + n) k refl (omega arith) below;
+      tried = asked-tried S st w kind.Correction n (1 + n) v count-bounds lim (2 + n) k refl (omega arith) below;
       landed-below = omega arith;
       few = few;
       landed-slot = subst (λ (rows : ℕ → List Float). Slot (st .sizes) (rows k) (memoryOf (asking st kind.Correction n) (areaOf w) .landedRows)) (sym rows-back) back;

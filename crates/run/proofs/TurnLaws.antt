@@ -1,4 +1,4 @@
--- From an answer to the next question or the finish: the search, a new iteration, and a step turned down. Each keeps what stands, and the pace of turn-downs and questions.
+-- From an answer to the next question or the finish: the search, a new iteration, and a step turned down. Each keeps what stands, and the bounds of turn-downs and questions.
 use Prim.Native.Nat.{ℕ, suc, _+_, _*_, _≤_, _<_}
 use mathlib.Core.Bool.{Bool, true, false, not, _&&_}
 use mathlib.Core.Path.{_≡_, refl, sym, ap}
@@ -24,17 +24,17 @@ use Rattle.run.specs.declared.state.State.{State}
 use Rattle.run.specs.declared.state.Stop.the-variants as stop
 use Rattle.run.proofs.Yields.{TrialSized, violation-yields, div-yields}
 use Rattle.run.proofs.Growths.{Growth, growth-few, growth-more, Grew, Leaves, search-left}
-use Rattle.run.proofs.Invariant.{once, once-few, Pace, Scene, Live, After}
+use Rattle.run.proofs.Invariant.{once, once-few, CountBounds, CallContext, Consistent, After}
 use Rattle.run.proofs.Outcomes.{either-after, refuse-after, or-refuse-after, finish-after, trial-after}
 
--- a finish at this pace
-pub paced-few : (k : Counts) (x : Search) (since : ℕ) → Pace k x since → x .«turned_down» ≤ 1049 * k .iterations + 1049
-paced-few k x since p = let t = p .turned in omega (arith, once-few (x .plain), growth-few (p .growth))
+-- a finish within these bounds
+pub bounds-few : (k : Counts) (x : Search) (since : ℕ) → CountBounds k x since → x .«turned_down» ≤ 1049 * k .iterations + 1049
+bounds-few k x since p = let t = p .turned in omega (arith, once-few (x .plain), growth-few (p .growth))
 
 -- ---- the search
 
-trial-live : (S : Scene) (z : Sizes) (k : Counts) (last : Last) (w : Memory) (t : Trial) → TrialSized t → Live S z k last w → Live S z k last (withTrial w (t .next) (t .delta) (t .lambda))
-trial-live S z k last w t s v =
+trial-consistent : (S : CallContext) (z : Sizes) (k : Counts) (last : Last) (w : Memory) (t : Trial) → TrialSized t → Consistent S z k last w → Consistent S z k last (withTrial w (t .next) (t .delta) (t .lambda))
+trial-consistent S z k last w t s v =
     record {
       before = v .before;
       way = v .way;
@@ -58,39 +58,39 @@ trial-live S z k last w t s v =
       few-corrections = v .few-corrections;
     }
 
-grown-pace : (k : Counts) (x y : Search) (since d : ℕ) (p : Pace k x since) → Grew x y d → Growth (y .mu) (p .growths + d) → Pace k y since
-grown-pace k x y since d p g w =
+grown-bounds : (k : Counts) (x y : Search) (since d : ℕ) (p : CountBounds k x since) → Grew x y d → Growth (y .mu) (p .growths + d) → CountBounds k y since
+grown-bounds k x y since d p g w =
     let c = g .counted in
     let t = p .turned in
     let f = p .few in
     let e : once (y .plain) ≡ once (x .plain) = ap once (g .plain-kept) in
     record { growths = p .growths + d; growth = w; turned = omega arith; few = omega arith }
 
-left-after : (S : Scene) (st : State) (w : Memory) → Live S (st .sizes) (st .counts) (st .last) w → (p : Pace (st .counts) (st .search) 0) → st .counts .iterations < st .sizes .limit → (f : Found) → Leaves (st .search) (p .growths) f → After S (st .sizes) (leftAt st w f)
+left-after : (S : CallContext) (st : State) (w : Memory) → Consistent S (st .sizes) (st .counts) (st .last) w → (p : CountBounds (st .counts) (st .search) 0) → st .counts .iterations < st .sizes .limit → (f : Found) → Leaves (st .search) (p .growths) f → After S (st .sizes) (leftAt st w f)
 unfolding leftAt
 left-after S st w v p lim (asks y t) h =
-    trial-after S (trying st y t) (withTrial w (t .next) (t .delta) (t .lambda)) (trial-live S (st .sizes) (st .counts) (st .last) w t (h .sized) v) (grown-pace (st .counts) (st .search) y 0 (h .more) p (h .grew) (h .growth)) lim
+    trial-after S (trying st y t) (withTrial w (t .next) (t .delta) (t .lambda)) (trial-consistent S (st .sizes) (st .counts) (st .last) w t (h .sized) v) (grown-bounds (st .counts) (st .search) y 0 (h .more) p (h .grew) (h .growth)) lim
 left-after S st w v p lim (stops y s) h =
     finish-after S (searching st y) w s v
     (let c = h .grew .counted in let t = p .turned in let f = h .few in omega (arith, once-few (st .search .plain)))
 left-after S st w v p lim (refuses y k) h = refuse-after S (st .sizes) (searching st y) w k h
 
-pub search-after : (S : Scene) (st : State) (w : Memory) → Live S (st .sizes) (st .counts) (st .last) w → Pace (st .counts) (st .search) 0 → st .counts .iterations < st .sizes .limit → After S (st .sizes) (search st w)
+pub search-after : (S : CallContext) (st : State) (w : Memory) → Consistent S (st .sizes) (st .counts) (st .last) w → CountBounds (st .counts) (st .search) 0 → st .counts .iterations < st .sizes .limit → After S (st .sizes) (search st w)
 unfolding search
 search-after S st w v p lim =
     or-refuse-after S (st .sizes) st w (violationOf (standingAt st w .constraints)) _ (violation-yields (standingAt st w .constraints))
     (λ theta e u. left-after S st w v p lim (searchOf (standingOf st w theta) (st .«max_step») (st .search)) (search-left (standingOf st w theta) (st .«max_step») (st .search) (p .growths) (p .growth)))
 
-pub iterate-after : (S : Scene) (st : State) (w : Memory) → Live S (st .sizes) (st .counts) (st .last) w → Pace (st .counts) (st .search) 0 → After S (st .sizes) (iterate st w)
+pub iterate-after : (S : CallContext) (st : State) (w : Memory) → Consistent S (st .sizes) (st .counts) (st .last) w → CountBounds (st .counts) (st .search) 0 → After S (st .sizes) (iterate st w)
 unfolding iterate
 iterate-after S st w v p =
     either-after S (st .sizes) (leb (st .sizes .limit) (st .counts .iterations)) (finish st w stop.Budget) (search st w)
-    (λ e. finish-after S st w stop.Budget v (omega (arith, paced-few (st .counts) (st .search) 0 p)))
+    (λ e. finish-after S st w stop.Budget v (omega (arith, bounds-few (st .counts) (st .search) 0 p)))
     (λ e. search-after S st w v p (leb-false _ _ e))
 
 -- ---- a step turned down
 
-pub grow-after : (S : Scene) (st : State) (w : Memory) → Live S (st .sizes) (st .counts) (st .last) w → Pace (st .counts) (st .search) 5 → st .counts .iterations < st .sizes .limit → After S (st .sizes) (grow st w)
+pub grow-after : (S : CallContext) (st : State) (w : Memory) → Consistent S (st .sizes) (st .counts) (st .last) w → CountBounds (st .counts) (st .search) 5 → st .counts .iterations < st .sizes .limit → After S (st .sizes) (grow st w)
 unfolding grow
 grow-after S st w v p lim =
     let x = st .search in
@@ -98,16 +98,16 @@ grow-after S st w v p lim =
     let f = p .few in
     either-after S (st .sizes) (isFinite (grown x .mu)) (search (searching st (grown x)) w) (finish (searching st (grown x)) w (stop.Damped (x .rejected)))
     (λ e. search-after S (searching st (grown x)) w v (record { growths = suc (p .growths); growth = growth-more (p .growth) e; turned = omega arith; few = omega arith }) lim)
-    (λ e. finish-after S (searching st (grown x)) w (stop.Damped (x .rejected)) v (omega (arith, paced-few (st .counts) x 5 p)))
+    (λ e. finish-after S (searching st (grown x)) w (stop.Damped (x .rejected)) v (omega (arith, bounds-few (st .counts) x 5 p)))
 
-pub turn-down-after : (S : Scene) (st : State) (w : Memory) (r : Rejection) → Live S (st .sizes) (st .counts) (st .last) w → Pace (st .counts) (st .search) 5 → st .counts .iterations < st .sizes .limit → After S (st .sizes) (turnDown st w r)
+pub turn-down-after : (S : CallContext) (st : State) (w : Memory) (r : Rejection) → Consistent S (st .sizes) (st .counts) (st .last) w → CountBounds (st .counts) (st .search) 5 → st .counts .iterations < st .sizes .limit → After S (st .sizes) (turnDown st w r)
 unfolding turnDown
 turn-down-after S st w r v p lim =
     let x = rejectedFor (st .search) r in
     or-refuse-after S (st .sizes) (searching st x) w (divOf (st .trial .tried) (degenerate four64)) _ (div-yields (st .trial .tried) (degenerate four64))
     (λ q e u. grow-after S (searching st (withRadius x (sharpen q))) w v (record { growths = p .growths; growth = p .growth; turned = p .turned; few = p .few }) lim)
 
-pub not-lower-after : (S : Scene) (st : State) (w : Memory) → Live S (st .sizes) (st .counts) (st .last) w → Pace (st .counts) (st .search) 5 → st .counts .iterations < st .sizes .limit → After S (st .sizes) (notLower st w)
+pub not-lower-after : (S : CallContext) (st : State) (w : Memory) → Consistent S (st .sizes) (st .counts) (st .last) w → CountBounds (st .counts) (st .search) 5 → st .counts .iterations < st .sizes .limit → After S (st .sizes) (notLower st w)
 unfolding notLower
 not-lower-after S st w v p lim =
     let x = retried (rejectedFor (st .search) why.NotLower) in
@@ -119,7 +119,7 @@ not-lower-after S st w v p lim =
     not-plain false c e = refl
     not-plain true c e = sym e
 
-    retry : st .search .plain ≡ false → Pace (st .counts) (retried (rejectedFor (st .search) why.NotLower)) 0
+    retry : st .search .plain ≡ false → CountBounds (st .counts) (retried (rejectedFor (st .search) why.NotLower)) 0
     retry e =
         let c : once (st .search .plain) ≡ 0 = ap once e in
         let t = p .turned in

@@ -318,7 +318,7 @@ takenAs st w theta length linear =
 
 -- what `linear_of` answers
 abbrev pub linearResult : Linear → Res Bool
-linearResult (linear.Told b) = ok b
+linearResult (linear.Known b) = ok b
 linearResult (linear.Refused e) = refused (numberOf e)
 
 -- a correction kept, once its shift is known

@@ -28,7 +28,7 @@ use linear::clear;
 
 // Whether the constraints came as near as their linearization said.
 pub enum Linear {
-    Told(bool),
+    Known(bool),
     Refused(LinearError),
 }
 
@@ -63,11 +63,11 @@ fn linear_of(st: State, area: &[f64], theta: Scalar) -> Linear
 {
     if theta.definitely_greater(Scalar::ZERO) {
         return match landed_violation(st.sizes.n, st.sizes.m, area) {
-            Answer::Value(new) => Linear::Told(held(theta, st.trial.predicted, new)),
+            Answer::Value(new) => Linear::Known(held(theta, st.trial.predicted, new)),
             Answer::Refused(e) => Linear::Refused(e),
         };
     }
-    Linear::Told(false)
+    Linear::Known(false)
 }
 
 // A third of the damping, sharp, where that is positive.
@@ -193,7 +193,7 @@ pub fn take(st: State, area: &mut [f64], theta: Scalar, span: Scalar) -> Out
     ensures { λ r. ⌜ ((w : Memory) → Holds w (now (area .entry)) → Leaves (take st w theta span) r (now (area .exit))) ⌝ }
 {
     match linear_of(st, area, theta) {
-        Linear::Told(linear) => take_as(st, area, theta, span, linear),
+        Linear::Known(linear) => take_as(st, area, theta, span, linear),
         Linear::Refused(e) => refuse(st, area, e),
     }
 }
