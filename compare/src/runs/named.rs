@@ -165,6 +165,20 @@ fn traps() -> Vec<Problem> {
                 rows(&[0.25, 1.0, 0.5, 1.0]),
             ],
         ),
+        // The last point is lower than the two that stood just before, but not than the first: the filter holds them all.
+        problem(
+            [1, 1, 1, 3],
+            9.0,
+            &one,
+            vec![
+                rows(&[1.0, 1.0, 1.0, 1.0]),
+                rows(&[0.5, 1.0, 3.0, 1.0]),
+                rows(&[0.5, 1.0, 2.5, 1.0]),
+                rows(&[1.0, 1.0, 1.5, 1.0]),
+                None,
+                rows(&[0.25, 1.0, 0.5, 1.0]),
+            ],
+        ),
         // Undecided with no step before is no stop: the step is turned down.
         problem(
             [1, 0, 1, 9],

@@ -13,6 +13,8 @@ enum Manner {
     Beside,
     /// The slopes before, the values nearer zero.
     Nearer,
+    /// The slopes before, each value any power of two: the sum falls where the violation rises.
+    Traded,
     /// Zeros, 2^400, the smallest numbers, ones, and wide intervals about zero.
     Extreme,
     /// Ones and zeros, and numbers whose square or reciprocal is at the end of the floats.
@@ -34,7 +36,8 @@ impl Random {
         match self.below(8) {
             0 | 1 => Manner::Fresh,
             2 | 3 => Manner::Beside,
-            4 | 5 => Manner::Nearer,
+            4 => Manner::Nearer,
+            5 | 6 => Manner::Traded,
             _ => Manner::Extreme,
         }
     }
@@ -85,18 +88,31 @@ impl Script {
         self.random.problem(n, m, s)
     }
 
+    /// The places of the values among the scalars of the rows.
+    fn values(&self) -> impl Iterator<Item = usize> + use<> {
+        let Sizes { n, m, s, .. } = self.sizes;
+        (0..m).chain(m * (n + 1)..m * (n + 1) + s)
+    }
+
     /// Each value times a factor, the slopes kept but for a few.
     fn nearer(&mut self) -> Vec<f64> {
-        let Sizes { n, m, s, .. } = self.sizes;
         let mut rows = self.before.clone();
         let factor = self.random.sized(-6, -1);
-        let values = (0..m).chain(m * (n + 1)..m * (n + 1) + s);
-        for i in values {
+        for i in self.values() {
             rows[2 * i] *= factor;
             rows[2 * i + 1] *= factor;
         }
         if self.random.at_odds(3) {
             rows = self.random.rows_beside(&rows);
+        }
+        rows
+    }
+
+    fn traded(&mut self) -> Vec<f64> {
+        let mut rows = self.before.clone();
+        for i in self.values() {
+            let value = 2f64.powi(self.random.between(-4, 4) as i32);
+            rows[2 * i..2 * i + 2].fill(value);
         }
         rows
     }
@@ -131,6 +147,7 @@ impl Script {
             Manner::Tiny => self.tinies(),
             Manner::Beside if !first => self.random.rows_beside(&self.before.clone()),
             Manner::Nearer if !first => self.nearer(),
+            Manner::Traded if !first => self.traded(),
             _ => self.fresh(),
         };
         let ends = rows.chunks_exact(2);
