@@ -81,7 +81,7 @@ fn write_list(name: &str, path: &str, seed: u64) {
         _ => refuse(&format!("no list for {name}")),
     };
     std::fs::write(path, lines.concat()).unwrap_or_else(|error| panic!("{path}: {error}"));
-    println!("{} answers written to {path}", lines.len());
+    println!("{} entries written to {path}", lines.len());
 }
 
 fn main() -> ExitCode {

@@ -9,15 +9,17 @@ use crate::runs::rust::{Played, played};
 use crate::runs::tally::{Tally, expected, shown};
 use crate::runs::text::{beginning, reply};
 use geop_core_math::scalars::Scalar;
+use geop_core_math::trace::Event;
 
 /// So many runs at least, and each thing that is listed is shown by so many of those drawn, where so many tries find them.
 const RUNS: usize = 200;
 const SHOWN: u64 = 6;
 const TRIES: u64 = 20_000;
 
-/// Sizes and replies of a small run, and the runs of the greatest sizes.
+/// Sizes, replies and turn-downs of a small run, and the runs of the greatest sizes.
 const SMALL: usize = 8;
 const REPLIES: usize = 14;
+const TURN_DOWNS: usize = 40;
 const GREATEST: usize = 2;
 
 /// One question in so many gets a refused reply first, and one run in so many a reply after its end.
@@ -45,8 +47,10 @@ fn text(played: &Played, random: &mut Random) -> String {
     text + "end\n"
 }
 
-fn is_small(sizes: Sizes) -> bool {
-    sizes.n + sizes.m + sizes.s <= SMALL
+fn is_small(played: &Played) -> bool {
+    let turned = |&&event: &&Event| event == Event::TurnedDown;
+    let turn_downs = played.events.iter().filter(turned).count();
+    played.replies.len() <= REPLIES && turn_downs <= TURN_DOWNS
 }
 
 /// A begin that is refused, and a reply to no run.
@@ -90,7 +94,7 @@ fn greatest(seed: u64) -> Vec<Played> {
         limit: 1,
     };
     let of_that_size = (0..).map(|i| Problem::smooth(seed ^ i << 8, sizes));
-    let few = |played: &Played| (2..=4).contains(&played.replies.len());
+    let few = |played: &Played| (2..=4).contains(&played.replies.len()) && is_small(played);
     of_that_size
         .map(played)
         .filter(few)
@@ -108,16 +112,20 @@ fn drawn(seed: u64, wanted: usize) -> Vec<Played> {
         .collect();
     for i in 0..TRIES {
         let problem = problem::drawn(seed, i);
-        if !is_small(problem.sizes) {
+        let Sizes { n, m, s, .. } = problem.sizes;
+        if n + m + s > SMALL {
             continue;
         }
         let played = played(problem);
+        if !is_small(&played) {
+            continue;
+        }
         let mut shows = shown(&played);
         shows.sort_unstable();
         shows.dedup();
         let rare = |name: &String| names.contains(name) && tally.count(name) < SHOWN;
         let fill = i > TRIES / 2 && chosen.len() < wanted;
-        if played.replies.len() <= REPLIES && (fill || shows.iter().any(rare)) {
+        if fill || shows.iter().any(rare) {
             tally.add(shows);
             chosen.push(played);
         }
