@@ -14,11 +14,11 @@ use Rattle.interval.specs.Scalar.{degenerate, pick, divOf, definitelyGreater, d
 use Rattle.interval.specs.Scaling.{three64}
 use Rattle.run.specs.Area.{Memory, Holds, withStart, withAsked, withLanded, withTaken}
 use Rattle.run.specs.Calls.{phaseFits}
-use Rattle.run.specs.Correction.{Shift, to, stay, shiftOf, shiftFrom, shiftedStep}
+use Rattle.run.specs.Correction.{CORRECTIONS, Shift, to, stay, shiftOf, shiftFrom, shiftedStep}
 use Rattle.run.specs.Curvature.{updateCurvature}
 use Rattle.run.specs.Judgement.{Judged, judgeOf}
 use Rattle.run.specs.Rows.{rowNumbers, movingOf, sumSquared, violationOf}
-use Rattle.run.specs.Run.{Outcome, Leaves, Bounded, Underway, finish, refuse, question, curvatureOf, standingAt, landedAt, rowsAt, linearOf, shrunk, reachOf, filterWith, standingOn, moves, landing, iterate, notLower, take, takenAs, takenWith, wasTaken, decide, judge, correct, landTrial, keep, keptBy, landCorrection, landedNearer, started, answered, answeredNone}
+use Rattle.run.specs.Run.{Outcome, Leaves, Bounded, Underway, finish, refuse, question, curvatureOf, standingAt, landedAt, rowsAt, linearOf, shrunk, reachOf, filterWith, standingOn, moves, landing, iterate, notLower, orRefuse, take, takenWith, wasTaken, decide, judge, correct, landTrial, keep, landCorrection, started, answered, answeredNone}
 use Rattle.run.specs.declared.state.Kind.{Kind}
 use Rattle.run.specs.declared.state.Kind.the-variants as kind
 use Rattle.run.specs.declared.state.Out.{Out}
@@ -29,6 +29,12 @@ use Rattle.run.proofs.CheckLaws.{both}
 use Rattle.run.proofs.LeaveLaws.{or-next, or-refused, when, unless}
 
 -- ---- a step taken
+
+-- once it is known whether the constraints came as near as their linearization said
+abbrev pub takenAs : State → Memory → Scalar → Scalar → Bool → Outcome
+takenAs st w theta length linear =
+    orRefuse st w (divOf (st .search .mu) (degenerate three64))
+    (λ third. takenWith st w theta length (shrunk (st .search .mu) third) (reachOf length (st .search .radius) (st .«max_step») linear))
 
 -- the landed point stands, with the curvature b
 abbrev pub stands : State → Memory → Scalar → Scalar → Scalar → Scalar → List Float → Outcome
@@ -119,6 +125,18 @@ module _ (st : State) (w : Memory) (theta : Scalar) {o : Out} {a : List Float} w
 
 abbrev pub landed-with : Memory → List Float → Memory
 landed-with w rows = withLanded w rows (w .step)
+
+-- a correction kept, once its shift is known
+abbrev pub keptBy : State → Memory → List Float → Scalar → List Float → Outcome
+keptBy st w rows theta d =
+    let t = landing st (st .counts .corrections + 1) in
+    let v = withLanded w rows (shiftedStep (st .sizes .n) (w .step) d) in
+    pick (leb CORRECTIONS (t .counts .corrections)) (judge t v theta) (correct t v theta)
+
+-- a correction's rows, once their violation is known
+abbrev pub landedNearer : State → Memory → List Float → Scalar → Scalar → Outcome
+landedNearer st w rows theta new =
+    orRefuse st w (violationOf (landedAt st w .constraints)) (λ old. pick (definitelyLess new old) (keep st w rows theta) (judge st w theta))
 
 abbrev rose-or : State → Memory → Scalar → Scalar → Outcome
 rose-or st v theta new = pick (definitelyGreater new theta) (correct st v theta) (judge st v theta)

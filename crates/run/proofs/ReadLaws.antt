@@ -2,7 +2,7 @@
 use mathlib.Core.Bool.{Bool, true, false, _||_}
 use mathlib.Core.Path.{_≡_, sym, ap, _∙_}
 use mathlib.Core.List.{List, _++_, map}
-use Prim.Native.Nat.{ℕ, _≤_}
+use Prim.Native.Nat.{ℕ, _+_, _*_, _≤_}
 use native.Mathlib.Omega.{arith}
 use lib.Ieee.{Float}
 use lib.ListN.{length, take, drop, length-map}
@@ -13,14 +13,14 @@ use Rattle.interval.specs.Scaling.{three64, four64, isPositive}
 use Rattle.run.specs.Area.{Memory, Holds, startOf}
 use Rattle.run.specs.Run.{Bounded, Underway, held, linearOf, reachOf, landing, standingOn, landedAt}
 use Rattle.linear.specs.Flat.{at}
-use Rattle.run.specs.Correction.{shiftedStep}
+use Rattle.run.specs.Correction.{Shift, shiftOf, shiftFrom, shiftedStep}
 use Rattle.run.specs.Curvature.{updateCurvature}
 use Rattle.run.specs.Judgement.{Judged, judgeOf}
-use Rattle.run.specs.Rows.{evaluationOf, violationOf}
+use Rattle.run.specs.Rows.{constraintsOf, evaluationOf, violationOf}
 use Rattle.run.specs.declared.state.Last.{Last}
 use Rattle.run.specs.declared.state.State.{State}
 use Rattle.run.proofs.AreaSlots.{slots-of, holds-of, wrote, slot-read, slot-length, part-back}
-use Rattle.run.proofs.LeaveLaws.{pick-yes, pick-no, standing-rows-read}
+use Rattle.run.proofs.LeaveLaws.{pick-yes, pick-no, standing-rows-read, cut-length}
 use Rattle.run.proofs.ScratchLaws.{length-fillTo}
 
 -- ---- the slots of an area
@@ -45,6 +45,24 @@ module _ {w : Memory} {a : List Float} (h : Holds w a) where
   pub filter-read : take 800 (drop 2280 a) ≡ w .filter
   unfolding startOf
   filter-read = slot-read (slots-of h) 8 (omega arith)
+
+-- a slot of rows has all the constraints' values
+pub slot-enough : (base : ℕ) (a : List Float) {m : ℕ} → base + 936 ≤ length a → m ≤ 12 → 2 * m ≤ length (take 936 (drop base a))
+slot-enough base a l h = omega (arith, cut-length 936 base a l, h)
+
+-- the violation, and the shift, that are read of the slots of the landed point
+pub landed-violation : (st : State) {w : Memory} {a : List Float} {x : Res Scalar} → Holds w a → x ≡ violationOf (constraintsOf (st .sizes .n) (st .sizes .m) (take 936 (drop 1008 a))) → violationOf (landedAt st w .constraints) ≡ x
+landed-violation st h e = sym (e ∙ ap (λ (xs : List Float). violationOf (constraintsOf (st .sizes .n) (st .sizes .m) xs)) (landed-rows-read h))
+
+pub shift-read : (st : State) {w : Memory} {a : List Float} {x : Res (List Float)} → Holds w a → x ≡ shiftOf (st .moving) (constraintsOf (st .sizes .n) (st .sizes .m) (take 936 (drop 1008 a))) → x ≡ shiftOf (st .moving) (landedAt st w .constraints)
+shift-read st h e = e ∙ ap (λ (xs : List Float). shiftOf (st .moving) (constraintsOf (st .sizes .n) (st .sizes .m) xs)) (landed-rows-read h)
+
+pub shifted-read : (st : State) {w : Memory} {a : List Float} {x : Res Shift} → Holds w a → x ≡ shiftFrom (st .moving) (constraintsOf (st .sizes .n) (st .sizes .m) (take 936 (drop 1008 a))) (take 24 (drop 24 a))
+    → x ≡ shiftFrom (st .moving) (landedAt st w .constraints) (w .landed)
+shifted-read st {w} {a} h e =
+    e
+    ∙ ap (λ (xs : List Float). shiftFrom (st .moving) (constraintsOf (st .sizes .n) (st .sizes .m) xs) (take 24 (drop 24 a))) (landed-rows-read h)
+    ∙ ap (λ (x : List Float). shiftFrom (st .moving) (landedAt st w .constraints) x) (landed-read h)
 
 -- marks that are read as they stand
 pub marks-count : (m : List Bool) {n : ℕ} → length (map (λ (v : Bool). v) m) ≡ n → length m ≡ n

@@ -310,25 +310,7 @@ takenWith st w theta length mu radius =
     orRefuse st w (updateCurvature (st .sizes .n) (curvatureOf st w) (w .step) (standingAt st w) (landedAt st w) (w .multipliers))
     (λ b. iterate (standingOn st length mu radius) (withTaken w b (filterWith (w .filter) (st .counts .iterations) (sumSquared (standingAt st w .sum)) theta)))
 
--- and once it is known whether the constraints came as near as their linearization said
-abbrev pub takenAs : State → Memory → Scalar → Scalar → Bool → Outcome
-takenAs st w theta length linear =
-    orRefuse st w (divOf (st .search .mu) (degenerate three64))
-    (λ third. takenWith st w theta length (shrunk (st .search .mu) third) (reachOf length (st .search .radius) (st .«max_step») linear))
-
 -- what `linear_of` answers
 abbrev pub linearResult : Linear → Res Bool
 linearResult (linear.Known b) = ok b
 linearResult (linear.Refused e) = refused (numberOf e)
-
--- a correction kept, once its shift is known
-abbrev pub keptBy : State → Memory → List Float → Scalar → List Float → Outcome
-keptBy st w rows theta d =
-    let t = landing st (st .counts .corrections + 1) in
-    let v = withLanded w rows (shiftedStep (st .sizes .n) (w .step) d) in
-    pick (leb CORRECTIONS (t .counts .corrections)) (judge t v theta) (correct t v theta)
-
--- a correction's rows, once their violation is known
-abbrev pub landedNearer : State → Memory → List Float → Scalar → Scalar → Outcome
-landedNearer st w rows theta new =
-    orRefuse st w (violationOf (landedAt st w .constraints)) (λ old. pick (definitelyLess new old) (keep st w rows theta) (judge st w theta))

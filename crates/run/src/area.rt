@@ -237,15 +237,6 @@ pub fn landed(area: &mut [f64], rows: &[f64])
     slot(area, LANDED_ROWS, ROWS, rows);
 }
 
-// The same, with the step that led there.
-pub fn with_landed(area: &mut [f64], rows: &[f64], step: &[f64])
-    requires { ⌜ (length (now area) ≡ 8000) × ((length (now rows) ≤ 936) × (length (now step) ≡ 24)) ⌝ }
-    ensures { λ _. ⌜ ((w : Memory) → Holds w (now (area .entry)) → Holds (withLanded w (now (rows .entry)) (now (step .entry))) (now (area .exit))) ⌝ }
-{
-    landed(area, rows);
-    place(area, STEP, step);
-}
-
 // The filter with one pair more.
 fn push(filter: &mut [f64], count: usize, f: Scalar, theta: Scalar)
     requires { ⌜ count < 200 ⌝ }

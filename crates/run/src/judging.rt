@@ -1,11 +1,8 @@
 // The judgement of the landed point, and what follows it.
 ghost use mathlib.Core.Bool.{not, _&&_, _||_};
 ghost use mathlib.Core.Path.{_≡_};
-ghost use Prim.Native.Nat.{_<_, _≤_};
 ghost use lib.ListN.{length};
 ghost use Rattle.run.specs.Area.{Memory, Holds};
-ghost use Rattle.run.specs.Judgement.{judgeOf, judgementOf};
-ghost use Rattle.run.specs.Rows.{evaluationOf};
 ghost use Rattle.run.specs.Run.{Leaves, Underway, wasTaken, decide, judge};
 use crate::area;
 use crate::endings::finish;
@@ -78,33 +75,6 @@ fn decide(st: State, area: &mut [f64], theta: Scalar, j: Judged) -> Out
     not_lower(st, area)
 }
 
-// How the step fares where it landed, from the slots.
-fn judge_slots(
-    n: usize,
-    m: usize,
-    s: usize,
-    area: &[f64],
-    theta: Scalar,
-    count: usize,
-    last: Last,
-) -> Judgement
-    requires { ⌜ (n ≤ 12) × ((m ≤ 12) × ((s ≤ 24) × ((count < 65536) × (length (now area) ≡ 8000)))) ⌝ }
-    ensures { λ r. ⌜ ((w : Memory) → Holds w (now (area .entry)) → judgementOf r ≡ judgeOf n (evaluationOf n m s (w .standingRows)) (evaluationOf n m s (w .landedRows)) theta (w .filter) count last (w .step)) ⌝ }
-{
-    judge(
-        n,
-        m,
-        s,
-        &area[area::STANDING_ROWS..area::LANDED_ROWS],
-        &area[area::LANDED_ROWS..area::STEP],
-        theta,
-        &area[area::FILTER..area::SPARE],
-        count,
-        last,
-        &area[area::STEP..area::MULTIPLIERS],
-    )
-}
-
 // The landed point is judged, from a standing point with violation theta.
 pub fn judge_landed(st: State, area: &mut [f64], theta: Scalar) -> Out
     requires { ⌜ (length (now area) ≡ 8000) × Underway st ⌝ }
@@ -112,7 +82,19 @@ pub fn judge_landed(st: State, area: &mut [f64], theta: Scalar) -> Out
 {
     let z = st.sizes;
     let last = st.last;
-    match judge_slots(z.n, z.m, z.s, area, theta, st.counts.iterations, last) {
+    let judgement = judge(
+        z.n,
+        z.m,
+        z.s,
+        &area[area::STANDING_ROWS..area::LANDED_ROWS],
+        &area[area::LANDED_ROWS..area::STEP],
+        theta,
+        &area[area::FILTER..area::SPARE],
+        st.counts.iterations,
+        last,
+        &area[area::STEP..area::MULTIPLIERS],
+    );
+    match judgement {
         Judgement::Of(j) => decide(st, area, theta, j),
         Judgement::Refused(e) => refuse(st, area, e),
     }

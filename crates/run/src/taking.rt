@@ -5,12 +5,12 @@ ghost use Prim.Native.Nat.{_≤_};
 ghost use lib.ListN.{length};
 ghost use Rattle.interval.specs.Scalar.{pick};
 ghost use Rattle.interval.specs.Scaling.{isPositive};
-ghost use Rattle.linear.specs.Answers.{resultOf, doneOf};
+ghost use Rattle.linear.specs.Answers.{doneOf};
 ghost use Rattle.linear.specs.Flat.{zeros};
-ghost use Rattle.run.specs.Area.{Memory, Holds, withTaken};
+ghost use Rattle.run.specs.Area.{Memory, Holds};
 ghost use Rattle.run.specs.Curvature.{updateCurvature};
-ghost use Rattle.run.specs.Rows.{constraintsOf, sumOf, evaluationOf, sumSquared, violationOf};
-ghost use Rattle.run.specs.Run.{Leaves, Underway, held, linearOf, linearResult, shrunk, reachOf, filterWith, standingOn, standingAt, iterate, take, takenWith, takenAs};
+ghost use Rattle.run.specs.Rows.{evaluationOf};
+ghost use Rattle.run.specs.Run.{Leaves, Underway, held, linearOf, linearResult, shrunk, reachOf, take, takenWith};
 use crate::area;
 use crate::curvature::update_curvature;
 use crate::endings::refuse;
@@ -40,29 +40,14 @@ fn held(old: Scalar, predicted: Scalar, new: Scalar) -> bool
     fell.definitely_greater(old.sub(predicted).mul(Scalar::degenerate(3.0)))
 }
 
-// The violation of the landed point.
-pub fn landed_violation(n: usize, m: usize, area: &[f64]) -> Answer
-    requires { ⌜ (m ≤ 12) × (length (now area) ≡ 8000) ⌝ }
-    ensures { λ r. ⌜ ((w : Memory) → Holds w (now (area .entry)) → resultOf r ≡ violationOf (constraintsOf n m (w .landedRows))) ⌝ }
-{
-    rows::violation(&area[area::LANDED_ROWS..area::STEP], n, m)
-}
-
-// f of the standing point.
-fn standing_sum(n: usize, m: usize, s: usize, area: &[f64]) -> Scalar
-    requires { ⌜ (n ≤ 12) × ((m ≤ 12) × ((s ≤ 24) × (length (now area) ≡ 8000))) ⌝ }
-    ensures { λ r. ⌜ ((w : Memory) → Holds w (now (area .entry)) → r ≡ sumSquared (sumOf n m s (w .standingRows))) ⌝ }
-{
-    rows::sum_squared(&area[area::STANDING_ROWS..area::LANDED_ROWS], n, m, s)
-}
-
 // Whether they did; asked only where there was a violation.
 fn linear_of(st: State, area: &[f64], theta: Scalar) -> Linear
     requires { ⌜ (st .sizes .m ≤ 12) × (length (now area) ≡ 8000) ⌝ }
     ensures { λ r. ⌜ ((w : Memory) → Holds w (now (area .entry)) → linearResult r ≡ linearOf st w theta) ⌝ }
 {
     if theta.definitely_greater(Scalar::ZERO) {
-        return match landed_violation(st.sizes.n, st.sizes.m, area) {
+        let landed = rows::violation(&area[area::LANDED_ROWS..area::STEP], st.sizes.n, st.sizes.m);
+        return match landed {
             Answer::Value(new) => Linear::Known(held(theta, st.trial.predicted, new)),
             Answer::Refused(e) => Linear::Refused(e),
         };
@@ -128,25 +113,7 @@ fn learn(n: usize, m: usize, s: usize, plain: bool, area: &[f64], b: &mut [f64])
     )
 }
 
-// The landed point stands, with the curvature b: the next iteration.
-fn stand(
-    st: State,
-    area: &mut [f64],
-    theta: Scalar,
-    span: Scalar,
-    mu: Scalar,
-    radius: Scalar,
-    b: &[f64],
-) -> Out
-    requires { ⌜ (length (now area) ≡ 8000) × ((length (now b) ≡ 288) × (Underway st × (isPositive mu ≡ true))) ⌝ }
-    ensures { λ r. ⌜ ((w : Memory) → Holds w (now (area .entry)) → Leaves (iterate (standingOn st span mu radius) (withTaken w (now (b .entry)) (filterWith (w .filter) (st .counts .iterations) (sumSquared (standingAt st w .sum)) theta))) r (now (area .exit))) ⌝ }
-{
-    let f = standing_sum(st.sizes.n, st.sizes.m, st.sizes.s, area);
-    area::with_taken(area, b, st.counts.iterations, f, theta);
-    iterate(standing_on(st, span, mu, radius), area)
-}
-
-// The same with the curvature learned from the step.
+// The landed point stands, with the curvature learned from the step: the next iteration.
 fn take_with(
     st: State,
     area: &mut [f64],
@@ -158,32 +125,15 @@ fn take_with(
     requires { ⌜ (length (now area) ≡ 8000) × (Underway st × (isPositive mu ≡ true)) ⌝ }
     ensures { λ r. ⌜ ((w : Memory) → Holds w (now (area .entry)) → Leaves (takenWith st w theta span mu radius) r (now (area .exit))) ⌝ }
 {
+    let z = st.sizes;
     let mut b = [0.0; 288];
-    match learn(
-        st.sizes.n,
-        st.sizes.m,
-        st.sizes.s,
-        st.search.plain,
-        area,
-        &mut b,
-    ) {
-        Done::Finished => stand(st, area, theta, span, mu, radius, &b),
-        Done::Refused(e) => refuse(st, area, e),
-    }
-}
-
-// The step taken, once it is known whether the constraints came as near as they should.
-fn take_as(st: State, area: &mut [f64], theta: Scalar, span: Scalar, linear: bool) -> Out
-    requires { ⌜ (length (now area) ≡ 8000) × Underway st ⌝ }
-    ensures { λ r. ⌜ ((w : Memory) → Holds w (now (area .entry)) → Leaves (takenAs st w theta span linear) r (now (area .exit))) ⌝ }
-{
-    let mu = st.search.mu;
-    match mu.div(Scalar::degenerate(3.0)) {
-        ScalarResult::Value(third) => {
-            let radius = reach(span, st.search.radius, st.max_step, linear);
-            take_with(st, area, theta, span, shrunk(mu, third), radius)
+    match learn(z.n, z.m, z.s, st.search.plain, area, &mut b) {
+        Done::Finished => {
+            let f = rows::sum_squared(&area[area::STANDING_ROWS..area::LANDED_ROWS], z.n, z.m, z.s);
+            area::with_taken(area, &b, st.counts.iterations, f, theta);
+            iterate(standing_on(st, span, mu, radius), area)
         }
-        ScalarResult::Refused(e) => refuse(st, area, LinearError::Arithmetic(e)),
+        Done::Refused(e) => refuse(st, area, e),
     }
 }
 
@@ -192,8 +142,15 @@ pub fn take(st: State, area: &mut [f64], theta: Scalar, span: Scalar) -> Out
     requires { ⌜ (length (now area) ≡ 8000) × Underway st ⌝ }
     ensures { λ r. ⌜ ((w : Memory) → Holds w (now (area .entry)) → Leaves (take st w theta span) r (now (area .exit))) ⌝ }
 {
+    let mu = st.search.mu;
     match linear_of(st, area, theta) {
-        Linear::Known(linear) => take_as(st, area, theta, span, linear),
+        Linear::Known(linear) => match mu.div(Scalar::degenerate(3.0)) {
+            ScalarResult::Value(third) => {
+                let radius = reach(span, st.search.radius, st.max_step, linear);
+                take_with(st, area, theta, span, shrunk(mu, third), radius)
+            }
+            ScalarResult::Refused(e) => refuse(st, area, LinearError::Arithmetic(e)),
+        },
         Linear::Refused(e) => refuse(st, area, e),
     }
 }

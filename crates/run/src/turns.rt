@@ -4,12 +4,11 @@ ghost use mathlib.Core.Path.{_≡_};
 ghost use Prim.Native.Nat.{_^_, _<_, _≤_};
 ghost use lib.ListN.{length};
 ghost use Rattle.interval.specs.Scalar.{pick};
-ghost use Rattle.linear.specs.Flat.{zeros};
 ghost use Rattle.run.specs.Area.{Memory, Holds};
 ghost use Rattle.run.specs.Curvature.{learnedOf};
 ghost use Rattle.run.specs.Run as run;
-ghost use Rattle.run.specs.Run.{Leaves, Bounded, standingOf, leftAt};
-ghost use Rattle.run.specs.Search.{foundResult, searchOf};
+ghost use Rattle.run.specs.Run.{Leaves, Bounded, leftAt};
+ghost use Rattle.run.specs.Search.{foundResult};
 use crate::area;
 use crate::curvature::learned;
 use crate::endings::ask;
@@ -68,43 +67,6 @@ fn bent(plain: bool, curvature: &[f64], b: &mut [f64])
     }
 }
 
-// The search from the standing point in the area, with its violation.
-fn seek_from(
-    st: State,
-    area: &[f64],
-    theta: Scalar,
-    b: &mut [f64],
-    delta: &mut [f64],
-    lambda: &mut [f64],
-    next: &mut [f64],
-) -> Found
-    requires { ⌜ (length (now area) ≡ 8000) × (Bounded 2147483648 st × ((now b ≡ zeros 288) × ((length (now delta) ≡ 24) × ((length (now lambda) ≡ 24) × (length (now next) ≡ 24))))) ⌝ }
-    ensures { λ r. ⌜ ((w : Memory) → Holds w (now (area .entry)) → foundResult r (now (delta .exit)) (now (lambda .exit)) (now (next .exit)) ≡ searchOf (standingOf st w theta) (st .«max_step») (st .search)) ⌝ }
-{
-    let z = st.sizes;
-    let from = st.search;
-    let moving = st.moving;
-    let rows = &area[area::STANDING_ROWS..area::LANDED_ROWS];
-    let f = sum_squared(rows, z.n, z.m, z.s);
-    bent(from.plain, &area[area::CURVATURE..area::FILTER], b);
-    seek(
-        z.n,
-        z.m,
-        z.s,
-        rows,
-        &area[area::STANDING..area::LANDED],
-        b,
-        &moving,
-        f,
-        theta,
-        st.max_step,
-        from,
-        delta,
-        lambda,
-        next,
-    )
-}
-
 // The search for a proposal from the standing point, until a question, the finish or a refusal.
 fn search(st: State, area: &mut [f64]) -> Out
     requires { ⌜ (length (now area) ≡ 8000) × Bounded 2147483648 st ⌝ }
@@ -119,7 +81,27 @@ fn search(st: State, area: &mut [f64]) -> Out
     match theta {
         Answer::Refused(e) => refuse(st, area, e),
         Answer::Value(v) => {
-            let found = seek_from(st, area, v, &mut b, &mut delta, &mut lambda, &mut next);
+            let from = st.search;
+            let moving = st.moving;
+            let rows = &area[area::STANDING_ROWS..area::LANDED_ROWS];
+            let f = sum_squared(rows, z.n, z.m, z.s);
+            bent(from.plain, &area[area::CURVATURE..area::FILTER], &mut b);
+            let found = seek(
+                z.n,
+                z.m,
+                z.s,
+                rows,
+                &area[area::STANDING..area::LANDED],
+                &b,
+                &moving,
+                f,
+                v,
+                st.max_step,
+                from,
+                &mut delta,
+                &mut lambda,
+                &mut next,
+            );
             left_at(st, area, found, &delta, &lambda, &next)
         }
     }
@@ -138,18 +120,6 @@ pub fn iterate(st: State, area: &mut [f64]) -> Out
     search(st, area)
 }
 
-// With more damping, while that is finite.
-fn grow(st: State, area: &mut [f64]) -> Out
-    requires { ⌜ (length (now area) ≡ 8000) × Bounded 1073741824 st ⌝ }
-    ensures { λ r. ⌜ ((w : Memory) → Holds w (now (area .entry)) → Leaves (run.grow st w) r (now (area .exit))) ⌝ }
-{
-    let x = st.search;
-    match damp(x) {
-        Damped::On(y) => search(with_search(st, y), area),
-        Damped::Stop(y, stop) => finish(with_search(st, y), area, stop),
-    }
-}
-
 // A step turned down: a quarter of the length tried is the radius, and more damping.
 pub fn turn_down(st: State, area: &mut [f64], why: Rejection) -> Out
     requires { ⌜ (length (now area) ≡ 8000) × Bounded 1073741824 st ⌝ }
@@ -158,7 +128,10 @@ pub fn turn_down(st: State, area: &mut [f64], why: Rejection) -> Out
     let t = st.trial;
     let x = rejected_for(st.search, why);
     match t.tried.div(Scalar::degenerate(4.0)) {
-        ScalarResult::Value(q) => grow(with_search(st, with_radius(x, q.sharpen())), area),
+        ScalarResult::Value(q) => match damp(with_radius(x, q.sharpen())) {
+            Damped::On(y) => search(with_search(st, y), area),
+            Damped::Stop(y, stop) => finish(with_search(st, y), area, stop),
+        },
         ScalarResult::Refused(e) => refuse(with_search(st, x), area, LinearError::Arithmetic(e)),
     }
 }

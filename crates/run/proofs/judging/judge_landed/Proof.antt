@@ -1,47 +1,107 @@
--- `judge_landed` meets its contract: the judgement, or its refusal.
+-- `judge_landed` meets its contract: the judgement, each part of the area being its slot, or its refusal.
 use mathlib.Core.Path.{sym, ap, _∙_}
 use native.Mathlib.Omega.{arith}
 use Rattle.run.specs.Judgement.{judgementOf}
 use Rattle.run.proofs.FollowLaws.{judge-told, judge-refused}
+use Rattle.run.proofs.LeaveLaws.{cut-length}
+use Rattle.run.proofs.ReadLaws.{slot-enough, judged-is}
 use borrow.Author.Needs.{needs}
 use Rattle.run.proofs.judging.judge_landed.Statement.{statement}
 use Rattle.run.proofs.judging.judge_landed.Tie as tie
 
-judge-slots-requires : tie.Need-judge-slots-requires
-judge-slots-requires c κs = let s = c .before .before .before in let u = s .pre .1 in let b = u .bounded in (b .few-variables, (b .few-constraints, (b .few-sums, (omega (arith, u .below, b .few-iterations), s .pre .0))))
+sub-judge : tie.Need-sub-judge
+sub-judge c = search needs
 
-enum-known-j : tie.Need-enum-known-j
-enum-known-j c = search needs
+part-judge-start : tie.Need-part-judge-start
+part-judge-start c = search needs
+
+part-judge-end : tie.Need-part-judge-end
+part-judge-end c = search needs
+
+sub-judge-2 : tie.Need-sub-judge-2
+sub-judge-2 c = search needs
+
+part-judge-start-2 : tie.Need-part-judge-start-2
+part-judge-start-2 c = search needs
+
+part-judge-end-2 : tie.Need-part-judge-end-2
+part-judge-end-2 c = search needs
+
+sub-judge-3 : tie.Need-sub-judge-3
+sub-judge-3 c = search needs
+
+part-judge-start-3 : tie.Need-part-judge-start-3
+part-judge-start-3 c = search needs
+
+part-judge-end-3 : tie.Need-part-judge-end-3
+part-judge-end-3 c = search needs
+
+sub-judge-4 : tie.Need-sub-judge-4
+sub-judge-4 c = search needs
+
+part-judge-start-4 : tie.Need-part-judge-start-4
+part-judge-start-4 c = search needs
+
+part-judge-end-4 : tie.Need-part-judge-end-4
+part-judge-end-4 c = search needs
+
+judge-requires : tie.Need-judge-requires
+judge-requires c κs =
+    let s = c .before .before .before .before .before .before .before in
+    let u = s .pre .1 in
+    let b = u .bounded in
+    (b .few-variables, (b .few-constraints, (b .few-sums, (slot-enough 1008 (s .args .area .now) (omega (arith, s .pre .0)) (b .few-constraints), (omega (arith, u .below, b .few-iterations), cut-length 24 1944 (s .args .area .now) (omega (arith, s .pre .0)))))))
+
+enum-known-judgement : tie.Need-enum-known-judgement
+enum-known-judgement c = search needs
 
 decide-requires : tie.Need-decide-requires
-decide-requires c κs = c .before .before .before .before .before .before .before .before .pre
+decide-requires c κs = c .before .before .before .before .before .before .before .before .before .before .before .before .pre
 
-enum-known-e : tie.Need-enum-known-e
-enum-known-e c = search needs
+enum-known-judgement-2 : tie.Need-enum-known-judgement-2
+enum-known-judgement-2 c = search needs
 
 refuse-requires : tie.Need-refuse-requires
-refuse-requires c κs = c .before .before .before .before .before .before .before .before .pre .0
+refuse-requires c κs = c .before .before .before .before .before .before .before .before .before .before .before .before .pre .0
 
 same-length : tie.Need-same-length
 same-length c = search needs
 
 returns : tie.Need-returns
-returns c w h = let a = c .before .before .before .before .before .before .before .before .before .before .before .args in judge-told (a .st) w (a .theta) (sym (c .before .before .before .before .before .before .before .judge-slots .ensures w h) ∙ ap judgementOf (c .before .before .before .before .before .j .given .1)) (c .before .before .decide .ensures w h)
+returns c w h =
+    let a = c .before .before .before .before .before .before .before .before .before .before .before .before .before .before .before .args in
+    let z = a .st .sizes in
+    judge-told (a .st) w (a .theta) (sym (judged-is (z .n) (z .m) (z .s) (a .theta) (a .st .counts .iterations) (a .st .last) h (c .before .before .before .before .before .before .before .judge .ensures)) ∙ ap judgementOf (c .before .before .before .before .before .judgement .given .1)) (c .before .before .decide .ensures w h)
 
 same-length-2 : tie.Need-same-length-2
 same-length-2 c = search needs
 
 returns-2 : tie.Need-returns-2
-returns-2 c w h = let a = c .before .before .before .before .before .before .before .before .before .before .before .args in judge-refused (a .st) w (a .theta) (sym (c .before .before .before .before .before .before .before .judge-slots .ensures w h) ∙ ap judgementOf (c .before .before .before .before .before .e .given .1)) (c .before .before .refuse .ensures w h)
+returns-2 c w h =
+    let a = c .before .before .before .before .before .before .before .before .before .before .before .before .before .before .before .args in
+    let z = a .st .sizes in
+    judge-refused (a .st) w (a .theta) (sym (judged-is (z .n) (z .m) (z .s) (a .theta) (a .st .counts .iterations) (a .st .last) h (c .before .before .before .before .before .before .before .judge .ensures)) ∙ ap judgementOf (c .before .before .before .before .before .judgement2 .given .1)) (c .before .before .refuse .ensures w h)
 
 pub judge-landed-spec : {M : Type 1} → statement M
 judge-landed-spec =
     tie.close
     (tie.spec
-    judge-slots-requires
-    enum-known-j
+    sub-judge
+    part-judge-start
+    part-judge-end
+    sub-judge-2
+    part-judge-start-2
+    part-judge-end-2
+    sub-judge-3
+    part-judge-start-3
+    part-judge-end-3
+    sub-judge-4
+    part-judge-start-4
+    part-judge-end-4
+    judge-requires
+    enum-known-judgement
     decide-requires
-    enum-known-e
+    enum-known-judgement-2
     refuse-requires
     same-length
     returns

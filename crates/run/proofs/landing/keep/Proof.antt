@@ -1,10 +1,15 @@
--- `keep` meets its contract: the shift, or its refusal.
-use mathlib.Core.Path.{_≡_, refl, sym, ap}
+-- `keep` meets its contract: the shift, with fewer than four corrections corrected again, or its refusal.
+use mathlib.Core.Path.{_≡_, refl, sym, ap, subst}
+use native.Mathlib.Omega.{arith}
 use lib.ListN.{length}
 use Rattle.linear.specs.Answers.{doneOf}
 use Rattle.linear.specs.declared.answers.Done.{Done}
-use Rattle.run.proofs.FollowLaws.{keep-told, keep-refused}
-use Rattle.run.proofs.ReadLaws.{marks-count}
+use Rattle.run.specs.Area.{withLanded}
+use Rattle.run.specs.Correction.{shiftedStep}
+use Rattle.run.specs.Run.{Underway}
+use Rattle.run.specs.declared.state.State.{State}
+use Rattle.run.proofs.FollowLaws.{keep-told, keep-refused, kept-told}
+use Rattle.run.proofs.ReadLaws.{marks-count, shift-read, landed-again, withStep, stepped}
 use borrow.Author.Needs.{needs}
 use Rattle.run.proofs.landing.keep.Statement.{statement}
 use Rattle.run.proofs.landing.keep.Tie as tie
@@ -13,59 +18,104 @@ use Rattle.run.proofs.landing.keep.Tie as tie
 marks : (s : tie.Start) → length (s .args .st .moving) ≡ 12
 marks s = marks-count (s .args .st .moving) (s .good .0 .1 .1 .1 .1 .1 .1 .1 .1 .1 .0 .1 .0 .1)
 
-slice-aggregate-landed-shift : tie.Need-slice-aggregate-landed-shift
-slice-aggregate-landed-shift c = sym (marks (c .before .before .before .before .before))
+sub-shift : tie.Need-sub-shift
+sub-shift c = search needs
 
-slice-aggregate-landed-shift-2 : tie.Need-slice-aggregate-landed-shift-2
-slice-aggregate-landed-shift-2 c = search needs
+part-shift-start : tie.Need-part-shift-start
+part-shift-start c = search needs
 
-landed-shift-requires : tie.Need-landed-shift-requires
-landed-shift-requires c κs = let s = c .before .before .before .before .before .before in let b = s .pre .1 .1 .0 .bounded in (b .few-variables, (b .few-constraints, (s .pre .0, (marks s, refl))))
+part-shift-end : tie.Need-part-shift-end
+part-shift-end c = search needs
+
+slice-aggregate-shift : tie.Need-slice-aggregate-shift
+slice-aggregate-shift c = sym (marks (c .before .before .before .before .before .before))
+
+slice-aggregate-shift-2 : tie.Need-slice-aggregate-shift-2
+slice-aggregate-shift-2 c = search needs
+
+shift-requires : tie.Need-shift-requires
+shift-requires c κs = let s = c .before .before .before .before .before .before .before in let b = s .pre .1 .1 .0 .bounded in (b .few-variables, (b .few-constraints, (marks s, refl)))
 
 enum-told : tie.Need-enum-told
 enum-told c = search needs
 
-slice-aggregate-keep-by : tie.Need-slice-aggregate-keep-by
-slice-aggregate-keep-by c = search needs
+sub-shifted-step : tie.Need-sub-shifted-step
+sub-shifted-step c = search needs
 
-keep-by-requires : tie.Need-keep-by-requires
-keep-by-requires c κs = c .before .before .before .before .before .before .before .before .before .before .before .before .pre
+part-shifted-step-start : tie.Need-part-shifted-step-start
+part-shifted-step-start c = search needs
 
-enum-known-e : tie.Need-enum-known-e
-enum-known-e c = search needs
+part-shifted-step-end : tie.Need-part-shifted-step-end
+part-shifted-step-end c = search needs
+
+slice-aggregate-shifted-step : tie.Need-slice-aggregate-shifted-step
+slice-aggregate-shifted-step c = search needs
+
+shifted-step-requires : tie.Need-shifted-step-requires
+shifted-step-requires c κs = search needs
+
+landed-requires : tie.Need-landed-requires
+landed-requires c κs = search needs
+
+add-corrections : tie.Need-add-corrections
+add-corrections c = omega (arith, c .before .before .before .before .before .before .before .before .before .before .before .before .before .before .before .before .before .before .before .before .before .pre .1 .1 .1)
+
+with-landed-number-requires : tie.Need-with-landed-number-requires
+with-landed-number-requires c κs = search needs
+
+correct-or-judge-requires : tie.Need-correct-or-judge-requires
+correct-or-judge-requires c κs =
+    let p = c .before .before .before .before .before .before .before .before .before .before .before .before .before .before .before .before .before .before .before .before .before .before .before .pre in
+    (search needs, subst (λ (x : State). Underway x) (sym (c .before .with-landed-number .ensures)) (landed-again _ (omega (arith, p .1 .1 .1)) (p .1 .1 .0)))
+
+enum-known-shift : tie.Need-enum-known-shift
+enum-known-shift c = search needs
 
 refuse-requires : tie.Need-refuse-requires
-refuse-requires c κs = c .before .before .before .before .before .before .before .before .before .before .before .before .pre .0
+refuse-requires c κs = c .before .before .before .before .before .before .before .before .before .before .before .before .before .pre .0
 
 same-length : tie.Need-same-length
-same-length c = search needs
+same-length c = omega (arith, c .before .before .correct-or-judge .kept, correct-or-judge-requires (c .before .before .before) (c .before .before .correct-or-judge .lifetimes) .0, c .before .before .before .before .before .before .before .before .before .before .before .before .before .before .before .before .before .before .before .before .before .before .before .before .before .before .pre .0)
 
 returns : tie.Need-returns
 returns c w h =
-    let s = c .before .before .before .before .before .before .before .before .before .before .before .before .before .before .before in
-    let x = c .before .before .before .before .before .before .before .before .landed-shift in
-    keep-told (s .args .st) w (s .args .rows .now) (s .args .theta) refl (x .ensures w h) (ap (λ (r : Done). doneOf r (x .last .1 .1 .1 .1 .0)) (c .before .before .before .before .before .enum-told .given .1)) (c .before .before .keep-by .ensures w h)
+    let a = c .before .before .before .before .before .before .before .before .before .before .before .before .before .before .before .before .before .before .before .before .before .before .before .before .before .before .args in
+    let x = c .before .before .before .before .before .before .before .before .before .before .before .before .before .before .before .before .before .before .shift in
+    let d = x .last .1 .1 .1 .1 .0 in
+    let s = shiftedStep (a .st .sizes .n) (w .step) d in
+    keep-told (a .st) w (a .rows .now) (a .theta) refl (shift-read (a .st) h (x .ensures)) (ap (λ (r : Done). doneOf r d) (c .before .before .before .before .before .before .before .before .before .before .before .before .before .before .before .enum-told .given .1))
+    (kept-told (a .st) w (a .rows .now) (a .theta) d (c .before .before .before .before .with-landed-number .ensures) (c .before .before .correct-or-judge .ensures (withLanded w (a .rows .now) s) (c .before .before .before .before .before .before .before .before .landed .ensures (withStep w s) (stepped (a .st .sizes .n) d h (c .before .before .before .before .before .before .before .before .before .before .before .before .shifted-step .ensures)))))
 
 same-length-2 : tie.Need-same-length-2
 same-length-2 c = search needs
 
 returns-2 : tie.Need-returns-2
 returns-2 c w h =
-    let s = c .before .before .before .before .before .before .before .before .before .before .before .before .before .before .before in
-    let x = c .before .before .before .before .before .before .before .before .landed-shift in
-    keep-refused (s .args .st) w (s .args .rows .now) (s .args .theta) refl (x .ensures w h) (ap (λ (r : Done). doneOf r (x .last .1 .1 .1 .1 .0)) (c .before .before .before .before .before .e .given .1)) (c .before .before .refuse .ensures w h)
+    let a = c .before .before .before .before .before .before .before .before .before .before .before .before .before .before .before .before .args in
+    let x = c .before .before .before .before .before .before .before .before .shift in
+    keep-refused (a .st) w (a .rows .now) (a .theta) refl (shift-read (a .st) h (x .ensures)) (ap (λ (r : Done). doneOf r (x .last .1 .1 .1 .1 .0)) (c .before .before .before .before .before .shift2 .given .1)) (c .before .before .refuse .ensures w h)
 
 pub keep-spec : {M : Type 1} → statement M
 keep-spec =
     tie.close
     (tie.spec
-    slice-aggregate-landed-shift
-    slice-aggregate-landed-shift-2
-    landed-shift-requires
+    sub-shift
+    part-shift-start
+    part-shift-end
+    slice-aggregate-shift
+    slice-aggregate-shift-2
+    shift-requires
     enum-told
-    slice-aggregate-keep-by
-    keep-by-requires
-    enum-known-e
+    sub-shifted-step
+    part-shifted-step-start
+    part-shifted-step-end
+    slice-aggregate-shifted-step
+    shifted-step-requires
+    landed-requires
+    add-corrections
+    with-landed-number-requires
+    correct-or-judge-requires
+    enum-known-shift
     refuse-requires
     same-length
     returns

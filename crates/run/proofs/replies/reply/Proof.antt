@@ -1,8 +1,10 @@
--- `reply` meets its contract: what the check refuses is left as it was, and what it accepts is answered.
+-- `reply` meets its contract: what the check refuses is left as it was, and what it accepts is answered over the tidied area.
 use mathlib.Core.Path.{sym, _∙_}
+use native.Mathlib.Omega.{arith}
 use lib.ListN.{length}
+use Rattle.run.specs.Area.{memoryOf}
 use Rattle.run.proofs.CheckLaws.{bounds, accepted-rows, rows-refused, rows-accepted}
-use Rattle.run.proofs.ReplyLaws.{reply-phase, reply-bounded}
+use Rattle.run.proofs.ReplyLaws.{leaves-left, reply-phase, reply-bounded}
 use borrow.Author.Needs.{needs}
 use Rattle.run.proofs.replies.reply.Statement.{statement}
 use Rattle.run.proofs.replies.reply.Tie as tie
@@ -16,13 +18,19 @@ enum-known-number c = search needs
 enum-known-kind : tie.Need-enum-known-kind
 enum-known-kind c = search needs
 
-accept-rows-requires : tie.Need-accept-rows-requires
-accept-rows-requires c κs =
+tidy-requires : tie.Need-tidy-requires
+tidy-requires c κs =
     let a = c .before .before .before .before .before .before .before .args in
-    let e = sym (c .before .before .before .before .check-rows .ensures) ∙ c .before .before .kind .given .1 in
-    let w = accepted-rows (a .st) (length (a .area .now)) (a .rows .now) _ e in
+    let r = accepted-rows (a .st) (length (a .area .now)) (a .rows .now) _ (sym (c .before .before .before .before .check-rows .ensures) ∙ c .before .before .kind .given .1) .reply in
+    let b = reply-bounded (a .st) _ (r .run) (r .opened) in
+    (r .whole, (b .few-variables, (b .few-constraints, (b .few-sums, omega (arith, b .within, b .few-iterations)))))
+
+answered-requires : tie.Need-answered-requires
+answered-requires c κs =
+    let a = c .before .before .before .before .before .before .before .before .before .before .before .args in
+    let w = accepted-rows (a .st) (length (a .area .now)) (a .rows .now) _ (sym (c .before .before .before .before .before .before .before .before .check-rows .ensures) ∙ c .before .before .before .before .before .before .kind .given .1) in
     let v = w .reply .run in
-    (w .reply .whole, (w .full, (reply-bounded (a .st) _ v (w .reply .opened), (bounds (a .st) v .corrections, reply-phase (a .st) _ v (w .reply .opened)))))
+    (omega (arith, c .before .before .before .tidy .kept, w .reply .whole), (w .full, (reply-bounded (a .st) _ v (w .reply .opened), (bounds (a .st) v .corrections, reply-phase (a .st) _ v (w .reply .opened)))))
 
 returns : tie.Need-returns
 returns c = let a = c .before .before .before .before .before .before .args in sym (rows-refused (a .st) (a .area .now) (a .rows .now) _ (sym (c .before .before .before .check-rows .ensures) ∙ c .before .number .given .1))
@@ -31,7 +39,9 @@ same-length : tie.Need-same-length
 same-length c = search needs
 
 returns-2 : tie.Need-returns-2
-returns-2 c = let a = c .before .before .before .before .before .before .before .before .before .before .args in c .before .before .accept-rows .ensures ∙ sym (rows-accepted (a .st) (a .area .now) (a .rows .now) _ (sym (c .before .before .before .before .before .before .before .check-rows .ensures) ∙ c .before .before .before .before .before .kind .given .1))
+returns-2 c =
+    let a = c .before .before .before .before .before .before .before .before .before .before .before .before .before .before .args in
+    leaves-left _ _ _ (c .before .before .answered .ensures (memoryOf (a .st) (a .area .now)) (c .before .before .before .before .before .before .tidy .ensures)) ∙ sym (rows-accepted (a .st) (a .area .now) (a .rows .now) _ (sym (c .before .before .before .before .before .before .before .before .before .before .before .check-rows .ensures) ∙ c .before .before .before .before .before .before .before .before .before .kind .given .1))
 
 pub reply-spec : {M : Type 1} → statement M
 reply-spec =
@@ -40,7 +50,8 @@ reply-spec =
     check-rows-requires
     enum-known-number
     enum-known-kind
-    accept-rows-requires
+    tidy-requires
+    answered-requires
     returns
     same-length
     returns-2)

@@ -1,8 +1,10 @@
--- `reply_none` meets its contract: what the check refuses is left as it was, and what it accepts is answered.
+-- `reply_none` meets its contract: what the check refuses is left as it was, and what it accepts is answered over the tidied area.
 use mathlib.Core.Path.{sym, _∙_}
+use native.Mathlib.Omega.{arith}
 use lib.ListN.{length}
+use Rattle.run.specs.Area.{memoryOf}
 use Rattle.run.proofs.CheckLaws.{accepted, none-refused, none-accepted}
-use Rattle.run.proofs.ReplyLaws.{reply-phase, reply-bounded}
+use Rattle.run.proofs.ReplyLaws.{leaves-left, reply-phase, reply-bounded}
 use borrow.Author.Needs.{needs}
 use Rattle.run.proofs.replies.reply_none.Statement.{statement}
 use Rattle.run.proofs.replies.reply_none.Tie as tie
@@ -16,12 +18,18 @@ enum-known-number c = search needs
 enum-known-kind : tie.Need-enum-known-kind
 enum-known-kind c = search needs
 
-accept-none-requires : tie.Need-accept-none-requires
-accept-none-requires c κs =
+tidy-requires : tie.Need-tidy-requires
+tidy-requires c κs =
     let a = c .before .before .before .before .before .before .args in
-    let e = sym (c .before .before .before .before .check .ensures) ∙ c .before .before .kind .given .1 in
-    let w = accepted (a .st) (length (a .area .now)) _ e in
-    (w .whole, (reply-bounded (a .st) _ (w .run) (w .opened), reply-phase (a .st) _ (w .run) (w .opened)))
+    let r = accepted (a .st) (length (a .area .now)) _ (sym (c .before .before .before .before .check .ensures) ∙ c .before .before .kind .given .1) in
+    let b = reply-bounded (a .st) _ (r .run) (r .opened) in
+    (r .whole, (b .few-variables, (b .few-constraints, (b .few-sums, omega (arith, b .within, b .few-iterations)))))
+
+answered-none-requires : tie.Need-answered-none-requires
+answered-none-requires c κs =
+    let a = c .before .before .before .before .before .before .before .before .before .before .args in
+    let r = accepted (a .st) (length (a .area .now)) _ (sym (c .before .before .before .before .before .before .before .before .check .ensures) ∙ c .before .before .before .before .before .before .kind .given .1) in
+    (omega (arith, c .before .before .before .tidy .kept, r .whole), (reply-bounded (a .st) _ (r .run) (r .opened), reply-phase (a .st) _ (r .run) (r .opened)))
 
 returns : tie.Need-returns
 returns c = let a = c .before .before .before .before .before .args in sym (none-refused (a .st) (a .area .now) _ (sym (c .before .before .before .check .ensures) ∙ c .before .number .given .1))
@@ -30,7 +38,9 @@ same-length : tie.Need-same-length
 same-length c = search needs
 
 returns-2 : tie.Need-returns-2
-returns-2 c = let a = c .before .before .before .before .before .before .before .before .before .args in c .before .before .accept-none .ensures ∙ sym (none-accepted (a .st) (a .area .now) _ (sym (c .before .before .before .before .before .before .before .check .ensures) ∙ c .before .before .before .before .before .kind .given .1))
+returns-2 c =
+    let a = c .before .before .before .before .before .before .before .before .before .before .before .before .before .args in
+    leaves-left _ _ _ (c .before .before .answered-none .ensures (memoryOf (a .st) (a .area .now)) (c .before .before .before .before .before .before .tidy .ensures)) ∙ sym (none-accepted (a .st) (a .area .now) _ (sym (c .before .before .before .before .before .before .before .before .before .before .before .check .ensures) ∙ c .before .before .before .before .before .before .before .before .before .kind .given .1))
 
 pub reply-none-spec : {M : Type 1} → statement M
 reply-none-spec =
@@ -39,7 +49,8 @@ reply-none-spec =
     check-requires
     enum-known-number
     enum-known-kind
-    accept-none-requires
+    tidy-requires
+    answered-none-requires
     returns
     same-length
     returns-2)

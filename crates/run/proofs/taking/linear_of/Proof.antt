@@ -4,7 +4,7 @@ use lib.Ieee.{ofBits}
 use Rattle.interval.specs.Result.{ok}
 use Rattle.linear.specs.Answers.{resultOf}
 use Rattle.run.proofs.LeaveLaws.{pick-no}
-use Rattle.run.proofs.ReadLaws.{linear-told, linear-refused}
+use Rattle.run.proofs.ReadLaws.{landed-violation, linear-told, linear-refused}
 use borrow.Author.Needs.{needs}
 use Rattle.run.proofs.taking.linear_of.Statement.{statement}
 use Rattle.run.proofs.taking.linear_of.Tie as tie
@@ -12,29 +12,38 @@ use Rattle.run.proofs.taking.linear_of.Tie as tie
 definitely-greater-requires : tie.Need-definitely-greater-requires
 definitely-greater-requires c κs = search needs
 
-landed-violation-requires : tie.Need-landed-violation-requires
-landed-violation-requires c κs = search needs
+sub-violation : tie.Need-sub-violation
+sub-violation c = search needs
 
-enum-known-new : tie.Need-enum-known-new
-enum-known-new c = search needs
+part-violation-start : tie.Need-part-violation-start
+part-violation-start c = search needs
+
+part-violation-end : tie.Need-part-violation-end
+part-violation-end c = search needs
+
+violation-requires : tie.Need-violation-requires
+violation-requires c κs = search needs
+
+enum-known-landed : tie.Need-enum-known-landed
+enum-known-landed c = search needs
 
 held-requires : tie.Need-held-requires
 held-requires c κs = search needs
 
-enum-known-e : tie.Need-enum-known-e
-enum-known-e c = search needs
+enum-known-landed-2 : tie.Need-enum-known-landed-2
+enum-known-landed-2 c = search needs
 
 returns : tie.Need-returns
 unfolding ofBits
 returns c w h =
-    let a = c .before .before .before .before .before .before .before .before .args in
-    ap ok (c .held .ensures) ∙ linear-told (a .st) w (a .theta) (c .before .before .before .before .landed-violation .ensures w h) (sym (c .before .before .before .before .before .before .definitely-greater .ensures) ∙ c .before .before .before .before .before .if1 .taken) (ap resultOf (c .before .before .new .given .1))
+    let a = c .before .before .before .before .before .before .before .before .before .args in
+    ap ok (c .held .ensures) ∙ linear-told (a .st) w (a .theta) (sym (landed-violation (a .st) h (c .before .before .before .before .violation .ensures))) (sym (c .before .before .before .before .before .before .before .definitely-greater .ensures) ∙ c .before .before .before .before .before .before .if1 .taken) (ap resultOf (c .before .before .landed .given .1))
 
 returns-2 : tie.Need-returns-2
 unfolding ofBits
 returns-2 c w h =
-    let a = c .before .before .before .before .before .before .before .args in
-    linear-refused (a .st) w (a .theta) (c .before .before .before .landed-violation .ensures w h) (sym (c .before .before .before .before .before .definitely-greater .ensures) ∙ c .before .before .before .before .if1 .taken) (ap resultOf (c .before .e .given .1))
+    let a = c .before .before .before .before .before .before .before .before .args in
+    linear-refused (a .st) w (a .theta) (sym (landed-violation (a .st) h (c .before .before .before .violation .ensures))) (sym (c .before .before .before .before .before .before .definitely-greater .ensures) ∙ c .before .before .before .before .before .if1 .taken) (ap resultOf (c .before .landed2 .given .1))
 
 returns-3 : tie.Need-returns-3
 unfolding ofBits
@@ -45,10 +54,13 @@ linear-of-spec =
     tie.close
     (tie.spec
     definitely-greater-requires
-    landed-violation-requires
-    enum-known-new
+    sub-violation
+    part-violation-start
+    part-violation-end
+    violation-requires
+    enum-known-landed
     held-requires
-    enum-known-e
+    enum-known-landed-2
     returns
     returns-2
     returns-3)

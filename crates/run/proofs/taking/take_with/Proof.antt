@@ -1,8 +1,16 @@
--- `take_with` meets its contract: the curvature is learned, or refused.
-use mathlib.Core.Path.{refl, sym, ap, _∙_}
+-- `take_with` meets its contract: the curvature is learned and the next iteration follows from the area that holds it, or it is refused.
+use mathlib.Core.List.{List}
+use mathlib.Core.Path.{refl, sym, ap, subst, _∙_}
+use native.Mathlib.Omega.{arith}
+use lib.Ieee.{Float}
 use Rattle.linear.specs.Answers.{doneOf}
 use Rattle.linear.specs.declared.answers.Done.{Done}
-use Rattle.run.proofs.FollowLaws.{learned-told, learned-refused}
+use Rattle.run.specs.Rows.{sumOf, sumSquared}
+use Rattle.run.specs.Run.{Bounded}
+use Rattle.run.specs.declared.state.State.{State}
+use Rattle.run.proofs.FollowLaws.{learned-told, learned-refused, stands-on}
+use Rattle.run.proofs.LeaveLaws.{standing-rows-read}
+use Rattle.run.proofs.ReadLaws.{stood}
 use borrow.Author.Needs.{needs}
 use Rattle.run.proofs.taking.take_with.Statement.{statement}
 use Rattle.run.proofs.taking.take_with.Tie as tie
@@ -11,38 +19,62 @@ slice-aggregate-learn : tie.Need-slice-aggregate-learn
 slice-aggregate-learn c = search needs
 
 learn-requires : tie.Need-learn-requires
-learn-requires c κs = let s = c .before .before .before in let b = s .pre .1 .0 .bounded in (b .few-variables, (b .few-constraints, (b .few-sums, (s .pre .0, refl))))
+learn-requires c κs = let s = c .before .before .before .before in let b = s .pre .1 .0 .bounded in (b .few-variables, (b .few-constraints, (b .few-sums, (s .pre .0, refl))))
 
 enum-told : tie.Need-enum-told
 enum-told c = search needs
 
-slice-aggregate-stand : tie.Need-slice-aggregate-stand
-slice-aggregate-stand c = search needs
+sub-sum-squared : tie.Need-sub-sum-squared
+sub-sum-squared c = search needs
 
-stand-requires : tie.Need-stand-requires
-stand-requires c κs = let s = c .before .before .before .before .before .before .before .before .before in (s .pre .0, (c .before .before .before .before .before .learn .kept .1 .1 .1 .1 .1 .0, s .pre .1))
+part-sum-squared-start : tie.Need-part-sum-squared-start
+part-sum-squared-start c = search needs
+
+part-sum-squared-end : tie.Need-part-sum-squared-end
+part-sum-squared-end c = search needs
+
+sum-squared-requires : tie.Need-sum-squared-requires
+sum-squared-requires c κs = let b = c .before .before .before .before .before .before .before .before .before .before .pre .1 .0 .bounded in (b .few-variables, (b .few-constraints, b .few-sums))
+
+slice-aggregate-with-taken : tie.Need-slice-aggregate-with-taken
+slice-aggregate-with-taken c = search needs
+
+with-taken-requires : tie.Need-with-taken-requires
+with-taken-requires c κs = let s = c .before .before .before .before .before .before .before .before .before .before .before .before .before in let u = s .pre .1 .0 in (s .pre .0, (c .before .before .before .before .before .before .before .before .learn .kept .1 .1 .1 .1 .1 .0, omega (arith, u .below, u .bounded .few-iterations)))
+
+standing-on-requires : tie.Need-standing-on-requires
+standing-on-requires c κs = let u = c .before .before .before .before .before .before .before .before .before .before .before .before .before .before .before .before .pre .1 .0 in omega (arith, u .below, u .bounded .few-iterations)
+
+iterate-requires : tie.Need-iterate-requires
+iterate-requires c κs =
+    let s = c .before .before .before .before .before .before .before .before .before .before .before .before .before .before .before .before .before .before in
+    let a = s .args in
+    (omega (arith, c .before .before .before .before .with-taken .kept, s .pre .0), subst (λ (x : State). Bounded 2147483648 x) (sym (c .before .standing-on .ensures)) (stood (a .span) (a .mu) (a .radius) (s .pre .1 .0) (s .pre .1 .1)))
 
 enum-known-e : tie.Need-enum-known-e
 enum-known-e c = search needs
 
 refuse-requires : tie.Need-refuse-requires
-refuse-requires c κs = c .before .before .before .before .before .before .before .before .before .pre .0
+refuse-requires c κs = c .before .before .before .before .before .before .before .before .before .before .pre .0
 
 same-length : tie.Need-same-length
 same-length c = search needs
 
 returns : tie.Need-returns
 returns c w h =
-    let a = c .before .before .before .before .before .before .before .before .before .before .before .before .args in
-    let l = c .before .before .before .before .before .before .before .before .learn in
-    learned-told (a .st) w (a .theta) (a .span) (a .mu) (a .radius) (sym (l .ensures w h) ∙ ap (λ (d : Done). doneOf d (l .last .1 .1 .1 .1 .1 .0)) (c .before .before .before .before .before .enum-told .given .1)) (c .before .before .stand .ensures w h)
+    let a = c .before .before .before .before .before .before .before .before .before .before .before .before .before .before .before .before .before .before .before .before .before .args in
+    let z = a .st .sizes in
+    let l = c .before .before .before .before .before .before .before .before .before .before .before .before .before .before .before .before .learn in
+    let b = l .last .1 .1 .1 .1 .1 .0 in
+    learned-told (a .st) w (a .theta) (a .span) (a .mu) (a .radius) (sym (l .ensures w h) ∙ ap (λ (d : Done). doneOf d b) (c .before .before .before .before .before .before .before .before .before .before .before .before .before .enum-told .given .1))
+    (stands-on (a .st) w (a .theta) (a .span) (a .mu) (a .radius) b (c .before .before .before .before .standing-on .ensures) (c .before .before .before .before .before .before .before .before .before .before .sum-squared .ensures ∙ ap (λ (x : List Float). sumSquared (sumOf (z .n) (z .m) (z .s) x)) (standing-rows-read h)) (c .before .before .before .before .before .before .before .with-taken .ensures w h) (c .before .before .iterate .ensures))
 
 same-length-2 : tie.Need-same-length-2
 same-length-2 c = search needs
 
 returns-2 : tie.Need-returns-2
 returns-2 c w h =
-    let a = c .before .before .before .before .before .before .before .before .before .before .before .before .args in
+    let a = c .before .before .before .before .before .before .before .before .before .before .before .before .before .args in
     let l = c .before .before .before .before .before .before .before .before .learn in
     learned-refused (a .st) w (a .theta) (a .span) (a .mu) (a .radius) (sym (l .ensures w h) ∙ ap (λ (d : Done). doneOf d (l .last .1 .1 .1 .1 .1 .0)) (c .before .before .before .before .before .e .given .1)) (c .before .before .refuse .ensures w h)
 
@@ -53,8 +85,14 @@ take-with-spec =
     slice-aggregate-learn
     learn-requires
     enum-told
-    slice-aggregate-stand
-    stand-requires
+    sub-sum-squared
+    part-sum-squared-start
+    part-sum-squared-end
+    sum-squared-requires
+    slice-aggregate-with-taken
+    with-taken-requires
+    standing-on-requires
+    iterate-requires
     enum-known-e
     refuse-requires
     same-length
