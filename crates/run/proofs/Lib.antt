@@ -1,4 +1,5 @@
 pub mod ScratchLaws
+pub mod Prefixes
 pub mod RowLaws
 pub mod Dampings
 pub mod PointLaws

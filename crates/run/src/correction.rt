@@ -65,33 +65,6 @@ fn sharpened(n: usize, from: &[f64], to: &mut [f64])
     }
 }
 
-// The shift, with scratch slices of the right lengths.
-fn shift_in(
-    n: usize,
-    m: usize,
-    xs: &[f64],
-    moving: &[bool],
-    d: &mut [f64],
-    jc: &mut [f64],
-    c: &mut [f64],
-    zero: &mut [f64],
-    out: &mut [f64],
-) -> Done
-    requires { ⌜ (n ≤ 12) × ((m ≤ 12) × ((length (now moving) ≡ 12) × ((length (now d) ≡ 24) × ((length (now jc) ≡ 2 * (m * n)) × ((length (now c) ≡ 2 * m) × ((length (now zero) ≡ 2 * n) × (length (now out) ≡ 2 * n))))))) ⌝ }
-    ensures { λ r. ⌜ doneOf r (now (d .exit)) ≡ shiftOf (now (moving .entry)) (constraintsOf n m (now (xs .entry))) ⌝ }
-{
-    moving_slopes(n, m, xs, moving, jc);
-    chosen(xs, 0, m, c);
-    clear(zero);
-    match minus_solved(m, n, jc, c, zero, out) {
-        Done::Finished => {
-            sharpened(n, out, d);
-            Done::Finished
-        }
-        Done::Refused(e) => Done::Refused(e),
-    }
-}
-
 // The shortest move that meets the linearized constraints.
 pub fn shift(n: usize, m: usize, xs: &[f64], moving: &[bool], d: &mut [f64]) -> Done
     requires { ⌜ (n ≤ 12) × ((m ≤ 12) × ((length (now moving) ≡ 12) × (length (now d) ≡ 24))) ⌝ }
@@ -102,34 +75,17 @@ pub fn shift(n: usize, m: usize, xs: &[f64], moving: &[bool], d: &mut [f64]) -> 
     let w = 2 * n;
     let mut jc = [0.0; 288];
     let mut c = [0.0; 24];
-    let mut zero = [0.0; 24];
+    let zero = [0.0; 24];
     let mut out = [0.0; 24];
-    shift_in(
-        n,
-        m,
-        xs,
-        moving,
-        d,
-        &mut jc[..q],
-        &mut c[..k],
-        &mut zero[..w],
-        &mut out[..w],
-    )
-}
-
-// Where a shift d takes the landed point.
-fn shift_by(n: usize, landed: &[f64], d: &[f64], next: &mut [f64]) -> Shifted
-    requires { ⌜ length (now next) ≡ 24 ⌝ }
-    ensures { λ r. ⌜ shiftedOf r (now (next .exit)) ≡ ok (pick (allFinite (now (d .entry)) 12) (pick (sameOf n (movedOf n (now (landed .entry)) (now (d .entry))) (now (landed .entry))) stay (to (movedOf n (now (landed .entry)) (now (d .entry))))) stay) ⌝ }
-{
-    if all_finite(d, 12) {
-        moved(n, landed, d, next);
-        if same(n, next, landed) {
-            return Shifted::Stay;
+    moving_slopes(n, m, xs, moving, &mut jc[..q]);
+    chosen(xs, 0, m, &mut c[..k]);
+    match minus_solved(m, n, &jc[..q], &c[..k], &zero[..w], &mut out[..w]) {
+        Done::Finished => {
+            sharpened(n, &out[..w], d);
+            Done::Finished
         }
-        return Shifted::To;
+        Done::Refused(e) => Done::Refused(e),
     }
-    Shifted::Stay
 }
 
 // Where the shift takes the landed point, with its rows xs: `next` has the point where it is another.
@@ -146,7 +102,16 @@ pub fn shift_from(
 {
     let mut d = [0.0; 24];
     match shift(n, m, xs, moving, &mut d) {
-        Done::Finished => shift_by(n, landed, &d, next),
+        Done::Finished => {
+            if all_finite(&d, 12) {
+                moved(n, landed, &d, next);
+                if same(n, next, landed) {
+                    return Shifted::Stay;
+                }
+                return Shifted::To;
+            }
+            Shifted::Stay
+        }
         Done::Refused(e) => Shifted::Refused(e),
     }
 }

@@ -67,25 +67,6 @@ fn products(n: usize, k: usize, rows: &[f64], v: &[f64], out: &mut [f64])
     }
 }
 
-// The part of v along the constraints, with scratch slices of the right lengths.
-fn along_in(
-    n: usize,
-    m: usize,
-    xs: &[f64],
-    v: &[f64],
-    out: &mut [f64],
-    jc: &mut [f64],
-    rhs: &mut [f64],
-) -> Done
-    requires { ⌜ (n ≤ 12) × ((m ≤ 12) × ((2 * n ≤ length (now v)) × ((length (now out) ≡ 2 * n) × ((length (now jc) ≡ 2 * (m * n)) × (length (now rhs) ≡ 2 * m))))) ⌝ }
-    ensures { λ r. ⌜ doneOf r (now (out .exit)) ≡ alongOf (constraintsOf n m (now (xs .entry))) (now (v .entry)) ⌝ }
-{
-    let w = 2 * n;
-    chosen(xs, m, m * n, jc);
-    products(n, m, jc, v, rhs);
-    minus_solved(m, n, jc, rhs, &v[..w], out)
-}
-
 // The part of v along the constraints.
 pub fn along_constraints(n: usize, m: usize, xs: &[f64], v: &[f64], out: &mut [f64]) -> Done
     requires { ⌜ (n ≤ 12) × ((m ≤ 12) × ((2 * n ≤ length (now v)) × (length (now out) ≡ 2 * n))) ⌝ }
@@ -93,9 +74,12 @@ pub fn along_constraints(n: usize, m: usize, xs: &[f64], v: &[f64], out: &mut [f
 {
     let q = 2 * (m * n);
     let k = 2 * m;
+    let w = 2 * n;
     let mut jc = [0.0; 288];
     let mut rhs = [0.0; 24];
-    along_in(n, m, xs, v, out, &mut jc[..q], &mut rhs[..k])
+    chosen(xs, m, m * n, &mut jc[..q]);
+    products(n, m, &jc[..q], v, &mut rhs[..k]);
+    minus_solved(m, n, &jc[..q], &rhs[..k], &v[..w], out)
 }
 
 // One entry of how far the gradient of the Lagrangian turned; r has the sum's new values, chosen.
@@ -215,48 +199,6 @@ pub fn corrected_by(n: usize, b: &mut [f64], y: &[f64], bs: &[f64], s: &[f64]) -
     Done::Finished
 }
 
-// The update, from y and the step s along the constraints, once it is asked for.
-fn updated_along(
-    n: usize,
-    m: usize,
-    xs: &[f64],
-    b: &mut [f64],
-    y: &[f64],
-    s: &[f64],
-    bs: &[f64],
-    y_along: &mut [f64],
-) -> Done
-    requires { ⌜ (n ≤ 12) × ((m ≤ 12) × ((length (now y) ≡ 24) × (length (now «y_along») ≡ 2 * n))) ⌝ }
-    ensures { λ r. ⌜ doneOf r (now (b .exit)) ≡ bind (alongOf (constraintsOf n m (now (xs .entry))) (now (y .entry))) (λ z. correctedBy n (now (b .entry)) z (now (bs .entry)) (now (s .entry))) ⌝ }
-{
-    match along_constraints(n, m, xs, y, y_along) {
-        Done::Finished => corrected_by(n, b, y_along, bs, s),
-        Done::Refused(e) => Done::Refused(e),
-    }
-}
-
-fn updated_in(
-    n: usize,
-    m: usize,
-    xs: &[f64],
-    b: &mut [f64],
-    y: &[f64],
-    s: &[f64],
-    bs: &mut [f64],
-    y_along: &mut [f64],
-) -> Done
-    requires { ⌜ (n ≤ 12) × ((m ≤ 12) × ((length (now y) ≡ 24) × ((length (now bs) ≡ 24) × (length (now «y_along») ≡ 2 * n)))) ⌝ }
-    ensures { λ r. ⌜ doneOf r (now (b .exit)) ≡ updatedBy n (constraintsOf n m (now (xs .entry))) (now (b .entry)) (now (y .entry)) (now (s .entry)) ⌝ }
-{
-    clear(bs);
-    products(n, n, b, s, bs);
-    let d = dot_of(y, s, n).sub(dot_of(bs, s, n));
-    if d.definitely_not_equal(Scalar::ZERO) {
-        return updated_along(n, m, xs, b, y, s, bs, y_along);
-    }
-    Done::Finished
-}
-
 // The update, from y and the step s along the constraints.
 pub fn updated(n: usize, m: usize, xs: &[f64], b: &mut [f64], y: &[f64], s: &[f64]) -> Done
     requires { ⌜ (n ≤ 12) × ((m ≤ 12) × (length (now y) ≡ 24)) ⌝ }
@@ -265,31 +207,15 @@ pub fn updated(n: usize, m: usize, xs: &[f64], b: &mut [f64], y: &[f64], s: &[f6
     let w = 2 * n;
     let mut bs = [0.0; 24];
     let mut y_along = [0.0; 24];
-    updated_in(n, m, xs, b, y, s, &mut bs, &mut y_along[..w])
-}
-
-fn update_in(
-    n: usize,
-    m: usize,
-    s: usize,
-    b: &mut [f64],
-    step: &[f64],
-    xs: &[f64],
-    next: &[f64],
-    lambda: &[f64],
-    y: &mut [f64],
-    s_along: &mut [f64],
-) -> Done
-    requires { ⌜ (n ≤ 12) × ((m ≤ 12) × ((s ≤ 24) × ((length (now step) ≡ 24) × ((length (now y) ≡ 24) × (length (now «s_along») ≡ 2 * n))))) ⌝ }
-    ensures { λ r. ⌜ doneOf r (now (b .exit)) ≡ updateCurvature n (now (b .entry)) (now (step .entry)) (evaluationOf n m s (now (xs .entry))) (evaluationOf n m s (now (next .entry))) (now (lambda .entry)) ⌝ }
-{
-    match along_constraints(n, m, xs, step, s_along) {
-        Done::Finished => {
-            turned(n, m, s, xs, next, lambda, y);
-            updated(n, m, xs, b, y, s_along)
-        }
-        Done::Refused(e) => Done::Refused(e),
+    products(n, n, b, s, &mut bs);
+    let d = dot_of(y, s, n).sub(dot_of(&bs, s, n));
+    if d.definitely_not_equal(Scalar::ZERO) {
+        return match along_constraints(n, m, xs, y, &mut y_along[..w]) {
+            Done::Finished => corrected_by(n, b, &y_along[..w], &bs, s),
+            Done::Refused(e) => Done::Refused(e),
+        };
     }
+    Done::Finished
 }
 
 // The curvature b, updated from the step between two points with their rows.
@@ -309,16 +235,11 @@ pub fn update_curvature(
     let w = 2 * n;
     let mut y = [0.0; 24];
     let mut s_along = [0.0; 24];
-    update_in(
-        n,
-        m,
-        s,
-        b,
-        step,
-        xs,
-        next,
-        lambda,
-        &mut y,
-        &mut s_along[..w],
-    )
+    match along_constraints(n, m, xs, step, &mut s_along[..w]) {
+        Done::Finished => {
+            turned(n, m, s, xs, next, lambda, &mut y);
+            updated(n, m, xs, b, &y, &s_along[..w])
+        }
+        Done::Refused(e) => Done::Refused(e),
+    }
 }

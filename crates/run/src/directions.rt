@@ -107,20 +107,6 @@ fn longest(k: usize, left: &[f64]) -> Remainder
     best
 }
 
-// The longest remainder, of length l, as one more direction.
-fn take(k: usize, count: usize, best: usize, l: Scalar, z: &mut [f64], left: &mut [f64]) -> Next
-    requires { ⌜ (k ≤ 12) × ((count < 12) × ((best ≡ longestTo k (now left) (k - 1)) × (sqrtOf (squareOf k (now left) best) ≡ scalar.ok l))) ⌝ }
-    ensures { λ r. ⌜ nextOf r count (now (z .exit)) (now (left .exit)) ≡ turnOf k (directionsIn count (now (z .entry)) (now (left .entry))) ⌝ }
-{
-    let length = l.sharpen();
-    if length.definitely_greater(Scalar::ZERO) {
-        unit(left, 12 * best, length, k, z, 12 * count);
-        without(k, z, count, left);
-        return Next::Taken;
-    }
-    Next::Enough
-}
-
 // The longest remainder as one more direction.
 fn take_longest(k: usize, count: usize, z: &mut [f64], left: &mut [f64]) -> Next
     requires { ⌜ (k ≤ 12) × (count < 12) ⌝ }
@@ -128,7 +114,15 @@ fn take_longest(k: usize, count: usize, z: &mut [f64], left: &mut [f64]) -> Next
 {
     let best = longest(k, left);
     match best.square.sqrt() {
-        ScalarResult::Value(l) => take(k, count, best.place, l, z, left),
+        ScalarResult::Value(l) => {
+            let length = l.sharpen();
+            if length.definitely_greater(Scalar::ZERO) {
+                unit(left, 12 * best.place, length, k, z, 12 * count);
+                without(k, z, count, left);
+                return Next::Taken;
+            }
+            Next::Enough
+        }
         ScalarResult::Refused(e) => Next::Refused(LinearError::Arithmetic(e)),
     }
 }

@@ -122,16 +122,6 @@ fn any(marks: &[bool]) -> bool
     false
 }
 
-fn sharpened(t: usize, x: &[f64], w: &mut [f64]) -> Along
-    requires { ⌜ (t ≤ 12) × ((length (now x) ≡ 2 * t) × (length (now w) ≡ 2 * t)) ⌝ }
-    ensures { λ r. ⌜ alongOf r (now (w .exit)) ≡ scalar.ok (weights (sharpOf (now (x .entry)) t)) ⌝ }
-{
-    match linear::sharp(t, x, w) {
-        Done::Finished => Along::Found,
-        Done::Refused(e) => Along::Refused(e),
-    }
-}
-
 // The weights through a factor, where no pivot is left out; x is scratch.
 fn solved(
     t: usize,
@@ -148,31 +138,16 @@ fn solved(
         return Along::NotPositive;
     }
     match linear::solve_cholesky(t, l, left_out, rhs, x) {
-        Done::Finished => sharpened(t, x, w),
+        Done::Finished => {
+            linear::sharp(t, x, w);
+            Along::Found
+        }
         Done::Refused(e) => Along::Refused(e),
     }
 }
 
-// The weights for a reduced matrix, with scratch slices of the right lengths.
-fn weights_in(
-    t: usize,
-    a: &[f64],
-    rhs: &[f64],
-    w: &mut [f64],
-    x: &mut [f64],
-    l: &mut [f64],
-    left_out: &mut [bool],
-) -> Along
-    requires { ⌜ (t ≤ 12) × ((length (now a) ≡ 2 * (t * t)) × ((length (now rhs) ≡ 2 * t) × ((length (now w) ≡ 2 * t) × ((length (now x) ≡ 2 * t) × ((length (now l) ≡ 2 * (t * t)) × (length (now «left_out») ≡ t)))))) ⌝ }
-    ensures { λ r. ⌜ alongOf r (now (w .exit)) ≡ solvedWith t (now (a .entry)) (now (rhs .entry)) ⌝ }
-{
-    match linear::cholesky(t, a, l, left_out) {
-        Done::Finished => solved(t, l, left_out, rhs, w, x),
-        Done::Refused(e) => Along::Refused(e),
-    }
-}
-
-fn weights_sized(t: usize, a: &[f64], rhs: &[f64], w: &mut [f64]) -> Along
+// The weights for a reduced matrix.
+fn weights_for(t: usize, a: &[f64], rhs: &[f64], w: &mut [f64]) -> Along
     requires { ⌜ (t ≤ 12) × ((length (now a) ≡ 2 * (t * t)) × ((length (now rhs) ≡ 2 * t) × (length (now w) ≡ 2 * t))) ⌝ }
     ensures { λ r. ⌜ alongOf r (now (w .exit)) ≡ solvedWith t (now (a .entry)) (now (rhs .entry)) ⌝ }
 {
@@ -181,30 +156,13 @@ fn weights_sized(t: usize, a: &[f64], rhs: &[f64], w: &mut [f64]) -> Along
     let mut x = [0.0; 24];
     let mut l = [0.0; 288];
     let mut left_out = [false; 12];
-    weights_in(t, a, rhs, w, &mut x[..q], &mut l[..e], &mut left_out[..t])
+    match linear::cholesky(t, a, &mut l[..e], &mut left_out[..t]) {
+        Done::Finished => solved(t, &l[..e], &left_out[..t], rhs, w, &mut x[..q]),
+        Done::Refused(e) => Along::Refused(e),
+    }
 }
 
-// The weights along Z against a force, with scratch slices of the right lengths.
-fn weigh_in(
-    k: usize,
-    count: usize,
-    h: &[f64],
-    z: &[f64],
-    force: &[f64],
-    w: &mut [f64],
-    hz: &mut [f64],
-    a: &mut [f64],
-    rhs: &mut [f64],
-) -> Along
-    requires { ⌜ (k ≤ 12) × ((count ≤ 12) × ((length (now w) ≡ 2 * count) × ((length (now hz) ≡ 288) × ((length (now a) ≡ 2 * (count * count)) × (length (now rhs) ≡ 2 * count))))) ⌝ }
-    ensures { λ r. ⌜ alongOf r (now (w .exit)) ≡ solvedWith count (reducedOf (curved k (now (h .entry)) vector) (spanned count (now (z .entry)))) (againstOf (curved k (now (h .entry)) vector) (spanned count (now (z .entry))) (now (force .entry))) ⌝ }
-{
-    bent_rows(k, count, h, z, hz);
-    reduced(k, count, z, hz, a);
-    against(k, count, z, force, rhs);
-    weights_sized(count, a, rhs, w)
-}
-
+// The weights along Z against a force.
 fn weigh(k: usize, count: usize, h: &[f64], z: &[f64], force: &[f64], w: &mut [f64]) -> Along
     requires { ⌜ (k ≤ 12) × ((count ≤ 12) × (length (now w) ≡ 2 * count)) ⌝ }
     ensures { λ r. ⌜ alongOf r (now (w .exit)) ≡ solvedWith count (reducedOf (curved k (now (h .entry)) vector) (spanned count (now (z .entry)))) (againstOf (curved k (now (h .entry)) vector) (spanned count (now (z .entry))) (now (force .entry))) ⌝ }
@@ -214,42 +172,10 @@ fn weigh(k: usize, count: usize, h: &[f64], z: &[f64], force: &[f64], w: &mut [f
     let mut hz = [0.0; 288];
     let mut a = [0.0; 288];
     let mut rhs = [0.0; 24];
-    weigh_in(
-        k,
-        count,
-        h,
-        z,
-        force,
-        w,
-        &mut hz,
-        &mut a[..e],
-        &mut rhs[..q],
-    )
-}
-
-// delta with its part along Z, with scratch slices of the right lengths.
-fn along_in(
-    k: usize,
-    count: usize,
-    h: &[f64],
-    g: &[f64],
-    z: &[f64],
-    delta: &mut [f64],
-    f: &mut [f64],
-    w: &mut [f64],
-) -> Along
-    requires { ⌜ (k ≤ 12) × ((count ≤ 12) × ((length (now f) ≡ 24) × (length (now w) ≡ 2 * count))) ⌝ }
-    ensures { λ r. ⌜ alongOf r (now (delta .exit)) ≡ freePart (curved k (now (h .entry)) (now (g .entry))) (now (delta .entry)) (spanned count (now (z .entry))) ⌝ }
-{
-    force(k, h, g, delta, f);
-    match weigh(k, count, h, z, f, w) {
-        Along::Found => {
-            combine(k, w, z, delta, count);
-            Along::Found
-        }
-        Along::NotPositive => Along::NotPositive,
-        Along::Refused(e) => Along::Refused(e),
-    }
+    bent_rows(k, count, h, z, &mut hz);
+    reduced(k, count, z, &hz, &mut a[..e]);
+    against(k, count, z, force, &mut rhs[..q]);
+    weights_for(count, &a[..e], &rhs[..q], w)
 }
 
 // delta with the step along Z that is least for the model there; none where the damped curvature is not positive along Z.
@@ -267,5 +193,13 @@ pub fn free_part(
     let q = 2 * count;
     let mut f = [0.0; 24];
     let mut w = [0.0; 24];
-    along_in(k, count, h, g, z, delta, &mut f, &mut w[..q])
+    force(k, h, g, delta, &mut f);
+    match weigh(k, count, h, z, &f, &mut w[..q]) {
+        Along::Found => {
+            combine(k, &w[..q], z, delta, count);
+            Along::Found
+        }
+        Along::NotPositive => Along::NotPositive,
+        Along::Refused(e) => Along::Refused(e),
+    }
 }

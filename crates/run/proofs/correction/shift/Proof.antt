@@ -1,8 +1,15 @@
--- `shift` meets its contract: the parts of the arrays have the lengths asked.
-use mathlib.Core.Path.{sym}
+-- `shift` meets its contract: the parts of the arrays have the lengths asked, the solve is the definition's, and what it gives is sharpened.
+use mathlib.Core.Path.{sym, ap, _∙_}
 use Prim.Native.Nat.{_*_, _≤_}
 use native.Mathlib.Omega.{arith}
+use lib.Ieee.{ofBits}
 use lib.Seq.{length-take-le}
+use Rattle.interval.specs.Result.{ok}
+use Rattle.linear.proofs.Folds.{bind-ok, bind-refused}
+use Rattle.run.specs.Correction.{shiftOf}
+use Rattle.run.proofs.BasisLaws.{take-replicate}
+use Rattle.run.proofs.CorrectionLaws.{shift-solved}
+use Rattle.run.proofs.Prefixes.{front-room, front-kept}
 use Rattle.run.proofs.RowLaws.{few}
 use borrow.Author.Needs.{needs}
 use Rattle.run.proofs.correction.shift.Statement.{statement}
@@ -30,40 +37,92 @@ mul-w : tie.Need-mul-w
 mul-w c = search needs
 
 array-borrow-prefix-jc : tie.Need-array-borrow-prefix-jc
-array-borrow-prefix-jc c = room (c .before .before .before .before)
+array-borrow-prefix-jc c = room (c .before .before .before)
 
-slice-aggregate-shift-in : tie.Need-slice-aggregate-shift-in
-slice-aggregate-shift-in c = sym (length-take-le _ _ (room (c .before .before .before .before .before)))
+slice-aggregate-moving-slopes : tie.Need-slice-aggregate-moving-slopes
+slice-aggregate-moving-slopes c = sym (length-take-le _ _ (room (c .before .before .before .before)))
+
+moving-slopes-requires : tie.Need-moving-slopes-requires
+moving-slopes-requires c κs = let s = (c .before .before .before .before) in let p = s .pre in (p .0, (p .1 .0, (p .1 .1 .0, length-take-le _ _ (room s))))
 
 array-borrow-prefix-c : tie.Need-array-borrow-prefix-c
 array-borrow-prefix-c c = search needs
 
-slice-aggregate-shift-in-2 : tie.Need-slice-aggregate-shift-in-2
-slice-aggregate-shift-in-2 c = sym (length-take-le _ _ (high (c .before .before .before .before .before .before)))
+slice-aggregate-chosen : tie.Need-slice-aggregate-chosen
+slice-aggregate-chosen c = sym (length-take-le _ _ (high (c .before .before .before .before .before .before .before)))
 
-array-borrow-prefix-zero : tie.Need-array-borrow-prefix-zero
-array-borrow-prefix-zero c = search needs
+chosen-requires : tie.Need-chosen-requires
+chosen-requires c κs = search needs
 
-slice-aggregate-shift-in-3 : tie.Need-slice-aggregate-shift-in-3
-slice-aggregate-shift-in-3 c = sym (length-take-le _ _ (short (c .before .before .before .before .before .before .before)))
+array-share-prefix-jc : tie.Need-array-share-prefix-jc
+array-share-prefix-jc c = front-room _ (c .before .before .before .before .moving-slopes .last .1 .1 .1 .1 .0) _ (room (c .before .before .before .before .before .before .before .before .before)) (c .before .before .before .before .moving-slopes .kept .1 .1 .1 .1 .0)
+
+slice-aggregate-minus-solved : tie.Need-slice-aggregate-minus-solved
+slice-aggregate-minus-solved c = sym (length-take-le _ _ (front-room _ (c .before .before .before .before .before .moving-slopes .last .1 .1 .1 .1 .0) _ (room (c .before .before .before .before .before .before .before .before .before .before)) (c .before .before .before .before .before .moving-slopes .kept .1 .1 .1 .1 .0)))
+
+array-share-prefix-c : tie.Need-array-share-prefix-c
+array-share-prefix-c c = front-room _ (c .before .before .chosen .last .1 .1 .1 .0) _ (high (c .before .before .before .before .before .before .before .before .before .before)) (c .before .before .chosen .kept .1 .1 .1 .0)
+
+slice-aggregate-minus-solved-2 : tie.Need-slice-aggregate-minus-solved-2
+slice-aggregate-minus-solved-2 c = sym (length-take-le _ _ (front-room _ (c .before .before .before .chosen .last .1 .1 .1 .0) _ (high (c .before .before .before .before .before .before .before .before .before .before .before)) (c .before .before .before .chosen .kept .1 .1 .1 .0)))
+
+array-share-prefix-zero : tie.Need-array-share-prefix-zero
+array-share-prefix-zero c = search needs
+
+slice-aggregate-minus-solved-3 : tie.Need-slice-aggregate-minus-solved-3
+slice-aggregate-minus-solved-3 c = sym (length-take-le _ _ (short (c .before .before .before .before .before .before .before .before .before .before .before .before)))
 
 array-borrow-prefix-out : tie.Need-array-borrow-prefix-out
 array-borrow-prefix-out c = search needs
 
-slice-aggregate-shift-in-4 : tie.Need-slice-aggregate-shift-in-4
-slice-aggregate-shift-in-4 c = sym (length-take-le _ _ (short (c .before .before .before .before .before .before .before .before)))
+slice-aggregate-minus-solved-4 : tie.Need-slice-aggregate-minus-solved-4
+slice-aggregate-minus-solved-4 c = sym (length-take-le _ _ (short (c .before .before .before .before .before .before .before .before .before .before .before .before .before)))
 
-shift-in-requires : tie.Need-shift-in-requires
-shift-in-requires c κs =
-    let s = c .before .before .before .before .before .before .before .before in
-    let p = s .pre in
-    (p .0, (p .1 .0, (p .1 .1 .0, (p .1 .1 .1, (length-take-le _ _ (room s), (length-take-le _ _ (high s), (length-take-le _ _ (short s), length-take-le _ _ (short s))))))))
+minus-solved-requires : tie.Need-minus-solved-requires
+minus-solved-requires c κs = tt
+
+enum-told : tie.Need-enum-told
+enum-told c = search needs
+
+array-share-prefix-out : tie.Need-array-share-prefix-out
+array-share-prefix-out c = front-room _ (c .before .before .before .minus-solved .last .1 .1 .1 .1 .1 .0) _ (short (c .before .before .before .before .before .before .before .before .before .before .before .before .before .before .before .before .before)) (c .before .before .before .minus-solved .kept .1 .1 .1 .1 .1 .0)
+
+slice-aggregate-sharpened : tie.Need-slice-aggregate-sharpened
+slice-aggregate-sharpened c = sym (length-take-le _ _ (front-room _ (c .before .before .before .before .minus-solved .last .1 .1 .1 .1 .1 .0) _ (short (c .before .before .before .before .before .before .before .before .before .before .before .before .before .before .before .before .before .before)) (c .before .before .before .before .minus-solved .kept .1 .1 .1 .1 .1 .0)))
+
+sharpened-requires : tie.Need-sharpened-requires
+sharpened-requires c κs = search needs
+
+enum-known-e : tie.Need-enum-known-e
+enum-known-e c = search needs
 
 same-length : tie.Need-same-length
 same-length c = search needs
 
 returns : tie.Need-returns
-returns c = search needs
+unfolding shiftOf ofBits
+returns c =
+    let s = (c .before .before .before .before .before .before .before .before .before .before .before .before .before .before .before .before .before .before .before .before .before .before) in
+    let a = s .args in
+    let p = s .pre in
+    let fj = front-kept _ (c .before .before .before .before .before .before .before .before .before .before .before .before .before .before .before .before .before .moving-slopes .last .1 .1 .1 .1 .0) _ (room s) (c .before .before .before .before .before .before .before .before .before .before .before .before .before .before .before .before .before .moving-slopes .kept .1 .1 .1 .1 .0) in
+    let fc = front-kept _ (c .before .before .before .before .before .before .before .before .before .before .before .before .before .before .chosen .last .1 .1 .1 .0) _ (high s) (c .before .before .before .before .before .before .before .before .before .before .before .before .before .before .chosen .kept .1 .1 .1 .0) in
+    let fo = front-kept _ (c .before .before .before .before .before .before .before .before .minus-solved .last .1 .1 .1 .1 .1 .0) _ (short s) (c .before .before .before .before .before .before .before .before .minus-solved .kept .1 .1 .1 .1 .1 .0) in
+    let x = shift-solved (a .n) (a .m) (a .moving .now) (a .xs .now) _ _ _ _ _ (c .before .before .before .before .before .before .before .before .minus-solved .result) _ (p .0) (p .1 .0) (length-take-le _ _ (short s)) (length-take-le _ _ (high s)) (c .before .before .before .before .before .before .before .before .before .before .before .before .before .before .before .before .before .moving-slopes .ensures) (c .before .before .before .before .before .before .before .before .before .before .before .before .before .before .chosen .ensures) (take-replicate _ _ _ (short s)) (rw (fj, fc) at (c .before .before .before .before .before .before .before .before .minus-solved .ensures)) in
+    let f = rw (c .before .before .before .before .before .enum-told .given .1) at x in
+    ap ok (rw fo at (c .before .before .sharpened .ensures)) ∙ sym (bind-ok _ (sym f))
+
+returns-2 : tie.Need-returns-2
+unfolding shiftOf ofBits
+returns-2 c =
+    let s = (c .before .before .before .before .before .before .before .before .before .before .before .before .before .before .before .before .before .before) in
+    let a = s .args in
+    let p = s .pre in
+    let fj = front-kept _ (c .before .before .before .before .before .before .before .before .before .before .before .before .before .moving-slopes .last .1 .1 .1 .1 .0) _ (room s) (c .before .before .before .before .before .before .before .before .before .before .before .before .before .moving-slopes .kept .1 .1 .1 .1 .0) in
+    let fc = front-kept _ (c .before .before .before .before .before .before .before .before .before .before .chosen .last .1 .1 .1 .0) _ (high s) (c .before .before .before .before .before .before .before .before .before .before .chosen .kept .1 .1 .1 .0) in
+    let x = shift-solved (a .n) (a .m) (a .moving .now) (a .xs .now) _ _ _ _ _ (c .before .before .before .before .minus-solved .result) (c .before .before .before .before .minus-solved .last .1 .1 .1 .1 .1 .0) (p .0) (p .1 .0) (length-take-le _ _ (short s)) (length-take-le _ _ (high s)) (c .before .before .before .before .before .before .before .before .before .before .before .before .before .moving-slopes .ensures) (c .before .before .before .before .before .before .before .before .before .before .chosen .ensures) (take-replicate _ _ _ (short s)) (rw (fj, fc) at (c .before .before .before .before .minus-solved .ensures)) in
+    let f = rw (c .before .e .given .1) at x in
+    sym (bind-refused _ (sym f))
 
 pub shift-spec : {M : Type 1} → statement M
 shift-spec =
@@ -74,13 +133,25 @@ shift-spec =
     mul-k
     mul-w
     array-borrow-prefix-jc
-    slice-aggregate-shift-in
+    slice-aggregate-moving-slopes
+    moving-slopes-requires
     array-borrow-prefix-c
-    slice-aggregate-shift-in-2
-    array-borrow-prefix-zero
-    slice-aggregate-shift-in-3
+    slice-aggregate-chosen
+    chosen-requires
+    array-share-prefix-jc
+    slice-aggregate-minus-solved
+    array-share-prefix-c
+    slice-aggregate-minus-solved-2
+    array-share-prefix-zero
+    slice-aggregate-minus-solved-3
     array-borrow-prefix-out
-    slice-aggregate-shift-in-4
-    shift-in-requires
+    slice-aggregate-minus-solved-4
+    minus-solved-requires
+    enum-told
+    array-share-prefix-out
+    slice-aggregate-sharpened
+    sharpened-requires
+    enum-known-e
     same-length
-    returns)
+    returns
+    returns-2)

@@ -1,7 +1,8 @@
--- `shift_from` meets its contract: where the shift takes the point, or the refusal.
+-- `shift_from` meets its contract: each test decides one of the definition's, or the shift is refused.
 use mathlib.Core.Path.{refl, sym, _∙_}
 use Rattle.linear.proofs.Folds.{bind-ok, bind-refused}
 use Rattle.run.specs.Correction.{shiftFrom}
+use Rattle.run.proofs.CorrectionLaws.{changes-nothing, goes, not-finite}
 use borrow.Author.Needs.{needs}
 use Rattle.run.proofs.correction.shift_from.Statement.{statement}
 use Rattle.run.proofs.correction.shift_from.Tie as tie
@@ -10,19 +11,25 @@ slice-aggregate-shift : tie.Need-slice-aggregate-shift
 slice-aggregate-shift c = search needs
 
 shift-requires : tie.Need-shift-requires
-shift-requires c κs = let p = c .before .before .before .before .before .pre in (p .0, (p .1 .0, (p .1 .1 .0, refl)))
+shift-requires c κs = let p = (c .before .before .before .before .before) .pre in (p .0, (p .1 .0, (p .1 .1 .0, refl)))
 
 enum-told : tie.Need-enum-told
 enum-told c = search needs
 
-slice-aggregate-shift-by : tie.Need-slice-aggregate-shift-by
-slice-aggregate-shift-by c = search needs
+slice-aggregate-all-finite : tie.Need-slice-aggregate-all-finite
+slice-aggregate-all-finite c = search needs
 
-shift-by-requires : tie.Need-shift-by-requires
-shift-by-requires c κs = search needs
+all-finite-requires : tie.Need-all-finite-requires
+all-finite-requires c κs = search needs
 
-enum-known-e : tie.Need-enum-known-e
-enum-known-e c = search needs
+slice-aggregate-moved : tie.Need-slice-aggregate-moved
+slice-aggregate-moved c = search needs
+
+moved-requires : tie.Need-moved-requires
+moved-requires c κs = search needs
+
+same-requires : tie.Need-same-requires
+same-requires c κs = search needs
 
 same-length : tie.Need-same-length
 same-length c = search needs
@@ -30,12 +37,36 @@ same-length c = search needs
 returns : tie.Need-returns
 unfolding shiftFrom
 returns c =
-    let f = rw (c .before .before .before .before .before .enum-told .given .1) at (c .before .before .before .before .before .before .before .before .shift .ensures) in
-    c .before .before .shift-by .ensures ∙ sym (bind-ok _ (sym f))
+    let a = (c .before .before .before .before .before .before .before .before .before .before .before .before .before .before .before .before .before .before .before .before) .args in
+    let d = c .before .before .before .before .before .before .before .before .before .before .before .before .before .before .shift .last .1 .1 .1 .1 .0 in
+    let f = rw (c .before .before .before .before .before .before .before .before .before .before .before .enum-told .given .1) at (c .before .before .before .before .before .before .before .before .before .before .before .before .before .before .shift .ensures) in
+    changes-nothing (a .n) (a .landed .now) d (c .before .before .before .before .before .before .before .before .before .all-finite .ensures) (c .before .before .before .before .before .moved .ensures) (c .before .same .ensures) (c .before .before .before .before .before .before .before .before .if1 .taken) (c .if2 .taken) ∙ sym (bind-ok _ (sym f))
+
+same-length-2 : tie.Need-same-length-2
+same-length-2 c = search needs
 
 returns-2 : tie.Need-returns-2
 unfolding shiftFrom
 returns-2 c =
+    let a = (c .before .before .before .before .before .before .before .before .before .before .before .before .before .before .before .before .before .before .before .before) .args in
+    let d = c .before .before .before .before .before .before .before .before .before .before .before .before .before .before .shift .last .1 .1 .1 .1 .0 in
+    let f = rw (c .before .before .before .before .before .before .before .before .before .before .before .enum-told .given .1) at (c .before .before .before .before .before .before .before .before .before .before .before .before .before .before .shift .ensures) in
+    goes (a .n) (a .landed .now) d (c .before .before .before .before .before .before .before .before .before .all-finite .ensures) (c .before .before .before .before .before .moved .ensures) (c .before .same .ensures) (c .before .before .before .before .before .before .before .before .if1 .taken) (c .if2 .left) ∙ sym (bind-ok _ (sym f))
+
+enum-known-e : tie.Need-enum-known-e
+enum-known-e c = search needs
+
+returns-3 : tie.Need-returns-3
+unfolding shiftFrom
+returns-3 c =
+    let a = (c .before .before .before .before .before .before .before .before .before .before .before .before) .args in
+    let d = c .before .before .before .before .before .before .shift .last .1 .1 .1 .1 .0 in
+    let f = rw (c .before .before .before .enum-told .given .1) at (c .before .before .before .before .before .before .shift .ensures) in
+    not-finite (a .n) (a .landed .now) d (c .before .all-finite .ensures) (c .if1 .left) ∙ sym (bind-ok _ (sym f))
+
+returns-4 : tie.Need-returns-4
+unfolding shiftFrom
+returns-4 c =
     let f = rw (c .before .e .given .1) at (c .before .before .before .before .shift .ensures) in
     sym (bind-refused _ (sym f))
 
@@ -46,9 +77,15 @@ shift-from-spec =
     slice-aggregate-shift
     shift-requires
     enum-told
-    slice-aggregate-shift-by
-    shift-by-requires
-    enum-known-e
+    slice-aggregate-all-finite
+    all-finite-requires
+    slice-aggregate-moved
+    moved-requires
+    same-requires
     same-length
     returns
-    returns-2)
+    same-length-2
+    returns-2
+    enum-known-e
+    returns-3
+    returns-4)

@@ -1,8 +1,10 @@
--- `along_constraints` meets its contract: the parts of the arrays have the lengths asked.
+-- `along_constraints` meets its contract: the parts of the arrays have the lengths asked and are filled whole, so the solve is the definition's.
 use mathlib.Core.Path.{sym}
 use Prim.Native.Nat.{_*_, _≤_}
 use native.Mathlib.Omega.{arith}
 use lib.Seq.{length-take-le}
+use Rattle.run.proofs.CurvatureLaws.{along-is}
+use Rattle.run.proofs.Prefixes.{front-room, front-kept}
 use Rattle.run.proofs.RowLaws.{few}
 use borrow.Author.Needs.{needs}
 use Rattle.run.proofs.curvature.along_constraints.Statement.{statement}
@@ -23,29 +25,65 @@ mul-q-2 c = omega (arith, room (c .before .before .before))
 mul-k : tie.Need-mul-k
 mul-k c = search needs
 
-array-borrow-prefix-jc : tie.Need-array-borrow-prefix-jc
-array-borrow-prefix-jc c = room (c .before .before .before .before)
+mul-w : tie.Need-mul-w
+mul-w c = search needs
 
-slice-aggregate-along-in : tie.Need-slice-aggregate-along-in
-slice-aggregate-along-in c = sym (length-take-le _ _ (room (c .before .before .before .before .before)))
+mul-chosen : tie.Need-mul-chosen
+mul-chosen c = omega (arith, room (c .before .before .before))
+
+array-borrow-prefix-jc : tie.Need-array-borrow-prefix-jc
+array-borrow-prefix-jc c = room (c .before .before .before)
+
+slice-aggregate-chosen : tie.Need-slice-aggregate-chosen
+slice-aggregate-chosen c = sym (length-take-le _ _ (room (c .before .before .before .before)))
+
+chosen-requires : tie.Need-chosen-requires
+chosen-requires c κs = let s = (c .before .before .before .before) in (omega (arith, s .pre .1 .0), omega (arith, room s))
+
+array-share-prefix-jc : tie.Need-array-share-prefix-jc
+array-share-prefix-jc c = front-room _ (c .before .chosen .last .1 .1 .1 .0) _ (room (c .before .before .before .before .before .before)) (c .before .chosen .kept .1 .1 .1 .0)
+
+slice-aggregate-products : tie.Need-slice-aggregate-products
+slice-aggregate-products c = sym (length-take-le _ _ (front-room _ (c .before .before .chosen .last .1 .1 .1 .0) _ (room (c .before .before .before .before .before .before .before)) (c .before .before .chosen .kept .1 .1 .1 .0)))
 
 array-borrow-prefix-rhs : tie.Need-array-borrow-prefix-rhs
 array-borrow-prefix-rhs c = search needs
 
-slice-aggregate-along-in-2 : tie.Need-slice-aggregate-along-in-2
-slice-aggregate-along-in-2 c = sym (length-take-le _ _ (high (c .before .before .before .before .before .before)))
+slice-aggregate-products-2 : tie.Need-slice-aggregate-products-2
+slice-aggregate-products-2 c = sym (length-take-le _ _ (high (c .before .before .before .before .before .before .before .before)))
 
-along-in-requires : tie.Need-along-in-requires
-along-in-requires c κs =
-    let s = c .before .before .before .before .before .before in
-    let p = s .pre in
-    (p .0, (p .1 .0, (p .1 .1 .0, (p .1 .1 .1, (length-take-le _ _ (room s), length-take-le _ _ (high s))))))
+products-requires : tie.Need-products-requires
+products-requires c κs = search needs
+
+array-share-prefix-jc-2 : tie.Need-array-share-prefix-jc-2
+array-share-prefix-jc-2 c = front-room _ (c .before .before .before .before .before .chosen .last .1 .1 .1 .0) _ (room (c .before .before .before .before .before .before .before .before .before .before)) (c .before .before .before .before .before .chosen .kept .1 .1 .1 .0)
+
+slice-aggregate-minus-solved : tie.Need-slice-aggregate-minus-solved
+slice-aggregate-minus-solved c = sym (length-take-le _ _ (front-room _ (c .before .before .before .before .before .before .chosen .last .1 .1 .1 .0) _ (room (c .before .before .before .before .before .before .before .before .before .before .before)) (c .before .before .before .before .before .before .chosen .kept .1 .1 .1 .0)))
+
+array-share-prefix-rhs : tie.Need-array-share-prefix-rhs
+array-share-prefix-rhs c = front-room _ (c .before .before .products .last .1 .1 .1 .1 .0) _ (high (c .before .before .before .before .before .before .before .before .before .before .before)) (c .before .before .products .kept .1 .1 .1 .1 .0)
+
+slice-aggregate-minus-solved-2 : tie.Need-slice-aggregate-minus-solved-2
+slice-aggregate-minus-solved-2 c = sym (length-take-le _ _ (front-room _ (c .before .before .before .products .last .1 .1 .1 .1 .0) _ (high (c .before .before .before .before .before .before .before .before .before .before .before .before)) (c .before .before .before .products .kept .1 .1 .1 .1 .0)))
+
+slice-aggregate-minus-solved-3 : tie.Need-slice-aggregate-minus-solved-3
+slice-aggregate-minus-solved-3 c = sym (length-take-le _ _ ((c .before .before .before .before .before .before .before .before .before .before .before .before .before) .pre .1 .1 .0))
+
+minus-solved-requires : tie.Need-minus-solved-requires
+minus-solved-requires c κs = tt
 
 same-length : tie.Need-same-length
 same-length c = search needs
 
 returns : tie.Need-returns
-returns c = search needs
+returns c =
+    let s = (c .before .before .before .before .before .before .before .before .before .before .before .before .before .before .before .before .before) in
+    let a = s .args in
+    let p = s .pre in
+    let fj = front-kept _ (c .before .before .before .before .before .before .before .before .before .before .before .before .chosen .last .1 .1 .1 .0) _ (room s) (c .before .before .before .before .before .before .before .before .before .before .before .before .chosen .kept .1 .1 .1 .0) in
+    let fr = front-kept _ (c .before .before .before .before .before .before .before .before .products .last .1 .1 .1 .1 .0) _ (high s) (c .before .before .before .before .before .before .before .before .products .kept .1 .1 .1 .1 .0) in
+    along-is (a .n) (a .m) (a .xs .now) (a .v .now) _ _ (a .out .now) (p .0) (p .1 .0) (p .1 .1 .0) _ _ (c .before .before .minus-solved .result) _ (p .1 .1 .1) (length-take-le _ _ (room s)) (length-take-le _ _ (high s)) (c .before .before .before .before .before .before .before .before .before .before .before .before .chosen .ensures) (rw fj at (c .before .before .before .before .before .before .before .before .products .ensures)) (rw (fj, fr) at (c .before .before .minus-solved .ensures))
 
 pub along-constraints-spec : {M : Type 1} → statement M
 along-constraints-spec =
@@ -54,10 +92,21 @@ along-constraints-spec =
     mul-q
     mul-q-2
     mul-k
+    mul-w
+    mul-chosen
     array-borrow-prefix-jc
-    slice-aggregate-along-in
+    slice-aggregate-chosen
+    chosen-requires
+    array-share-prefix-jc
+    slice-aggregate-products
     array-borrow-prefix-rhs
-    slice-aggregate-along-in-2
-    along-in-requires
+    slice-aggregate-products-2
+    products-requires
+    array-share-prefix-jc-2
+    slice-aggregate-minus-solved
+    array-share-prefix-rhs
+    slice-aggregate-minus-solved-2
+    slice-aggregate-minus-solved-3
+    minus-solved-requires
     same-length
     returns)

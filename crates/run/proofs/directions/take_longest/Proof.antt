@@ -1,8 +1,15 @@
--- `take_longest` meets its contract: the root decides, and each arm is the definition's.
+-- `take_longest` meets its contract: the root decides, then the test on the length, and each arm is the definition's.
+use Prim.Native.Nat.{_-_, _<_}
+use native.Mathlib.Omega.{arith}
+use lib.Ieee.{ofBits}
+use Rattle.run.proofs.DirectionLaws.{longest-place, longest-root, longest-low, turn-refused, turn-last, turn-on}
 use borrow.Author.Needs.{needs}
-use Rattle.run.proofs.DirectionLaws.{longest-place, longest-root, turn-refused}
 use Rattle.run.proofs.directions.take_longest.Statement.{statement}
 use Rattle.run.proofs.directions.take_longest.Tie as tie
+
+-- the remainder's row
+near : (k : tie.After-longest) → k .longest .result .place < 12
+near k = let s = k .before .before .before .before in omega (arith, s .pre .0, longest-place _ _ _ (k .longest .ensures), longest-low (s .args .k) (s .args .left .now) (s .args .k - 1))
 
 longest-requires : tie.Need-longest-requires
 longest-requires c κs = search needs
@@ -13,14 +20,23 @@ sqrt-requires c κs = search needs
 enum-known-l : tie.Need-enum-known-l
 enum-known-l c = search needs
 
-take-requires : tie.Need-take-requires
-take-requires c κs =
-    let b = c .before .before .before .before .before .before .longest .ensures in
-    let r = rw (c .before .before .before .l .given .1) at (c .before .before .before .before .before .sqrt .ensures .value) in
-    (c .before .before .before .before .before .before .before .before .before .before .pre .0, (c .before .before .before .before .before .before .before .before .before .before .pre .1, (longest-place _ _ _ b, longest-root _ _ _ b r)))
+sharpen-requires : tie.Need-sharpen-requires
+sharpen-requires c κs = search needs
 
-enum-known-e : tie.Need-enum-known-e
-enum-known-e c = search needs
+definitely-greater-requires : tie.Need-definitely-greater-requires
+definitely-greater-requires c κs = search needs
+
+mul-unit : tie.Need-mul-unit
+mul-unit c = omega (arith, near (c .before .before .before .before .before .before .before .before .before))
+
+mul-unit-2 : tie.Need-mul-unit-2
+mul-unit-2 c = search needs
+
+unit-requires : tie.Need-unit-requires
+unit-requires c κs = (omega (arith, near (c .before .before .before .before .before .before .before .before .before .before)), (omega (arith, (c .before .before .before .before .before .before .before .before .before .before .before .before .before .before) .pre), omega (arith, (c .before .before .before .before .before .before .before .before .before .before .before .before .before .before) .pre)))
+
+without-requires : tie.Need-without-requires
+without-requires c κs = search needs
 
 same-length : tie.Need-same-length
 same-length c = search needs
@@ -29,13 +45,30 @@ same-length-2 : tie.Need-same-length-2
 same-length-2 c = search needs
 
 returns : tie.Need-returns
-returns c = c .before .before .before .before .take .ensures
+unfolding ofBits
+returns c =
+    let b = c .before .before .before .before .before .before .before .before .before .before .before .before .before .before .before .before .before .before .longest .ensures in
+    let r = rw (c .before .before .before .before .before .before .before .before .before .before .before .before .before .before .before .l .given .1) at (c .before .before .before .before .before .before .before .before .before .before .before .before .before .before .before .before .before .sqrt .ensures .value) in
+    turn-on _ _ (longest-place _ _ _ b) (longest-root _ _ _ b r) (c .before .before .before .before .before .before .before .before .before .before .before .before .before .sharpen .ensures) (c .before .before .before .before .before .before .before .before .before .before .before .before .definitely-greater .ensures) (c .before .before .before .before .before .before .before .before .before .before .before .if1 .taken) (c .before .before .before .before .before .before .before .unit .ensures) (c .before .before .without .ensures)
+
+enum-known-e : tie.Need-enum-known-e
+enum-known-e c = search needs
 
 same-length-3 : tie.Need-same-length-3
 same-length-3 c = search needs
 
 returns-2 : tie.Need-returns-2
+unfolding ofBits
 returns-2 c =
+    let b = c .before .before .before .before .before .before .before .longest .ensures in
+    let r = rw (c .before .before .before .before .l .given .1) at (c .before .before .before .before .before .before .sqrt .ensures .value) in
+    turn-last _ _ (longest-place _ _ _ b) (longest-root _ _ _ b r) (c .before .before .sharpen .ensures) (c .before .definitely-greater .ensures) (c .if1 .left)
+
+same-length-4 : tie.Need-same-length-4
+same-length-4 c = search needs
+
+returns-3 : tie.Need-returns-3
+returns-3 c =
     let b = c .before .before .before .before .longest .ensures in
     let r = rw (c .before .e .given .1) at (c .before .before .before .sqrt .ensures .value) in
     turn-refused _ _ (longest-place _ _ _ b) (longest-root _ _ _ b r)
@@ -47,10 +80,17 @@ take-longest-spec =
     longest-requires
     sqrt-requires
     enum-known-l
-    take-requires
-    enum-known-e
+    sharpen-requires
+    definitely-greater-requires
+    mul-unit
+    mul-unit-2
+    unit-requires
+    without-requires
     same-length
     same-length-2
     returns
+    enum-known-e
     same-length-3
-    returns-2)
+    returns-2
+    same-length-4
+    returns-3)
