@@ -10,7 +10,7 @@ use Rattle.interval.specs.declared.Scalar.{Scalar}
 use Rattle.interval.specs.Result.{Res, ok, refused}
 use Rattle.interval.specs.Scalar.{two64, zeroS, degenerate, pick, addOf, subOf, mulOf, sharpen, upper, definitelyGreater, definitelyLess}
 use Rattle.interval.specs.Scaling.{three64, four64, isPositive}
-use Rattle.run.specs.Area.{Memory, Holds, startOf}
+use Rattle.run.specs.Area.{Memory, Holds, startOf, written, withAsked}
 use Rattle.run.specs.Run.{Bounded, Underway, held, linearOf, reachOf, landing, standingOn, landedAt}
 use Rattle.linear.specs.Flat.{at}
 use Rattle.run.specs.Correction.{Shift, shiftOf, shiftFrom, shiftedStep}
@@ -63,6 +63,11 @@ shifted-read st {w} {a} h e =
     e
     ∙ ap (λ (xs : List Float). shiftFrom (st .moving) (constraintsOf (st .sizes .n) (st .sizes .m) xs) (take 24 (drop 24 a))) (landed-rows-read h)
     ∙ ap (λ (x : List Float). shiftFrom (st .moving) (landedAt st w .constraints) x) (landed-read h)
+
+-- a point asked, in its slot
+pub asked-read : {w : Memory} {a b : List Float} → Holds w a → (next : List Float) → b ≡ written a 48 next → length next ≡ 24 → Holds (withAsked w next) b
+unfolding startOf
+asked-read {w} h next e l = holds-of (withAsked w next) (wrote (slots-of h) 2 next (omega arith) l e)
 
 -- marks that are read as they stand
 pub marks-count : (m : List Bool) {n : ℕ} → length (map (λ (v : Bool). v) m) ≡ n → length m ≡ n

@@ -5,7 +5,7 @@ ghost use Prim.Native.Nat.{ℕ, _+_, _<_, _≤_};
 ghost use lib.ListN.{length, take, drop, getD};
 ghost use Rattle.interval.specs.Scalar.{pick};
 ghost use Rattle.linear.specs.Flat.{zeros};
-ghost use Rattle.run.specs.Area.{Memory, padded, written, Holds, startOf, tidiedTo, isOpen, isTried, isCorrected, memoryOf, begunMemory, onlyStanding, withStart, withTrial, withAsked, withLanded, withTaken};
+ghost use Rattle.run.specs.Area.{Memory, padded, written, Holds, startOf, tidiedTo, isOpen, isTried, isCorrected, memoryOf, begunMemory, onlyStanding, withStart, withTrial, withLanded, withTaken};
 ghost use Rattle.run.specs.Run.{filterWith};
 use crate::state::Kind;
 use crate::state::Phase;
@@ -218,14 +218,6 @@ pub fn with_trial(area: &mut [f64], next: &[f64], delta: &[f64], lambda: &[f64])
     clear_from(area, LANDED_ROWS, ROWS);
     place(area, STEP, delta);
     place(area, MULTIPLIERS, lambda);
-}
-
-// A correction asked.
-pub fn with_asked(area: &mut [f64], next: &[f64])
-    requires { ⌜ (length (now area) ≡ 8000) × (length (now next) ≡ 24) ⌝ }
-    ensures { λ _. ⌜ ((w : Memory) → Holds w (now (area .entry)) → Holds (withAsked w (now (next .entry))) (now (area .exit))) ⌝ }
-{
-    place(area, ASKED, next);
 }
 
 // The asked point landed, with its rows.

@@ -48,7 +48,7 @@ fn correct(st: State, area: &mut [f64], theta: Scalar) -> Out
     );
     match shifted {
         Shifted::To => {
-            area::with_asked(area, &next);
+            area::place(area, area::ASKED, &next);
             ask(st, Kind::Correction, st.counts.corrections)
         }
         Shifted::Stay => judge_landed(st, area, theta),

@@ -9,7 +9,7 @@ ghost use Rattle.interval.specs.Scaling.{isPositive};
 ghost use Rattle.run.specs.Proposal.{standingWith, proposalResult};
 ghost use Rattle.run.specs.Rows.{evaluationOf};
 ghost use Rattle.run.specs.Search as defined;
-ghost use Rattle.run.specs.Search.{rejectedFor, withRadius, grown, retried, anew, flatOr, damped, goesOn, stopsAt, follow, searchOf, turnOf, foundResult, turnResult};
+ghost use Rattle.run.specs.Search.{anew, flatOr, damped, goesOn, stopsAt, follow, searchOf, turnOf, foundResult, turnResult};
 use crate::proposal::Proposal;
 use crate::proposal::propose;
 use crate::state::Rejection;
@@ -38,44 +38,6 @@ pub enum Turn {
     Leave(Found),
 }
 
-pub fn rejected_for(x: Search, rejected: Rejection) -> Search
-    ensures { λ r. ⌜ r ≡ rejectedFor x rejected ⌝ }
-{
-    Search { rejected, ..x }
-}
-
-pub fn with_radius(x: Search, radius: Scalar) -> Search
-    ensures { λ r. ⌜ r ≡ withRadius x radius ⌝ }
-{
-    Search { radius, ..x }
-}
-
-// Four times the damping, and a turn-down.
-fn grow(x: Search) -> Search
-    requires { ⌜ x .«turned_down» < 2 ^ 32 ⌝ }
-    ensures { λ r. ⌜ r ≡ grown x ⌝ }
-{
-    let mu = x.mu.mul(Scalar::degenerate(4.0)).sharpen();
-    Search {
-        mu,
-        turned_down: x.turned_down + 1,
-        first: false,
-        ..x
-    }
-}
-
-// The retry without the curvature learned: a turn-down.
-pub fn retry(x: Search) -> Search
-    requires { ⌜ x .«turned_down» < 2 ^ 32 ⌝ }
-    ensures { λ r. ⌜ r ≡ retried x ⌝ }
-{
-    Search {
-        turned_down: x.turned_down + 1,
-        plain: true,
-        ..x
-    }
-}
-
 // A new iteration's.
 pub fn renew(x: Search, mu: Scalar, radius: Scalar) -> Search
     ensures { λ r. ⌜ r ≡ anew x mu radius ⌝ }
@@ -90,13 +52,18 @@ pub fn renew(x: Search, mu: Scalar, radius: Scalar) -> Search
     }
 }
 
-// With more damping, while that is finite.
+// Four times the damping and a turn-down, while that damping is finite.
 pub fn damp(x: Search) -> Damped
     requires { ⌜ x .«turned_down» < 2 ^ 32 ⌝ }
     ensures { λ r. ⌜ r ≡ damped goesOn stopsAt x ⌝ }
 {
-    let y = grow(x);
-    let mu = y.mu;
+    let mu = x.mu.mul(Scalar::degenerate(4.0)).sharpen();
+    let y = Search {
+        mu,
+        turned_down: x.turned_down + 1,
+        first: false,
+        ..x
+    };
     if mu.is_finite() {
         return Damped::On(y);
     }
@@ -138,9 +105,20 @@ fn follow(p: Proposal, x: Search, m: usize, max: Scalar) -> Turn
         Proposal::NoDrop(r) => Turn::Leave(Found::Stop(x, flat(x, r, m))),
         Proposal::Refused(e) => Turn::Leave(Found::Refused(x, e)),
         Proposal::Unresolved => {
-            turned(damp(rejected_for(with_radius(x, max), Rejection::Unresolved)))
+            let y = Search {
+                radius: max,
+                rejected: Rejection::Unresolved,
+                ..x
+            };
+            turned(damp(y))
         }
-        Proposal::NotPositive => turned(damp(rejected_for(x, Rejection::NotPositive))),
+        Proposal::NotPositive => {
+            let y = Search {
+                rejected: Rejection::NotPositive,
+                ..x
+            };
+            turned(damp(y))
+        }
     }
 }
 

@@ -18,13 +18,13 @@ use crate::rows;
 use crate::state::Out;
 use crate::state::State;
 use crate::states::standing_on;
+use crate::turns::bent;
 use crate::turns::iterate;
 use interval::Scalar;
 use interval::ScalarResult;
 use linear::Answer;
 use linear::Done;
 use linear::LinearError;
-use linear::clear;
 
 // Whether the constraints came as near as their linearization said.
 pub enum Linear {
@@ -83,24 +83,12 @@ fn reach(length: Scalar, radius: Scalar, max: Scalar, linear: bool) -> Scalar
     max
 }
 
-// The curvature that a proposal goes by: none in plain.
-fn curvature_of(plain: bool, area: &[f64], b: &mut [f64])
-    requires { ⌜ (length (now area) ≡ 8000) × (length (now b) ≡ 288) ⌝ }
-    ensures { λ _. ⌜ ((w : Memory) → Holds w (now (area .entry)) → now (b .exit) ≡ pick plain (zeros 288) (w .curvature)) ⌝ }
-{
-    if plain {
-        clear(b);
-    } else {
-        area::place(b, 0, &area[area::CURVATURE..area::FILTER]);
-    }
-}
-
-// The curvature after the step, into b.
+// The curvature after the step, over +0 into b.
 fn learn(n: usize, m: usize, s: usize, plain: bool, area: &[f64], b: &mut [f64]) -> Done
-    requires { ⌜ (n ≤ 12) × ((m ≤ 12) × ((s ≤ 24) × ((length (now area) ≡ 8000) × (length (now b) ≡ 288)))) ⌝ }
+    requires { ⌜ (n ≤ 12) × ((m ≤ 12) × ((s ≤ 24) × ((length (now area) ≡ 8000) × (now b ≡ zeros 288)))) ⌝ }
     ensures { λ r. ⌜ ((w : Memory) → Holds w (now (area .entry)) → doneOf r (now (b .exit)) ≡ updateCurvature n (pick plain (zeros 288) (w .curvature)) (w .step) (evaluationOf n m s (w .standingRows)) (evaluationOf n m s (w .landedRows)) (w .multipliers)) ⌝ }
 {
-    curvature_of(plain, area, b);
+    bent(plain, &area[area::CURVATURE..area::FILTER], b);
     update_curvature(
         n,
         m,

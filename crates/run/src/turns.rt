@@ -19,13 +19,11 @@ use crate::rows::violation;
 use crate::search::Damped;
 use crate::search::Found;
 use crate::search::damp;
-use crate::search::rejected_for;
-use crate::search::retry;
 use crate::search::seek;
-use crate::search::with_radius;
 use crate::state::Kind;
 use crate::state::Out;
 use crate::state::Rejection;
+use crate::state::Search;
 use crate::state::State;
 use crate::state::Stop;
 use crate::states::with_search;
@@ -58,7 +56,7 @@ fn left_at(
 }
 
 // The curvature that a proposal goes by, over +0: none in plain.
-fn bent(plain: bool, curvature: &[f64], b: &mut [f64])
+pub fn bent(plain: bool, curvature: &[f64], b: &mut [f64])
     requires { ⌜ length (now curvature) ≡ length (now b) ⌝ }
     ensures { λ _. ⌜ now (b .exit) ≡ pick plain (now (b .entry)) (now (curvature .entry)) ⌝ }
 {
@@ -126,12 +124,20 @@ pub fn turn_down(st: State, area: &mut [f64], why: Rejection) -> Out
     ensures { λ r. ⌜ ((w : Memory) → Holds w (now (area .entry)) → Leaves (run.turnDown st w why) r (now (area .exit))) ⌝ }
 {
     let t = st.trial;
-    let x = rejected_for(st.search, why);
+    let from = st.search;
+    let x = Search {
+        rejected: why,
+        ..from
+    };
     match t.tried.div(Scalar::degenerate(4.0)) {
-        ScalarResult::Value(q) => match damp(with_radius(x, q.sharpen())) {
-            Damped::On(y) => search(with_search(st, y), area),
-            Damped::Stop(y, stop) => finish(with_search(st, y), area, stop),
-        },
+        ScalarResult::Value(q) => {
+            let radius = q.sharpen();
+            let within = Search { radius, ..x };
+            match damp(within) {
+                Damped::On(y) => search(with_search(st, y), area),
+                Damped::Stop(y, stop) => finish(with_search(st, y), area, stop),
+            }
+        }
         ScalarResult::Refused(e) => refuse(with_search(st, x), area, LinearError::Arithmetic(e)),
     }
 }
@@ -155,7 +161,12 @@ pub fn not_lower(st: State, area: &mut [f64]) -> Out
     let z = st.sizes;
     let x = st.search;
     if may_retry(x.plain, z.n, area) {
-        let y = retry(rejected_for(x, Rejection::NotLower));
+        let y = Search {
+            turned_down: x.turned_down + 1,
+            plain: true,
+            rejected: Rejection::NotLower,
+            ..x
+        };
         return search(with_search(st, y), area);
     }
     turn_down(st, area, Rejection::NotLower)

@@ -1,10 +1,11 @@
 -- `correct` meets its contract: each way out is the definition's.
 use mathlib.Core.Path.{_≡_, refl, sym, ap}
+use native.Mathlib.Omega.{arith}
 use lib.ListN.{length}
 use Rattle.run.specs.Correction.{shiftedOf}
 use Rattle.run.specs.declared.correction.Shifted.{Shifted}
 use Rattle.run.proofs.FollowLaws.{correct-asks, correct-stays, correct-refused}
-use Rattle.run.proofs.ReadLaws.{marks-count, shifted-read}
+use Rattle.run.proofs.ReadLaws.{marks-count, shifted-read, asked-read}
 use borrow.Author.Needs.{needs}
 use Rattle.run.proofs.landing.correct.Statement.{statement}
 use Rattle.run.proofs.landing.correct.Tie as tie
@@ -43,11 +44,11 @@ shift-from-requires c κs = let s = c .before .before .before .before .before .b
 enum-told : tie.Need-enum-told
 enum-told c = search needs
 
-slice-aggregate-with-asked : tie.Need-slice-aggregate-with-asked
-slice-aggregate-with-asked c = search needs
+slice-aggregate-place : tie.Need-slice-aggregate-place
+slice-aggregate-place c = search needs
 
-with-asked-requires : tie.Need-with-asked-requires
-with-asked-requires c κs = (c .before .before .before .before .before .before .before .before .before .before .before .before .before .pre .0, c .before .before .before .before .before .shift-from .kept .1 .1 .1 .1 .1 .0)
+place-requires : tie.Need-place-requires
+place-requires c κs = omega (arith, c .before .before .before .before .before .before .before .before .before .before .before .before .before .pre .0, c .before .before .before .before .before .shift-from .kept .1 .1 .1 .1 .1 .0)
 
 ask-requires : tie.Need-ask-requires
 ask-requires c κs = c .before .before .before .before .before .before .before .before .before .before .before .before .before .before .before .before .pre .1 .bounded .few-questions
@@ -71,7 +72,7 @@ returns : tie.Need-returns
 returns c w h =
     let a = c .before .before .before .before .before .before .before .before .before .before .before .before .before .before .before .before .before .args in
     let x = c .before .before .before .before .before .before .before .before .before .shift-from in
-    correct-asks (a .st) w (a .theta) refl (shifted-read (a .st) h (x .ensures)) (ap (λ (r : Shifted). shiftedOf r (x .last .1 .1 .1 .1 .1 .0)) (c .before .before .before .before .before .before .enum-told .given .1)) (c .ask .ensures _ _ (c .before .before .before .with-asked .ensures w h))
+    correct-asks (a .st) w (a .theta) refl (shifted-read (a .st) h (x .ensures)) (ap (λ (r : Shifted). shiftedOf r (x .last .1 .1 .1 .1 .1 .0)) (c .before .before .before .before .before .before .enum-told .given .1)) (c .ask .ensures _ _ (asked-read h (x .last .1 .1 .1 .1 .1 .0) (c .before .before .before .place .ensures) (x .kept .1 .1 .1 .1 .1 .0)))
 
 same-length-2 : tie.Need-same-length-2
 same-length-2 c = search needs
@@ -105,8 +106,8 @@ correct-spec =
     slice-aggregate-shift-from-2
     shift-from-requires
     enum-told
-    slice-aggregate-with-asked
-    with-asked-requires
+    slice-aggregate-place
+    place-requires
     ask-requires
     enum-told-2
     judge-landed-requires

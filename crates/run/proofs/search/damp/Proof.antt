@@ -1,27 +1,50 @@
--- `damp` meets its contract: the test decides.
+-- `damp` meets its contract: the damping is the definition's, from what each call gives, and the test decides.
 use mathlib.Core.Path.{_≡_, ap, _∙_}
+use lib.Ieee.{ofBits}
+use Rattle.interval.specs.Scalar.{isFinite, mulOf, sharpen}
+use Rattle.interval.specs.Scaling.{quadrupled}
 use borrow.Author.Needs.{needs}
-use Rattle.interval.specs.Scalar.{isFinite}
-use Rattle.run.specs.Search.{grown}
-use Rattle.run.specs.declared.state.Search.{Search}
 use Rattle.run.proofs.search.damp.Statement.{statement}
 use Rattle.run.proofs.search.damp.Tie as tie
 
--- the test
-tested : (k : tie.After-is-finite) → k .is-finite .result ≡ isFinite (grown (k .before .before .before .args .x) .mu)
-tested k = k .is-finite .ensures ∙ ap (λ (y : Search). isFinite (y .mu)) (k .before .before .grow .ensures)
+-- the damping, and the test
+module _ (k : tie.After-is-finite) where
+  quadruple : k .before .before .before .sharpen .result ≡ quadrupled (k .before .before .before .before .before .before .args .x .mu)
+  unfolding ofBits
+  quadruple = k .before .before .before .sharpen .ensures ∙ ap sharpen (k .before .before .before .before .mul .ensures .value ∙ ap (mulOf (k .before .before .before .before .before .before .args .x .mu)) (k .before .before .before .before .before .degenerate .ensures))
 
-grow-requires : tie.Need-grow-requires
-grow-requires c κs = search needs
+  tested : k .is-finite .result ≡ isFinite (quadrupled (k .before .before .before .before .before .before .args .x .mu))
+  tested = k .is-finite .ensures ∙ ap isFinite quadruple
+
+degenerate-requires : tie.Need-degenerate-requires
+degenerate-requires c κs = search needs
+
+mul-requires : tie.Need-mul-requires
+mul-requires c κs = search needs
+
+sharpen-requires : tie.Need-sharpen-requires
+sharpen-requires c κs = search needs
+
+add-t7 : tie.Need-add-t7
+add-t7 c = search needs
 
 is-finite-requires : tie.Need-is-finite-requires
 is-finite-requires c κs = search needs
 
 returns : tie.Need-returns
-returns c = rw (← tested (c .before), c .if1 .taken, c .before .before .before .grow .ensures)
+returns c = let k = c .before in rw (← tested k, c .if1 .taken, quadruple k)
 
 returns-2 : tie.Need-returns-2
-returns-2 c = rw (← tested (c .before), c .if1 .left, c .before .before .before .grow .ensures)
+returns-2 c = let k = c .before in rw (← tested k, c .if1 .left, quadruple k)
 
 pub damp-spec : {M : Type 1} → statement M
-damp-spec = tie.close (tie.spec grow-requires is-finite-requires returns returns-2)
+damp-spec =
+    tie.close
+    (tie.spec
+    degenerate-requires
+    mul-requires
+    sharpen-requires
+    add-t7
+    is-finite-requires
+    returns
+    returns-2)

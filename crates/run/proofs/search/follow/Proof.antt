@@ -1,11 +1,10 @@
 -- `follow` meets its contract: each arm is the definition's.
-use mathlib.Core.Path.{_≡_, ap, _∙_}
-use borrow.Author.Needs.{needs}
-use Rattle.run.specs.Search.{stops, rejectedFor, withRadius, damped, goesOn, stopsAt, turnOf}
-use Rattle.run.specs.declared.state.Search.{Search}
+use mathlib.Core.Path.{ap, _∙_}
+use Rattle.run.specs.Search.{stops, rejectedFor, withRadius, turnOf}
 use Rattle.run.specs.declared.state.Rejection.the-variants as why
 use Rattle.run.specs.declared.state.Stop.{Stop}
 use Rattle.run.proofs.SearchLaws.{damped-turn}
+use borrow.Author.Needs.{needs}
 use Rattle.run.proofs.search.follow.Statement.{statement}
 use Rattle.run.proofs.search.follow.Tie as tie
 
@@ -27,14 +26,8 @@ enum-known-p-3 c = search needs
 enum-told-2 : tie.Need-enum-told-2
 enum-told-2 c = search needs
 
-with-radius-requires : tie.Need-with-radius-requires
-with-radius-requires c κs = search needs
-
-rejected-for-requires : tie.Need-rejected-for-requires
-rejected-for-requires c κs = search needs
-
 damp-requires : tie.Need-damp-requires
-damp-requires c κs = rw (c .rejected-for .ensures, c .before .with-radius .ensures) (c .before .before .before .before .pre)
+damp-requires c κs = c .before .before .before .pre
 
 turned-requires : tie.Need-turned-requires
 turned-requires c κs = search needs
@@ -42,11 +35,8 @@ turned-requires c κs = search needs
 enum-told-3 : tie.Need-enum-told-3
 enum-told-3 c = search needs
 
-rejected-for-requires-2 : tie.Need-rejected-for-requires-2
-rejected-for-requires-2 c κs = search needs
-
 damp-requires-2 : tie.Need-damp-requires-2
-damp-requires-2 c κs = rw (c .rejected-for2 .ensures) (c .before .before .before .pre)
+damp-requires-2 c κs = c .before .before .before .before .pre
 
 turned-requires-2 : tie.Need-turned-requires-2
 turned-requires-2 c κs = search needs
@@ -64,18 +54,10 @@ returns-4 : tie.Need-returns-4
 returns-4 c on delta lambda next = rw (c .before .p3 .given .1)
 
 returns-5 : tie.Need-returns-5
-returns-5 c on delta lambda next =
-    let a = c .before .before .before .before .before .before .args in
-    let x : c .before .before .rejected-for .result ≡ rejectedFor (withRadius (a .x) (a .max)) why.Unresolved =
-    c .before .before .rejected-for .ensures ∙ ap (λ (y : Search). rejectedFor y why.Unresolved) (c .before .before .before .with-radius .ensures) in
-    rw (c .before .before .before .before .enum-told2 .given .1)
-    (damped-turn (rejectedFor (withRadius (a .x) (a .max)) why.Unresolved) (c .turned .ensures ∙ ap turnOf (c .before .damp .ensures ∙ ap (λ (y : Search). damped goesOn stopsAt y) x)) on delta lambda next)
+returns-5 c on delta lambda next = let a = c .before .before .before .before .before .args in rw (c .before .before .before .enum-told2 .given .1) (damped-turn (rejectedFor (withRadius (a .x) (a .max)) why.Unresolved) (c .turned .ensures ∙ ap turnOf (c .before .damp .ensures)) on delta lambda next)
 
 returns-6 : tie.Need-returns-6
-returns-6 c on delta lambda next =
-    let a = c .before .before .before .before .before .args in
-    rw (c .before .before .before .enum-told3 .given .1)
-    (damped-turn (rejectedFor (a .x) why.NotPositive) (c .turned2 .ensures ∙ ap turnOf (c .before .damp2 .ensures ∙ ap (λ (y : Search). damped goesOn stopsAt y) (c .before .before .rejected-for2 .ensures))) on delta lambda next)
+returns-6 c on delta lambda next = rw (c .before .before .before .before .enum-told3 .given .1) (damped-turn (rejectedFor (c .before .before .before .before .before .before .args .x) why.NotPositive) (c .turned2 .ensures ∙ ap turnOf (c .before .damp2 .ensures)) on delta lambda next)
 
 pub follow-spec : {M : Type 1} → statement M
 follow-spec =
@@ -87,12 +69,9 @@ follow-spec =
     flat-requires
     enum-known-p-3
     enum-told-2
-    with-radius-requires
-    rejected-for-requires
     damp-requires
     turned-requires
     enum-told-3
-    rejected-for-requires-2
     damp-requires-2
     turned-requires-2
     returns

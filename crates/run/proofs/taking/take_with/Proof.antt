@@ -2,7 +2,7 @@
 use mathlib.Core.List.{List}
 use mathlib.Core.Path.{refl, sym, ap, subst, _∙_}
 use native.Mathlib.Omega.{arith}
-use lib.Ieee.{Float}
+use lib.Ieee.{Float, ofBits}
 use Rattle.linear.specs.Answers.{doneOf}
 use Rattle.linear.specs.declared.answers.Done.{Done}
 use Rattle.run.specs.Rows.{sumOf, sumSquared}
@@ -19,6 +19,7 @@ slice-aggregate-learn : tie.Need-slice-aggregate-learn
 slice-aggregate-learn c = search needs
 
 learn-requires : tie.Need-learn-requires
+unfolding ofBits
 learn-requires c κs = let s = c .before .before .before .before in let b = s .pre .1 .0 .bounded in (b .few-variables, (b .few-constraints, (b .few-sums, (s .pre .0, refl))))
 
 enum-told : tie.Need-enum-told

@@ -1,6 +1,8 @@
 -- `not_lower` meets its contract: whether it is tried again decides.
 use native.Mathlib.Omega.{arith}
-use mathlib.Core.Path.{sym, _∙_}
+use mathlib.Core.Path.{refl, sym, _∙_}
+use Rattle.run.specs.Search.{rejectedFor, retried}
+use Rattle.run.specs.declared.state.Rejection.the-variants as why
 use Rattle.run.proofs.SearchCalls.{searched, retries, turns-down}
 use borrow.Author.Needs.{needs}
 use Rattle.run.proofs.turns.not_lower.Statement.{statement}
@@ -9,28 +11,25 @@ use Rattle.run.proofs.turns.not_lower.Tie as tie
 may-retry-requires : tie.Need-may-retry-requires
 may-retry-requires c κs = search needs
 
-rejected-for-requires : tie.Need-rejected-for-requires
-rejected-for-requires c κs = search needs
-
-retry-requires : tie.Need-retry-requires
-retry-requires c κs = rw (c .rejected-for .ensures) (omega (arith, c .before .before .before .before .before .before .before .pre .1 .few-turned))
+add-t9 : tie.Need-add-t9
+add-t9 c = omega (arith, c .before .before .before .before .before .before .before .pre .1 .few-turned)
 
 with-search-requires : tie.Need-with-search-requires
 with-search-requires c κs = search needs
 
 search-requires : tie.Need-search-requires
 search-requires c κs =
-    let s = c .before .before .before .before .before .before .before .before .before .before in
+    let s = c .before .before .before .before .before .before .before .before .before .before .before in
     let b = s .pre .1 in
-    rw (c .before .with-search .ensures, c .before .before .retry .ensures, c .before .before .before .rejected-for .ensures) (s .pre .0, searched _ b (omega (arith, b .few-turned)) (b .damping))
+    rw (c .before .with-search .ensures) (s .pre .0, searched (retried (rejectedFor (s .args .st .search) why.NotLower)) b (omega (arith, b .few-turned)) (b .damping))
 
 same-length : tie.Need-same-length
 same-length c = search needs
 
 returns : tie.Need-returns
 returns c w h =
-    let st = c .before .before .before .before .before .before .before .before .before .before .before .before .before .args .st in
-    retries st w (sym (c .before .before .before .before .before .before .before .before .may-retry .ensures w h) ∙ c .before .before .before .before .before .before .before .if1 .taken) (c .before .before .before .before .before .before .rejected-for .ensures) (c .before .before .before .before .before .retry .ensures) (c .before .before .before .before .with-search .ensures) (c .before .before .search .ensures w h)
+    let st = c .before .before .before .before .before .before .before .before .before .before .before .before .before .before .args .st in
+    retries st w (sym (c .before .before .before .before .before .before .before .before .before .may-retry .ensures w h) ∙ c .before .before .before .before .before .before .before .before .if1 .taken) refl refl (c .before .before .before .before .with-search .ensures) (c .before .before .search .ensures w h)
 
 turn-down-requires : tie.Need-turn-down-requires
 turn-down-requires c κs = search needs
@@ -46,8 +45,7 @@ not-lower-spec =
     tie.close
     (tie.spec
     may-retry-requires
-    rejected-for-requires
-    retry-requires
+    add-t9
     with-search-requires
     search-requires
     same-length
