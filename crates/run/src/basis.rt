@@ -84,27 +84,6 @@ fn projections(k: usize, r: usize, i: usize, wide: &[f64], q: &[f64], b: &mut [f
     }
 }
 
-// The coefficients of row i, with scratch slices of the right lengths.
-fn coefficients_in(
-    k: usize,
-    r: usize,
-    i: usize,
-    wide: &[f64],
-    q: &[f64],
-    gram: &[f64],
-    a: &mut [f64],
-    l: &mut [f64],
-    none: &[bool],
-    b: &mut [f64],
-) -> Done
-    requires { ⌜ (r ≤ 12) × ((i < 12) × ((length (now a) ≡ 2 * r) × ((length (now l) ≡ 2 * (r * r)) × ((now none ≡ replicate r false) × (length (now b) ≡ 2 * r))))) ⌝ }
-    ensures { λ d. ⌜ doneOf d (now (a .exit)) ≡ solveOf r (packed r (now (gram .entry))) (replicate r false) (listTo (λ j. dotTo (row (now (wide .entry)) i) (row (now (q .entry)) j) k) r) ⌝ }
-{
-    pack(r, gram, l);
-    projections(k, r, i, wide, q, b);
-    linear::solve_cholesky(r, l, none, b, a)
-}
-
 // The coefficients of row i, at the start of a.
 fn coefficients(
     k: usize,
@@ -123,18 +102,9 @@ fn coefficients(
     let mut l = [0.0; 288];
     let none = [false; 12];
     let mut b = [0.0; 24];
-    coefficients_in(
-        k,
-        r,
-        i,
-        wide,
-        q,
-        gram,
-        &mut a[..e],
-        &mut l[..s],
-        &none[..r],
-        &mut b[..e],
-    )
+    pack(r, gram, &mut l[..s]);
+    projections(k, r, i, wide, q, &mut b[..e]);
+    linear::solve_cholesky(r, &l[..s], &none[..r], &b[..e], &mut a[..e])
 }
 
 // ---- what is left of a row
@@ -151,16 +121,6 @@ fn outside(k: usize, r: usize, i: usize, wide: &[f64], q: &[f64], a: &[f64], out
             minus_dot(a, 0, 1, q, p, 12, at(wide, 12 * i + p), r),
         );
     }
-}
-
-// The length of what is left of row i without its coefficients a.
-fn left(k: usize, r: usize, i: usize, wide: &[f64], q: &[f64], a: &[f64]) -> Answer
-    requires { ⌜ (k ≤ 12) × (i < 12) ⌝ }
-    ensures { λ x. ⌜ resultOf x ≡ normOf (λ p. minusTo (at (now (a .entry))) (column (now (q .entry)) p) (entry (now (wide .entry)) i p) r) k ⌝ }
-{
-    let mut out = [0.0; 24];
-    outside(k, r, i, wide, q, a, &mut out);
-    norm_of(&out, k)
 }
 
 // ---- a row that says something new
@@ -203,23 +163,17 @@ fn gram_entries(k: usize, r: usize, q: &[f64], gram: &mut [f64]) -> Done
     Done::Finished
 }
 
-// Its diagonal.
-fn gram_last(k: usize, r: usize, q: &[f64], gram: &mut [f64]) -> Done
-    requires { ⌜ r ≤ 12 ⌝ }
-    ensures { λ d. ⌜ doneOf d (now (gram .exit)) ≡ storeR (now (gram .entry)) (12 * r + r) (sqrtOf (minusTo (row (now (gram .entry)) r) (row (now (gram .entry)) r) (dotTo (row (now (q .entry)) r) (row (now (q .entry)) r) k) r)) ⌝ }
-{
-    let z = plus_dot(q, 12 * r, 1, q, 12 * r, 1, Scalar::ZERO, k);
-    let s = minus_dot(gram, 12 * r, 1, gram, 12 * r, 1, z, r);
-    store(gram, 12 * r + r, s.sqrt())
-}
-
 // Row r of the Gram factor, of the newest vector.
 fn gram_row(k: usize, r: usize, q: &[f64], gram: &mut [f64]) -> Done
     requires { ⌜ r ≤ 12 ⌝ }
     ensures { λ d. ⌜ doneOf d (now (gram .exit)) ≡ gramRow k r (now (q .entry)) (now (gram .entry)) ⌝ }
 {
     match gram_entries(k, r, q, gram) {
-        Done::Finished => gram_last(k, r, q, gram),
+        Done::Finished => {
+            let z = plus_dot(q, 12 * r, 1, q, 12 * r, 1, Scalar::ZERO, k);
+            let s = minus_dot(gram, 12 * r, 1, gram, 12 * r, 1, z, r);
+            store(gram, 12 * r + r, s.sqrt())
+        }
         Done::Refused(e) => Done::Refused(e),
     }
 }
@@ -313,8 +267,12 @@ fn measure(
     requires { ⌜ (k ≤ 12) × ((r ≤ 12) × ((i < 12) × (length (now a) ≡ 24))) ⌝ }
     ensures { λ x. ⌜ ((f : List Float → value.Scalar → scalar.Res Basis) → bind (resultOf x) (f (take (2 * r) (now (a .exit)))) ≡ bind (solveOf r (packed r (now (gram .entry))) (replicate r false) (listTo (λ j. dotTo (row (now (wide .entry)) i) (row (now (q .entry)) j) k) r)) (λ a. bind (normOf (λ p. minusTo (at a) (column (now (q .entry)) p) (entry (now (wide .entry)) i p) r) k) (f a))) ⌝ }
 {
+    let mut out = [0.0; 24];
     match coefficients(k, r, i, wide, q, gram, a) {
-        Done::Finished => left(k, r, i, wide, q, a),
+        Done::Finished => {
+            outside(k, r, i, wide, q, a, &mut out);
+            norm_of(&out, k)
+        }
         Done::Refused(e) => Answer::Refused(e),
     }
 }
@@ -429,56 +387,6 @@ fn sides(m: usize, r: usize, order: &[usize], xs: &[f64], values: usize, rhs: &m
     }
 }
 
-// The correction from the coefficients and the right-hand side, with scratch slices of the right lengths.
-fn correct(
-    k: usize,
-    m: usize,
-    r: usize,
-    q: &[f64],
-    rows: &[f64],
-    rhs: &[f64],
-    delta: &mut [f64],
-    y: &mut [f64],
-    weights: &mut [f64],
-) -> Done
-    requires { ⌜ (k ≤ 12) × ((m ≤ 12) × ((r ≤ 12) × ((length (now rows) ≡ 2 * (m * r)) × ((length (now rhs) ≡ 2 * m) × ((length (now delta) ≡ 24) × ((length (now y) ≡ 2 * r) × (length (now weights) ≡ 2 * r))))))) ⌝ }
-    ensures { λ d. ⌜ doneOf d (now (delta .exit)) ≡ bind (leastSquaresOf m r (now (rows .entry)) (now (rhs .entry))) (λ y. scalar.ok (combinedTo k (sharpOf y r) (now (q .entry)) vector r)) ⌝ }
-{
-    match linear::least_squares(m, r, rows, rhs, y) {
-        Done::Finished => {
-            linear::sharp(r, y, weights);
-            clear(delta);
-            combine(k, weights, q, delta, r);
-            Done::Finished
-        }
-        Done::Refused(e) => Done::Refused(e),
-    }
-}
-
-fn correction_in(
-    k: usize,
-    m: usize,
-    r: usize,
-    q: &[f64],
-    coefficients: &[f64],
-    dependent: &[f64],
-    order: &[usize],
-    xs: &[f64],
-    values: usize,
-    delta: &mut [f64],
-    rows: &mut [f64],
-    rhs: &mut [f64],
-    y: &mut [f64],
-    weights: &mut [f64],
-) -> Done
-    requires { ⌜ (k ≤ 12) × ((m ≤ 12) × ((r ≤ 12) × ((length (now order) ≡ 24) × ((length (now delta) ≡ 24) × ((length (now rows) ≡ 2 * (m * r)) × ((length (now rhs) ≡ 2 * m) × ((length (now y) ≡ 2 * r) × (length (now weights) ≡ 2 * r)))))))) ⌝ }
-    ensures { λ d. ⌜ doneOf d (now (delta .exit)) ≡ correctionOf (problemBy k m (λ i. at (now (xs .entry)) (values + i)) [] []) (basisBy r (now (q .entry)) [] (now (coefficients .entry)) (now (dependent .entry)) (now (order .entry))) ⌝ }
-{
-    coefficient_rows(m, r, coefficients, dependent, rows);
-    sides(m, r, order, xs, values, rhs);
-    correct(k, m, r, q, rows, rhs, delta, y, weights)
-}
-
 // The least-squares correction of every row, for the constraint values in xs.
 pub fn correction(
     k: usize,
@@ -502,22 +410,17 @@ pub fn correction(
     let mut rhs = [0.0; 24];
     let mut y = [0.0; 24];
     let mut weights = [0.0; 24];
-    correction_in(
-        k,
-        m,
-        r,
-        q,
-        coefficients,
-        dependent,
-        order,
-        xs,
-        e.values,
-        delta,
-        &mut rows[..s],
-        &mut rhs[..u],
-        &mut y[..w],
-        &mut weights[..w],
-    )
+    coefficient_rows(m, r, coefficients, dependent, &mut rows[..s]);
+    sides(m, r, order, xs, e.values, &mut rhs[..u]);
+    match linear::least_squares(m, r, &rows[..s], &rhs[..u], &mut y[..w]) {
+        Done::Finished => {
+            linear::sharp(r, &y[..w], &mut weights[..w]);
+            clear(delta);
+            combine(k, &weights[..w], q, delta, r);
+            Done::Finished
+        }
+        Done::Refused(refusal) => Done::Refused(refusal),
+    }
 }
 
 // ---- the multipliers

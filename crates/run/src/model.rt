@@ -196,28 +196,6 @@ fn slopes(xs: &[f64], e: RowSet, index: &[usize], k: usize, wide: &mut [f64], na
     chosen(wide, 0, 12 * e.count, narrow);
 }
 
-// H, from the sum's rows.
-fn curve(
-    n: usize,
-    index: &[usize],
-    k: usize,
-    xs: &[f64],
-    e: RowSet,
-    jc: &[f64],
-    m: usize,
-    b: &[f64],
-    mu: Scalar,
-    h: &mut [f64],
-)
-    requires { ⌜ Small e × ((k ≤ 12) × ((length (now index) ≡ 12) × (length (now h) ≡ 288))) ⌝ }
-    ensures { λ _. ⌜ now (h .exit) ≡ dampedOf n (keptBy k (now (index .entry))) (chosenOf (zeros 576) (squeezedOf (keptBy k (now (index .entry))) (rowsIn (now (xs .entry)) e) (zeros 576)) 0 (12 * e .count)) (e .count) (now (jc .entry)) m (now (b .entry)) mu ⌝ }
-{
-    let mut wide = [0.0; 576];
-    let mut jr = [0.0; 576];
-    slopes(xs, e, index, k, &mut wide, &mut jr);
-    damped(n, index, k, &jr, e.count, jc, m, b, mu, h);
-}
-
 // The problem over the k kept variables, from an answer's rows: the constraints' slopes, into clear slices, the same chosen, H, and the gradient.
 pub fn problem(
     n: usize,
@@ -237,7 +215,10 @@ pub fn problem(
     ensures { λ _. ⌜ problemIn k m (valueAt (constraintsOf n m (now (xs .entry)))) (now (wide .exit)) (now (jc .exit)) (now (h .exit)) (now (g .exit)) ≡ problemOf n (keptBy k (now (index .entry))) (evaluationOf n m s (now (xs .entry))) (now (b .entry)) mu ⌝ }
 {
     let e = sum(n, m, s);
+    let mut all = [0.0; 576];
+    let mut jr = [0.0; 576];
     slopes(xs, constraints(n, m), index, k, wide, jc);
-    curve(n, index, k, xs, e, jc, m, b, mu, h);
+    slopes(xs, e, index, k, &mut all, &mut jr);
+    damped(n, index, k, &jr, e.count, jc, m, b, mu, h);
     gradient(xs, e, index, k, g);
 }

@@ -59,27 +59,6 @@ pub fn multiplied(d: Done, r: usize) -> StepEnd
     }
 }
 
-// The kept step over all variables, where there is one; `places` says which variables are kept.
-pub fn spread_end(
-    end: StepEnd,
-    places: &[usize],
-    kept: &[f64],
-    count: usize,
-    delta: &mut [f64],
-) -> StepEnd
-    requires { ⌜ (length (now delta) ≡ 24) × (count ≤ length (now places)) ⌝ }
-    ensures { λ r. ⌜ ((lambda : List Float) → endOf r (now (delta .exit)) lambda ≡ spreadEnd (record { count = count; index = now (places .entry) }) (endOf end (now (kept .entry)) lambda)) ⌝ }
-{
-    match end {
-        StepEnd::Found(r) => {
-            spread(places, kept, count, delta);
-            StepEnd::Found(r)
-        }
-        StepEnd::NotPositive => StepEnd::NotPositive,
-        StepEnd::Refused(e) => StepEnd::Refused(e),
-    }
-}
-
 // The step along `count` directions z, from the correction delta on, with its multipliers, where it and what pulls against it are finite.
 fn freed(
     k: usize,
@@ -256,6 +235,12 @@ pub fn step(
     let mut index = [0; 12];
     let mut kept = [0.0; 24];
     let k = keep(moving, n, &mut index);
-    let end = modelled(n, m, s, &index, k, rows, b, mu, &mut kept, lambda);
-    spread_end(end, &index, &kept, k, delta)
+    match modelled(n, m, s, &index, k, rows, b, mu, &mut kept, lambda) {
+        StepEnd::Found(r) => {
+            spread(&index, &kept, k, delta);
+            StepEnd::Found(r)
+        }
+        StepEnd::NotPositive => StepEnd::NotPositive,
+        StepEnd::Refused(e) => StepEnd::Refused(e),
+    }
 }

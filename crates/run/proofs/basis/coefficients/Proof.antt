@@ -1,12 +1,14 @@
--- `coefficients` meets its contract: the parts of the arrays have the lengths asked, and the part of a is its start.
-use mathlib.Core.Path.{_≡_, sym, ap, _∙_}
+-- `coefficients` meets its contract: the parts of the arrays have the lengths asked, the solve is the definition's, and the part of a is its start.
+use mathlib.Core.Path.{_≡_, sym, _∙_}
 use mathlib.Core.Bool.{false}
 use Prim.Native.Nat.{_*_, _≤_}
 use native.Mathlib.Omega.{arith}
-use lib.ListN.{take, length}
+use lib.ListN.{replicate, length-replicate}
 use lib.Seq.{length-take-le, take-at}
-use Rattle.run.proofs.RowLaws.{few}
 use Rattle.run.proofs.BasisLaws.{take-replicate}
+use Rattle.run.proofs.LinearCalls.{solve-result}
+use Rattle.run.proofs.Prefixes.{front-room, front-kept}
+use Rattle.run.proofs.RowLaws.{few}
 use borrow.Author.Needs.{needs}
 use Rattle.run.proofs.basis.coefficients.Statement.{statement}
 use Rattle.run.proofs.basis.coefficients.Tie as tie
@@ -26,46 +28,67 @@ mul-s c = omega (arith, room (c .before .before .before .before))
 mul-s-2 : tie.Need-mul-s-2
 mul-s-2 c = omega (arith, room (c .before .before .before .before))
 
-slice-relend-prefix-coefficients-in : tie.Need-slice-relend-prefix-coefficients-in
-slice-relend-prefix-coefficients-in c = search needs
-
-slice-aggregate-coefficients-in : tie.Need-slice-aggregate-coefficients-in
-slice-aggregate-coefficients-in c = sym (length-take-le _ _ (omega (arith, c .before .before .before .before .before .pre)))
-
 array-borrow-prefix-l : tie.Need-array-borrow-prefix-l
-array-borrow-prefix-l c = room (c .before .before .before .before .before)
+array-borrow-prefix-l c = room (c .before .before .before .before)
 
-slice-aggregate-coefficients-in-2 : tie.Need-slice-aggregate-coefficients-in-2
-slice-aggregate-coefficients-in-2 c = sym (length-take-le _ _ (room (c .before .before .before .before .before .before)))
+slice-aggregate-pack : tie.Need-slice-aggregate-pack
+slice-aggregate-pack c = sym (length-take-le _ _ (room (c .before .before .before .before .before)))
 
-array-share-prefix-none : tie.Need-array-share-prefix-none
-array-share-prefix-none c = search needs
-
-slice-aggregate-coefficients-in-3 : tie.Need-slice-aggregate-coefficients-in-3
-slice-aggregate-coefficients-in-3 c = sym (length-take-le _ _ (c .before .before .before .before .before .before .before .pre .0))
+pack-requires : tie.Need-pack-requires
+pack-requires c κs = let s = (c .before .before .before .before .before) in (s .pre .0, length-take-le _ _ (room s))
 
 array-borrow-prefix-b : tie.Need-array-borrow-prefix-b
 array-borrow-prefix-b c = search needs
 
-slice-aggregate-coefficients-in-4 : tie.Need-slice-aggregate-coefficients-in-4
-slice-aggregate-coefficients-in-4 c = sym (length-take-le _ _ (short (c .before .before .before .before .before .before .before .before)))
+slice-aggregate-projections : tie.Need-slice-aggregate-projections
+slice-aggregate-projections c = sym (length-take-le _ _ (short (c .before .before .before .before .before .before .before .before)))
 
-coefficients-in-requires : tie.Need-coefficients-in-requires
-coefficients-in-requires c κs =
-    let s = c .before .before .before .before .before .before .before .before in
-    let p = s .pre in
-    let a = s .args in
-    (p .0, (p .1 .0, (length-take-le _ _ (omega (arith, p)), (length-take-le _ _ (room s), (take-replicate (a .r) 12 false (p .0), length-take-le _ _ (short s))))))
+projections-requires : tie.Need-projections-requires
+projections-requires c κs = let s = (c .before .before .before .before .before .before .before .before) in (s .pre .0, (s .pre .1 .0, length-take-le _ _ (short s)))
+
+array-share-prefix-l : tie.Need-array-share-prefix-l
+array-share-prefix-l c = front-room _ (c .before .before .before .before .pack .last .1 .1 .0) _ (room (c .before .before .before .before .before .before .before .before .before .before)) (c .before .before .before .before .pack .kept .1 .1 .0)
+
+slice-aggregate-solve-cholesky : tie.Need-slice-aggregate-solve-cholesky
+slice-aggregate-solve-cholesky c = sym (length-take-le _ _ (front-room _ (c .before .before .before .before .before .pack .last .1 .1 .0) _ (room (c .before .before .before .before .before .before .before .before .before .before .before)) (c .before .before .before .before .before .pack .kept .1 .1 .0)))
+
+array-share-prefix-none : tie.Need-array-share-prefix-none
+array-share-prefix-none c = search needs
+
+slice-aggregate-solve-cholesky-2 : tie.Need-slice-aggregate-solve-cholesky-2
+slice-aggregate-solve-cholesky-2 c = sym (length-take-le _ _ ((c .before .before .before .before .before .before .before .before .before .before .before .before) .pre .0))
+
+array-share-prefix-b : tie.Need-array-share-prefix-b
+array-share-prefix-b c = front-room _ (c .before .before .before .projections .last .1 .1 .1 .1 .1 .0) _ (short (c .before .before .before .before .before .before .before .before .before .before .before .before)) (c .before .before .before .projections .kept .1 .1 .1 .1 .1 .0)
+
+slice-aggregate-solve-cholesky-3 : tie.Need-slice-aggregate-solve-cholesky-3
+slice-aggregate-solve-cholesky-3 c = sym (length-take-le _ _ (front-room _ (c .before .before .before .before .projections .last .1 .1 .1 .1 .1 .0) _ (short (c .before .before .before .before .before .before .before .before .before .before .before .before .before)) (c .before .before .before .before .projections .kept .1 .1 .1 .1 .1 .0)))
+
+slice-relend-prefix-solve-cholesky : tie.Need-slice-relend-prefix-solve-cholesky
+slice-relend-prefix-solve-cholesky c = search needs
+
+slice-aggregate-solve-cholesky-4 : tie.Need-slice-aggregate-solve-cholesky-4
+slice-aggregate-solve-cholesky-4 c = sym (length-take-le _ _ (omega (arith, (c .before .before .before .before .before .before .before .before .before .before .before .before .before .before) .pre)))
+
+solve-cholesky-requires : tie.Need-solve-cholesky-requires
+solve-cholesky-requires c κs = tt
 
 same-length : tie.Need-same-length
 same-length c = search needs
 
 returns : tie.Need-returns
 returns c =
-    let s = c .before .before .before .before .before .before .before .before .before .before .before .before .before in
+    let s = (c .before .before .before .before .before .before .before .before .before .before .before .before .before .before .before .before .before) in
+    let p = s .pre in
     let a = s .args in
-    let x = c .before .before .before .before .coefficients-in in
-    rw (take-at (x .last .1 .1 .1 .1 .1 .1 .0) _ (2 * a .r) (x .kept .1 .1 .1 .1 .1 .1 .0 ∙ length-take-le (2 * a .r) (a .a .now) (omega (arith, s .pre .0, s .pre .1 .1)))) (x .ensures)
+    let x = c .before .before .solve-cholesky in
+    let l = c .before .before .before .before .before .before .before .before .before .before .before .pack .last .1 .1 .0 in
+    let kl = c .before .before .before .before .before .before .before .before .before .before .before .pack .kept .1 .1 .0 in
+    let b = c .before .before .before .before .before .before .before .before .projections .last .1 .1 .1 .1 .1 .0 in
+    let kb = c .before .before .before .before .before .before .before .before .projections .kept .1 .1 .1 .1 .1 .0 in
+    let h = length-take-le (2 * a .r) (a .a .now) (omega (arith, p .0, p .1 .1)) in
+    rw (take-at (x .last .1 .1 .1 .1 .0) _ (2 * a .r) (x .kept .1 .1 .1 .1 .0 ∙ h), ← c .before .before .before .before .before .before .before .before .before .before .before .pack .ensures, ← c .before .before .before .before .before .before .before .before .projections .ensures)
+    (solve-result (x .result) (a .r) l (replicate (a .r) false) b _ (x .last .1 .1 .1 .1 .0) (omega (arith, p .0)) (kl ∙ length-take-le _ _ (room s)) (length-replicate (a .r) false) (kb ∙ length-take-le _ _ (short s)) h (rw (front-kept _ l _ (room s) kl, front-kept _ b _ (short s) kb, take-replicate (a .r) 12 false (p .0)) at (x .ensures)))
 
 pub coefficients-spec : {M : Type 1} → statement M
 coefficients-spec =
@@ -74,14 +97,20 @@ coefficients-spec =
     mul-e
     mul-s
     mul-s-2
-    slice-relend-prefix-coefficients-in
-    slice-aggregate-coefficients-in
     array-borrow-prefix-l
-    slice-aggregate-coefficients-in-2
-    array-share-prefix-none
-    slice-aggregate-coefficients-in-3
+    slice-aggregate-pack
+    pack-requires
     array-borrow-prefix-b
-    slice-aggregate-coefficients-in-4
-    coefficients-in-requires
+    slice-aggregate-projections
+    projections-requires
+    array-share-prefix-l
+    slice-aggregate-solve-cholesky
+    array-share-prefix-none
+    slice-aggregate-solve-cholesky-2
+    array-share-prefix-b
+    slice-aggregate-solve-cholesky-3
+    slice-relend-prefix-solve-cholesky
+    slice-aggregate-solve-cholesky-4
+    solve-cholesky-requires
     same-length
     returns)

@@ -1,8 +1,15 @@
--- `correction` meets its contract: the parts of the arrays have the lengths asked.
-use mathlib.Core.Path.{sym}
+-- `correction` meets its contract: the parts of the arrays have the lengths asked, and each call gives its part of the definition.
+use mathlib.Core.Path.{_≡_, sym, ap, _∙_}
 use Prim.Native.Nat.{_*_, _≤_}
 use native.Mathlib.Omega.{arith}
 use lib.Seq.{length-take-le}
+use Rattle.interval.specs.Result.{ok}
+use Rattle.linear.specs.Answers.{doneOf}
+use Rattle.linear.specs.Householder.{leastSquaresOf}
+use Rattle.linear.proofs.Folds.{bind-ok, bind-refused}
+use Rattle.run.specs.Basis.{correctionOf}
+use Rattle.run.proofs.LinearCalls.{least-squares-result, sharp-written}
+use Rattle.run.proofs.Prefixes.{front-room, front-kept}
 use Rattle.run.proofs.RowLaws.{few}
 use borrow.Author.Needs.{needs}
 use Rattle.run.proofs.basis.correction.Statement.{statement}
@@ -17,6 +24,20 @@ high s = omega (arith, s .pre .1 .0)
 short : (s : tie.Start) → 2 * s .args .r ≤ 24
 short s = omega (arith, s .pre .1 .1 .0)
 
+-- the least squares
+solved : (k : tie.After-least-squares)
+    → let a = k .before .before .before .before .before .before .before .before .before .before .before .before .before .before .before .before .args in
+    doneOf (k .least-squares .result) (k .least-squares .last .1 .1 .1 .1 .0) ≡ leastSquaresOf (a .m) (a .r) (k .before .before .before .before .before .before .before .before .coefficient-rows .last .1 .1 .1 .1 .0) (k .before .before .before .before .before .sides .last .1 .1 .1 .1 .1 .0)
+solved k =
+    let s = k .before .before .before .before .before .before .before .before .before .before .before .before .before .before .before .before in
+    let a = s .args in
+    let p = s .pre in
+    let x = k .before .before .before .before .before .before .before .before .coefficient-rows .last .1 .1 .1 .1 .0 in
+    let y = k .before .before .before .before .before .sides .last .1 .1 .1 .1 .1 .0 in
+    let lx = k .before .before .before .before .before .before .before .before .coefficient-rows .kept .1 .1 .1 .1 .0 in
+    let ly = k .before .before .before .before .before .sides .kept .1 .1 .1 .1 .1 .0 in
+    least-squares-result (k .least-squares .result) (a .m) (a .r) x y _ (k .least-squares .last .1 .1 .1 .1 .0) (omega (arith, p .1 .0)) (omega (arith, p .1 .1 .0)) (lx ∙ length-take-le _ _ (room s)) (ly ∙ length-take-le _ _ (high s)) (length-take-le _ _ (short s)) (rw (front-kept _ x _ (room s) lx, front-kept _ y _ (high s) ly) at (k .least-squares .ensures))
+
 mul-s : tie.Need-mul-s
 mul-s c = omega (arith, room (c .before .before .before .before .before .before))
 
@@ -30,40 +51,100 @@ mul-w : tie.Need-mul-w
 mul-w c = search needs
 
 array-borrow-prefix-rows : tie.Need-array-borrow-prefix-rows
-array-borrow-prefix-rows c = room (c .before .before .before .before .before .before .before)
+array-borrow-prefix-rows c = room (c .before .before .before .before .before .before)
 
-slice-aggregate-correction-in : tie.Need-slice-aggregate-correction-in
-slice-aggregate-correction-in c = sym (length-take-le _ _ (room (c .before .before .before .before .before .before .before .before)))
+slice-aggregate-coefficient-rows : tie.Need-slice-aggregate-coefficient-rows
+slice-aggregate-coefficient-rows c = sym (length-take-le _ _ (room (c .before .before .before .before .before .before .before)))
+
+coefficient-rows-requires : tie.Need-coefficient-rows-requires
+coefficient-rows-requires c κs = let s = (c .before .before .before .before .before .before .before) in let p = s .pre in (p .1 .0, (p .1 .1 .0, length-take-le _ _ (room s)))
 
 array-borrow-prefix-rhs : tie.Need-array-borrow-prefix-rhs
 array-borrow-prefix-rhs c = search needs
 
-slice-aggregate-correction-in-2 : tie.Need-slice-aggregate-correction-in-2
-slice-aggregate-correction-in-2 c = sym (length-take-le _ _ (high (c .before .before .before .before .before .before .before .before .before)))
+slice-aggregate-sides : tie.Need-slice-aggregate-sides
+slice-aggregate-sides c = sym (length-take-le _ _ (high (c .before .before .before .before .before .before .before .before .before .before)))
+
+sides-requires : tie.Need-sides-requires
+sides-requires c κs = let s = (c .before .before .before .before .before .before .before .before .before .before) in let p = s .pre in (p .1 .0, (p .1 .1 .1 .0, length-take-le _ _ (high s)))
+
+array-share-prefix-rows : tie.Need-array-share-prefix-rows
+array-share-prefix-rows c = front-room _ (c .before .before .before .before .coefficient-rows .last .1 .1 .1 .1 .0) _ (room (c .before .before .before .before .before .before .before .before .before .before .before .before)) (c .before .before .before .before .coefficient-rows .kept .1 .1 .1 .1 .0)
+
+slice-aggregate-least-squares : tie.Need-slice-aggregate-least-squares
+slice-aggregate-least-squares c = sym (length-take-le _ _ (front-room _ (c .before .before .before .before .before .coefficient-rows .last .1 .1 .1 .1 .0) _ (room (c .before .before .before .before .before .before .before .before .before .before .before .before .before)) (c .before .before .before .before .before .coefficient-rows .kept .1 .1 .1 .1 .0)))
+
+array-share-prefix-rhs : tie.Need-array-share-prefix-rhs
+array-share-prefix-rhs c = front-room _ (c .before .before .sides .last .1 .1 .1 .1 .1 .0) _ (high (c .before .before .before .before .before .before .before .before .before .before .before .before .before)) (c .before .before .sides .kept .1 .1 .1 .1 .1 .0)
+
+slice-aggregate-least-squares-2 : tie.Need-slice-aggregate-least-squares-2
+slice-aggregate-least-squares-2 c = sym (length-take-le _ _ (front-room _ (c .before .before .before .sides .last .1 .1 .1 .1 .1 .0) _ (high (c .before .before .before .before .before .before .before .before .before .before .before .before .before .before)) (c .before .before .before .sides .kept .1 .1 .1 .1 .1 .0)))
 
 array-borrow-prefix-y : tie.Need-array-borrow-prefix-y
 array-borrow-prefix-y c = search needs
 
-slice-aggregate-correction-in-3 : tie.Need-slice-aggregate-correction-in-3
-slice-aggregate-correction-in-3 c = sym (length-take-le _ _ (short (c .before .before .before .before .before .before .before .before .before .before)))
+slice-aggregate-least-squares-3 : tie.Need-slice-aggregate-least-squares-3
+slice-aggregate-least-squares-3 c = sym (length-take-le _ _ (short (c .before .before .before .before .before .before .before .before .before .before .before .before .before .before .before)))
+
+least-squares-requires : tie.Need-least-squares-requires
+least-squares-requires c κs = tt
+
+enum-told : tie.Need-enum-told
+enum-told c = search needs
+
+array-share-prefix-y : tie.Need-array-share-prefix-y
+array-share-prefix-y c = front-room _ (c .before .before .before .least-squares .last .1 .1 .1 .1 .0) _ (short (c .before .before .before .before .before .before .before .before .before .before .before .before .before .before .before .before .before .before .before)) (c .before .before .before .least-squares .kept .1 .1 .1 .1 .0)
+
+slice-aggregate-sharp : tie.Need-slice-aggregate-sharp
+slice-aggregate-sharp c = sym (length-take-le _ _ (front-room _ (c .before .before .before .before .least-squares .last .1 .1 .1 .1 .0) _ (short (c .before .before .before .before .before .before .before .before .before .before .before .before .before .before .before .before .before .before .before .before)) (c .before .before .before .before .least-squares .kept .1 .1 .1 .1 .0)))
 
 array-borrow-prefix-weights : tie.Need-array-borrow-prefix-weights
 array-borrow-prefix-weights c = search needs
 
-slice-aggregate-correction-in-4 : tie.Need-slice-aggregate-correction-in-4
-slice-aggregate-correction-in-4 c = sym (length-take-le _ _ (short (c .before .before .before .before .before .before .before .before .before .before .before)))
+slice-aggregate-sharp-2 : tie.Need-slice-aggregate-sharp-2
+slice-aggregate-sharp-2 c = sym (length-take-le _ _ (short (c .before .before .before .before .before .before .before .before .before .before .before .before .before .before .before .before .before .before .before .before .before)))
 
-correction-in-requires : tie.Need-correction-in-requires
-correction-in-requires c κs =
-    let s = c .before .before .before .before .before .before .before .before .before .before .before in
-    let p = s .pre in
-    (p .0, (p .1 .0, (p .1 .1 .0, (p .1 .1 .1 .0, (p .1 .1 .1 .1, (length-take-le _ _ (room s), (length-take-le _ _ (high s), (length-take-le _ _ (short s), length-take-le _ _ (short s)))))))))
+sharp-requires : tie.Need-sharp-requires
+sharp-requires c κs = tt
+
+clear-requires : tie.Need-clear-requires
+clear-requires c κs = search needs
+
+array-share-prefix-weights : tie.Need-array-share-prefix-weights
+array-share-prefix-weights c = front-room _ (c .before .before .before .before .before .sharp .last .1 .1 .0) _ (short (c .before .before .before .before .before .before .before .before .before .before .before .before .before .before .before .before .before .before .before .before .before .before .before .before .before .before .before)) (c .before .before .before .before .before .sharp .kept .1 .1 .0)
+
+slice-aggregate-combine : tie.Need-slice-aggregate-combine
+slice-aggregate-combine c = sym (length-take-le _ _ (front-room _ (c .before .before .before .before .before .before .sharp .last .1 .1 .0) _ (short (c .before .before .before .before .before .before .before .before .before .before .before .before .before .before .before .before .before .before .before .before .before .before .before .before .before .before .before .before)) (c .before .before .before .before .before .before .sharp .kept .1 .1 .0)))
+
+combine-requires : tie.Need-combine-requires
+combine-requires c κs = let p = (c .before .before .before .before .before .before .before .before .before .before .before .before .before .before .before .before .before .before .before .before .before .before .before .before .before .before .before .before .before) .pre in (omega (arith, p .0), omega (arith, p .1 .1 .0))
+
+enum-known-refusal : tie.Need-enum-known-refusal
+enum-known-refusal c = search needs
 
 same-length : tie.Need-same-length
 same-length c = search needs
 
 returns : tie.Need-returns
-returns c = search needs
+unfolding correctionOf
+returns c =
+    let s = (c .before .before .before .before .before .before .before .before .before .before .before .before .before .before .before .before .before .before .before .before .before .before .before .before .before .before .before .before .before .before .before .before) in
+    let a = s .args in
+    let p = s .pre in
+    let e = rw (c .before .before .before .before .before .before .before .before .before .before .before .before .before .enum-told .given .1) at (solved (c .before .before .before .before .before .before .before .before .before .before .before .before .before .before .before .before)) in
+    let y = c .before .before .before .before .before .before .before .before .before .before .before .before .before .before .before .before .least-squares .last .1 .1 .1 .1 .0 in
+    let ly = c .before .before .before .before .before .before .before .before .before .before .before .before .before .before .before .before .least-squares .kept .1 .1 .1 .1 .0 in
+    let v = c .before .before .before .before .before .before .before .before .before .before .sharp .last .1 .1 .0 in
+    let w = sharp-written (c .before .before .before .before .before .before .before .before .before .before .sharp .result) (a .r) y _ v (omega (arith, p .1 .1 .0)) (ly ∙ length-take-le _ _ (short s)) (length-take-le _ _ (short s)) (rw (front-kept _ y _ (short s) ly) at (c .before .before .before .before .before .before .before .before .before .before .sharp .ensures)) in
+    let z = rw (p .1 .1 .1 .1) at (c .before .before .before .before .before .before .before .clear .ensures) in
+    let d = rw (front-kept _ v _ (short s) (c .before .before .before .before .before .before .before .before .before .before .sharp .kept .1 .1 .0), w, z) at (c .before .before .combine .ensures) in
+    rw (← c .before .before .before .before .before .before .before .before .before .before .before .before .before .before .before .before .before .before .before .before .before .before .before .before .coefficient-rows .ensures, ← c .before .before .before .before .before .before .before .before .before .before .before .before .before .before .before .before .before .before .before .before .before .sides .ensures) (ap ok d ∙ sym (bind-ok _ (sym e)))
+
+returns-2 : tie.Need-returns-2
+unfolding correctionOf
+returns-2 c =
+    let e = rw (c .before .refusal .given .1) at (solved (c .before .before .before .before)) in
+    rw (← c .before .before .before .before .before .before .before .before .before .before .before .before .coefficient-rows .ensures, ← c .before .before .before .before .before .before .before .before .before .sides .ensures) (sym (bind-refused _ (sym e)))
 
 pub correction-spec : {M : Type 1} → statement M
 correction-spec =
@@ -74,13 +155,29 @@ correction-spec =
     mul-u
     mul-w
     array-borrow-prefix-rows
-    slice-aggregate-correction-in
+    slice-aggregate-coefficient-rows
+    coefficient-rows-requires
     array-borrow-prefix-rhs
-    slice-aggregate-correction-in-2
+    slice-aggregate-sides
+    sides-requires
+    array-share-prefix-rows
+    slice-aggregate-least-squares
+    array-share-prefix-rhs
+    slice-aggregate-least-squares-2
     array-borrow-prefix-y
-    slice-aggregate-correction-in-3
+    slice-aggregate-least-squares-3
+    least-squares-requires
+    enum-told
+    array-share-prefix-y
+    slice-aggregate-sharp
     array-borrow-prefix-weights
-    slice-aggregate-correction-in-4
-    correction-in-requires
+    slice-aggregate-sharp-2
+    sharp-requires
+    clear-requires
+    array-share-prefix-weights
+    slice-aggregate-combine
+    combine-requires
+    enum-known-refusal
     same-length
-    returns)
+    returns
+    returns-2)

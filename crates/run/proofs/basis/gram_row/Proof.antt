@@ -1,5 +1,6 @@
 -- `gram_row` meets its contract: the entries below the diagonal, then the diagonal.
 use mathlib.Core.Path.{sym, _∙_}
+use lib.Ieee.{ofBits}
 use Rattle.linear.proofs.Folds.{bind-ok, bind-refused}
 use Rattle.run.specs.Basis.{gramRow}
 use borrow.Author.Needs.{needs}
@@ -12,8 +13,35 @@ gram-entries-requires c κs = search needs
 enum-told : tie.Need-enum-told
 enum-told c = search needs
 
-gram-last-requires : tie.Need-gram-last-requires
-gram-last-requires c κs = search needs
+mul-plus-dot : tie.Need-mul-plus-dot
+mul-plus-dot c = search needs
+
+mul-plus-dot-2 : tie.Need-mul-plus-dot-2
+mul-plus-dot-2 c = search needs
+
+plus-dot-requires : tie.Need-plus-dot-requires
+plus-dot-requires c κs = tt
+
+mul-minus-dot : tie.Need-mul-minus-dot
+mul-minus-dot c = search needs
+
+mul-minus-dot-2 : tie.Need-mul-minus-dot-2
+mul-minus-dot-2 c = search needs
+
+minus-dot-requires : tie.Need-minus-dot-requires
+minus-dot-requires c κs = tt
+
+mul-store : tie.Need-mul-store
+mul-store c = search needs
+
+add-store : tie.Need-add-store
+add-store c = search needs
+
+sqrt-requires : tie.Need-sqrt-requires
+sqrt-requires c κs = search needs
+
+store-requires : tie.Need-store-requires
+store-requires c κs = search needs
 
 enum-known-e : tie.Need-enum-known-e
 enum-known-e c = search needs
@@ -22,10 +50,11 @@ same-length : tie.Need-same-length
 same-length c = search needs
 
 returns : tie.Need-returns
-unfolding gramRow
+unfolding gramRow ofBits
 returns c =
-    let e = rw (c .before .before .before .before .enum-told .given .1) at (c .before .before .before .before .before .before .before .before .gram-entries .ensures) in
-    c .before .before .gram-last .ensures ∙ sym (bind-ok _ (sym e))
+    let e = rw (c .before .before .before .before .before .before .before .before .enum-told .given .1) at (c .before .before .before .before .before .before .before .before .before .before .before .before .gram-entries .ensures) in
+    let d = rw (c .before .before .before .sqrt .ensures .value, c .before .before .before .before .before .minus-dot .ensures, c .before .before .before .before .before .before .before .plus-dot .ensures) at (c .before .before .store .ensures) in
+    d ∙ sym (bind-ok _ (sym e))
 
 same-length-2 : tie.Need-same-length-2
 same-length-2 c = search needs
@@ -42,7 +71,16 @@ gram-row-spec =
     (tie.spec
     gram-entries-requires
     enum-told
-    gram-last-requires
+    mul-plus-dot
+    mul-plus-dot-2
+    plus-dot-requires
+    mul-minus-dot
+    mul-minus-dot-2
+    minus-dot-requires
+    mul-store
+    add-store
+    sqrt-requires
+    store-requires
     enum-known-e
     same-length
     returns

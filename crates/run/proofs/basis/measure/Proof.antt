@@ -1,11 +1,16 @@
--- `measure` meets its contract: what is left reads only the coefficients that were solved for.
+-- `measure` meets its contract: the length of the places that were filled, which read only the coefficients that were solved for.
 use mathlib.Core.Path.{sym, ap, _∙_}
-use Prim.Native.Nat.{_*_}
+use Prim.Native.Nat.{ℕ, _*_, _≤_}
 use native.Mathlib.Omega.{arith}
 use lib.ListN.{take}
+use Rattle.interval.specs.declared.Scalar.{Scalar}
+use Rattle.linear.specs.Dot.{minusTo}
+use Rattle.linear.specs.Flat.{at}
 use Rattle.linear.specs.Results.{bind}
 use Rattle.linear.proofs.Folds.{bind-ok, bind-refused}
+use Rattle.run.specs.Scratch.{column, entry}
 use Rattle.run.proofs.BasisLaws.{left-take}
+use Rattle.run.proofs.ScratchLaws.{norm-fill}
 use borrow.Author.Needs.{needs}
 use Rattle.run.proofs.basis.measure.Statement.{statement}
 use Rattle.run.proofs.basis.measure.Tie as tie
@@ -16,8 +21,17 @@ coefficients-requires c κs = search needs
 enum-told : tie.Need-enum-told
 enum-told c = search needs
 
-left-requires : tie.Need-left-requires
-left-requires c κs = search needs
+slice-aggregate-outside : tie.Need-slice-aggregate-outside
+slice-aggregate-outside c = search needs
+
+outside-requires : tie.Need-outside-requires
+outside-requires c κs = search needs
+
+slice-aggregate-norm-of : tie.Need-slice-aggregate-norm-of
+slice-aggregate-norm-of c = search needs
+
+norm-of-requires : tie.Need-norm-of-requires
+norm-of-requires c κs = search needs
 
 enum-known-e : tie.Need-enum-known-e
 enum-known-e c = search needs
@@ -27,11 +41,14 @@ same-length c = search needs
 
 returns : tie.Need-returns
 returns c =
-    let s = c .before .before .before .before .before .before .before .before .before .before .before .before in
+    let s = (c .before .before .before .before .before .before .before .before .before .before .before .before .before .before .before .before) in
     let a = s .args in
-    let x = c .before .before .before .before .before .before .coefficients .last .1 .1 .1 .1 .1 .1 .0 in
-    let e = rw (c .before .before .enum-told .given .1) at (c .before .before .before .before .before .before .coefficients .ensures) in
-    λ f. ap (λ z. bind z (f (take (2 * a .r) x))) (c .left .ensures ∙ left-take (a .k) (a .r) (a .i) (a .wide .now) (a .q .now) x (omega (arith, c .before .before .before .before .before .before .coefficients .kept, s .pre .1 .0, s .pre .1 .1 .1))) ∙ sym (bind-ok _ (sym e))
+    let x = c .before .before .before .before .before .before .before .before .before .before .coefficients .last .1 .1 .1 .1 .1 .1 .0 in
+    let e = rw (c .before .before .before .before .before .before .enum-told .given .1) at (c .before .before .before .before .before .before .before .before .before .before .coefficients .ensures) in
+    let g : ℕ → Scalar = λ j. minusTo (at x) (column (a .q .now) j) (entry (a .wide .now) (a .i) j) (a .r) in
+    let h : 2 * a .k ≤ 24 = omega (arith, s .pre .0) in
+    let l = rw (c .before .before .before .outside .ensures) at (c .norm-of .ensures) ∙ norm-fill _ g (a .k) h in
+    λ f. ap (λ z. bind z (f (take (2 * a .r) x))) (l ∙ left-take (a .k) (a .r) (a .i) (a .wide .now) (a .q .now) x (omega (arith, c .before .before .before .before .before .before .before .before .before .before .coefficients .kept, s .pre .1 .0, s .pre .1 .1 .1))) ∙ sym (bind-ok _ (sym e))
 
 same-length-2 : tie.Need-same-length-2
 same-length-2 c = search needs
@@ -48,7 +65,10 @@ measure-spec =
     (tie.spec
     coefficients-requires
     enum-told
-    left-requires
+    slice-aggregate-outside
+    outside-requires
+    slice-aggregate-norm-of
+    norm-of-requires
     enum-known-e
     same-length
     returns

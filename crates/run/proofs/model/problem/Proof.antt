@@ -1,8 +1,9 @@
--- `problem` meets its contract: each part is one of the definition's.
+-- `problem` meets its contract: each part is one of the definition's; the sum's slopes are filled from clear arrays.
+use mathlib.Core.Path.{refl, sym, subst}
+use lib.Ieee.{ofBits}
 use Rattle.run.specs.Model.{keptBy}
-use Rattle.run.proofs.ModelLaws.{problem-is}
-use mathlib.Core.Path.{sym, subst}
 use Rattle.run.specs.Rows.{Small}
+use Rattle.run.proofs.ModelLaws.{curve-is, problem-is}
 use Rattle.run.proofs.RowLaws.{constraints-small, sum-small}
 use borrow.Author.Needs.{needs}
 use Rattle.run.proofs.model.problem.Statement.{statement}
@@ -16,18 +17,30 @@ constraints-requires c κs = search needs
 
 slopes-requires : tie.Need-slopes-requires
 slopes-requires c κs =
-    let p = c .before .before .before .before .before .before .before .before .before .before .before .pre in
+    let p = (c .before .before .before .before .before .before .before .before .before .before .before) .pre in
     (subst Small (sym (c .before .before .constraints .ensures)) (constraints-small (p .0) (p .1 .0)), (p .1 .1 .1 .0, p .1 .1 .1 .1 .0))
 
-curve-requires : tie.Need-curve-requires
-curve-requires c κs =
-    let p = c .before .before .before .before .before .before .before .before .before .before .before .before .before .before .before .before .before .before .pre in
-    (subst Small (sym (c .before .before .before .before .before .before .before .before .before .before .sum .ensures)) (sum-small (p .0) (p .1 .0) (p .1 .1 .0)), (p .1 .1 .1 .0, (p .1 .1 .1 .1 .0, p .1 .1 .1 .1 .1 .1 .1 .1 .0)))
+slice-aggregate-slopes : tie.Need-slice-aggregate-slopes
+slice-aggregate-slopes c = search needs
+
+slice-aggregate-slopes-2 : tie.Need-slice-aggregate-slopes-2
+slice-aggregate-slopes-2 c = search needs
+
+slopes-requires-2 : tie.Need-slopes-requires-2
+slopes-requires-2 c κs =
+    let p = (c .before .before .before .before .before .before .before .before .before .before .before .before .before .before .before .before .before .before) .pre in
+    (subst Small (sym (c .before .before .before .before .before .before .before .before .before .before .sum .ensures)) (sum-small (p .0) (p .1 .0) (p .1 .1 .0)), (p .1 .1 .1 .0, p .1 .1 .1 .1 .0))
+
+slice-aggregate-damped : tie.Need-slice-aggregate-damped
+slice-aggregate-damped c = search needs
+
+damped-requires : tie.Need-damped-requires
+damped-requires c κs = let p = (c .before .before .before .before .before .before .before .before .before .before .before .before .before .before .before .before .before .before .before .before .before .before .before .before) .pre in (p .1 .1 .1 .0, (p .1 .1 .1 .1 .0, p .1 .1 .1 .1 .1 .1 .1 .1 .0))
 
 gradient-requires : tie.Need-gradient-requires
 gradient-requires c κs =
-    let p = c .before .before .before .before .before .before .before .before .before .before .before .before .before .before .before .before .before .before .before .before .before .before .pre in
-    (subst Small (sym (c .before .before .before .before .before .before .before .before .before .before .before .before .before .before .sum .ensures)) (sum-small (p .0) (p .1 .0) (p .1 .1 .0)), (p .1 .1 .1 .0, (p .1 .1 .1 .1 .0, (p .1 .1 .1 .1 .1 .0, p .1 .1 .1 .1 .1 .1 .1 .1 .1))))
+    let p = (c .before .before .before .before .before .before .before .before .before .before .before .before .before .before .before .before .before .before .before .before .before .before .before .before .before .before .before .before) .pre in
+    (subst Small (sym (c .before .before .before .before .before .before .before .before .before .before .before .before .before .before .before .before .before .before .before .before .sum .ensures)) (sum-small (p .0) (p .1 .0) (p .1 .1 .0)), (p .1 .1 .1 .0, (p .1 .1 .1 .1 .0, (p .1 .1 .1 .1 .1 .0, p .1 .1 .1 .1 .1 .1 .1 .1 .1))))
 
 same-length : tie.Need-same-length
 same-length c = search needs
@@ -42,11 +55,13 @@ same-length-4 : tie.Need-same-length-4
 same-length-4 c = search needs
 
 returns : tie.Need-returns
+unfolding ofBits
 returns c =
-    let s = c .before .before .before .before .before .before .before .before .before .before .before .before .before .before .before .before .before .before .before .before .before .before .before .before .before in
+    let s = (c .before .before .before .before .before .before .before .before .before .before .before .before .before .before .before .before .before .before .before .before .before .before .before .before .before .before .before .before .before .before .before) in
     let p = s .pre in
-    let e = c .before .before .before .before .before .before .before .before .before .before .before .before .before .slopes .ensures in
-    problem-is _ _ _ (keptBy (s .args .k) (s .args .index .now)) _ _ _ (c .before .before .before .before .before .before .before .before .before .before .before .before .before .before .before .before .before .sum .ensures) (c .before .before .before .before .before .before .before .before .before .before .before .before .before .before .before .before .constraints .ensures) (p .1 .1 .1 .1 .1 .1 .0) (p .1 .1 .1 .1 .1 .1 .1 .0) (e .0) (e .1) (c .before .before .before .before .before .before .curve .ensures) (c .before .before .gradient .ensures)
+    let e = c .before .before .before .before .before .before .before .before .before .before .before .before .before .before .before .before .before .before .before .slopes .ensures in
+    let f = c .before .before .before .before .before .before .before .before .before .before .before .before .slopes2 .ensures in
+    problem-is _ _ _ (keptBy (s .args .k) (s .args .index .now)) _ _ _ (c .before .before .before .before .before .before .before .before .before .before .before .before .before .before .before .before .before .before .before .before .before .before .before .sum .ensures) (c .before .before .before .before .before .before .before .before .before .before .before .before .before .before .before .before .before .before .before .before .before .before .constraints .ensures) (p .1 .1 .1 .1 .1 .1 .0) (p .1 .1 .1 .1 .1 .1 .1 .0) (e .0) (e .1) (curve-is _ _ _ _ _ _ _ refl refl (f .0) (f .1) (c .before .before .before .before .before .before .damped .ensures)) (c .before .before .gradient .ensures)
 
 pub problem-spec : {M : Type 1} → statement M
 problem-spec =
@@ -55,7 +70,11 @@ problem-spec =
     sum-requires
     constraints-requires
     slopes-requires
-    curve-requires
+    slice-aggregate-slopes
+    slice-aggregate-slopes-2
+    slopes-requires-2
+    slice-aggregate-damped
+    damped-requires
     gradient-requires
     same-length
     same-length-2

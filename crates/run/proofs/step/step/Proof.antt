@@ -1,9 +1,11 @@
--- `step` meets its contract: the kept variables, into a clear array, their step, and its spread.
+-- `step` meets its contract: the kept variables, into a clear array, their step, and where there is one, its spread.
 use Prim.Native.Nat.{ℕ, _≤_}
 use mathlib.Core.Path.{_≡_, refl}
 use native.Mathlib.Omega.{arith}
 use lib.Ieee.{ofBits}
 use lib.ListN.{length}
+use Rattle.linear.specs.Results.{bind}
+use Rattle.run.specs.Step.{spreadEnd}
 use Rattle.run.proofs.ModelLaws.{kept-few, kept-near}
 use Rattle.run.proofs.StepLaws.{step-is}
 use borrow.Author.Needs.{needs}
@@ -18,7 +20,7 @@ slice-aggregate-keep : tie.Need-slice-aggregate-keep
 slice-aggregate-keep c = search needs
 
 keep-requires : tie.Need-keep-requires
-keep-requires c κs = let p = c .before .before .before .before .before .before .pre in (p .0, (p .1 .1 .1 .0, refl))
+keep-requires c κs = let p = (c .before .before .before .before .before .before) .pre in (p .0, (p .1 .1 .1 .0, refl))
 
 slice-aggregate-modelled : tie.Need-slice-aggregate-modelled
 slice-aggregate-modelled c = search needs
@@ -29,18 +31,27 @@ slice-aggregate-modelled-2 c = search needs
 modelled-requires : tie.Need-modelled-requires
 unfolding ofBits
 modelled-requires c κs =
-    let p = c .before .before .before .before .before .before .before .before .before .before .before .pre in
+    let p = (c .before .before .before .before .before .before .before .before .before .before .before) .pre in
     let k = c .before .before .before .before .keep in
     (p .0, (p .1 .0, (p .1 .1 .0, (omega (arith, kept-few _ _ (k .ensures), p .0), (k .kept .1 .1 .0, (kept-near _ _ (k .ensures) (p .0), (refl, p .1 .1 .1 .1 .1)))))))
 
-slice-aggregate-spread-end : tie.Need-slice-aggregate-spread-end
-slice-aggregate-spread-end c = search needs
+enum-known-r : tie.Need-enum-known-r
+enum-known-r c = search needs
 
-slice-aggregate-spread-end-2 : tie.Need-slice-aggregate-spread-end-2
-slice-aggregate-spread-end-2 c = search needs
+slice-aggregate-spread : tie.Need-slice-aggregate-spread
+slice-aggregate-spread c = search needs
 
-spread-end-requires : tie.Need-spread-end-requires
-spread-end-requires c κs = let p = c .before .before .before .before .before .before .before .before .before .before .before .before .before .before .before .before .before .before .pre in let k = c .before .before .before .before .before .before .before .before .before .before .before .keep in (p .1 .1 .1 .1 .0, inside (kept-few _ _ (k .ensures)) (p .0) (k .kept .1 .1 .0))
+slice-aggregate-spread-2 : tie.Need-slice-aggregate-spread-2
+slice-aggregate-spread-2 c = search needs
+
+spread-requires : tie.Need-spread-requires
+spread-requires c κs = let p = (c .before .before .before .before .before .before .before .before .before .before .before .before .before .before .before .before .before .before .before .before .before) .pre in let k = c .before .before .before .before .before .before .before .before .before .before .before .before .before .before .keep in (p .1 .1 .1 .1 .0, inside (kept-few _ _ (k .ensures)) (p .0) (k .kept .1 .1 .0))
+
+enum-told : tie.Need-enum-told
+enum-told c = search needs
+
+enum-known-e : tie.Need-enum-known-e
+enum-known-e c = search needs
 
 same-length : tie.Need-same-length
 same-length c = search needs
@@ -49,7 +60,22 @@ same-length-2 : tie.Need-same-length-2
 same-length-2 c = search needs
 
 returns : tie.Need-returns
-returns c = step-is _ _ _ _ _ (c .before .before .before .before .before .before .before .before .before .before .before .before .before .before .keep .ensures) (c .before .before .before .before .before .before .before .before .before .modelled .ensures) (c .before .before .spread-end .ensures _)
+unfolding spreadEnd bind
+returns c = step-is _ _ _ _ _ (c .before .before .before .before .before .before .before .before .before .before .before .before .before .before .before .before .before .keep .ensures) (rw (c .before .before .before .before .before .before .before .r .given .1) at (c .before .before .before .before .before .before .before .before .before .before .before .before .modelled .ensures)) (rw (c .before .before .spread .ensures))
+
+same-length-3 : tie.Need-same-length-3
+same-length-3 c = search needs
+
+returns-2 : tie.Need-returns-2
+unfolding spreadEnd bind
+returns-2 c = step-is _ _ _ _ _ (c .before .before .before .before .before .before .before .before .before .before .keep .ensures) (rw (c .enum-told .given .1) at (c .before .before .before .before .before .modelled .ensures)) refl
+
+same-length-4 : tie.Need-same-length-4
+same-length-4 c = search needs
+
+returns-3 : tie.Need-returns-3
+unfolding spreadEnd bind
+returns-3 c = step-is _ _ _ _ _ (c .before .before .before .before .before .before .before .before .before .before .before .keep .ensures) (rw (c .before .e .given .1) at (c .before .before .before .before .before .before .modelled .ensures)) refl
 
 pub step-spec : {M : Type 1} → statement M
 step-spec =
@@ -60,9 +86,16 @@ step-spec =
     slice-aggregate-modelled
     slice-aggregate-modelled-2
     modelled-requires
-    slice-aggregate-spread-end
-    slice-aggregate-spread-end-2
-    spread-end-requires
+    enum-known-r
+    slice-aggregate-spread
+    slice-aggregate-spread-2
+    spread-requires
+    enum-told
+    enum-known-e
     same-length
     same-length-2
-    returns)
+    returns
+    same-length-3
+    returns-2
+    same-length-4
+    returns-3)
