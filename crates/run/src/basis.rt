@@ -188,45 +188,9 @@ fn row_of(k: usize, i: usize, jc: &[f64], v: &mut [f64])
     }
 }
 
-// Row i of `jc` as the newest vector.
-fn extend(
-    k: usize,
-    r: usize,
-    i: usize,
-    jc: &[f64],
-    q: &mut [f64],
-    gram: &mut [f64],
-    coefficients: &mut [f64],
-) -> Done
-    requires { ⌜ (k ≤ 12) × ((r ≤ 12) × (i < 12)) ⌝ }
-    ensures { λ d. ⌜ ((w : List Float) (o : List ℕ) → doneOf d (basisBy (r + 1) (now (q .exit)) (now (gram .exit)) (now (coefficients .exit)) w (set o r i)) ≡ extended (problemBy k 0 (λ _. zeroS) [] (now (jc .entry))) (basisBy r (now (q .entry)) (now (gram .entry)) (now (coefficients .entry)) w o) i) ⌝ }
-{
-    let mut v = [0.0; 24];
-    row_of(k, i, jc, &mut v);
-    parts_out(k, r, q, &mut v, coefficients);
-    match norm_of(&v, k) {
-        Answer::Value(l) => {
-            let length = l.sharpen();
-            unit(&v, 0, length, k, q, 12 * r);
-            put(coefficients, 12 * r + r, length);
-            gram_row(k, r, q, gram)
-        }
-        Answer::Refused(e) => Done::Refused(e),
-    }
-}
-
 // ---- one row after the other
 
-fn ranked(d: Done, r: usize) -> Rank
-    ensures { λ x. ⌜ ((q gram coefficients dependent : List Float) (order : List ℕ) → rankedOf x q gram coefficients dependent order ≡ doneOf d (basisBy r q gram coefficients dependent order)) ⌝ }
-{
-    match d {
-        Done::Finished => Rank::Of(r),
-        Done::Refused(e) => Rank::Refused(e),
-    }
-}
-
-// A row that says something new: into the basis.
+// Row i of `jc` says something new: it is the newest vector of the basis.
 fn add_row(
     k: usize,
     r: usize,
@@ -240,8 +204,22 @@ fn add_row(
     requires { ⌜ (k ≤ 12) × ((r ≤ i) × ((i < 12) × (length (now order) ≡ 24))) ⌝ }
     ensures { λ x. ⌜ ((w : List Float) → rankedOf x (now (q .exit)) (now (gram .exit)) (now (coefficients .exit)) w (now (order .exit)) ≡ extended (problemBy k 0 (λ _. zeroS) [] (now (jc .entry))) (basisBy r (now (q .entry)) (now (gram .entry)) (now (coefficients .entry)) w (now (order .entry))) i) ⌝ }
 {
+    let mut v = [0.0; 24];
     order[r] = i;
-    ranked(extend(k, r, i, jc, q, gram, coefficients), r + 1)
+    row_of(k, i, jc, &mut v);
+    parts_out(k, r, q, &mut v, coefficients);
+    match norm_of(&v, k) {
+        Answer::Value(l) => {
+            let length = l.sharpen();
+            unit(&v, 0, length, k, q, 12 * r);
+            put(coefficients, 12 * r + r, length);
+            match gram_row(k, r, q, gram) {
+                Done::Finished => Rank::Of(r + 1),
+                Done::Refused(e) => Rank::Refused(e),
+            }
+        }
+        Answer::Refused(e) => Rank::Refused(e),
+    }
 }
 
 // r scalars of a, each chosen, from t0 on in `to`.

@@ -123,26 +123,6 @@ fn damped_row(
     }
 }
 
-fn damped_rows(
-    n: usize,
-    index: &[usize],
-    k: usize,
-    jr: &[f64],
-    s: usize,
-    jc: &[f64],
-    m: usize,
-    b: &[f64],
-    mu: Scalar,
-    h: &mut [f64],
-)
-    requires { ⌜ (k ≤ 12) × (length (now index) ≡ 12) ⌝ }
-    ensures { λ _. ⌜ now (h .exit) ≡ fillRows (now (h .entry)) (λ i j. dampedAt (now (jr .entry)) s (now (jc .entry)) m mu (curvatureAt n (now (b .entry)) (getD (now (index .entry)) i 0) (getD (now (index .entry)) j 0)) i j) k k ⌝ }
-{
-    for i in 0..k {
-        damped_row(n, index, k, jr, s, jc, m, b, mu, h, i);
-    }
-}
-
 // H = J_rᵀ J_r + B + mu D over the kept variables, chosen.
 pub fn damped(
     n: usize,
@@ -160,7 +140,9 @@ pub fn damped(
     ensures { λ _. ⌜ now (h .exit) ≡ dampedOf n (keptBy k (now (index .entry))) (now (jr .entry)) s (now (jc .entry)) m (now (b .entry)) mu ⌝ }
 {
     clear(h);
-    damped_rows(n, index, k, jr, s, jc, m, b, mu, h);
+    for i in 0..k {
+        damped_row(n, index, k, jr, s, jc, m, b, mu, h, i);
+    }
 }
 
 // ---- the gradient
