@@ -122,31 +122,7 @@ fn any(marks: &[bool]) -> bool
     false
 }
 
-// The weights through a factor, where no pivot is left out; x is scratch.
-fn solved(
-    t: usize,
-    l: &[f64],
-    left_out: &[bool],
-    rhs: &[f64],
-    w: &mut [f64],
-    x: &mut [f64],
-) -> Along
-    requires { ⌜ (t ≤ 12) × ((length (now l) ≡ 2 * (t * t)) × ((length (now «left_out») ≡ t) × ((length (now rhs) ≡ 2 * t) × ((length (now w) ≡ 2 * t) × (length (now x) ≡ 2 * t))))) ⌝ }
-    ensures { λ r. ⌜ alongOf r (now (w .exit)) ≡ weightsOf t (factorOf (now (l .entry)) (now («left_out» .entry))) (now (rhs .entry)) ⌝ }
-{
-    if any(left_out) {
-        return Along::NotPositive;
-    }
-    match linear::solve_cholesky(t, l, left_out, rhs, x) {
-        Done::Finished => {
-            linear::sharp(t, x, w);
-            Along::Found
-        }
-        Done::Refused(e) => Along::Refused(e),
-    }
-}
-
-// The weights for a reduced matrix.
+// The weights for a reduced matrix, where no pivot of its factor is left out.
 fn weights_for(t: usize, a: &[f64], rhs: &[f64], w: &mut [f64]) -> Along
     requires { ⌜ (t ≤ 12) × ((length (now a) ≡ 2 * (t * t)) × ((length (now rhs) ≡ 2 * t) × (length (now w) ≡ 2 * t))) ⌝ }
     ensures { λ r. ⌜ alongOf r (now (w .exit)) ≡ solvedWith t (now (a .entry)) (now (rhs .entry)) ⌝ }
@@ -157,7 +133,18 @@ fn weights_for(t: usize, a: &[f64], rhs: &[f64], w: &mut [f64]) -> Along
     let mut l = [0.0; 288];
     let mut left_out = [false; 12];
     match linear::cholesky(t, a, &mut l[..e], &mut left_out[..t]) {
-        Done::Finished => solved(t, &l[..e], &left_out[..t], rhs, w, &mut x[..q]),
+        Done::Finished => {
+            if any(&left_out[..t]) {
+                return Along::NotPositive;
+            }
+            match linear::solve_cholesky(t, &l[..e], &left_out[..t], rhs, &mut x[..q]) {
+                Done::Finished => {
+                    linear::sharp(t, &x[..q], w);
+                    Along::Found
+                }
+                Done::Refused(e) => Along::Refused(e),
+            }
+        }
         Done::Refused(e) => Along::Refused(e),
     }
 }

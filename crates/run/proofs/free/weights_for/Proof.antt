@@ -1,13 +1,16 @@
--- `weights_for` meets its contract: the parts of the arrays have the lengths asked, and the factor decides.
-use mathlib.Core.Path.{_≡_, sym}
+-- `weights_for` meets its contract: the parts of the arrays have the lengths asked, and the factor decides, then its marks, then the solve.
+use mathlib.Core.Path.{_≡_, sym, ap, _∙_}
 use Prim.Native.Nat.{_*_, _≤_}
 use native.Mathlib.Omega.{arith}
 use lib.Seq.{length-take-le}
+use Rattle.interval.specs.Result.{ok}
 use Rattle.linear.specs.Answers.{doneOf}
 use Rattle.linear.specs.Cholesky.{factorOf, choleskyOf}
 use Rattle.linear.specs.Results.{bind}
-use Rattle.run.specs.Step.{solvedWith}
-use Rattle.run.proofs.LinearCalls.{cholesky-result}
+use Rattle.linear.specs.Substitution.{solveOf}
+use Rattle.run.specs.Step.{weights, solvedWith}
+use Rattle.run.proofs.LinearCalls.{cholesky-result, solve-result, sharp-written}
+use Rattle.run.proofs.FreeLaws.{weights-none, weights-solved, weights-refused}
 use Rattle.run.proofs.Prefixes.{front-room, front-kept}
 use Rattle.run.proofs.RowLaws.{few}
 use borrow.Author.Needs.{needs}
@@ -23,6 +26,15 @@ short s = omega (arith, s .pre .0)
 -- the factor: the checks pass
 ended : (k : tie.After-cholesky) → let a = k .before .before .before .before .before .before .args in let l = k .cholesky .last .1 .1 in doneOf (k .cholesky .result) (factorOf (l .0) (l .1 .0)) ≡ choleskyOf (a .t) (a .a .now)
 ended k = let s = k .before .before .before .before .before .before in cholesky-result (k .cholesky .result) _ _ _ _ (omega (arith, s .pre .0)) (s .pre .1 .0) (length-take-le _ _ (room s)) (length-take-le _ _ (s .pre .0)) (k .cholesky .ensures)
+
+-- the solve: the checks pass
+done : (k : tie.After-solve-cholesky) → let a = k .before .before .before .before .before .before .before .before .before .before .before .before .before .before .before .before .before .args in let f = k .before .before .before .before .before .before .before .before .before .before .before .cholesky .last .1 .1 in doneOf (k .solve-cholesky .result) (k .solve-cholesky .last .1 .1 .1 .1 .0) ≡ solveOf (a .t) (f .0) (f .1 .0) (a .rhs .now)
+done k =
+    let s = k .before .before .before .before .before .before .before .before .before .before .before .before .before .before .before .before .before in
+    let p = s .pre in
+    let f = k .before .before .before .before .before .before .before .before .before .before .before .cholesky .last .1 .1 in
+    let g = k .before .before .before .before .before .before .before .before .before .before .before .cholesky .kept .1 .1 in
+    solve-result (k .solve-cholesky .result) (s .args .t) (f .0) (f .1 .0) (s .args .rhs .now) _ (k .solve-cholesky .last .1 .1 .1 .1 .0) (omega (arith, p .0)) (g .0 ∙ length-take-le _ _ (room s)) (g .1 .0 ∙ length-take-le _ _ (p .0)) (p .1 .1 .0) (length-take-le _ _ (short s)) (rw (front-kept _ (f .0) _ (room s) (g .0), front-kept _ (f .1 .0) _ (p .0) (g .1 .0)) at (k .solve-cholesky .ensures))
 
 mul-q : tie.Need-mul-q
 mul-q c = search needs
@@ -51,49 +63,96 @@ cholesky-requires c κs = tt
 enum-told : tie.Need-enum-told
 enum-told c = search needs
 
-array-share-prefix-l : tie.Need-array-share-prefix-l
-array-share-prefix-l c = front-room _ (c .before .before .before .before .cholesky .last .1 .1 .0) _ (room (c .before .before .before .before .before .before .before .before .before .before)) (c .before .before .before .before .cholesky .kept .1 .1 .0)
-
-slice-aggregate-solved : tie.Need-slice-aggregate-solved
-slice-aggregate-solved c = sym (length-take-le _ _ (front-room _ (c .before .before .before .before .before .cholesky .last .1 .1 .0) _ (room (c .before .before .before .before .before .before .before .before .before .before .before)) (c .before .before .before .before .before .cholesky .kept .1 .1 .0)))
-
 array-share-prefix-left-out : tie.Need-array-share-prefix-left-out
-array-share-prefix-left-out c = front-room _ (c .before .before .before .before .before .cholesky .last .1 .1 .1 .0) _ ((c .before .before .before .before .before .before .before .before .before .before .before) .pre .0) (c .before .before .before .before .before .cholesky .kept .1 .1 .1 .0)
+array-share-prefix-left-out c = front-room _ (c .before .before .before .before .cholesky .last .1 .1 .1 .0) _ ((c .before .before .before .before .before .before .before .before .before .before) .pre .0) (c .before .before .before .before .cholesky .kept .1 .1 .1 .0)
 
-slice-aggregate-solved-2 : tie.Need-slice-aggregate-solved-2
-slice-aggregate-solved-2 c = sym (length-take-le _ _ (front-room _ (c .before .before .before .before .before .before .cholesky .last .1 .1 .1 .0) _ ((c .before .before .before .before .before .before .before .before .before .before .before .before) .pre .0) (c .before .before .before .before .before .before .cholesky .kept .1 .1 .1 .0)))
+slice-aggregate-any : tie.Need-slice-aggregate-any
+slice-aggregate-any c = sym (length-take-le _ _ (front-room _ (c .before .before .before .before .before .cholesky .last .1 .1 .1 .0) _ ((c .before .before .before .before .before .before .before .before .before .before .before) .pre .0) (c .before .before .before .before .before .cholesky .kept .1 .1 .1 .0)))
 
-array-borrow-prefix-x : tie.Need-array-borrow-prefix-x
-array-borrow-prefix-x c = search needs
-
-slice-aggregate-solved-3 : tie.Need-slice-aggregate-solved-3
-slice-aggregate-solved-3 c = sym (length-take-le _ _ (short (c .before .before .before .before .before .before .before .before .before .before .before .before .before .before)))
-
-solved-requires : tie.Need-solved-requires
-solved-requires c κs =
-    let s = (c .before .before .before .before .before .before .before .before .before .before .before .before .before .before) in
-    let p = s .pre in
-    let k = c .before .before .before .before .before .before .before .before .cholesky .kept .1 .1 in
-    let l = c .before .before .before .before .before .before .before .before .cholesky .last .1 .1 in
-    (p .0, (length-take-le _ _ (front-room _ (l .0) _ (room s) (k .0)), (length-take-le _ _ (front-room _ (l .1 .0) _ (p .0) (k .1 .0)), (p .1 .1 .0, (p .1 .1 .1, length-take-le _ _ (short s))))))
-
-enum-known-e : tie.Need-enum-known-e
-enum-known-e c = search needs
-
-same-length : tie.Need-same-length
-same-length c = search needs
+any-requires : tie.Need-any-requires
+any-requires c κs = search needs
 
 returns : tie.Need-returns
 unfolding solvedWith bind
 returns c =
-    let s = (c .before .before .before .before .before .before .before .before .before .before .before .before .before .before .before .before .before .before) in
-    let k = c .before .before .before .before .before .before .before .before .before .before .before .before .cholesky .kept .1 .1 in
-    let l = c .before .before .before .before .before .before .before .before .before .before .before .before .cholesky .last .1 .1 in
-    rw (← rw (c .before .before .before .before .before .before .before .before .enum-told .given .1) at (ended (c .before .before .before .before .before .before .before .before .before .before .before .before))) (rw (front-kept _ (l .0) _ (room s) (k .0), front-kept _ (l .1 .0) _ (s .pre .0) (k .1 .0)) at (c .before .before .before .solved .ensures))
+    let s = (c .before .before .before .before .before .before .before .before .before .before .before .before .before) in
+    let a = s .args in
+    let f = c .before .before .before .before .before .before .before .cholesky .last .1 .1 in
+    let g = c .before .before .before .before .before .before .before .cholesky .kept .1 .1 in
+    let n = g .1 .0 ∙ length-take-le _ _ (s .pre .0) in
+    let m = rw (front-kept _ (f .1 .0) _ (s .pre .0) (g .1 .0)) at (c .before .any .ensures) in
+    rw (← rw (c .before .before .before .enum-told .given .1) at (ended (c .before .before .before .before .before .before .before))) (weights-none (a .t) (factorOf (f .0) (f .1 .0)) (a .rhs .now) n m (c .if1 .taken))
+
+array-share-prefix-l : tie.Need-array-share-prefix-l
+array-share-prefix-l c = front-room _ (c .before .before .before .before .before .before .before .cholesky .last .1 .1 .0) _ (room (c .before .before .before .before .before .before .before .before .before .before .before .before .before)) (c .before .before .before .before .before .before .before .cholesky .kept .1 .1 .0)
+
+slice-aggregate-solve-cholesky : tie.Need-slice-aggregate-solve-cholesky
+slice-aggregate-solve-cholesky c = sym (length-take-le _ _ (front-room _ (c .before .before .before .before .before .before .before .before .cholesky .last .1 .1 .0) _ (room (c .before .before .before .before .before .before .before .before .before .before .before .before .before .before)) (c .before .before .before .before .before .before .before .before .cholesky .kept .1 .1 .0)))
+
+array-share-prefix-left-out-2 : tie.Need-array-share-prefix-left-out-2
+array-share-prefix-left-out-2 c = front-room _ (c .before .before .before .before .before .before .before .before .cholesky .last .1 .1 .1 .0) _ ((c .before .before .before .before .before .before .before .before .before .before .before .before .before .before) .pre .0) (c .before .before .before .before .before .before .before .before .cholesky .kept .1 .1 .1 .0)
+
+slice-aggregate-solve-cholesky-2 : tie.Need-slice-aggregate-solve-cholesky-2
+slice-aggregate-solve-cholesky-2 c = sym (length-take-le _ _ (front-room _ (c .before .before .before .before .before .before .before .before .before .cholesky .last .1 .1 .1 .0) _ ((c .before .before .before .before .before .before .before .before .before .before .before .before .before .before .before) .pre .0) (c .before .before .before .before .before .before .before .before .before .cholesky .kept .1 .1 .1 .0)))
+
+array-borrow-prefix-x : tie.Need-array-borrow-prefix-x
+array-borrow-prefix-x c = search needs
+
+slice-aggregate-solve-cholesky-3 : tie.Need-slice-aggregate-solve-cholesky-3
+slice-aggregate-solve-cholesky-3 c = sym (length-take-le _ _ (short (c .before .before .before .before .before .before .before .before .before .before .before .before .before .before .before .before)))
+
+solve-cholesky-requires : tie.Need-solve-cholesky-requires
+solve-cholesky-requires c κs = tt
+
+enum-told-2 : tie.Need-enum-told-2
+enum-told-2 c = search needs
+
+array-share-prefix-x : tie.Need-array-share-prefix-x
+array-share-prefix-x c = front-room _ (c .before .before .before .solve-cholesky .last .1 .1 .1 .1 .0) _ (short (c .before .before .before .before .before .before .before .before .before .before .before .before .before .before .before .before .before .before .before .before)) (c .before .before .before .solve-cholesky .kept .1 .1 .1 .1 .0)
+
+slice-aggregate-sharp : tie.Need-slice-aggregate-sharp
+slice-aggregate-sharp c = sym (length-take-le _ _ (front-room _ (c .before .before .before .before .solve-cholesky .last .1 .1 .1 .1 .0) _ (short (c .before .before .before .before .before .before .before .before .before .before .before .before .before .before .before .before .before .before .before .before .before)) (c .before .before .before .before .solve-cholesky .kept .1 .1 .1 .1 .0)))
+
+sharp-requires : tie.Need-sharp-requires
+sharp-requires c κs = tt
+
+enum-known-e : tie.Need-enum-known-e
+enum-known-e c = search needs
+
+enum-known-e-2 : tie.Need-enum-known-e-2
+enum-known-e-2 c = search needs
+
+same-length : tie.Need-same-length
+same-length c = search needs
 
 returns-2 : tie.Need-returns-2
 unfolding solvedWith bind
-returns-2 c = rw (← rw (c .before .e .given .1) at (ended (c .before .before .before .before .before)))
+returns-2 c =
+    let s = (c .before .before .before .before .before .before .before .before .before .before .before .before .before .before .before .before .before .before .before .before .before .before .before .before .before) in
+    let a = s .args in
+    let f = c .before .before .before .before .before .before .before .before .before .before .before .before .before .before .before .before .before .before .before .cholesky .last .1 .1 in
+    let g = c .before .before .before .before .before .before .before .before .before .before .before .before .before .before .before .before .before .before .before .cholesky .kept .1 .1 in
+    let n = g .1 .0 ∙ length-take-le _ _ (s .pre .0) in
+    let m = rw (front-kept _ (f .1 .0) _ (s .pre .0) (g .1 .0)) at (c .before .before .before .before .before .before .before .before .before .before .before .before .before .any .ensures) in
+    let x = c .before .before .before .before .before .before .before .before .solve-cholesky .last .1 .1 .1 .1 .0 in
+    let kx = c .before .before .before .before .before .before .before .before .solve-cholesky .kept .1 .1 .1 .1 .0 in
+    let v = sharp-written (c .before .before .sharp .result) (a .t) x (a .w .now) (c .before .before .sharp .last .1 .1 .0) (omega (arith, s .pre .0)) (kx ∙ length-take-le _ _ (short s)) (s .pre .1 .1 .1) (rw (front-kept _ x _ (short s) kx) at (c .before .before .sharp .ensures)) in
+    rw (← rw (c .before .before .before .before .before .before .before .before .before .before .before .before .before .before .before .enum-told .given .1) at (ended (c .before .before .before .before .before .before .before .before .before .before .before .before .before .before .before .before .before .before .before))) (weights-solved (a .t) (factorOf (f .0) (f .1 .0)) (a .rhs .now) n m ((c .before .before .before .before .before .before .before .before .before .before .before .before) .if1 .left) (rw (c .before .before .before .before .before .enum-told2 .given .1) at (done (c .before .before .before .before .before .before .before .before))) (ap (λ u. ok (weights u)) v))
+
+returns-3 : tie.Need-returns-3
+unfolding solvedWith bind
+returns-3 c =
+    let s = (c .before .before .before .before .before .before .before .before .before .before .before .before .before .before .before .before .before .before .before .before .before) in
+    let a = s .args in
+    let f = c .before .before .before .before .before .before .before .before .before .before .before .before .before .before .before .cholesky .last .1 .1 in
+    let g = c .before .before .before .before .before .before .before .before .before .before .before .before .before .before .before .cholesky .kept .1 .1 in
+    let n = g .1 .0 ∙ length-take-le _ _ (s .pre .0) in
+    let m = rw (front-kept _ (f .1 .0) _ (s .pre .0) (g .1 .0)) at (c .before .before .before .before .before .before .before .before .before .any .ensures) in
+    rw (← rw (c .before .before .before .before .before .before .before .before .before .before .before .enum-told .given .1) at (ended (c .before .before .before .before .before .before .before .before .before .before .before .before .before .before .before))) (weights-refused (a .t) (factorOf (f .0) (f .1 .0)) (a .rhs .now) n m ((c .before .before .before .before .before .before .before .before) .if1 .left) (rw (c .before .e .given .1) at (done (c .before .before .before .before))))
+
+returns-4 : tie.Need-returns-4
+unfolding solvedWith bind
+returns-4 c = rw (← rw (c .before .e2 .given .1) at (ended (c .before .before .before .before .before)))
 
 pub weights-for-spec : {M : Type 1} → statement M
 weights-for-spec =
@@ -108,14 +167,24 @@ weights-for-spec =
     slice-aggregate-cholesky-2
     cholesky-requires
     enum-told
-    array-share-prefix-l
-    slice-aggregate-solved
     array-share-prefix-left-out
-    slice-aggregate-solved-2
-    array-borrow-prefix-x
-    slice-aggregate-solved-3
-    solved-requires
-    enum-known-e
-    same-length
+    slice-aggregate-any
+    any-requires
     returns
-    returns-2)
+    array-share-prefix-l
+    slice-aggregate-solve-cholesky
+    array-share-prefix-left-out-2
+    slice-aggregate-solve-cholesky-2
+    array-borrow-prefix-x
+    slice-aggregate-solve-cholesky-3
+    solve-cholesky-requires
+    enum-told-2
+    array-share-prefix-x
+    slice-aggregate-sharp
+    sharp-requires
+    enum-known-e
+    enum-known-e-2
+    same-length
+    returns-2
+    returns-3
+    returns-4)
