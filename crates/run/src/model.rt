@@ -147,15 +147,6 @@ pub fn damped(
 
 // ---- the gradient
 
-fn gradient_by(xs: &[f64], e: RowSet, index: &[usize], k: usize, r: &[f64], g: &mut [f64])
-    requires { ⌜ Small e × ((k ≤ 12) × ((length (now index) ≡ 12) × ((p : ℕ) → getD (now index) p 0 < 65536))) ⌝ }
-    ensures { λ _. ⌜ now (g .exit) ≡ fillTo (now (g .entry)) 0 (λ p. chooseOf (dotTo (slopesBy (rowsIn (now (xs .entry)) e) (getD (now (index .entry)) p 0)) (at (now (r .entry))) (e .count))) k ⌝ }
-{
-    for p in 0..k {
-        put(g, p, choose(transposed_at(xs, e, r, index[p])));
-    }
-}
-
 // The sum's gradient J_rᵀ r over the kept variables, chosen.
 pub fn gradient(xs: &[f64], e: RowSet, index: &[usize], k: usize, g: &mut [f64])
     requires { ⌜ Small e × ((k ≤ 12) × ((length (now index) ≡ 12) × (((p : ℕ) → getD (now index) p 0 < 65536) × (length (now g) ≡ 24)))) ⌝ }
@@ -164,7 +155,9 @@ pub fn gradient(xs: &[f64], e: RowSet, index: &[usize], k: usize, g: &mut [f64])
     let mut r = [0.0; 48];
     chosen(xs, e.values, e.count, &mut r);
     clear(g);
-    gradient_by(xs, e, index, k, &r, g);
+    for p in 0..k {
+        put(g, p, choose(transposed_at(xs, e, &r, index[p])));
+    }
 }
 
 // ---- the problem

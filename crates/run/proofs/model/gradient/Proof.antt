@@ -1,48 +1,99 @@
--- `gradient` meets its contract: the values chosen, into a clear array, then the products.
+-- `gradient` meets its contract: the values chosen, into a clear array, then one place more is filled in each turn.
+use borrow.Author.Needs.{needs}
+use mathlib.Core.Path.{_≡_, ap, _∙_}
+use Prim.Native.Nat.{_≤_, _-_}
+use native.Mathlib.Nat.{le-antisymm}
 use native.Mathlib.Omega.{arith}
 use lib.Ieee.{ofBits}
+use lib.ListN.{length, getD}
+use Rattle.linear.specs.Choose.{chooseOf}
+use Rattle.linear.specs.Dot.{dotTo}
+use Rattle.linear.specs.Flat.{at}
 use Rattle.run.specs.Model.{gradientOf}
-use borrow.Author.Needs.{needs}
+use Rattle.run.specs.Rows.{rowsIn, slopesBy, transposedAt}
+use Rattle.run.specs.Scratch.{vector, fillTo}
+use Rattle.run.proofs.ScratchLaws.{fill-first}
 use Rattle.run.proofs.model.gradient.Statement.{statement}
 use Rattle.run.proofs.model.gradient.Tie as tie
 
-slice-aggregate-chosen : tie.Need-slice-aggregate-chosen
+abbrev Inv-loop : tie.InvT-loop
+Inv-loop xs e index k g₀ r p₀ g p = (p ≤ k) × (length g ≡ length g₀) × (g ≡ fillTo vector 0 (λ j. chooseOf (dotTo (slopesBy (rowsIn xs e) (getD index j 0)) (at r) (e .count))) p)
+
+abbrev μ-loop : tie.MeasureT-loop
+μ-loop xs e index k g₀ r p₀ g p = k - p
+
+slice-aggregate-chosen : tie.Need-slice-aggregate-chosen Inv-loop μ-loop
 slice-aggregate-chosen c = search needs
 
-chosen-requires : tie.Need-chosen-requires
-chosen-requires c κs =
-    let s = c .before .before .before .before in
-    (omega (arith, s .pre .0 .values-near), omega (arith, s .pre .0 .few-rows))
+chosen-requires : tie.Need-chosen-requires Inv-loop μ-loop
+chosen-requires c κs = let s = c .before .before .before .before in (omega (arith, s .pre .0 .values-near), omega (arith, s .pre .0 .few-rows))
 
-clear-requires : tie.Need-clear-requires
+clear-requires : tie.Need-clear-requires Inv-loop μ-loop
 clear-requires c κs = search needs
 
-slice-aggregate-gradient-by : tie.Need-slice-aggregate-gradient-by
-slice-aggregate-gradient-by c = search needs
+loop-holds : tie.Need-loop-holds Inv-loop μ-loop
+unfolding fillTo
+loop-holds c = (search needs, search needs, rw (c .before .before .before .before .before .before .before .before .before .before .pre .1 .1 .1 .1) at (c .before .before .clear .ensures))
 
-gradient-by-requires : tie.Need-gradient-by-requires
-gradient-by-requires c κs =
-    let s = c .before .before .before .before .before .before .before .before .before .before .before .before in
-    (s .pre .0, (s .pre .1 .0, (s .pre .1 .1 .0, s .pre .1 .1 .1 .0)))
+slice-aggregate-transposed-at : tie.Need-slice-aggregate-transposed-at Inv-loop μ-loop
+slice-aggregate-transposed-at c = search needs
 
-same-length : tie.Need-same-length
+mul-transposed-at : tie.Need-mul-transposed-at Inv-loop μ-loop
+mul-transposed-at c = search needs
+
+shared-slice-read-transposed-at : tie.Need-shared-slice-read-transposed-at Inv-loop μ-loop
+shared-slice-read-transposed-at c = search needs
+
+transposed-at-requires : tie.Need-transposed-at-requires Inv-loop μ-loop
+transposed-at-requires c κs = let s = c .before .before .before .before .before .before .before .before .before .before .before .before .before .before .before in (s .pre .0, s .pre .1 .1 .1 .0 (c .before .before .before .before .loop .p))
+
+choose-requires : tie.Need-choose-requires Inv-loop μ-loop
+choose-requires c κs = search needs
+
+put-requires : tie.Need-put-requires Inv-loop μ-loop
+put-requires c κs = search needs
+
+add-p : tie.Need-add-p Inv-loop μ-loop
+add-p c = search needs
+
+loop-less : tie.Need-loop-less Inv-loop μ-loop
+loop-less c = search needs
+
+loop-again : tie.Need-loop-again Inv-loop μ-loop
+unfolding transposedAt
+loop-again c =
+    let a = c .before .before .before .before .before .before .before .before .before .before .before .before .before .before .before .before .before .before .before .before .args in
+    let r = c .before .before .before .before .before .before .before .before .before .before .before .before .before .before .before .chosen .last .1 .1 .1 .0 in
+    let l = c .before .before .before .before .before .before .before .before .before .loop in
+    (search needs, search needs, c .before .before .put .ensures ∙ fill-first vector (λ j. chooseOf (dotTo (slopesBy (rowsIn (a .xs .now) (a .e)) (getD (a .index .now) j 0)) (at r) (a .e .count))) (l .p) (l .inv .2) (c .before .before .before .choose .ensures ∙ ap chooseOf (c .before .before .before .before .transposed-at .ensures)))
+
+same-length : tie.Need-same-length Inv-loop μ-loop
 same-length c = search needs
 
-returns : tie.Need-returns
+returns : tie.Need-returns Inv-loop μ-loop
 unfolding gradientOf ofBits
 returns c =
-    let p = c .before .before .before .before .before .before .before .before .before .before .before .before .before .before .before .pre in
-    let z = rw (p .1 .1 .1 .1) at (c .before .before .before .before .before .before .before .clear .ensures) in
-    rw (z, c .before .before .before .before .before .before .before .before .before .before .chosen .ensures) at (c .before .before .gradient-by .ensures)
+    let i = rw (le-antisymm (c .before .loop .inv .0) (c .loop-test .left)) at (c .before .loop .inv .2) in
+    rw (c .before .before .before .before .before .before .before .chosen .ensures) at i
 
 pub gradient-spec : {M : Type 1} → statement M
 gradient-spec =
     tie.close
     (tie.spec
+    Inv-loop
+    μ-loop
     slice-aggregate-chosen
     chosen-requires
     clear-requires
-    slice-aggregate-gradient-by
-    gradient-by-requires
+    loop-holds
+    slice-aggregate-transposed-at
+    mul-transposed-at
+    shared-slice-read-transposed-at
+    transposed-at-requires
+    choose-requires
+    put-requires
+    add-p
+    loop-less
+    loop-again
     same-length
     returns)
