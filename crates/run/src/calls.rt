@@ -5,7 +5,7 @@ ghost use Prim.Native.Nat.{_*_, _≤_};
 ghost use lib.Dec.{eqb};
 ghost use lib.ListN.{length};
 ghost use Rattle.run.specs.Area.{AREA};
-ghost use Rattle.run.specs.Calls.{allInDomain, stepFits, leftOf, notBegun, begunOf, beginOf, pointOf};
+ghost use Rattle.run.specs.Calls.{allInDomain, stepFits, leftOf, notBegun, beginOf, pointOf};
 use crate::area::begun;
 use crate::checks;
 use crate::rows::all_in_domain;
@@ -61,20 +61,6 @@ fn ends_fit(n: usize, start: &[f64], max_step: Scalar) -> bool
     checks::step_fits(max_step)
 }
 
-// A run that has begun, with its first question.
-fn begin_with(z: Sizes, start: &[f64], max_step: Scalar, area: &mut [f64]) -> Out
-    requires { ⌜ (length (now start) ≤ 24) × (length (now area) ≡ 8000) ⌝ }
-    ensures { λ r. ⌜ leftOf r (now (area .exit)) ≡ begunOf z (now (start .entry)) «max_step» ⌝ }
-{
-    begun(area, start);
-    let mu = checks::first_mu();
-    let state = checks::state_with(z, mu, max_step, Phase::Open(Kind::Start));
-    Out {
-        state,
-        answer: Answer::Question(0, Kind::Start, 0),
-    }
-}
-
 // Begins a run of n variables, m constraint rows and s sum rows from the point `start`, with at most `limit` iterations: its first question asks for the rows of `start`.
 pub fn begin(
     n: usize,
@@ -97,5 +83,11 @@ pub fn begin(
     if !ends_fit(n, start, max_step) {
         return not_begun(3);
     }
-    begin_with(z, start, max_step, area)
+    begun(area, start);
+    let mu = checks::first_mu();
+    let state = checks::state_with(z, mu, max_step, Phase::Open(Kind::Start));
+    Out {
+        state,
+        answer: Answer::Question(0, Kind::Start, 0),
+    }
 }

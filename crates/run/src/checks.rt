@@ -4,7 +4,7 @@ ghost use mathlib.Core.Path.{_≡_};
 ghost use Prim.Native.Nat.{_≤_};
 ghost use lib.Dec.{ltb};
 ghost use Rattle.interval.specs.Scaling.{isPositive};
-ghost use Rattle.run.specs.Calls.{sizesFit, countsFit, phaseFits, valid, firstMu, stateWith, noRun, stepFits, checkOf, rowsCheck, checkRowsOf};
+ghost use Rattle.run.specs.Calls.{sizesFit, countsFit, phaseFits, valid, firstMu, stateWith, noRun, stepFits, checkOf, checkRowsOf};
 use crate::rows::all_in_domain;
 use crate::rows::in_domain;
 use crate::scratch::or_zero;
@@ -195,20 +195,6 @@ pub fn check(st: State, area: usize) -> Checked
     Checked::Accept(kind)
 }
 
-fn rows_check(z: Sizes, kind: Kind, rows: &[f64]) -> Checked
-    requires { ⌜ (z .n ≤ 12) × ((z .m ≤ 12) × (z .s ≤ 24)) ⌝ }
-    ensures { λ r. ⌜ r ≡ rowsCheck z (now (rows .entry)) kind ⌝ }
-{
-    let count = (z.m + z.s) * (z.n + 1);
-    if rows.len() != 2 * count {
-        return Checked::Refuse(2);
-    }
-    if !all_in_domain(rows, count) {
-        return Checked::Refuse(3);
-    }
-    Checked::Accept(kind)
-}
-
 // The checks of a reply with rows, with an area of that length.
 pub fn check_rows(st: State, area: usize, rows: &[f64]) -> Checked
     ensures { λ r. ⌜ r ≡ checkRowsOf st area (now (rows .entry)) ⌝ }
@@ -216,6 +202,15 @@ pub fn check_rows(st: State, area: usize, rows: &[f64]) -> Checked
     let z = st.sizes;
     match check(st, area) {
         Checked::Refuse(k) => Checked::Refuse(k),
-        Checked::Accept(kind) => rows_check(z, kind, rows),
+        Checked::Accept(kind) => {
+            let count = (z.m + z.s) * (z.n + 1);
+            if rows.len() != 2 * count {
+                return Checked::Refuse(2);
+            }
+            if !all_in_domain(rows, count) {
+                return Checked::Refuse(3);
+            }
+            Checked::Accept(kind)
+        }
     }
 }

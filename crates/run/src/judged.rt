@@ -96,18 +96,7 @@ fn contracts(last: Last, length: Scalar) -> bool
     }
 }
 
-fn judged_by(change: Scalar, fall: Scalar, beaten: bool, length: Scalar, last: Last) -> Judged
-    ensures { λ r. ⌜ r ≡ judgedBy change fall beaten length last ⌝ }
-{
-    Judged {
-        length,
-        lower: is_lower(change, fall, beaten),
-        undecided: is_undecided(change, fall),
-        contracting: contracts(last, length),
-    }
-}
-
-// The same from the rows, with the violation theta_next where the step landed.
+// The judgement from the rows, with the violation theta_next where the step landed.
 fn judged_at(
     n: usize,
     m: usize,
@@ -127,7 +116,13 @@ fn judged_at(
     let change = sum_change(at, next, rows::sum(n, m, s));
     let f = rows::sum_squared(next, n, m, s);
     let beaten = beats(filter, f, theta_next, count);
-    judged_by(change, theta.sub(theta_next), beaten, length, last)
+    let fall = theta.sub(theta_next);
+    Judged {
+        length,
+        lower: is_lower(change, fall, beaten),
+        undecided: is_undecided(change, fall),
+        contracting: contracts(last, length),
+    }
 }
 
 // How the step from the rows `at`, with violation theta, to the rows `next` fares against the first pairs of the filter.

@@ -1,5 +1,4 @@
--- `begin` meets its contract.
-use borrow.Author.Needs.{needs}
+-- `begin` meets its contract: each check decides, and what passes them all has begun.
 use denote.Ref.{now}
 use mathlib.Core.Path.{_∙_, sym, ap}
 use borrow.Author.Tests.{not-true, not-false}
@@ -7,6 +6,7 @@ use Rattle.run.specs.Calls.{leftOf, beginOf}
 use Rattle.run.specs.declared.state.Out.{Out}
 use Rattle.run.proofs.CheckLaws.{size-bounds}
 use Rattle.run.proofs.CallLaws.{begin-ready}
+use borrow.Author.Needs.{needs}
 use Rattle.run.proofs.calls.begin.Statement.{statement}
 use Rattle.run.proofs.calls.begin.Tie as tie
 
@@ -40,17 +40,24 @@ returns-3 : tie.Need-returns-3
 unfolding beginOf
 returns-3 c = rw (sym (c .before .before .before .before .before .before .sizes-fit .ensures) ∙ not-false _ (c .before .before .before .before .before .if1 .left), sym (c .before .before .before .before .lengths-fit .ensures) ∙ not-false _ (c .before .before .before .if2 .left), sym (c .before .before .ends-fit .ensures) ∙ not-true _ (c .before .if3 .taken)) (ap (λ (r : Out). leftOf r (now (c .before .before .before .before .before .before .before .before .before .args .area))) (c .not-begun3 .ensures))
 
-begin-with-requires : tie.Need-begin-with-requires
-begin-with-requires c κs =
+begun-requires : tie.Need-begun-requires
+begun-requires c κs =
     let z = c .before .before .before .before .before .before .before .before .before .args in
-    begin-ready (z .n) _ (now (z .start)) (size-bounds (record { n = z .n; m = z .m; s = z .s; limit = z .limit }) (sym (c .before .before .before .before .before .before .sizes-fit .ensures) ∙ not-false _ (c .before .before .before .before .before .if1 .left)) .n) (sym (c .before .before .before .before .lengths-fit .ensures) ∙ not-false _ (c .before .before .before .if2 .left))
+    let r = begin-ready (z .n) _ (now (z .start)) (size-bounds (record { n = z .n; m = z .m; s = z .s; limit = z .limit }) (sym (c .before .before .before .before .before .before .sizes-fit .ensures) ∙ not-false _ (c .before .before .before .before .before .if1 .left)) .n) (sym (c .before .before .before .before .lengths-fit .ensures) ∙ not-false _ (c .before .before .before .if2 .left)) in
+    (r .1, r .0)
+
+first-mu-requires : tie.Need-first-mu-requires
+first-mu-requires c κs = search needs
+
+state-with-requires : tie.Need-state-with-requires
+state-with-requires c κs = search needs
 
 same-length : tie.Need-same-length
 same-length c = search needs
 
 returns-4 : tie.Need-returns-4
 unfolding beginOf
-returns-4 c = rw (sym (c .before .before .before .before .before .before .before .before .before .sizes-fit .ensures) ∙ not-false _ (c .before .before .before .before .before .before .before .before .if1 .left), sym (c .before .before .before .before .before .before .before .lengths-fit .ensures) ∙ not-false _ (c .before .before .before .before .before .before .if2 .left), sym (c .before .before .before .before .before .ends-fit .ensures) ∙ not-false _ (c .before .before .before .before .if3 .left)) (c .before .before .begin-with .ensures)
+returns-4 c = rw (sym (c .before .before .before .before .before .before .before .before .before .before .before .sizes-fit .ensures) ∙ not-false _ (c .before .before .before .before .before .before .before .before .before .before .if1 .left), sym (c .before .before .before .before .before .before .before .before .before .lengths-fit .ensures) ∙ not-false _ (c .before .before .before .before .before .before .before .before .if2 .left), sym (c .before .before .before .before .before .before .before .ends-fit .ensures) ∙ not-false _ (c .before .before .before .before .before .before .if3 .left), c .before .before .before .before .begun .ensures .is, c .state-with .ensures, c .before .first-mu .ensures)
 
 pub begin-spec : {M : Type 1} → statement M
 begin-spec =
@@ -65,6 +72,8 @@ begin-spec =
     ends-fit-requires
     not-begun-requires-3
     returns-3
-    begin-with-requires
+    begun-requires
+    first-mu-requires
+    state-with-requires
     same-length
     returns-4)

@@ -1,8 +1,8 @@
 -- `judged_at` meets its contract: each part is what its call gave.
-use mathlib.Core.Bool.{Bool}
+use mathlib.Core.Bool.{Bool, _&&_, _||_}
 use mathlib.Core.Path.{_≡_, ap, _∙_}
 use Rattle.interval.specs.declared.Scalar.{Scalar}
-use Rattle.run.specs.Judgement.{Judged, sumChange, beatsTo, judgedBy}
+use Rattle.run.specs.Judgement.{Judged, sumChange, beatsTo, rises, indefinite, contracts, judgedBy}
 use Rattle.run.specs.Rows.{rowsIn}
 use Rattle.run.specs.declared.state.Last.{Last}
 use Rattle.run.proofs.RowLaws.{sum-small}
@@ -13,6 +13,10 @@ use Rattle.run.proofs.judged.judged_at.Tie as tie
 -- a judgement of equal parts
 parts : {x x′ y y′ : Scalar} {b b′ : Bool} {length : Scalar} (last : Last) {r : Judged} → x ≡ x′ → y ≡ y′ → b ≡ b′ → r ≡ judgedBy x y b length last → r ≡ judgedBy x′ y′ b′ length last
 parts last ex ey eb er = rw (er, ex, ey, eb)
+
+-- and its answers
+answers : (x y : Scalar) (b : Bool) (length : Scalar) (last : Last) {p q s : Bool} → p ≡ (rises x || rises y) && b → q ≡ indefinite x && indefinite y → s ≡ contracts last length → _≡_ {A = Judged} (record { length = length; lower = p; undecided = q; contracting = s }) (judgedBy x y b length last)
+answers x y b length last ep eq es = rw (ep, eq, es)
 
 sum-requires : tie.Need-sum-requires
 sum-requires c κs = search needs
@@ -29,15 +33,21 @@ beats-requires c κs = search needs
 sub-requires : tie.Need-sub-requires
 sub-requires c κs = search needs
 
-judged-by-requires : tie.Need-judged-by-requires
-judged-by-requires c κs = search needs
+is-lower-requires : tie.Need-is-lower-requires
+is-lower-requires c κs = search needs
+
+is-undecided-requires : tie.Need-is-undecided-requires
+is-undecided-requires c κs = search needs
+
+contracts-requires : tie.Need-contracts-requires
+contracts-requires c κs = search needs
 
 returns : tie.Need-returns
 returns c =
-    let a = c .before .before .before .before .before .before .before .before .before .args in
-    let change = c .before .before .before .before .sum-change .ensures ∙ ap (λ e. sumChange (rowsIn (a .at .now) e) (rowsIn (a .next .now) e)) (c .before .before .before .before .before .sum .ensures) in
-    let beaten = c .before .before .beats .ensures ∙ ap (λ f. beatsTo (a .filter .now) f (a .theta-next) (a .count)) (c .before .before .before .sum-squared .ensures) in
-    parts (a .last) change (c .before .sub .ensures .value) beaten (c .judged-by .ensures)
+    let a = c .before .before .before .before .before .before .before .before .before .before .before .args in
+    let change = c .before .before .before .before .before .before .sum-change .ensures ∙ ap (λ e. sumChange (rowsIn (a .at .now) e) (rowsIn (a .next .now) e)) (c .before .before .before .before .before .before .before .sum .ensures) in
+    let beaten = c .before .before .before .before .beats .ensures ∙ ap (λ f. beatsTo (a .filter .now) f (a .theta-next) (a .count)) (c .before .before .before .before .before .sum-squared .ensures) in
+    parts (a .last) change (c .before .before .before .sub .ensures .value) beaten (answers (c .before .before .before .before .before .before .sum-change .result) (c .before .before .before .sub .result) (c .before .before .before .before .beats .result) (a .length) (a .last) (c .before .before .is-lower .ensures) (c .before .is-undecided .ensures) (c .contracts .ensures))
 
 pub judged-at-spec : {M : Type 1} → statement M
 judged-at-spec =
@@ -48,5 +58,7 @@ judged-at-spec =
     sum-squared-requires
     beats-requires
     sub-requires
-    judged-by-requires
+    is-lower-requires
+    is-undecided-requires
+    contracts-requires
     returns)
