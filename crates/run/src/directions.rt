@@ -127,25 +127,6 @@ fn take_longest(k: usize, count: usize, z: &mut [f64], left: &mut [f64]) -> Next
     }
 }
 
-// At most `most` directions, from none.
-fn take_all(k: usize, most: usize, z: &mut [f64], left: &mut [f64]) -> Found
-    requires { ⌜ (k ≤ 12) × (most ≤ 12) ⌝ }
-    ensures { λ r. ⌜ foundOf r (now (z .exit)) (now (left .exit)) ≡ directionsTo k most (directionsIn 0 (now (z .entry)) (now (left .entry))) ⌝ }
-{
-    for count in 0..most {
-        match take_longest(k, count, z, left) {
-            Next::Taken => {}
-            Next::Enough => {
-                return Found::Of(count);
-            }
-            Next::Refused(e) => {
-                return Found::Refused(e);
-            }
-        }
-    }
-    Found::Of(most)
-}
-
 // k - r, none where r > k.
 fn less(k: usize, r: usize) -> usize
     ensures { λ d. ⌜ d ≡ k - r ⌝ }
@@ -161,7 +142,19 @@ pub fn free_directions(k: usize, r: usize, q: &[f64], z: &mut [f64], left: &mut 
     requires { ⌜ (k ≤ 12) × ((r ≤ 12) × ((length (now z) ≡ 288) × (length (now left) ≡ 288))) ⌝ }
     ensures { λ d. ⌜ foundOf d (now (z .exit)) (now (left .exit)) ≡ directionsOf k r (now (q .entry)) ⌝ }
 {
+    let most = less(k, r);
     clear(z);
     remainders(k, r, q, left);
-    take_all(k, less(k, r), z, left)
+    for count in 0..most {
+        match take_longest(k, count, z, left) {
+            Next::Taken => {}
+            Next::Enough => {
+                return Found::Of(count);
+            }
+            Next::Refused(e) => {
+                return Found::Refused(e);
+            }
+        }
+    }
+    Found::Of(most)
 }
