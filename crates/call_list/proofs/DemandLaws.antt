@@ -6,12 +6,12 @@ use lib.Dec.{T}
 use lib.Ieee.{Float, binary64, fits, nan}
 use lib.ListN.{length, getD, take, drop}
 use Rattle.interval.specs.declared.Scalar.{Scalar}
-use Rattle.run.specs.Calls.{Left, leftOf, beginOf}
+use Rattle.run.specs.Calls.{Left, leftOf, beginOf, Accepted}
 use Rattle.run.specs.Demand.{Floats, Call, Run, runOf, Played, played, Ledger, entered, begun, Claim, Along}
 use Rattle.run.specs.declared.state.Out.{Out}
 use Rattle.run.specs.declared.state.Sizes.{Sizes}
 use Rattle.run.proofs.Demand.{demand3}
-use Rattle.call_list.specs.CallList.{countOf, callOf, floats-take, floats-drop, callsOf, playedOf, playedTo, playedFrom, ledgerTo, ledgerFrom, Clear, Accepted, LastClaim, Plays}
+use Rattle.call_list.specs.CallList.{countOf, callOf, floats-take, floats-drop, callsOf, playedOf, playedTo, playedFrom, ledgerTo, ledgerFrom, Clear, LastClaim, Plays}
 use Rattle.call_list.proofs.FoldLaws.{Playing, floats-of, play-all}
 
 -- the claim along a list, at its last call

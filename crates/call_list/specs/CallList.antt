@@ -10,10 +10,8 @@ use lib.Ieee.{Float}
 use lib.ListN.{take, drop}
 use Rattle.interval.specs.declared.Scalar.{Scalar}
 use Rattle.interval.specs.Scalar.{pick}
-use Rattle.run.specs.Calls.{Left, beginOf}
+use Rattle.run.specs.Calls.{Left, Accepted, beginOf}
 use Rattle.run.specs.Demand.{Lent, same, other, Floats, Call, rows, none, Run, runOf, Played, playedBy, played, isArithmetic, Ledger, entered, begun, Claim, Along}
-use Rattle.run.specs.declared.state.Answer.the-variants.{Question}
-use Rattle.run.specs.declared.state.Kind.the-variants as kind
 use Rattle.run.specs.declared.state.Out.{Out}
 use Rattle.run.specs.declared.state.Sizes.{Sizes}
 
@@ -93,9 +91,6 @@ Clear r (c ∷ cs) =
     (isArithmetic (p .answer) ≡ false) × Clear (p .run) cs
 
 -- ---- the contract of `play`: begin left b, and the calls that the codes name left p
-
-abbrev pub Accepted : Left → Type 0
-Accepted b = b .answer ≡ Question 0 kind.Start 0
 
 -- demand 3 of the last of the calls, before which the run was what the calls before it leave
 abbrev pub LastClaim : Sizes → Left → List Call → List Call → Played → Type 0

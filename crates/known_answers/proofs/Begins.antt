@@ -13,7 +13,7 @@ use lib.ListN.{length, length-append}
 use Rattle.interval.specs.declared.Scalar.{Scalar}
 use Rattle.linear.specs.Flat.{zeros}
 use Rattle.run.specs.Area.{AREA, POINT, SPARE, Memory, areaOf, begunMemory}
-use Rattle.run.specs.Calls.{Left, unchanged, checks, sizesFit, valid, inDomain, allInDomain, stepFits, stateWith, noRun, firstMu, beginOf, begunOf}
+use Rattle.run.specs.Calls.{Left, Accepted, unchanged, checks, sizesFit, valid, inDomain, allInDomain, stepFits, stateWith, noRun, firstMu, beginOf, begunOf}
 use Rattle.run.specs.declared.state.Kind.the-variants as kind
 use Rattle.run.specs.declared.state.Phase.the-variants.{Open}
 use Rattle.run.specs.declared.state.Sizes.{Sizes}
@@ -22,7 +22,7 @@ use Rattle.run.proofs.AreaSlots.{length-clear, length-padded}
 use Rattle.run.proofs.Booleans.{and-left}
 use Rattle.run.proofs.Growths.{growth-begin, growth-positive}
 use Rattle.run.proofs.Outcomes.{sound-valid}
-use Rattle.known_answers.specs.KnownAnswers.{Accepted, between}
+use Rattle.known_answers.specs.KnownAnswers.{between}
 use Rattle.known_answers.proofs.Zeros.{zeros-all}
 
 -- a check, passed or not
@@ -41,17 +41,17 @@ pub record Begins (z : Sizes) (start : List Float) (max : Scalar) (b : Left) : T
 pub begins : (z : Sizes) (start : List Float) (max : Scalar) (a : List Float) → Accepted (beginOf z start max a) → Begins z start max (beginOf z start max a)
 unfolding beginOf
 begins z start max a =
-    checked Told (sizesFit z) 1 (unchanged noRun a) _ (not-asked 1)
+    checked IfAccepted (sizesFit z) 1 (unchanged noRun a) _ (not-asked 1)
     (λ fit.
-    checked Told (eqb (length start) (2 * z .n) && eqb (length a) AREA) 2 (unchanged noRun a) _ (not-asked 2)
+    checked IfAccepted (eqb (length start) (2 * z .n) && eqb (length a) AREA) 2 (unchanged noRun a) _ (not-asked 2)
     (λ g.
-    checked Told (allInDomain start (z .n) && stepFits max) 3 (unchanged noRun a) _ (not-asked 3)
+    checked IfAccepted (allInDomain start (z .n) && stepFits max) 3 (unchanged noRun a) _ (not-asked 3)
     (λ h q. record { is = refl; fit = fit; size = eqb-true _ _ (and-left (eqb (length start) (2 * z .n)) (eqb (length a) AREA) g) })))
   where
-    Told : Left → Type 0
-    Told b = Accepted b → Begins z start max b
+    IfAccepted : Left → Type 0
+    IfAccepted b = Accepted b → Begins z start max b
 
-    not-asked : (k : ℕ) → Told (unchanged noRun a k)
+    not-asked : (k : ℕ) → IfAccepted (unchanged noRun a k)
     not-asked k q = absurd (let z : _≡_ {A = ℕ} 0 1 = cc in omega arith)
 
 -- how many numbers the slots have

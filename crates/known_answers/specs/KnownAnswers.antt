@@ -14,10 +14,9 @@ use Rattle.linear.specs.Choose.{chooseOf}
 use Rattle.linear.specs.Flat.{zeros}
 use Rattle.run.specs.Area.{AREA}
 use Rattle.run.specs.Rows.{rowNumbers}
-use Rattle.run.specs.Calls.{Left, sizesFit, allInDomain, firstMu, beginOf, replyOf, replyNoneOf}
+use Rattle.run.specs.Calls.{Left, Accepted, sizesFit, allInDomain, firstMu, beginOf, replyOf, replyNoneOf}
 use Rattle.run.specs.declared.state.Answer.{Answer}
-use Rattle.run.specs.declared.state.Answer.the-variants.{Question, Finish}
-use Rattle.run.specs.declared.state.Kind.the-variants as kind
+use Rattle.run.specs.declared.state.Answer.the-variants.{Finish}
 use Rattle.run.specs.declared.state.Sizes.{Sizes}
 use Rattle.run.specs.declared.state.Stop.the-variants as stop
 
@@ -33,10 +32,6 @@ between l h = record { lo = ofInt binary64 l; hi = ofInt binary64 h }
 
 abbrev pub sizes : ℕ → ℕ → ℕ → ℕ → Sizes
 sizes n m s limit = record { n = n; m = m; s = s; limit = limit }
-
--- a begin that was accepted: it asks question 0, which is the start's
-abbrev pub Accepted : Left → Type 0
-Accepted b = b .answer ≡ Question 0 kind.Start 0
 
 -- what a begun run answers to the start's rows, and to none
 abbrev pub answerTo : Left → List Float → Answer

@@ -57,7 +57,7 @@ refused-kept l r c k v =
       subst (λ (m : Ledger). Inv (r .state .sizes) m r) (sym e) v,
       record {
         counted = counted;
-        told = λ s i t n p. absurd (let z : _≡_ {A = ℕ} 0 1 = cc in omega arith);
+        reported = λ s i t n p. absurd (let z : _≡_ {A = ℕ} 0 1 = cc in omega arith);
         limited = subst (λ (n : ℕ). n ≤ r .state .sizes .limit) counted (v .sound .within);
         few-turn-downs = subst (λ (n : ℕ). r .state .search .«turned_down» ≤ 1100 * (n + 1)) counted (v .sound .few-turned);
         few-questions = v .sound .few-asked;

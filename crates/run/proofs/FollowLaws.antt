@@ -41,18 +41,18 @@ abbrev pub stands : State → Memory → Scalar → Scalar → Scalar → Scalar
 stands st w theta length mu radius b = iterate (standingOn st length mu radius) (withTaken w b (filterWith (w .filter) (st .counts .iterations) (sumSquared (standingAt st w .sum)) theta))
 
 module _ (st : State) (w : Memory) (theta length : Scalar) {o : Out} {a : List Float} where
-  pub take-told : {linear : Bool} → linearOf st w theta ≡ ok linear → Leaves (takenAs st w theta length linear) o a → Leaves (take st w theta length) o a
+  pub take-known : {linear : Bool} → linearOf st w theta ≡ ok linear → Leaves (takenAs st w theta length linear) o a → Leaves (take st w theta length) o a
   unfolding take
-  take-told e l = or-next st w (λ linear. takenAs st w theta length linear) e l
+  take-known e l = or-next st w (λ linear. takenAs st w theta length linear) e l
 
   pub take-refused : {k : ℕ} → linearOf st w theta ≡ refused k → Leaves (refuse st w k) o a → Leaves (take st w theta length) o a
   unfolding take
   take-refused e l = or-refused st w (λ linear. takenAs st w theta length linear) e l
 
   module _ (linear : Bool) where
-    pub third-told : {third mu radius : Scalar} → divOf (st .search .mu) (degenerate three64) ≡ ok third → mu ≡ shrunk (st .search .mu) third → radius ≡ reachOf length (st .search .radius) (st .«max_step») linear
+    pub third-known : {third mu radius : Scalar} → divOf (st .search .mu) (degenerate three64) ≡ ok third → mu ≡ shrunk (st .search .mu) third → radius ≡ reachOf length (st .search .radius) (st .«max_step») linear
         → Leaves (takenWith st w theta length mu radius) o a → Leaves (takenAs st w theta length linear) o a
-    third-told {third} {mu} {radius} e m r l =
+    third-known {third} {mu} {radius} e m r l =
         or-next st w (λ q. takenWith st w theta length (shrunk (st .search .mu) q) (reachOf length (st .search .radius) (st .«max_step») linear)) e
         (subst (λ (x : Scalar). Leaves (takenWith st w theta length x (reachOf length (st .search .radius) (st .«max_step») linear)) o a) m (subst (λ (y : Scalar). Leaves (takenWith st w theta length mu y) o a) r l))
 
@@ -60,8 +60,8 @@ module _ (st : State) (w : Memory) (theta length : Scalar) {o : Out} {a : List F
     third-refused e l = or-refused st w (λ q. takenWith st w theta length (shrunk (st .search .mu) q) (reachOf length (st .search .radius) (st .«max_step») linear)) e l
 
   module _ (mu radius : Scalar) where
-    pub learned-told : {b : List Float} → updateCurvature (st .sizes .n) (curvatureOf st w) (w .step) (standingAt st w) (landedAt st w) (w .multipliers) ≡ ok b → Leaves (stands st w theta length mu radius b) o a → Leaves (takenWith st w theta length mu radius) o a
-    learned-told e l = or-next st w (stands st w theta length mu radius) e l
+    pub learned-known : {b : List Float} → updateCurvature (st .sizes .n) (curvatureOf st w) (w .step) (standingAt st w) (landedAt st w) (w .multipliers) ≡ ok b → Leaves (stands st w theta length mu radius b) o a → Leaves (takenWith st w theta length mu radius) o a
+    learned-known e l = or-next st w (stands st w theta length mu radius) e l
 
     pub learned-refused : {k : ℕ} → updateCurvature (st .sizes .n) (curvatureOf st w) (w .step) (standingAt st w) (landedAt st w) (w .multipliers) ≡ refused k → Leaves (refuse st w k) o a
         → Leaves (takenWith st w theta length mu radius) o a
@@ -86,9 +86,9 @@ shift-of : (st : State) (w : Memory) {m : List Bool} {r : Res (List Float)} → 
 shift-of st w em er = sym (er ∙ ap (λ (x : List Bool). shiftOf x (landedAt st w .constraints)) em)
 
 module _ (st : State) (w : Memory) (theta : Scalar) {o : Out} {a : List Float} where
-  pub judge-told : {j : Judged} → judgeOf (st .sizes .n) (standingAt st w) (landedAt st w) theta (w .filter) (st .counts .iterations) (st .last) (w .step) ≡ ok j → Leaves (decide st w theta j) o a → Leaves (judge st w theta) o a
+  pub judge-known : {j : Judged} → judgeOf (st .sizes .n) (standingAt st w) (landedAt st w) theta (w .filter) (st .counts .iterations) (st .last) (w .step) ≡ ok j → Leaves (decide st w theta j) o a → Leaves (judge st w theta) o a
   unfolding judge
-  judge-told e l = or-next st w (λ j. decide st w theta j) e l
+  judge-known e l = or-next st w (λ j. decide st w theta j) e l
 
   pub judge-refused : {k : ℕ} → judgeOf (st .sizes .n) (standingAt st w) (landedAt st w) theta (w .filter) (st .counts .iterations) (st .last) (w .step) ≡ refused k → Leaves (refuse st w k) o a → Leaves (judge st w theta) o a
   unfolding judge
@@ -147,10 +147,10 @@ nearer-or st w rows theta new old = pick (definitelyLess new old) (keep st w row
 module _ (st : State) (w : Memory) (rows : List Float) (theta : Scalar) {o : Out} {a : List Float} where
   -- a trial's
   module _ {t : State} (et : t ≡ landing st 0) where
-    pub trial-told : {new : Scalar} {b : Bool} → violationOf (landedAt st (landed-with w rows) .constraints) ≡ ok new → b ≡ definitelyGreater new theta
+    pub trial-known : {new : Scalar} {b : Bool} → violationOf (landedAt st (landed-with w rows) .constraints) ≡ ok new → b ≡ definitelyGreater new theta
         → Leaves (pick b (correct t (landed-with w rows) theta) (judge t (landed-with w rows) theta)) o a → Leaves (landTrial st w rows theta) o a
     unfolding landTrial
-    trial-told {new} {b} e eb l =
+    trial-known {new} {b} e eb l =
         or-next (landing st 0) (landed-with w rows) (λ x. rose-or (landing st 0) (landed-with w rows) theta x) e
         (subst (λ (x : State). Leaves (rose-or x (landed-with w rows) theta new) o a) et (subst (λ (x : Bool). Leaves (pick x (correct t (landed-with w rows) theta) (judge t (landed-with w rows) theta)) o a) eb l))
 
@@ -160,9 +160,9 @@ module _ (st : State) (w : Memory) (rows : List Float) (theta : Scalar) {o : Out
 
   -- a correction's
   module _ {m : List Bool} {r : Res (List Float)} (em : m ≡ st .moving) (er : r ≡ shiftOf m (landedAt st w .constraints)) where
-    pub keep-told : {d : List Float} → r ≡ ok d → Leaves (keptBy st w rows theta d) o a → Leaves (keep st w rows theta) o a
+    pub keep-known : {d : List Float} → r ≡ ok d → Leaves (keptBy st w rows theta d) o a → Leaves (keep st w rows theta) o a
     unfolding keep
-    keep-told e l = or-next st w (λ d. keptBy st w rows theta d) (shift-of st w em er ∙ e) l
+    keep-known e l = or-next st w (λ d. keptBy st w rows theta d) (shift-of st w em er ∙ e) l
 
     pub keep-refused : {k : ℕ} → r ≡ refused k → Leaves (refuse st w k) o a → Leaves (keep st w rows theta) o a
     unfolding keep
@@ -178,9 +178,9 @@ module _ (st : State) (w : Memory) (rows : List Float) (theta : Scalar) {o : Out
     pub nearer-refused : {k : ℕ} → violationOf (landedAt st w .constraints) ≡ refused k → Leaves (refuse st w k) o a → Leaves (landedNearer st w rows theta new) o a
     nearer-refused e l = or-refused st w (nearer-or st w rows theta new) e l
 
-  pub correction-told : {new : Scalar} → violationOf (rowsAt st rows .constraints) ≡ ok new → Leaves (landedNearer st w rows theta new) o a → Leaves (landCorrection st w rows theta) o a
+  pub correction-known : {new : Scalar} → violationOf (rowsAt st rows .constraints) ≡ ok new → Leaves (landedNearer st w rows theta new) o a → Leaves (landCorrection st w rows theta) o a
   unfolding landCorrection
-  correction-told e l = or-next st w (λ new. landedNearer st w rows theta new) e l
+  correction-known e l = or-next st w (λ new. landedNearer st w rows theta new) e l
 
   pub correction-refused : {k : ℕ} → violationOf (rowsAt st rows .constraints) ≡ refused k → Leaves (refuse st w k) o a → Leaves (landCorrection st w rows theta) o a
   unfolding landCorrection
@@ -194,10 +194,10 @@ turned-about {A} n x y = go (ltb n 4) refl
     go true e = rw (e, lt-leb 4 n (ltb-true n 4 e))
     go false e = rw (e, le-leb 4 n (ltb-false n 4 e))
 
-pub kept-told : (st : State) (w : Memory) (rows : List Float) (theta : Scalar) (d : List Float) {t : State} {o : Out} {a : List Float} → t ≡ landing st (st .counts .corrections + 1)
+pub kept-known : (st : State) (w : Memory) (rows : List Float) (theta : Scalar) (d : List Float) {t : State} {o : Out} {a : List Float} → t ≡ landing st (st .counts .corrections + 1)
     → Leaves (pick (ltb (st .counts .corrections + 1) 4) (correct t (withLanded w rows (shiftedStep (st .sizes .n) (w .step) d)) theta) (judge t (withLanded w rows (shiftedStep (st .sizes .n) (w .step) d)) theta)) o a
     → Leaves (keptBy st w rows theta d) o a
-kept-told st w rows theta d {t} {o} {a} e l =
+kept-known st w rows theta d {t} {o} {a} e l =
     let v : Memory = withLanded w rows (shiftedStep (st .sizes .n) (w .step) d) in
     let u : State = landing st (st .counts .corrections + 1) in
     subst (λ (x : Outcome). Leaves x o a) (turned-about (st .counts .corrections + 1) (correct u v theta) (judge u v theta))
@@ -205,10 +205,10 @@ kept-told st w rows theta d {t} {o} {a} e l =
 
 -- ---- an accepted answer
 
-pub started-told : (st : State) (w : Memory) (rows : List Float) {t : State} {m : List Bool} {o : Out} {a : List Float} → t ≡ moves st m → m ≡ movingOf (st .sizes .n) (rowsAt st rows) → Leaves (iterate t (withStart w rows)) o a
+pub started-known : (st : State) (w : Memory) (rows : List Float) {t : State} {m : List Bool} {o : Out} {a : List Float} → t ≡ moves st m → m ≡ movingOf (st .sizes .n) (rowsAt st rows) → Leaves (iterate t (withStart w rows)) o a
     → Leaves (started st w rows) o a
 unfolding started
-started-told st w rows {t} {m} {o} {a} e q l = subst (λ (x : State). Leaves (iterate x (withStart w rows)) o a) (e ∙ ap (λ (x : List Bool). moves st x) q) l
+started-known st w rows {t} {m} {o} {a} e q l = subst (λ (x : State). Leaves (iterate x (withStart w rows)) o a) (e ∙ ap (λ (x : List Bool). moves st x) q) l
 
 pub moved-on : {st : State} (m : List Bool) → Bounded 1073741824 st → Bounded 2147483648 (moves st m)
 moved-on m b = record {

@@ -115,7 +115,7 @@ module _ (S : CallContext) (st : State) (w : Memory) (s : Stop) (before : List �
         record { sizes-are = refl; sound = sound; counted = counted; phased = tt },
         record {
           counted = counted;
-          told = λ e i t n p. (let i-is : i ≡ st .counts .iterations = cc in i-is ∙ counted, let t-is : t ≡ st .search .«turned_down» = cc in t-is);
+          reported = λ e i t n p. (let i-is : i ≡ st .counts .iterations = cc in i-is ∙ counted, let t-is : t ≡ st .search .«turned_down» = cc in t-is);
           limited = subst (λ (c : ℕ). c ≤ z .limit) counted (sound .within);
           few-turn-downs = subst (λ (c : ℕ). st .search .«turned_down» ≤ 1100 * (c + 1)) counted (sound .few-turned);
           few-questions = sound .few-asked;
@@ -198,7 +198,7 @@ module _ (S : CallContext) (st : State) (w : Memory) (k : Kind) (corrections sin
         record { sizes-are = refl; sound = sound; counted = counted; phased = phased },
         record {
           counted = counted;
-          told = λ e i t n p. no-finish p;
+          reported = λ e i t n p. no-finish p;
           limited = subst (λ (c : ℕ). c ≤ st .sizes .limit) counted (v .within);
           few-turn-downs = subst (λ (c : ℕ). st .search .«turned_down» ≤ 1100 * (c + 1)) counted (sound .few-turned);
           few-questions = sound .few-asked;

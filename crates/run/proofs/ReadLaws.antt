@@ -119,8 +119,8 @@ held-is old predicted new {f} {four} {p} {g} {three} {q} ef e4 ep eg e3 eq er =
 
 -- the violation decides where there was one
 module _ (st : State) (w : Memory) (theta : Scalar) {v : Res Scalar} (e : v ≡ violationOf (landedAt st w .constraints)) (b : definitelyGreater theta zeroS ≡ true) where
-  pub linear-told : {new : Scalar} → v ≡ ok new → ok (held theta (st .trial .predicted) new) ≡ linearOf st w theta
-  linear-told q = rw (b, ← e, q)
+  pub linear-known : {new : Scalar} → v ≡ ok new → ok (held theta (st .trial .predicted) new) ≡ linearOf st w theta
+  linear-known q = rw (b, ← e, q)
 
   pub linear-refused : {k : ℕ} → v ≡ refused k → refused k ≡ linearOf st w theta
   linear-refused q = rw (b, ← e, q)

@@ -33,6 +33,10 @@ SPARE = 4920
 abbrev pub AREA : ℕ
 AREA = 8000
 
+-- where the asked point's slot begins: behind the standing and the landed point
+abbrev pub ASKED : ℕ
+ASKED = 48
+
 -- what the area holds, slot by slot; each list has its slot's length
 pub record Memory : Type 0 where
   pub standing : List Float
@@ -86,7 +90,7 @@ memoryOf st a =
     record {
       standing = usedOf a 0 POINT true (2 * n);
       landed = usedOf a 24 POINT corrected (2 * n);
-      asked = usedOf a 48 POINT (isOpen (st .phase)) (2 * n);
+      asked = usedOf a ASKED POINT (isOpen (st .phase)) (2 * n);
       standingRows = usedOf a 72 ROWS tried rows;
       landedRows = usedOf a 1008 ROWS corrected rows;
       step = usedOf a 1944 POINT tried (2 * n);

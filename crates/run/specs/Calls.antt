@@ -2,6 +2,7 @@
 use Prim.Native.Nat.{ℕ, _+_, _*_}
 use mathlib.Core.Bool.{Bool, true, false, _&&_}
 use mathlib.Core.List.{List, []}
+use mathlib.Core.Path.{_≡_}
 use lib.Dec.{leb, ltb, eqb}
 use lib.Ieee.{Float, binary64, ofBits, neg, le}
 use lib.IntN.{pos}
@@ -13,7 +14,7 @@ use Rattle.linear.specs.Flat.{at}
 use Rattle.run.specs.Scratch.{allTo, orZero}
 use Rattle.run.specs.Rows.{rowNumbers}
 use Rattle.run.specs.Correction.{CORRECTIONS}
-use Rattle.run.specs.Area.{AREA, areaOf, memoryOf, begunMemory}
+use Rattle.run.specs.Area.{AREA, ASKED, areaOf, memoryOf, begunMemory}
 use Rattle.run.specs.Run.{Outcome, answered, answeredNone}
 use Rattle.run.specs.declared.checks.Checked.{Checked}
 use Rattle.run.specs.declared.checks.Checked.the-variants.{Refuse, Accept}
@@ -135,6 +136,10 @@ notBegun k = record { state = noRun; answer = answer.Refused k }
 abbrev pub begunOf : Sizes → List Float → Scalar → Left
 begunOf z start max = record { state = stateWith z firstMu max (Open kind.Start); answer = answer.Question 0 kind.Start 0; area = areaOf (begunMemory start) }
 
+-- a begin that is accepted asks question 0, which is the start's
+abbrev pub Accepted : Left → Type 0
+Accepted b = b .answer ≡ answer.Question 0 kind.Start 0
+
 -- ---- the replies
 
 abbrev pub replyOpen : State → List Float → List Float → Phase → Left
@@ -180,7 +185,7 @@ checkRowsOf st area rows = thenRows (st .sizes) rows (checkOf st area)
 -- ---- the point: the asked one, or with no question open the standing one
 
 abbrev pub pointAt : Phase → ℕ
-pointAt (Open k) = 48
+pointAt (Open k) = ASKED
 pointAt Over = 0
 
 unfoldable pub pointOf : State → List Float → List Float

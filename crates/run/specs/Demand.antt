@@ -17,10 +17,9 @@ use Rattle.linear.specs.Squares.{squaresTo, Chosen}
 use Rattle.run.specs.Rows.{Rows, valueAt, constraintsOf, sumOf, violationOf}
 use Rattle.run.specs.Judgement.{sumChange, indefinite, contracts}
 use Rattle.run.specs.Area.{AREA}
-use Rattle.run.specs.Calls.{Left, beginOf, replyOf, replyNoneOf, valid, TURN-DOWNS, QUESTIONS}
+use Rattle.run.specs.Calls.{Left, Accepted, beginOf, replyOf, replyNoneOf, valid, TURN-DOWNS, QUESTIONS}
 use Rattle.run.specs.declared.state.Answer.{Answer}
 use Rattle.run.specs.declared.state.Answer.the-variants.{Question, Finish, Refused}
-use Rattle.run.specs.declared.state.Kind.the-variants as kind
 use Rattle.run.specs.declared.state.Last.{Last}
 use Rattle.run.specs.declared.state.Last.the-variants as last
 use Rattle.run.specs.declared.state.Sizes.{Sizes}
@@ -169,7 +168,7 @@ pub record Halving (z : Sizes) (l l′ : Ledger) (r r′ : Run) : Type 0 where
 -- of one call in the list: l and r before it, l′ and r′ after it, a its answer
 pub record Claim (z : Sizes) (l l′ : Ledger) (r r′ : Run) (a : Answer) : Type 0 where
   pub counted : r′ .state .counts .iterations ≡ l′ .changes  -- iterations are the changes of standing
-  pub told : (e : Stop) (i t s : ℕ) → a ≡ Finish e i t s → (i ≡ l′ .changes) × (t ≡ r′ .state .search .«turned_down»)  -- as the finish tells them
+  pub reported : (e : Stop) (i t s : ℕ) → a ≡ Finish e i t s → (i ≡ l′ .changes) × (t ≡ r′ .state .search .«turned_down»)  -- as the finish reports them
   pub limited : l′ .changes ≤ z .limit  -- at most the limit
   pub few-turn-downs : r′ .state .search .«turned_down» ≤ TURN-DOWNS * (l′ .changes + 1)  -- at most 1,100 (iterations + 1)
   pub few-questions : r′ .state .counts .question ≤ QUESTIONS * z .limit  -- question numbers within 5,500 times the limit
@@ -189,4 +188,4 @@ abbrev pub Demand3 : Type 0
 Demand3 =
     (z : Sizes) (start : List Float) (max : Scalar) (a : List Float) →
     let b = beginOf z start max a in
-    b .answer ≡ Question 0 kind.Start 0 → (cs : List Call) → Along z begun (runOf b) cs
+    Accepted b → (cs : List Call) → Along z begun (runOf b) cs

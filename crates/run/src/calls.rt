@@ -6,6 +6,7 @@ ghost use lib.Dec.{eqb};
 ghost use lib.ListN.{length};
 ghost use Rattle.run.specs.Area.{AREA};
 ghost use Rattle.run.specs.Calls.{allInDomain, stepFits, leftOf, notBegun, beginOf, pointOf};
+use crate::area;
 use crate::area::begun;
 use crate::checks;
 use crate::rows::all_in_domain;
@@ -30,7 +31,7 @@ pub fn point(st: State, area: &[f64]) -> &[f64]
     let n = st.sizes.n;
     let phase = st.phase;
     match phase {
-        Phase::Open(_) => &area[48..48 + 2 * n],
+        Phase::Open(_) => &area[area::ASKED..area::ASKED + 2 * n],
         Phase::Over => &area[0..2 * n],
     }
 }

@@ -10,6 +10,7 @@ use Rattle.interval.specs.Result.{Res, ok, refused}
 use Rattle.interval.specs.Scalar.{pick}
 use Rattle.run.specs.Area.{AREA}
 use Rattle.run.specs.Calls.{Left, valid, beginOf, replyOf, replyNoneOf, pointAt, pointOf}
+use Rattle.run.specs.declared.state.Answer.{Answer}
 use Rattle.run.specs.declared.state.Out.{Out}
 use Rattle.run.specs.declared.state.Sizes.{Sizes}
 use Rattle.run.specs.declared.state.State.{State}
@@ -26,12 +27,15 @@ pub record Handed : Type 0 where
 abbrev pub handed : Reply → List Float → Handed
 handed r a = record { reply = r; area = a }
 
+abbrev pub replyWith : State → Answer → Reply
+replyWith st a = record { run = mirrorOf st; answer = numbersOf a }
+
 abbrev pub replyFrom : Out → Reply
-replyFrom o = record { run = mirrorOf (o .state); answer = numbersOf (o .answer) }
+replyFrom o = replyWith (o .state) (o .answer)
 
 -- what a call of run leaves
 abbrev pub handedBy : Left → Handed
-handedBy l = handed (record { run = mirrorOf (l .state); answer = numbersOf (l .answer) }) (l .area)
+handedBy l = handed (replyWith (l .state) (l .answer)) (l .area)
 
 -- refused, with all as it was
 abbrev pub refusedWith : Run → ℕ → Reply

@@ -2,7 +2,7 @@
 use mathlib.Core.Path.{sym, ap, _∙_}
 use native.Mathlib.Omega.{arith}
 use Rattle.run.specs.Judgement.{judgementOf}
-use Rattle.run.proofs.FollowLaws.{judge-told, judge-refused}
+use Rattle.run.proofs.FollowLaws.{judge-known, judge-refused}
 use Rattle.run.proofs.LeaveLaws.{cut-length}
 use Rattle.run.proofs.ReadLaws.{slot-enough, judged-is}
 use borrow.Author.Needs.{needs}
@@ -71,7 +71,7 @@ returns : tie.Need-returns
 returns c w h =
     let a = c .before .before .before .before .before .before .before .before .before .before .before .before .before .before .before .args in
     let z = a .st .sizes in
-    judge-told (a .st) w (a .theta) (sym (judged-is (z .n) (z .m) (z .s) (a .theta) (a .st .counts .iterations) (a .st .last) h (c .before .before .before .before .before .before .before .judge .ensures)) ∙ ap judgementOf (c .before .before .before .before .before .judgement .given .1)) (c .before .before .decide .ensures w h)
+    judge-known (a .st) w (a .theta) (sym (judged-is (z .n) (z .m) (z .s) (a .theta) (a .st .counts .iterations) (a .st .last) h (c .before .before .before .before .before .before .before .judge .ensures)) ∙ ap judgementOf (c .before .before .before .before .before .judgement .given .1)) (c .before .before .decide .ensures w h)
 
 same-length-2 : tie.Need-same-length-2
 same-length-2 c = search needs

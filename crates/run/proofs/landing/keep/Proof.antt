@@ -8,7 +8,7 @@ use Rattle.run.specs.Area.{withLanded}
 use Rattle.run.specs.Correction.{shiftedStep}
 use Rattle.run.specs.Run.{Underway}
 use Rattle.run.specs.declared.state.State.{State}
-use Rattle.run.proofs.FollowLaws.{keep-told, keep-refused, kept-told}
+use Rattle.run.proofs.FollowLaws.{keep-known, keep-refused, kept-known}
 use Rattle.run.proofs.ReadLaws.{marks-count, shift-read, landed-again, withStep, stepped}
 use borrow.Author.Needs.{needs}
 use Rattle.run.proofs.landing.keep.Statement.{statement}
@@ -83,8 +83,8 @@ returns c w h =
     let x = c .before .before .before .before .before .before .before .before .before .before .before .before .before .before .before .before .before .before .shift in
     let d = x .last .1 .1 .1 .1 .0 in
     let s = shiftedStep (a .st .sizes .n) (w .step) d in
-    keep-told (a .st) w (a .rows .now) (a .theta) refl (shift-read (a .st) h (x .ensures)) (ap (λ (r : Done). doneOf r d) (c .before .before .before .before .before .before .before .before .before .before .before .before .before .before .before .enum-told .given .1))
-    (kept-told (a .st) w (a .rows .now) (a .theta) d (c .before .before .before .before .with-landed-number .ensures) (c .before .before .correct-or-judge .ensures (withLanded w (a .rows .now) s) (c .before .before .before .before .before .before .before .before .landed .ensures (withStep w s) (stepped (a .st .sizes .n) d h (c .before .before .before .before .before .before .before .before .before .before .before .before .shifted-step .ensures)))))
+    keep-known (a .st) w (a .rows .now) (a .theta) refl (shift-read (a .st) h (x .ensures)) (ap (λ (r : Done). doneOf r d) (c .before .before .before .before .before .before .before .before .before .before .before .before .before .before .before .enum-told .given .1))
+    (kept-known (a .st) w (a .rows .now) (a .theta) d (c .before .before .before .before .with-landed-number .ensures) (c .before .before .correct-or-judge .ensures (withLanded w (a .rows .now) s) (c .before .before .before .before .before .before .before .before .landed .ensures (withStep w s) (stepped (a .st .sizes .n) d h (c .before .before .before .before .before .before .before .before .before .before .before .before .shifted-step .ensures)))))
 
 same-length-2 : tie.Need-same-length-2
 same-length-2 c = search needs

@@ -2,7 +2,7 @@
 use mathlib.Core.Path.{sym, ap, _∙_}
 use native.Mathlib.Omega.{arith}
 use Rattle.linear.specs.Answers.{resultOf}
-use Rattle.run.proofs.FollowLaws.{correction-told, correction-refused, nearer-kept, nearer-not, nearer-refused, rows-few, rows-enough}
+use Rattle.run.proofs.FollowLaws.{correction-known, correction-refused, nearer-kept, nearer-not, nearer-refused, rows-few, rows-enough}
 use Rattle.run.proofs.ReadLaws.{slot-enough, landed-violation}
 use borrow.Author.Needs.{needs}
 use Rattle.run.proofs.landing.land_correction.Statement.{statement}
@@ -41,7 +41,7 @@ same-length c = search needs
 returns : tie.Need-returns
 returns c w h =
     let a = c .before .before .before .before .before .before .before .before .before .before .before .before .before .before .before .before .before .before .args in
-    correction-told (a .st) w (a .rows .now) (a .theta) (sym (c .before .before .before .before .before .before .before .before .before .before .before .before .before .before .before .violation .ensures) ∙ ap resultOf (c .before .before .before .before .before .before .before .before .before .before .before .before .before .new .given .1))
+    correction-known (a .st) w (a .rows .now) (a .theta) (sym (c .before .before .before .before .before .before .before .before .before .before .before .before .before .before .before .violation .ensures) ∙ ap resultOf (c .before .before .before .before .before .before .before .before .before .before .before .before .before .new .given .1))
     (nearer-kept (a .st) w (a .rows .now) (a .theta) (c .before .before .before .before .before .before .before .before .before .before .before .before .before .new .given .0 .0) (landed-violation (a .st) h (sym (ap resultOf (c .before .before .before .before .before .before .before .landed .given .1)) ∙ c .before .before .before .before .before .before .before .before .before .violation2 .ensures)) (c .before .before .before .before .before .definitely-less .ensures) (c .before .before .before .before .if1 .taken) (c .before .before .keep .ensures w h))
 
 judge-landed-requires : tie.Need-judge-landed-requires
@@ -65,7 +65,7 @@ same-length-2 c = search needs
 returns-2 : tie.Need-returns-2
 returns-2 c w h =
     let a = c .before .before .before .before .before .before .before .before .before .before .before .before .before .before .before .before .before .before .args in
-    correction-told (a .st) w (a .rows .now) (a .theta) (sym (c .before .before .before .before .before .before .before .before .before .before .before .before .before .before .before .violation .ensures) ∙ ap resultOf (c .before .before .before .before .before .before .before .before .before .before .before .before .before .new .given .1))
+    correction-known (a .st) w (a .rows .now) (a .theta) (sym (c .before .before .before .before .before .before .before .before .before .before .before .before .before .before .before .violation .ensures) ∙ ap resultOf (c .before .before .before .before .before .before .before .before .before .before .before .before .before .new .given .1))
     (nearer-not (a .st) w (a .rows .now) (a .theta) (c .before .before .before .before .before .before .before .before .before .before .before .before .before .new .given .0 .0) (landed-violation (a .st) h (sym (ap resultOf (c .before .before .before .before .before .before .before .landed .given .1)) ∙ c .before .before .before .before .before .before .before .before .before .violation2 .ensures)) (c .before .before .before .before .before .definitely-less .ensures) (c .before .before .before .before .if1 .left) (c .before .before .judge-landed .ensures w h))
 
 same-length-3 : tie.Need-same-length-3
@@ -74,7 +74,7 @@ same-length-3 c = search needs
 returns-3 : tie.Need-returns-3
 returns-3 c w h =
     let a = c .before .before .before .before .before .before .before .before .before .before .before .before .before .before .before .before .args in
-    correction-told (a .st) w (a .rows .now) (a .theta) (sym (c .before .before .before .before .before .before .before .before .before .before .before .before .before .violation .ensures) ∙ ap resultOf (c .before .before .before .before .before .before .before .before .before .before .before .new .given .1))
+    correction-known (a .st) w (a .rows .now) (a .theta) (sym (c .before .before .before .before .before .before .before .before .before .before .before .before .before .violation .ensures) ∙ ap resultOf (c .before .before .before .before .before .before .before .before .before .before .before .new .given .1))
     (nearer-refused (a .st) w (a .rows .now) (a .theta) (c .before .before .before .before .before .before .before .before .before .before .before .new .given .0 .0) (landed-violation (a .st) h (sym (ap resultOf (c .before .before .before .before .before .landed2 .given .1)) ∙ c .before .before .before .before .before .before .before .violation2 .ensures)) (c .before .before .refuse .ensures w h))
 
 same-length-4 : tie.Need-same-length-4

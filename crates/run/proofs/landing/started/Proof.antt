@@ -4,7 +4,7 @@ use native.Mathlib.Omega.{arith}
 use Rattle.run.specs.Area.{withStart}
 use Rattle.run.specs.Run.{Bounded}
 use Rattle.run.specs.declared.state.State.{State}
-use Rattle.run.proofs.FollowLaws.{started-told, moved-on}
+use Rattle.run.proofs.FollowLaws.{started-known, moved-on}
 use borrow.Author.Needs.{needs}
 use Rattle.run.proofs.landing.started.Statement.{statement}
 use Rattle.run.proofs.landing.started.Tie as tie
@@ -27,7 +27,7 @@ same-length c = search needs
 returns : tie.Need-returns
 returns c w h =
     let a = c .before .before .before .before .before .before .before .before .before .before .before .before .args in
-    started-told (a .st) w (a .rows .now) (c .before .before .before .before .with-moving .ensures) (c .before .before .before .before .before .before .before .before .before .moving .ensures) (c .before .before .iterate .ensures (withStart w (a .rows .now)) (c .before .before .before .before .before .before .before .with-start .ensures w h))
+    started-known (a .st) w (a .rows .now) (c .before .before .before .before .with-moving .ensures) (c .before .before .before .before .before .before .before .before .before .moving .ensures) (c .before .before .iterate .ensures (withStart w (a .rows .now)) (c .before .before .before .before .before .before .before .with-start .ensures w h))
 
 pub started-spec : {M : Type 1} → statement M
 started-spec =

@@ -4,7 +4,7 @@ use native.Mathlib.Omega.{arith}
 use Rattle.linear.specs.Answers.{resultOf}
 use Rattle.run.specs.Run.{Underway, landTrial}
 use Rattle.run.specs.declared.state.State.{State}
-use Rattle.run.proofs.FollowLaws.{landed-with, trial-told, trial-refused}
+use Rattle.run.proofs.FollowLaws.{landed-with, trial-known, trial-refused}
 use Rattle.run.proofs.LeaveLaws.{or-next, or-refused}
 use Rattle.run.proofs.ReadLaws.{slot-enough, landed-violation, landed-again}
 use Rattle.run.proofs.SearchCalls.{standing-violation}
@@ -75,7 +75,7 @@ returns c w h =
     let v = landed-with w (a .rows .now) in
     let hv = c .before .before .before .before .before .before .before .before .before .before .before .before .before .before .landed .ensures w h in
     or-next (a .st) w (landTrial (a .st) w (a .rows .now)) (standing-violation (a .st) h (sym (ap resultOf (c .before .before .before .before .before .before .before .before .before .before .before .before .before .before .before .before .before .standing .given .1)) ∙ c .before .before .before .before .before .before .before .before .before .before .before .before .before .before .before .before .before .before .before .violation .ensures))
-    (trial-told (a .st) w (a .rows .now) _ (c .before .before .before .before .before .before .before .before .before .before .before .with-landed-number .ensures) (landed-violation (a .st) hv (sym (ap resultOf (c .before .before .before .before .before .before .landed2 .given .1)) ∙ c .before .before .before .before .before .before .before .before .violation2 .ensures)) (c .before .before .before .definitely-greater .ensures) (c .before .before .correct-or-judge .ensures v hv))
+    (trial-known (a .st) w (a .rows .now) _ (c .before .before .before .before .before .before .before .before .before .before .before .with-landed-number .ensures) (landed-violation (a .st) hv (sym (ap resultOf (c .before .before .before .before .before .before .landed2 .given .1)) ∙ c .before .before .before .before .before .before .before .before .violation2 .ensures)) (c .before .before .before .definitely-greater .ensures) (c .before .before .correct-or-judge .ensures v hv))
 
 same-length-2 : tie.Need-same-length-2
 same-length-2 c = search needs

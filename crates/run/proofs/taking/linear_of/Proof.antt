@@ -4,7 +4,7 @@ use lib.Ieee.{ofBits}
 use Rattle.interval.specs.Result.{ok}
 use Rattle.linear.specs.Answers.{resultOf}
 use Rattle.run.proofs.LeaveLaws.{pick-no}
-use Rattle.run.proofs.ReadLaws.{landed-violation, linear-told, linear-refused}
+use Rattle.run.proofs.ReadLaws.{landed-violation, linear-known, linear-refused}
 use borrow.Author.Needs.{needs}
 use Rattle.run.proofs.taking.linear_of.Statement.{statement}
 use Rattle.run.proofs.taking.linear_of.Tie as tie
@@ -37,7 +37,7 @@ returns : tie.Need-returns
 unfolding ofBits
 returns c w h =
     let a = c .before .before .before .before .before .before .before .before .before .args in
-    ap ok (c .held .ensures) ∙ linear-told (a .st) w (a .theta) (sym (landed-violation (a .st) h (c .before .before .before .before .violation .ensures))) (sym (c .before .before .before .before .before .before .before .definitely-greater .ensures) ∙ c .before .before .before .before .before .before .if1 .taken) (ap resultOf (c .before .before .landed .given .1))
+    ap ok (c .held .ensures) ∙ linear-known (a .st) w (a .theta) (sym (landed-violation (a .st) h (c .before .before .before .before .violation .ensures))) (sym (c .before .before .before .before .before .before .before .definitely-greater .ensures) ∙ c .before .before .before .before .before .before .if1 .taken) (ap resultOf (c .before .before .landed .given .1))
 
 returns-2 : tie.Need-returns-2
 unfolding ofBits

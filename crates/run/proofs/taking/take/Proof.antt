@@ -9,7 +9,7 @@ use Rattle.interval.specs.Scaling.{three64, isPositive}
 use Rattle.interval.proofs.Given.{yes}
 use Rattle.run.specs.Run.{linearResult}
 use Rattle.run.proofs.Dampings.{shrunk-positive}
-use Rattle.run.proofs.FollowLaws.{take-told, take-refused, third-told, third-refused}
+use Rattle.run.proofs.FollowLaws.{take-known, take-refused, third-known, third-refused}
 use borrow.Author.Needs.{needs}
 use Rattle.run.proofs.taking.take.Statement.{statement}
 use Rattle.run.proofs.taking.take.Tie as tie
@@ -64,8 +64,8 @@ same-length c = search needs
 returns : tie.Need-returns
 returns c w h =
     let a = c .before .before .before .before .before .before .before .before .before .before .before .before .before .before .before .before .before .before .args in
-    take-told (a .st) w (a .theta) (a .span) (sym (c .before .before .before .before .before .before .before .before .before .before .before .before .before .before .linear-of .ensures w h) ∙ ap linearResult (c .before .before .before .before .before .before .before .before .before .before .before .before .linear .given .1))
-    (third-told (a .st) w (a .theta) (a .span) (c .before .before .before .before .before .before .before .before .before .before .before .before .linear .given .0 .0) (sym (divided (c .before .before .before .before .before .before .before .before .before)) ∙ ap resultOf (c .before .before .before .before .before .before .before .third .given .1)) (c .before .before .before .shrunk .ensures) (c .before .before .before .before .before .reach .ensures) (c .before .before .take-with .ensures w h))
+    take-known (a .st) w (a .theta) (a .span) (sym (c .before .before .before .before .before .before .before .before .before .before .before .before .before .before .linear-of .ensures w h) ∙ ap linearResult (c .before .before .before .before .before .before .before .before .before .before .before .before .linear .given .1))
+    (third-known (a .st) w (a .theta) (a .span) (c .before .before .before .before .before .before .before .before .before .before .before .before .linear .given .0 .0) (sym (divided (c .before .before .before .before .before .before .before .before .before)) ∙ ap resultOf (c .before .before .before .before .before .before .before .third .given .1)) (c .before .before .before .shrunk .ensures) (c .before .before .before .before .before .reach .ensures) (c .before .before .take-with .ensures w h))
 
 same-length-2 : tie.Need-same-length-2
 same-length-2 c = search needs
@@ -73,7 +73,7 @@ same-length-2 c = search needs
 returns-2 : tie.Need-returns-2
 returns-2 c w h =
     let a = c .before .before .before .before .before .before .before .before .before .before .before .before .before .before .before .before .args in
-    take-told (a .st) w (a .theta) (a .span) (sym (c .before .before .before .before .before .before .before .before .before .before .before .before .linear-of .ensures w h) ∙ ap linearResult (c .before .before .before .before .before .before .before .before .before .before .linear .given .1))
+    take-known (a .st) w (a .theta) (a .span) (sym (c .before .before .before .before .before .before .before .before .before .before .before .before .linear-of .ensures w h) ∙ ap linearResult (c .before .before .before .before .before .before .before .before .before .before .linear .given .1))
     (third-refused (a .st) w (a .theta) (a .span) (c .before .before .before .before .before .before .before .before .before .before .linear .given .0 .0) (sym (divided (c .before .before .before .before .before .before .before)) ∙ ap resultOf (c .before .before .before .before .before .e .given .1)) (c .before .before .refuse .ensures w h))
 
 same-length-3 : tie.Need-same-length-3

@@ -8,7 +8,7 @@ use Rattle.linear.specs.declared.answers.Done.{Done}
 use Rattle.run.specs.Rows.{sumOf, sumSquared}
 use Rattle.run.specs.Run.{Bounded}
 use Rattle.run.specs.declared.state.State.{State}
-use Rattle.run.proofs.FollowLaws.{learned-told, learned-refused, stands-on}
+use Rattle.run.proofs.FollowLaws.{learned-known, learned-refused, stands-on}
 use Rattle.run.proofs.LeaveLaws.{standing-rows-read}
 use Rattle.run.proofs.ReadLaws.{stood}
 use borrow.Author.Needs.{needs}
@@ -67,7 +67,7 @@ returns c w h =
     let z = a .st .sizes in
     let l = c .before .before .before .before .before .before .before .before .before .before .before .before .before .before .before .before .learn in
     let b = l .last .1 .1 .1 .1 .1 .0 in
-    learned-told (a .st) w (a .theta) (a .span) (a .mu) (a .radius) (sym (l .ensures w h) ∙ ap (λ (d : Done). doneOf d b) (c .before .before .before .before .before .before .before .before .before .before .before .before .before .enum-told .given .1))
+    learned-known (a .st) w (a .theta) (a .span) (a .mu) (a .radius) (sym (l .ensures w h) ∙ ap (λ (d : Done). doneOf d b) (c .before .before .before .before .before .before .before .before .before .before .before .before .before .enum-told .given .1))
     (stands-on (a .st) w (a .theta) (a .span) (a .mu) (a .radius) b (c .before .before .before .before .standing-on .ensures) (c .before .before .before .before .before .before .before .before .before .before .sum-squared .ensures ∙ ap (λ (x : List Float). sumSquared (sumOf (z .n) (z .m) (z .s) x)) (standing-rows-read h)) (c .before .before .before .before .before .before .before .with-taken .ensures w h) (c .before .before .iterate .ensures))
 
 same-length-2 : tie.Need-same-length-2
