@@ -24,7 +24,7 @@ use Rattle.run.specs.declared.state.Phase.the-variants.{Open}
 use Rattle.run.specs.declared.state.Sizes.{Sizes}
 use Rattle.run.specs.declared.state.Stop.the-variants as stop
 use Rattle.run.proofs.CheckLaws.{size-bounds, none-accepted, rows-accepted}
-use Rattle.known_answers.specs.KnownAnswers.{KnownAnswers, sizes, answerTo, answerToNone}
+use Rattle.known_answers.specs.KnownAnswers.{OfScalars, OfBegin, OfReply, KnownAnswers, sizes, answerTo, answerToNone}
 use Rattle.known_answers.proofs.Begins.{Begins, begins, begunState, begun-area, begun-valid, begin-accepted}
 use Rattle.known_answers.proofs.NoVariables.{started-none}
 
@@ -58,9 +58,9 @@ budget : (z : Sizes) (mu max : Scalar) (w : Memory) (rows : List Float) → z .l
 unfolding started iterate
 budget z mu max w rows e = rw e
 
-pub known-answers : KnownAnswers
-unfolding nextUp ofBits toBits neg add nearestRoot sqrtOf clamped chooseOf lt le eq div ofInt round fromRatio allTo
-known-answers = record {
+of-scalars : OfScalars
+unfolding nextUp ofBits toBits neg add nearestRoot sqrtOf clamped chooseOf lt le eq div ofInt round fromRatio
+of-scalars = record {
   p1 = refl;
   p2 = refl;
   p3 = refl;
@@ -70,9 +70,22 @@ known-answers = record {
   p7 = refl;
   p8 = refl;
   p9 = (refl, (refl, refl));
+}
+
+of-begin : OfBegin
+unfolding ofBits toBits neg add nextUp lt le eq div ofInt round fromRatio
+of-begin = record {
   accepted = λ n m s limit a fit l. begin-accepted (sizes n m s limit) a fit l;
   p10 = (refl, λ z start max a q. ap (λ (b : Left). b .state .search .mu) (begins z start max a q .is));
+}
+
+of-reply : OfReply
+unfolding allTo
+of-reply = record {
   p11 = λ n m s start max a q. none-answer (sizes n m s 0) start max _ (begins (sizes n m s 0) start max a q);
   p12 = λ n m s start max a rows q l d. rows-answer (sizes n m s 0) start max _ (begins (sizes n m s 0) start max a q) rows l d ∙ budget (sizes n m s 0) firstMu max _ rows refl;
   p13 = λ start max a q. rows-answer (sizes 0 0 0 5) start max _ (begins (sizes 0 0 0 5) start max a q) [] refl refl ∙ started-none firstMu max _ [];
 }
+
+pub known-answers : KnownAnswers
+known-answers = record { of-scalars = of-scalars; of-begin = of-begin; of-reply = of-reply }

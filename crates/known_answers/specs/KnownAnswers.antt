@@ -40,8 +40,8 @@ answerTo b rows = replyOf (b .state) (b .area) rows .answer
 abbrev pub answerToNone : Left → Answer
 answerToNone b = replyNoneOf (b .state) (b .area) .answer
 
--- `Finish` has the stop, the iterations, the turn-downs and the standing number
-pub record KnownAnswers : Type 0 where
+-- of a scalar
+pub record OfScalars : Type 0 where
   -- P1 `next_up`(−0) is bits 1
   pub p1 : nextUp (float 0x8000_0000_0000_0000) ≡ float 1
   -- P2 `next_down`(+infinity) is 7FEFFFFFFFFFFFFF
@@ -63,6 +63,9 @@ pub record KnownAnswers : Type 0 where
       let x = between (pos 1) (pos 2) in
       let y = between (pos 2) (pos 3) in
       (couldBeEqual x y ≡ true) × ((definitelyLess x y ≡ false) × (definitelyGreater x y ≡ false))
+
+-- of a begin
+pub record OfBegin : Type 0 where
   -- runs begin: from zero, with steps up to 1, in any area
   pub accepted :
       (n m s limit : ℕ) (a : List Float) →
@@ -74,6 +77,9 @@ pub record KnownAnswers : Type 0 where
       × ((z : Sizes) (start : List Float) (max : Scalar) (a : List Float) →
       let b = beginOf z start max a in
       Accepted b → b .state .search .mu ≡ mu)
+
+-- of the start's answer; `Finish` has the stop, the iterations, the turn-downs and the standing number
+pub record OfReply : Type 0 where
   -- P11 start none, limit 0: Infeasible, 0, 0
   pub p11 :
       (n m s : ℕ) (start : List Float) (max : Scalar) (a : List Float) →
@@ -90,3 +96,9 @@ pub record KnownAnswers : Type 0 where
       (start : List Float) (max : Scalar) (a : List Float) →
       let b = beginOf (sizes 0 0 0 5) start max a in
       Accepted b → answerTo b [] ≡ Finish (stop.Flat 0 0) 0 0 0
+
+-- the table
+pub record KnownAnswers : Type 0 where
+  pub of-scalars : OfScalars
+  pub of-begin : OfBegin
+  pub of-reply : OfReply
