@@ -5,7 +5,8 @@ use crate::words::read_marks;
 use crate::words::same_floats;
 use crate::words::same_marks;
 use interval::Scalar;
-use interval_c::Answer;
+use yadzvego::lists;
+use yadzvego::scalars::ScalarAnswer;
 
 // The function's code, its counts (one alone is n), the lengths of its slices, and the number of the
 // refusal or 0.
@@ -29,13 +30,13 @@ fn fill(out: &mut [f64]) {
 }
 
 // A value goes to the output.
-fn given(r: Answer, out: &mut [f64]) -> u64 {
+fn given(r: ScalarAnswer, out: &mut [f64]) -> u64 {
     linear::put(out, 0, r.value);
     r.number
 }
 
 fn chosen(v: Scalar, out: &mut [f64]) -> u64 {
-    linear::put(out, 0, linear_c::linear_choose(v));
+    linear::put(out, 0, lists::linear_choose(v));
     0
 }
 
@@ -43,14 +44,14 @@ fn chosen(v: Scalar, out: &mut [f64]) -> u64 {
 fn called(h: Head, a: &[f64], b: &[f64], c: &[f64], out: &mut [f64], marks: &mut [bool]) -> u64 {
     let code = h.code;
     match code {
-        1 => given(linear_c::linear_dot(h.n, a, b), out),
-        2 => given(linear_c::linear_norm(h.n, a), out),
+        1 => given(lists::linear_dot(h.n, a, b), out),
+        2 => given(lists::linear_norm(h.n, a), out),
         3 => chosen(linear::at(a, 0), out),
-        4 => linear_c::linear_sharp(h.n, a, out),
-        5 => linear_c::linear_cholesky(h.n, a, out, marks),
-        6 => linear_c::linear_solve_cholesky(h.n, a, marks, b, out),
-        7 => linear_c::linear_least_squares(h.m, h.n, a, b, out),
-        8 => linear_c::linear_minus_solved(h.m, h.n, a, b, c, out),
+        4 => lists::linear_sharp(h.n, a, out),
+        5 => lists::linear_cholesky(h.n, a, out, marks),
+        6 => lists::linear_solve_cholesky(h.n, a, marks, b, out),
+        7 => lists::linear_least_squares(h.m, h.n, a, b, out),
+        8 => lists::linear_minus_solved(h.m, h.n, a, b, c, out),
         _ => 255,
     }
 }

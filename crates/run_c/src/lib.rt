@@ -1,22 +1,22 @@
 // The pieces of a run for C and Rust: each by name. A slice is passed as its pointer and count. Every
 // function takes every number and every length, and equals the definition of the call beneath it.
 ghost use mathlib.Core.Path.{_≡_};
-ghost use Rattle.interval_c.specs.Answer.{answerOf};
-ghost use Rattle.linear_c.specs.Written.{written, writtenOf};
+ghost use Rattle.yadzvego.specs.ScalarAnswer.{answerOf};
+ghost use Rattle.yadzvego.specs.Written.{written, writtenOf};
 ghost use Rattle.run.specs.Judgement.{judgementOf};
 ghost use Rattle.run.specs.Pieces.{squaredReply, predictedReply, transposedReply, movingReply, judgeReply, expectsReply, cutReply, alongReply, shiftReply, updateReply, learnedReply, learningOf, stepReply, endingOf};
 ghost use Rattle.run.specs.Proposal.{expectedResult};
 ghost use Rattle.run_c.specs.Replies.{decisionOf, judgedOf, lastOf, steppedOf, stepWritten, stepWrittenOf};
 use interval::Scalar;
-use interval_c::Answer;
-use linear_c::answer_of;
-use linear_c::number_of;
-use linear_c::number_of_done;
 use run::Expected;
 use run::Judgement;
 use run::Last;
 use run::Learning;
 use run::StepEnd;
+use yadzvego::lists::answer_of;
+use yadzvego::lists::number_of;
+use yadzvego::lists::number_of_done;
+use yadzvego::scalars::ScalarAnswer;
 
 // Number 0 and whether it holds, or the number of the refusal.
 #[repr(C)]
@@ -144,14 +144,20 @@ pub extern "C" fn run_squared(
     rows: &[f64],
     delta: &[f64],
     d: usize,
-) -> Answer
+) -> ScalarAnswer
     ensures { λ r. ⌜ r ≡ answerOf (squaredReply n m s (now (rows .entry)) (now (delta .entry)) d) ⌝ }
 {
     answer_of(run::squared(n, m, s, rows, delta, d))
 }
 
 #[no_mangle]
-pub extern "C" fn run_predicted(n: usize, m: usize, s: usize, rows: &[f64], delta: &[f64]) -> Answer
+pub extern "C" fn run_predicted(
+    n: usize,
+    m: usize,
+    s: usize,
+    rows: &[f64],
+    delta: &[f64],
+) -> ScalarAnswer
     ensures { λ r. ⌜ r ≡ answerOf (predictedReply n m s (now (rows .entry)) (now (delta .entry))) ⌝ }
 {
     answer_of(run::predicted(n, m, s, rows, delta))

@@ -4,7 +4,9 @@ ghost use Rattle.run.specs.Calls.{pointAt};
 ghost use Rattle.yadzvego.specs.Exports.{handed, beginExport, replyExport, replyNoneExport, hasPoint, pointPlace, pointLength};
 
 mod answers;
+pub mod lists;
 mod mirror;
+pub mod scalars;
 
 use crate::answers::altered;
 use crate::answers::reply_of;

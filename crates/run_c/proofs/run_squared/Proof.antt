@@ -1,6 +1,6 @@
 -- `run_squared` meets its contract: the answer is that of the result.
 use mathlib.Core.Path.{_∙_, ap}
-use Rattle.interval_c.specs.Answer.{answerOf}
+use Rattle.yadzvego.specs.ScalarAnswer.{answerOf}
 use borrow.Author.Needs.{needs}
 use Rattle.run_c.proofs.run_squared.Statement.{statement}
 use Rattle.run_c.proofs.run_squared.Tie as tie

@@ -1,6 +1,6 @@
 -- `run_transposed` meets its contract: the number is that of how the call beneath ended.
 use mathlib.Core.Path.{ap}
-use Rattle.linear_c.specs.Written.{writtenOf}
+use Rattle.yadzvego.specs.Written.{writtenOf}
 use borrow.Author.Needs.{needs}
 use Rattle.run_c.proofs.run_transposed.Statement.{statement}
 use Rattle.run_c.proofs.run_transposed.Tie as tie
