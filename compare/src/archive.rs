@@ -1,5 +1,5 @@
-//! The archives of `interval_c`, `linear_c` and `run_c`: each public function of the crates interval and linear, and the pieces
-//! of a run. The archive of `yadzvego`: the calls of a run.
+//! The archive of `yadzvego`: each public function of the crates interval and linear, and the calls of a run. The archive of
+//! `run_c`: the pieces of a run.
 
 #[repr(C)]
 #[derive(Clone, Copy, Debug)]
@@ -96,7 +96,7 @@ pub struct RunReply {
 }
 
 // Each is total: it has no `requires`, and it takes and gives plain numbers.
-#[link(name = "interval_c", kind = "static")]
+#[link(name = "yadzvego", kind = "static")]
 unsafe extern "C" {
     pub safe fn interval_zero() -> Scalar;
     pub safe fn interval_one() -> Scalar;
@@ -130,7 +130,7 @@ unsafe extern "C" {
 }
 
 // Each is total too, given that a pointer and its count are those of a slice.
-#[link(name = "linear_c", kind = "static")]
+#[link(name = "yadzvego", kind = "static")]
 unsafe extern "C" {
     pub fn linear_dot(
         n: usize,
