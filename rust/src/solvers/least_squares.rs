@@ -1,0 +1,154 @@
+//! `minimize` with the names and shapes of geop's module of this name, over the calls of the archive.
+
+use crate::calls::{self, AREA, Answer, Reply, Run, begin, point};
+use crate::geop_error::{GeopError, GeopResult};
+use crate::scalars::Scalar;
+
+/// How long [`minimize`] may try, and how far a step may go.
+#[derive(Clone, Copy, Debug)]
+pub struct Options {
+    /// Steps taken at most, to 200.
+    pub max_iterations: usize,
+    /// The longest step, but where the steps before landed as their linearization said.
+    pub max_step: Scalar,
+}
+
+/// Where [`minimize`] ended, and how it got there.
+#[derive(Clone, Debug)]
+pub struct Outcome<P> {
+    pub x: P,
+    pub iterations: usize,
+    pub stop: Stop,
+    /// Steps proposed and turned down on the way.
+    pub turned_down: usize,
+}
+
+/// Why [`minimize`] stopped where it did.
+#[derive(Clone, Copy, Debug, PartialEq, Eq)]
+pub enum Stop {
+    /// The residuals cannot be evaluated at the start.
+    Infeasible,
+    /// The next step changes no variable at all; the step before it was turned down for `rejected`.
+    NoChange { rejected: Option<Rejection> },
+    /// No change can be told from its width, and the step no longer shrinks.
+    Undecided,
+    /// The model expects no definite drop, with `independent` of the `constraints` rows telling it something new.
+    Flat {
+        independent: usize,
+        constraints: usize,
+    },
+    /// No step, however damped, is taken; the last one was turned down for `rejected`.
+    Damped { rejected: Option<Rejection> },
+    /// [`Options::max_iterations`] steps were taken.
+    Budget,
+}
+
+/// Why a step was turned down.
+#[derive(Clone, Copy, Debug, PartialEq, Eq)]
+pub enum Rejection {
+    /// The damped model's curvature is not positive.
+    NotPositive,
+    /// The residuals cannot be evaluated where it leads.
+    Infeasible,
+    /// Cut so short that the model cannot tell it from no step.
+    Unresolved,
+    /// Neither the sum nor the violation is definitely lower there than at every point taken before.
+    NotLower,
+}
+
+/// The variables themselves, as points: a step is added to them.
+pub struct Euclidean;
+
+/// Residuals, and their Jacobian row by row.
+#[derive(Clone, Debug, Default)]
+pub struct Rows {
+    pub values: Vec<Scalar>,
+    pub jacobian: Vec<Vec<Scalar>>,
+}
+
+impl Rows {
+    pub fn push(&mut self, value: Scalar, row: Vec<Scalar>) {
+        self.values.push(value);
+        self.jacobian.push(row);
+    }
+
+    /// `other`'s rows, after its own.
+    pub fn append(&mut self, other: Rows) {
+        self.values.extend(other.values);
+        self.jacobian.extend(other.jacobian);
+    }
+
+    /// Whether there are `count` of them, each by `n` variables.
+    fn fits(&self, count: usize, n: usize) -> bool {
+        self.values.len() == count
+            && self.jacobian.len() == count
+            && self.jacobian.iter().all(|row| row.len() == n)
+    }
+
+    fn ends(&self) -> impl Iterator<Item = f64> {
+        let all = self.values.iter().chain(self.jacobian.iter().flatten());
+        all.flat_map(|v| [v.lo, v.hi])
+    }
+}
+
+/// The residuals at a point: those that must vanish, and those whose squares are minimized.
+#[derive(Clone, Debug, Default)]
+pub struct Evaluation {
+    pub constraints: Rows,
+    pub sum: Rows,
+}
+
+fn scalars(ends: &[f64]) -> Vec<Scalar> {
+    let scalar = |pair: &[f64]| Scalar::new(pair[0], pair[1]);
+    ends.chunks_exact(2).map(scalar).collect()
+}
+
+/// Answers the open question with rows that have the run's counts, or with none.
+fn reply(run: Run, area: &mut [f64], evaluation: Option<Evaluation>) -> GeopResult<Reply> {
+    let Some(e) = evaluation else {
+        return Ok(calls::reply_none(run, area));
+    };
+    if !(e.constraints.fits(run.m, run.n) && e.sum.fits(run.s, run.n)) {
+        return Err(GeopError::WrongLength);
+    }
+    let rows: Vec<f64> = e.constraints.ends().chain(e.sum.ends()).collect();
+    Ok(calls::reply(run, area, &rows))
+}
+
+/// Minimizes the sum of squares among the points where the constraints vanish, from `x0`. Every evaluation has as many rows as that
+/// of the start; a refusal of the archive is an error.
+pub async fn minimize(
+    _space: &Euclidean,
+    evaluate: impl AsyncFn(&Vec<Scalar>) -> Option<Evaluation>,
+    x0: Vec<Scalar>,
+    options: Options,
+) -> GeopResult<Outcome<Vec<Scalar>>> {
+    let (n, limit) = (x0.len(), options.max_iterations);
+    let start: Vec<f64> = x0.iter().flat_map(|v| [v.lo, v.hi]).collect();
+    let mut at_start = evaluate(&x0).await;
+    let counts = |e: &Evaluation| (e.constraints.values.len(), e.sum.values.len());
+    let (m, s) = at_start.as_ref().map_or((0, 0), counts);
+    let mut area = vec![0.0; AREA];
+    let mut now = begin(n, m, s, limit, &start, options.max_step, &mut area);
+    loop {
+        let evaluation = match now.answer {
+            Answer::Question { number: 0, .. } => at_start.take(),
+            Answer::Question { .. } => evaluate(&scalars(point(now.run, &area))).await,
+            Answer::Finish {
+                stop,
+                iterations,
+                turned_down,
+                ..
+            } => {
+                return Ok(Outcome {
+                    x: scalars(point(now.run, &area)),
+                    iterations,
+                    stop,
+                    turned_down,
+                });
+            }
+            Answer::Refused(why) => return Err(why),
+        };
+        now = reply(now.run, &mut area, evaluation)?;
+    }
+}
