@@ -1,0 +1,77 @@
+/* Hosts that do not keep to the calls: each gets the number of a refusal, with run and area as they were. That a field stands where the header says is seen by what it holds after a begin and
+ * two replies, or by altering it. Prints what is otherwise. */
+#include "yadzvego.h"
+#include <stdio.h>
+#include <string.h>
+
+static double area[YADZVEGO_AREA];
+static int failures;
+
+static void expect(const char *what, size_t got, size_t wanted)
+{
+    if (got != wanted) {
+        printf("%s: %zu, not %zu\n", what, got, wanted);
+        failures++;
+    }
+}
+
+/* Two variables, of which the first moves: the constraint x with slope 1, and the sum rows x - 1 and 0 with slopes 1 and 0. */
+static const double rows[18] = {3, 3, 1, 1, 0, 0, 2, 2, 0, 0, 1, 1, 0, 0, 0, 0, 0, 0};
+static const double next[18] = {0, 0, 1, 1, 0, 0, -1, -1, 0, 0, 1, 1, 0, 0, 0, 0, 0, 0};
+
+static void expect_refused(const char *what, YadzvegoRun run, size_t area_len, size_t rows_len, size_t number)
+{
+    static double before[YADZVEGO_AREA];
+    memcpy(before, area, sizeof area);
+    YadzvegoReply r = yadzvego_reply(run, area, area_len, rows, rows_len);
+    expect(what, r.answer.which, YADZVEGO_REFUSED);
+    expect(what, r.answer.number, number);
+    expect(what, (size_t)memcmp(&r.run, &run, offsetof(YadzvegoRun, moving) + sizeof run.moving), 0);
+    expect(what, (size_t)memcmp(before, area, sizeof area), 0);
+}
+
+#define EXPECT_ALTERED(field, value)                                   \
+    do {                                                               \
+        YadzvegoRun altered = run;                                     \
+        altered.field = value;                                         \
+        expect_refused(#field " altered", altered, YADZVEGO_AREA, 18, 4); \
+        expect(#field " altered", yadzvego_point_length(altered, YADZVEGO_AREA), 0); \
+    } while (0)
+
+static void expect_altered(YadzvegoRun run)
+{
+    EXPECT_ALTERED(n, 13);
+    EXPECT_ALTERED(m, (size_t)-1);
+    EXPECT_ALTERED(s, 25);
+    EXPECT_ALTERED(limit, 201);
+    EXPECT_ALTERED(iterations, 8);
+    EXPECT_ALTERED(question, 5500 * 7 + 1);
+    EXPECT_ALTERED(corrections, 5);
+    EXPECT_ALTERED(turned_down, 1101);
+    EXPECT_ALTERED(mu.lo, 0);
+    EXPECT_ALTERED(phase, 4);
+    EXPECT_ALTERED(rejected, 5);
+    EXPECT_ALTERED(last, 2);
+}
+
+int main(void)
+{
+    const double start[4] = {3, 3, 1, 2};
+    const YadzvegoScalar reach = {5, 6};
+    YadzvegoRun run = yadzvego_begin(2, 1, 2, 7, start, 4, reach, area, YADZVEGO_AREA).run;
+    expect("sizes", run.n == 2 && run.m == 1 && run.s == 2 && run.limit == 7, 1);
+    expect("steps", run.radius.hi == 6 && run.max_step.lo == 5 && run.mu.lo < 0.001 && run.mu.hi > 0.001, 1);
+    expect("begun", run.phase == YADZVEGO_START_OPEN && run.rejected == YADZVEGO_NONE_YET && run.last == 0, 1);
+    expect("point", area[yadzvego_point_place(run, YADZVEGO_AREA) + 3] == 2, 1);
+    expect_refused("rows short", run, YADZVEGO_AREA, 17, 2);
+    expect_refused("area short", run, YADZVEGO_AREA - 1, 18, 2);
+    expect_altered(run);
+    run = yadzvego_reply(run, area, YADZVEGO_AREA, rows, 18).run;
+    expect("trial", run.phase == YADZVEGO_TRIAL_OPEN && run.question == 1 && run.first && !run.plain, 1);
+    expect("moving", run.moving[0] && !run.moving[1] && run.tried.hi >= 3 && run.predicted.hi < 1, 1);
+    YadzvegoReply taken = yadzvego_reply(run, area, YADZVEGO_AREA, next, 18);
+    expect("taken", taken.run.iterations == 1 && taken.run.standing == 1 && taken.run.last == 1 && taken.run.last_length.hi >= 3, 1);
+    expect("finish", taken.answer.which == YADZVEGO_FINISH && taken.answer.stop == YADZVEGO_FLAT && taken.answer.constraints == 1, 1);
+    expect_refused("over", taken.run, YADZVEGO_AREA, 18, 4);
+    return failures != 0;
+}
