@@ -1,5 +1,5 @@
-/* Hosts that do not keep to the calls: each gets the number of a refusal, with run and area as they were. That a field stands where the header says is seen by what it holds after a begin and
- * two replies, or by altering it. Prints what is otherwise. */
+/* The header against the archive. Hosts that do not keep to the calls get the number of a refusal, with run and area as they were. That a field stands where the header says is seen by what
+ * it holds after a begin and two replies, or by altering it; that a list is passed as the header says, by what comes out. Prints what is otherwise. */
 #include "yadzvego.h"
 #include <stdio.h>
 #include <string.h>
@@ -54,6 +54,32 @@ static void expect_altered(YadzvegoRun run)
     EXPECT_ALTERED(last, 2);
 }
 
+static void expect_near(const char *what, const double *got, double wanted)
+{
+    expect(what, got[0] > wanted - 1e-9 && got[1] < wanted + 1e-9, 1);
+}
+
+static void expect_lists(void)
+{
+    const double line[4] = {3, 3, 4, 4}, twice[4] = {6, 6, 8, 8}, length[2] = {25, 25}, squares[8] = {4, 4, 0, 0, 0, 0, 9, 9};
+    double l[8], out[4];
+    bool left_out[2];
+    YadzvegoScalarAnswer norm = linear_norm(2, line, 4), dot = linear_dot(2, line, 4, twice, 4);
+    expect_near("norm", &norm.value.lo, 5);
+    expect_near("dot", &dot.value.lo, 50);
+    expect("sharp", linear_sharp(2, line, 4, out, 4), 0);
+    expect_near("sharp", out + 2, linear_choose(norm.value).lo - 1);
+    expect("cholesky", linear_cholesky(2, squares, 8, l, 8, left_out, 2) + left_out[0] + left_out[1], 0);
+    expect("solved", linear_solve_cholesky(2, l, 8, left_out, 2, line, 4, out, 4), 0);
+    expect_near("solved", out, 0.75);
+    expect("least squares", linear_least_squares(2, 1, line, 4, twice, 4, out, 2), 0);
+    expect_near("least squares", out, 2);
+    expect("minus solved", linear_minus_solved(1, 2, line, 4, length, 2, twice, 4, out, 4), 0);
+    expect_near("minus solved", out + 2, 4);
+    expect("25 of a list", linear_norm(25, line, 4).number, 1);
+    expect("a list short", linear_sharp(2, line, 3, out, 4), 2);
+}
+
 int main(void)
 {
     const double start[4] = {3, 3, 1, 2};
@@ -73,5 +99,6 @@ int main(void)
     expect("taken", taken.run.iterations == 1 && taken.run.standing == 1 && taken.run.last == 1 && taken.run.last_length.hi >= 3, 1);
     expect("finish", taken.answer.which == YADZVEGO_FINISH && taken.answer.stop == YADZVEGO_FLAT && taken.answer.constraints == 1, 1);
     expect_refused("over", taken.run, YADZVEGO_AREA, 18, 4);
+    expect_lists();
     return failures != 0;
 }
