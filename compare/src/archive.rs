@@ -1,5 +1,5 @@
-//! The archive of `yadzvego`: each public function of the crates interval and linear, and the calls of a run. The archive of
-//! `run_c`: the pieces of a run.
+//! What the archives hold, which compare/build.sh names: each public function of the crates interval and linear, the pieces of
+//! a run, and the calls of a run.
 
 #[repr(C)]
 #[derive(Clone, Copy, Debug)]
@@ -96,7 +96,6 @@ pub struct RunReply {
 }
 
 // Each is total: it has no `requires`, and it takes and gives plain numbers.
-#[link(name = "yadzvego", kind = "static")]
 unsafe extern "C" {
     pub safe fn interval_zero() -> Scalar;
     pub safe fn interval_one() -> Scalar;
@@ -130,7 +129,6 @@ unsafe extern "C" {
 }
 
 // Each is total too, given that a pointer and its count are those of a slice.
-#[link(name = "yadzvego", kind = "static")]
 unsafe extern "C" {
     pub fn linear_dot(
         n: usize,
@@ -193,7 +191,6 @@ unsafe extern "C" {
 }
 
 // Total likewise.
-#[link(name = "run_c", kind = "static")]
 unsafe extern "C" {
     pub fn run_squared(
         n: usize,
@@ -322,7 +319,6 @@ unsafe extern "C" {
 }
 
 // Total likewise.
-#[link(name = "yadzvego", kind = "static")]
 unsafe extern "C" {
     pub fn yadzvego_begin(
         n: usize,

@@ -1,114 +1,108 @@
-//! Calls that no honest caller makes: runs and areas altered between calls, wrong lengths, numbers outside the domain. Each call
-//! must end, be refused with the number of document 01's table and change nothing then, and leave a canonical area else.
+//! Calls that no honest caller makes: runs and areas altered between calls, wrong lengths, numbers outside the domain, replies out
+//! of turn. Each call must end, be refused with the number of document 01's table and change nothing then, and leave a canonical
+//! area else.
 
 mod altered;
+mod begins;
+mod call;
 mod rule;
+mod smaller;
 
 use crate::Count;
-use crate::archive::{Run, RunAnswer, yadzvego_point_length, yadzvego_point_place};
+use crate::archive::{Run, RunAnswer};
 use crate::interval::operands::Random;
-use crate::runs::area::is_canonical;
-use crate::runs::beside::{Held, compared};
-use crate::runs::problem::{self, MOST, Sizes};
-use crate::runs::rattle::{self, AREA, bits, run_words};
-use crate::runs::rust::played;
-use crate::words::hex;
+use crate::parts::side_by_side;
+use crate::progress::Progress;
+use crate::runs::beside::{Held, Manner, compared};
+use crate::runs::problem::{self, MOST};
+use crate::runs::rattle::AREA;
+use crate::runs::rust::{Played, played};
 use altered::alterations;
-use geop_core_math::scalars::Scalar;
+use call::Call;
 
-/// Of so many random operands of a scalar function, one state that is altered.
-const SHARE: u64 = 4000;
-/// The greatest sum of the sizes of such a state: every call is made over and over.
+/// The states are altered in so many parts.
+const PARTS: usize = 64;
+/// So many earlier states of a run are kept, to be handed back out of turn.
+const EARLIER: usize = 16;
+/// The greatest sum of the sizes of a state that is altered: every call is made over and over.
 const SMALL: usize = 10;
+
+/// The calls by what is wrong with them.
+#[derive(Clone, Copy)]
+enum Kind {
+    Field,
+    AnyRun,
+    Area,
+    Length,
+    End,
+    OutOfTurn,
+    Begin,
+}
+
+const KINDS: [&str; 7] = [
+    "field altered",
+    "any run",
+    "area altered",
+    "wrong length",
+    "end of the domain",
+    "out of turn",
+    "begin",
+];
 
 #[derive(Default)]
 struct Sum {
     states: u64,
+    kinds: [u64; KINDS.len()],
     /// Calls by the number that refused them; 0: questions and finishes.
     numbers: [u64; 7],
     differ: u64,
+    /// The first that differs, as it is told.
     first: Option<String>,
 }
 
 impl Sum {
     fn calls(&self) -> u64 {
-        self.numbers.iter().sum()
+        self.kinds.iter().sum()
     }
 
-    fn differ(&mut self, what: &str, why: &str, run: &Run) {
-        self.differ += 1;
-        if self.first.is_none() {
-            self.first = Some(format!("{what}: {why}; run {}", hex(&run_words(run))));
-        }
-    }
-
-    /// Whether an answer that is a refusal tells its number and no more.
-    fn refusal_of(&mut self, told: &RunAnswer) -> Option<u64> {
+    fn count(&mut self, kind: Kind, told: &RunAnswer) {
+        self.kinds[kind as usize] += 1;
         let number = if told.which == 2 { told.number } else { 0 };
         if let Some(count) = self.numbers.get_mut(number) {
             *count += 1;
         }
-        (told.which == 2).then_some(told.number as u64)
+    }
+
+    fn differ(&mut self, text: impl FnOnce() -> String) {
+        self.differ += 1;
+        if self.first.is_none() {
+            self.first = Some(text());
+        }
     }
 
     /// A reply over a run and an area that may be altered.
-    fn reply(&mut self, what: &str, run: &Run, area: &mut [f64], rows: Option<&[f64]>) {
-        let expected = rule::refusal(run, area.len(), rows);
-        let point = (
-            yadzvego_point_place(*run, area.len()),
-            yadzvego_point_length(*run, area.len()),
-        );
-        if point != rule::point(run, area.len()) {
-            self.differ(what, &format!("the point is at {point:?}"), run);
-        }
-        let before = bits(area);
-        let (left, told) = rattle::reply(*run, area, rows);
-        let refused = self.refusal_of(&told);
-        match expected {
-            Some(number) => {
-                if refused != Some(number) {
-                    self.differ(what, &format!("{told:?} where {number} refuses it"), run);
-                }
-                if run_words(&left) != run_words(run) {
-                    let left = hex(&run_words(&left));
-                    self.differ(
-                        what,
-                        &format!("refused by {number}, the run is then {left}"),
-                        run,
-                    );
-                }
-                if bits(area) != before {
-                    self.differ(
-                        what,
-                        &format!("refused by {number}, the area is altered"),
-                        run,
-                    );
-                }
-            }
-            None => {
-                if refused.is_some_and(|number| number != 5 && number != 6) {
-                    self.differ(what, &format!("{told:?} where it is accepted"), run);
-                }
-                if !is_canonical(&left, area) {
-                    self.differ(what, "the area is not canonical", run);
-                }
-            }
+    fn reply(&mut self, kind: Kind, run: &Run, area: &[f64], rows: Option<&[f64]>) {
+        let (told, fault) = call::made(run, area, rows);
+        self.count(kind, &told);
+        if let Some(fault) = fault {
+            let call = Call::new(run, area, rows);
+            self.differ(|| smaller::least(call, fault));
         }
     }
 
-    /// Rows and none, over a copy of the area.
-    fn both(&mut self, what: &str, run: &Run, area: &[f64], rows: &[f64]) {
-        self.reply(what, run, &mut area.to_vec(), Some(rows));
-        self.reply(what, run, &mut area.to_vec(), None);
+    /// Rows and none.
+    fn both(&mut self, kind: Kind, run: &Run, area: &[f64], rows: &[f64]) {
+        self.reply(kind, run, area, Some(rows));
+        self.reply(kind, run, area, None);
     }
 
     /// Every field of the run in turn.
     fn alter_fields(&mut self, held: &Held, rows: &[f64], random: &mut Random) {
-        for (name, run) in alterations(&held.run) {
+        for run in alterations(&held.run) {
             let fitting = rows_for(&run, rows, random);
-            self.both(&name, &run, &held.area, &fitting);
+            self.both(Kind::Field, &run, &held.area, &fitting);
             // The rows of the run as it was, which may then have another length.
-            self.reply(&name, &run, &mut held.area.clone(), Some(rows));
+            self.reply(Kind::Field, &run, &held.area, Some(rows));
         }
     }
 
@@ -116,43 +110,26 @@ impl Sum {
         for length in [0, 1, AREA - 1, AREA + 1, 2 * AREA] {
             let mut area = held.area.clone();
             area.resize(length, 1.0);
-            self.both(&format!("area of {length}"), &held.run, &area, rows);
+            self.both(Kind::Length, &held.run, &area, rows);
         }
-        for length in [
-            0,
-            1,
-            rows.len().saturating_sub(1),
-            rows.len() + 1,
-            2 * rows.len(),
-        ] {
+        let count = rows.len();
+        for length in [0, 1, count.saturating_sub(1), count + 1, 2 * count] {
             let mut other = rows.to_vec();
             other.resize(length, 1.0);
-            self.both(&format!("rows of {length}"), &held.run, &held.area, &other);
+            self.both(Kind::Length, &held.run, &held.area, &other);
         }
     }
 
     fn alter_ends(&mut self, held: &Held, rows: &[f64]) {
         let above = f64::from_bits(MOST.to_bits() + 1);
+        let infinity = f64::INFINITY;
         for place in [0, 1, rows.len().wrapping_sub(1)] {
-            for end in [
-                f64::NAN,
-                f64::INFINITY,
-                f64::NEG_INFINITY,
-                above,
-                -above,
-                MOST,
-                -MOST,
-            ] {
+            for end in [f64::NAN, infinity, -infinity, above, -above, MOST, -MOST] {
                 let mut other = rows.to_vec();
                 if let Some(number) = other.get_mut(place) {
                     *number = end;
                 }
-                self.both(
-                    &format!("end {end:e} at {place}"),
-                    &held.run,
-                    &held.area,
-                    &other,
-                );
+                self.both(Kind::End, &held.run, &held.area, &other);
             }
         }
     }
@@ -160,86 +137,82 @@ impl Sum {
     fn alter_area(&mut self, held: &Held, rows: &[f64], random: &mut Random) {
         for _ in 0..20 {
             let area = random.altered_area(&held.area);
-            self.both("altered area", &held.run, &area, rows);
+            self.both(Kind::Area, &held.run, &area, rows);
             let run = random.any_run();
             let fitting = rows_for(&run, rows, random);
-            self.both("any run", &run, &area, &fitting);
+            self.both(Kind::AnyRun, &run, &area, &fitting);
         }
     }
 
-    fn state(&mut self, held: &Held, rows: &[f64], random: &mut Random) {
-        self.states += 1;
-        self.alter_fields(held, rows, random);
-        self.alter_lengths(held, rows);
-        self.alter_ends(held, rows);
-        self.alter_area(held, rows, random);
+    /// A run as it was before, with the area as it is now, and the other way round.
+    fn out_of_turn(&mut self, held: &Held, earlier: &[Held], rows: &[f64]) {
+        for before in earlier {
+            self.both(Kind::OutOfTurn, &before.run, &held.area, rows);
+            self.both(Kind::OutOfTurn, &held.run, &before.area, rows);
+        }
     }
 
-    /// A begin, and the replies to a run that has not begun.
-    fn begin(&mut self, sizes: Sizes, start: &[f64], max_step: Scalar, area: usize) {
-        let expected = rule::begin_refusal(sizes, start, max_step, area);
-        let mut lent = vec![f64::from_bits(0x7FF0_0000_0000_1234); area];
-        let before = bits(&lent);
-        let (run, told) = rattle::begin(sizes, start, max_step, &mut lent);
-        let refused = self.refusal_of(&told);
-        let what = format!("begin {sizes:?} start of {} area of {area}", start.len());
-        if refused != expected {
-            self.differ(&what, &format!("{told:?}, not {expected:?}"), &run);
-        }
-        if refused.is_none() {
-            if !is_canonical(&run, &lent) {
-                self.differ(&what, "the area is not canonical", &run);
-            }
-            return;
-        }
-        if bits(&lent) != before {
-            self.differ(&what, "the area is altered", &run);
-        }
-        if rule::refusal(&run, AREA, None) != Some(4) {
-            self.differ(&what, "a refused begin gives a run", &run);
-        }
-        self.both(&what, &run, &vec![0.0; AREA], &[]);
-    }
-
-    fn begins(&mut self) {
-        let most = usize::MAX;
-        let fit = Sizes {
-            n: 2,
-            m: 1,
-            s: 2,
-            limit: 5,
+    /// The states of a run as they are met, some of them altered, until there are so many calls.
+    fn alter(&mut self, played: &Played, wanted: u64, random: &mut Random) {
+        let manner = Manner {
+            word: random.word(),
+            refuses: false,
+            tells: false,
         };
-        let one = Scalar::ONE;
-        for count in [0, 1, 12, 13, 24, 25, 200, 201, 1 << 32, 1 << 63, most] {
-            for sizes in [
-                Sizes { n: count, ..fit },
-                Sizes { m: count, ..fit },
-                Sizes { s: count, ..fit },
-                Sizes {
-                    limit: count,
-                    ..fit
-                },
-            ] {
-                let start = vec![1.0; 2 * sizes.n.min(30)];
-                self.begin(sizes, &start, one, AREA);
-                self.begin(sizes, &start, one, AREA - 1);
-                self.begin(sizes, &[], Scalar::ZERO, AREA);
+        let nothing = vec![1.0; played.sizes.row_numbers()];
+        let mut earlier = Vec::new();
+        compared(played, manner, |held, at| {
+            if self.calls() >= wanted {
+                return;
             }
+            let reply = played.replies.get(at).and_then(Option::as_deref);
+            let rows = reply.unwrap_or(&nothing);
+            self.out_of_turn(held, &earlier, rows);
+            if random.at_odds(2 + at as u64) {
+                self.states += 1;
+                self.alter_fields(held, rows, random);
+                self.alter_lengths(held, rows);
+                self.alter_ends(held, rows);
+                self.alter_area(held, rows, random);
+            }
+            if earlier.len() < EARLIER {
+                earlier.push(held.clone());
+            }
+        });
+    }
+
+    fn join(&mut self, other: Sum) {
+        self.states += other.states;
+        for (sum, count) in self.kinds.iter_mut().zip(other.kinds) {
+            *sum += count;
         }
-        let above = f64::from_bits(MOST.to_bits() + 1);
-        let ends = [0.0, -0.0, 1.0, -1.0, MOST, -MOST, above, -above];
-        let wild = [
-            f64::NAN,
-            f64::INFINITY,
-            f64::NEG_INFINITY,
-            f64::from_bits(1),
-        ];
-        for lo in ends.into_iter().chain(wild) {
-            for hi in ends.into_iter().chain(wild) {
-                self.begin(fit, &[1.0, 1.0, lo, hi], one, AREA);
-                self.begin(fit, &[1.0; 4], Scalar { lo, hi }, AREA);
-                self.begin(fit, &[1.0; 3], Scalar { lo, hi }, AREA);
-            }
+        for (sum, count) in self.numbers.iter_mut().zip(other.numbers) {
+            *sum += count;
+        }
+        self.differ += other.differ;
+        self.first = self.first.take().or(other.first);
+    }
+
+    fn told(self) -> Count {
+        if let Some(text) = &self.first {
+            print!("{text}");
+        }
+        let [accepted, n1, n2, n3, n4, n5, n6] = self.numbers;
+        let kinds: Vec<String> = KINDS
+            .iter()
+            .zip(self.kinds)
+            .map(|(name, count)| format!("{name}: {count}"))
+            .collect();
+        println!(
+            "hostile: {} states, {} calls, {} differ; accepted: {accepted}, 1: {n1}, 2: {n2}, 3: {n3}, 4: {n4}, 5: {n5}, 6: {n6}",
+            self.states,
+            self.calls(),
+            self.differ
+        );
+        println!("  {}", kinds.join(", "));
+        Count {
+            compared: self.calls(),
+            differ: self.differ,
         }
     }
 }
@@ -259,46 +232,35 @@ fn rows_for(run: &Run, rows: &[f64], random: &mut Random) -> Vec<f64> {
     fitting
 }
 
-/// States of runs as they are met, altered, until there are so many.
-fn compare_states(seed: u64, wanted: u64) -> Sum {
+/// The small runs of one part, until there are so many calls.
+fn compare_part(seed: u64, wanted: u64, part: usize, progress: &Progress) -> Sum {
     let mut sum = Sum::default();
-    let mut random = Random::new(seed);
-    let mut i = 0;
-    while sum.states < wanted {
-        let drawn = problem::drawn(seed ^ 0x5EED, i);
-        i += 1;
-        let sizes = drawn.sizes;
-        if sizes.n + sizes.m + sizes.s > SMALL {
-            continue;
+    let mut random = Random::new(seed ^ (part as u64) << 40);
+    for i in (part as u64..).step_by(PARTS) {
+        let calls = sum.calls();
+        if calls >= wanted {
+            break;
         }
-        let played = played(drawn);
-        let mut choice = Random::new(random.word());
-        let nothing = vec![1.0; sizes.row_numbers()];
-        compared(&played, &mut random, |held, at| {
-            if choice.at_odds(2 + at as u64) && sum.states < wanted {
-                let reply = played.replies.get(at).and_then(Option::as_deref);
-                sum.state(held, reply.unwrap_or(&nothing), &mut choice);
-            }
-        });
+        let drawn = problem::drawn(seed ^ 0x5EED, i);
+        let sizes = drawn.sizes;
+        if sizes.n + sizes.m + sizes.s <= SMALL {
+            sum.alter(&played(drawn), wanted, &mut random);
+            progress.add(sum.calls() - calls);
+        }
     }
     sum
 }
 
-pub fn compare(seed: u64, random: u64) -> Count {
-    let mut sum = compare_states(seed, random / SHARE);
+pub fn compare(seed: u64, calls: u64) -> Count {
+    let mut sum = Sum::default();
     sum.begins();
-    if let Some(text) = &sum.first {
-        println!("  the first hostile call that differs: {text}");
-    }
-    let [accepted, n1, n2, n3, n4, n5, n6] = sum.numbers;
-    println!(
-        "hostile: {} states, {} calls, {} differ; accepted: {accepted}, 1: {n1}, 2: {n2}, 3: {n3}, 4: {n4}, 5: {n5}, 6: {n6}",
-        sum.states,
-        sum.calls(),
-        sum.differ
+    let progress = Progress::new("hostile", calls);
+    let wanted = calls.div_ceil(PARTS as u64);
+    side_by_side(
+        PARTS,
+        |part| compare_part(seed, wanted, part, &progress),
+        |part| sum.join(part),
     );
-    Count {
-        compared: sum.calls(),
-        differ: sum.differ,
-    }
+    drop(progress);
+    sum.told()
 }

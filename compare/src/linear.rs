@@ -4,14 +4,15 @@ pub mod functions;
 pub mod lengths;
 pub mod list;
 pub mod matrices;
+mod smaller;
 
 use crate::Count;
 use crate::interval::operands::Random;
-use crate::words::{hex, words};
+use crate::parts::side_by_side;
+use crate::progress::Progress;
+use crate::shrink::smallest;
 use functions::{Call, FUNCTIONS, Function, LIMIT, Reply};
-
-/// Of so many random operands of a scalar function, one random call here.
-const SHARE: u64 = 25;
+use smaller::Smaller;
 
 /// The replies of one function.
 #[derive(Default)]
@@ -20,53 +21,64 @@ struct Tally {
     numbers: [u64; 7],
     compared: u64,
     differ: u64,
-    /// The size of the smallest call that differs, and its text.
-    least: Option<(usize, String)>,
-}
-
-fn bits(marks: &[bool]) -> String {
-    marks
-        .iter()
-        .map(|&mark| if mark { '1' } else { '0' })
-        .collect()
-}
-
-fn shown(function: &Function, call: &Call, expected: &Reply, rattle: &Reply) -> String {
-    let mut text = format!("  {} of {} and {}", function.name, call.m, call.n);
-    for input in &call.inputs {
-        text += &format!("\n    input    {}", hex(&words(input)));
-    }
-    text += &format!("\n    marks    {}", bits(&call.marks));
-    for (name, reply) in [("expected", expected), ("Rattle  ", rattle)] {
-        let (out, marks) = (hex(&reply.out), bits(&reply.marks));
-        let inputs = if reply.kept { "" } else { ", inputs written" };
-        text += &format!("\n    {name} {} {out} marks {marks}{inputs}", reply.number);
-    }
-    text
 }
 
 impl Tally {
-    fn add(&mut self, function: &Function, call: &Call, expected: &Reply, rattle: &Reply) {
+    /// Whether the two replies differ.
+    fn add(&mut self, expected: &Reply, rattle: &Reply) -> bool {
         self.compared += 1;
         if let Some(count) = self.numbers.get_mut(rattle.number as usize) {
             *count += 1;
         }
-        if expected == rattle {
-            return;
-        }
-        self.differ += 1;
-        let size = call.inputs.iter().map(Vec::len).sum();
-        if self.least.as_ref().is_none_or(|(least, _)| size < *least) {
-            self.least = Some((size, shown(function, call, expected, rattle)));
-        }
+        let differ = expected != rattle;
+        self.differ += u64::from(differ);
+        differ
     }
 }
 
-fn compare_function(function: &Function, seed: u64, random: u64) -> Count {
+/// A call as a case of the list, with the reply that is expected and the one that is given.
+fn case(function: &Function, call: &Call, expected: &Reply, rattle: &Reply) -> String {
+    let kept = if rattle.kept {
+        ""
+    } else {
+        "the inputs are written\n"
+    };
+    let [expected, rattle] = [expected, rattle].map(|reply| list::line(function, call, reply));
+    crate::case("linear_replay", &expected, &rattle) + kept
+}
+
+impl Smaller<'_> {
+    fn replies(&self) -> (Reply, Reply) {
+        let out = self.function.shape(self.call.m, self.call.n).out;
+        let rattle = self.function.replied(&self.call, vec![self.before; out]);
+        ((self.function.rust)(&self.call), rattle)
+    }
+
+    /// The smallest call found that differs.
+    fn least(self) -> String {
+        let least = smallest(self, |call| {
+            let (rust, rattle) = call.replies();
+            rust != rattle
+        });
+        let (rust, rattle) = least.replies();
+        case(least.function, &least.call, &rust, &rattle)
+    }
+}
+
+/// What was compared of a function, and the text that says so.
+fn compare_function(
+    function: &Function,
+    seed: u64,
+    random: u64,
+    progress: &Progress,
+) -> (Count, String) {
     let mut tally = Tally::default();
+    let mut text = String::new();
     for (call, out, expected) in lengths::refusals(function) {
         let rattle = function.replied(&call, vec![lengths::BEFORE; out]);
-        tally.add(function, &call, &expected, &rattle);
+        if tally.add(&expected, &rattle) && text.is_empty() {
+            text = case(function, &call, &expected, &rattle);
+        }
     }
     let lengths = tally.compared;
     let mut drawn = Random::new(seed ^ function.code << 48);
@@ -75,28 +87,39 @@ fn compare_function(function: &Function, seed: u64, random: u64) -> Count {
         let (m, n) = (size(&mut drawn), size(&mut drawn));
         let call = (function.draw)(&mut drawn, m, n);
         let before = f64::from_bits(drawn.word());
-        let out = (function.shape)(m, n).out;
-        let rattle = function.replied(&call, vec![before; out]);
-        tally.add(function, &call, &(function.rust)(&call), &rattle);
-    }
-    if let Some((_, text)) = &tally.least {
-        println!("{text}");
+        let drawn = Smaller {
+            function,
+            call,
+            before,
+        };
+        let (rust, rattle) = drawn.replies();
+        if tally.add(&rust, &rattle) && text.is_empty() {
+            text = drawn.least();
+        }
+        progress.add(1);
     }
     let [finished, n1, n2, _, _, n5, n6] = tally.numbers;
-    println!(
+    text += &format!(
         "{:<20} {lengths:>8} lengths {random:>9} random {:>4} differ; 0: {finished}, 1: {n1}, 2: {n2}, 5: {n5}, 6: {n6}",
         function.name, tally.differ
     );
-    Count {
+    let count = Count {
         compared: tally.compared,
         differ: tally.differ,
-    }
+    };
+    (count, text)
 }
 
 pub fn compare(seed: u64, random: u64) -> Count {
+    let progress = Progress::new("linear", random * FUNCTIONS.len() as u64);
     let mut total = Count::default();
-    for function in &FUNCTIONS {
-        total += compare_function(function, seed, random / SHARE);
-    }
+    side_by_side(
+        FUNCTIONS.len(),
+        |i| compare_function(&FUNCTIONS[i], seed, random, &progress),
+        |(count, text)| {
+            println!("{text}");
+            total += count;
+        },
+    );
     total
 }

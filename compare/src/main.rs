@@ -1,21 +1,60 @@
 //! Compares the crates interval, linear and run with the Rust that they follow: function by function, the pieces of a run, whole
 //! runs question by question, and calls that must be refused. A NaN equals a NaN, other numbers compare by bits, refusals by
-//! number. The exit status is 1 where any answer differs, or where runs never show what they must.
+//! number. Of what differs the smallest case that is found is printed, as a case of the fixed list. The exit status is 1 where
+//! any answer differs, or where runs never show what they must.
 
 mod archive;
 mod hostile;
 mod interval;
 mod linear;
+mod parts;
+mod progress;
 mod run;
 mod runs;
 mod settle;
+mod shrink;
 mod words;
 
 use std::process::ExitCode;
 
+/// How many calls and runs are drawn.
+#[derive(Clone, Copy)]
+struct Scale {
+    /// Of each function of `interval`, of each function of `linear`, and of each piece of a run.
+    scalars: u64,
+    linear: u64,
+    pieces: u64,
+    /// Whole runs.
+    runs: u64,
+    /// Hostile calls, at least.
+    hostile: u64,
+}
+
+impl Scale {
+    /// What the test command compares, for so many random operands of each function of `interval`.
+    fn test(random: u64) -> Scale {
+        Scale {
+            scalars: random,
+            linear: random / 25,
+            pieces: random / 10,
+            runs: random / 50,
+            hostile: random / 5 * 2,
+        }
+    }
+
+    /// More runs and more hostile calls.
+    fn full(random: u64) -> Scale {
+        Scale {
+            runs: random / 10,
+            hostile: random * 10,
+            ..Scale::test(random)
+        }
+    }
+}
+
 struct Settings {
     seed: u64,
-    random: u64,
+    scale: Scale,
     lists: Vec<(String, String)>,
 }
 
@@ -34,7 +73,9 @@ impl std::ops::AddAssign for Count {
 }
 
 fn refuse(why: &str) -> ! {
-    eprintln!("compare: {why}: --seed N, --random N, --write-list CRATE=FILE");
+    eprintln!(
+        "compare: {why}: --seed N, --random N, --scale test|full, --progress, --write-list CRATE=FILE"
+    );
     std::process::exit(2)
 }
 
@@ -42,6 +83,14 @@ fn number(name: &str, value: &str) -> u64 {
     value
         .parse()
         .unwrap_or_else(|_| refuse(&format!("{name} wants a whole number")))
+}
+
+fn scale_named(value: &str) -> fn(u64) -> Scale {
+    match value {
+        "test" => Scale::test,
+        "full" => Scale::full,
+        _ => refuse("--scale wants test or full"),
+    }
 }
 
 fn crate_and_file(value: &str) -> (String, String) {
@@ -52,24 +101,28 @@ fn crate_and_file(value: &str) -> (String, String) {
 }
 
 fn settings() -> Settings {
-    let mut settings = Settings {
-        seed: 1,
-        random: 1_000_000,
-        lists: Vec::new(),
-    };
+    let (mut seed, mut random) = (1, 1_000_000);
+    let mut scale: fn(u64) -> Scale = Scale::test;
+    let mut lists = Vec::new();
     let mut args = std::env::args().skip(1);
     while let Some(name) = args.next() {
+        if name == "--progress" {
+            progress::ask();
+            continue;
+        }
         let Some(value) = args.next() else {
             refuse(&format!("{name} wants a value"))
         };
         match name.as_str() {
-            "--seed" => settings.seed = number(&name, &value),
-            "--random" => settings.random = number(&name, &value),
-            "--write-list" => settings.lists.push(crate_and_file(&value)),
+            "--seed" => seed = number(&name, &value),
+            "--random" => random = number(&name, &value),
+            "--scale" => scale = scale_named(&value),
+            "--write-list" => lists.push(crate_and_file(&value)),
             _ => refuse(&format!("no option {name}")),
         }
     }
-    settings
+    let scale = scale(random);
+    Settings { seed, scale, lists }
 }
 
 fn write_list(name: &str, path: &str, seed: u64) {
@@ -84,19 +137,24 @@ fn write_list(name: &str, path: &str, seed: u64) {
     println!("{} entries written to {path}", lines.len());
 }
 
+/// A case as the list of a crate has it: with the Rust's answers, and with the Rattle's.
+fn case(of: &str, rust: &str, rattle: &str) -> String {
+    format!("case of {of}, the Rust:\n{rust}case of {of}, the Rattle:\n{rattle}end of case\n")
+}
+
 fn main() -> ExitCode {
-    let settings = settings();
-    for (name, path) in &settings.lists {
-        write_list(name, path, settings.seed);
+    let Settings { seed, scale, lists } = settings();
+    for (name, path) in &lists {
+        write_list(name, path, seed);
     }
-    if !settings.lists.is_empty() {
+    if !lists.is_empty() {
         return ExitCode::SUCCESS;
     }
-    let mut total = interval::compare(settings.seed, settings.random);
-    total += linear::compare(settings.seed, settings.random);
-    total += run::compare(settings.seed, settings.random);
-    total += runs::compare(settings.seed, settings.random);
-    total += hostile::compare(settings.seed, settings.random);
+    let mut total = interval::compare(seed, scale.scalars);
+    total += linear::compare(seed, scale.linear);
+    total += run::compare(seed, scale.pieces);
+    total += runs::compare(seed, scale.runs);
+    total += hostile::compare(seed, scale.hostile);
     total += settle::compare();
     println!("{} compared, {} differ", total.compared, total.differ);
     if total.differ == 0 {

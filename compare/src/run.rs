@@ -4,15 +4,16 @@ pub mod lengths;
 pub mod pieces;
 pub mod problems;
 pub mod rust;
+mod smaller;
 
 use crate::Count;
 use crate::interval::operands::Random;
+use crate::parts::side_by_side;
+use crate::progress::Progress;
 use crate::words::{hex, words};
 use pieces::{CONSTRAINTS, Call, PIECES, Piece, RESIDUALS, Reply, VARIABLES};
+use smaller::least;
 use std::collections::BTreeMap;
-
-/// Of so many random operands of a scalar function, one random call here.
-const SHARE: u64 = 10;
 
 /// The replies of one piece.
 #[derive(Default)]
@@ -23,8 +24,6 @@ struct Tally {
     said: BTreeMap<&'static str, u64>,
     compared: u64,
     differ: u64,
-    /// The size of the smallest call that differs, and its text.
-    least: Option<(usize, String)>,
 }
 
 fn bits(marks: &[bool]) -> String {
@@ -51,31 +50,49 @@ fn shown(piece: &Piece, call: &Call, expected: &Reply, rattle: &Reply) -> String
         let inputs = if reply.kept { "" } else { ", inputs written" };
         text += &format!("\n    {name} {number} value {value} out {out} marks {marks}{inputs}");
     }
-    text
+    text + "\n"
 }
 
 impl Tally {
-    fn add(&mut self, piece: &Piece, call: &Call, expected: &Reply, rattle: &Reply) {
+    /// Whether the two replies differ.
+    fn add(&mut self, expected: &Reply, rattle: &Reply) -> bool {
         self.compared += 1;
         if let Some(count) = self.numbers.get_mut(rattle.number as usize) {
             *count += 1;
         }
-        if expected == rattle {
-            return;
-        }
-        self.differ += 1;
-        let size = call.inputs.iter().map(Vec::len).sum();
-        if self.least.as_ref().is_none_or(|(least, _)| size < *least) {
-            self.least = Some((size, shown(piece, call, expected, rattle)));
-        }
+        let differ = expected != rattle;
+        self.differ += u64::from(differ);
+        differ
+    }
+
+    fn line(&self, name: &str, lengths: u64, random: u64) -> String {
+        let [finished, n1, n2, _, _, n5, n6] = self.numbers;
+        let said = self.said.iter().filter(|(name, _)| !name.is_empty());
+        let said: String = said
+            .map(|(name, count)| format!("; {name}: {count}"))
+            .collect();
+        format!(
+            "{name:<20} {lengths:>8} lengths {random:>9} random {:>4} differ; 0: {finished}, 1: {n1}, 2: {n2}, 5: {n5}, 6: {n6}{said}",
+            self.differ
+        )
     }
 }
 
-/// What was compared of a piece, and the line that says so.
-fn compare_piece(piece: &Piece, seed: u64, random: u64) -> (Count, String) {
+/// The smallest call found that differs. The fixed lists have no pieces, so it is told by its numbers.
+fn least_shown(piece: &Piece, call: &Call) -> String {
+    let call = least(piece, call);
+    shown(piece, &call, &(piece.rust)(&call), &piece.replied(&call))
+}
+
+/// What was compared of a piece, and the text that says so.
+fn compare_piece(piece: &Piece, seed: u64, random: u64, progress: &Progress) -> (Count, String) {
     let mut tally = Tally::default();
+    let mut text = String::new();
     for (call, expected) in lengths::refusals(piece) {
-        tally.add(piece, &call, &expected, &piece.replied(&call));
+        let rattle = piece.replied(&call);
+        if tally.add(&expected, &rattle) && text.is_empty() {
+            text = shown(piece, &call, &expected, &rattle);
+        }
     }
     let lengths = tally.compared;
     let mut drawn = Random::new(seed ^ piece.code << 40);
@@ -85,42 +102,33 @@ fn compare_piece(piece: &Piece, seed: u64, random: u64) -> (Count, String) {
         let s = size(&mut drawn, RESIDUALS);
         let call = (piece.draw)(&mut drawn, n, m, s);
         let rattle = piece.replied(&call);
-        tally.add(piece, &call, &(piece.rust)(&call), &rattle);
+        if tally.add(&(piece.rust)(&call), &rattle) && text.is_empty() {
+            text = least_shown(piece, &call);
+        }
         if rattle.number == 0 {
             *tally.said.entry((piece.says)(&call, &rattle)).or_default() += 1;
         }
+        progress.add(1);
     }
-    let [finished, n1, n2, _, _, n5, n6] = tally.numbers;
-    let said = tally.said.iter().filter(|(name, _)| !name.is_empty());
-    let said: String = said
-        .map(|(name, count)| format!("; {name}: {count}"))
-        .collect();
-    let line = format!(
-        "{:<20} {lengths:>8} lengths {random:>9} random {:>4} differ; 0: {finished}, 1: {n1}, 2: {n2}, 5: {n5}, 6: {n6}{said}",
-        piece.name, tally.differ
-    );
+    text += &tally.line(piece.name, lengths, random);
     let count = Count {
         compared: tally.compared,
         differ: tally.differ,
     };
-    match tally.least {
-        Some((_, text)) => (count, format!("{text}\n{line}")),
-        None => (count, line),
-    }
+    (count, text)
 }
 
 /// The pieces side by side; their lines in order.
 pub fn compare(seed: u64, random: u64) -> Count {
+    let progress = Progress::new("pieces", random * PIECES.len() as u64);
     let mut total = Count::default();
-    std::thread::scope(|scope| {
-        let pieces = PIECES.each_ref();
-        let started =
-            pieces.map(|piece| scope.spawn(move || compare_piece(piece, seed, random / SHARE)));
-        for piece in started {
-            let (count, text) = piece.join().expect("a piece is compared");
+    side_by_side(
+        PIECES.len(),
+        |i| compare_piece(&PIECES[i], seed, random, &progress),
+        |(count, text)| {
             println!("{text}");
             total += count;
-        }
-    });
+        },
+    );
     total
 }

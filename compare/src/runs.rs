@@ -10,20 +10,23 @@ pub mod problem;
 pub mod rattle;
 pub mod rust;
 pub mod script;
+mod smaller;
 pub mod smooth;
 pub mod tally;
 pub mod text;
 
 use crate::Count;
-use crate::interval::operands::Random;
-use beside::compared;
+use crate::parts::side_by_side;
+use crate::progress::Progress;
+use beside::{Manner, compared};
 use problem::Problem;
 use rust::{Played, played};
+use smaller::Smaller;
 use std::collections::BTreeMap;
 use tally::{Tally, shown};
 
-/// Of so many random operands of a scalar function, one random problem here.
-const SHARE: u64 = 50;
+/// The random runs are compared in so many parts.
+const PARTS: usize = 64;
 
 /// How hard a difference is to read: the replies, then the sizes.
 type Size = (usize, usize);
@@ -35,7 +38,8 @@ struct Sum {
     answers: u64,
     refused: [u64; 3],
     differ: u64,
-    least: Option<(Size, String)>,
+    /// The smallest of those that differ.
+    least: Option<(Size, Smaller)>,
 }
 
 fn size(played: &Played) -> Size {
@@ -46,22 +50,27 @@ fn size(played: &Played) -> Size {
 impl Sum {
     fn add(&mut self, problem: Problem, word: u64) {
         let played = played(problem);
-        let compared = compared(&played, &mut Random::new(word), |_, _| {});
+        let manner = Manner {
+            word,
+            refuses: true,
+            tells: false,
+        };
+        let compared = compared(&played, manner, |_, _| {});
         *self.problems.entry(played.source).or_default() += 1;
         self.tally.add(shown(&played));
         self.answers += compared.answers;
         for (sum, refused) in self.refused.iter_mut().zip(compared.refused) {
             *sum += refused;
         }
-        if let Some(text) = compared.differs {
+        if let Some((at, _)) = compared.differs {
             self.differ += 1;
-            self.least_of(size(&played), format!("{text}\n{}", text::text(&played)));
+            self.least_of(size(&played), Smaller::of(&played, at, manner));
         }
     }
 
-    fn least_of(&mut self, size: Size, text: String) {
+    fn least_of(&mut self, size: Size, run: Smaller) {
         if self.least.as_ref().is_none_or(|(least, _)| size < *least) {
-            self.least = Some((size, text));
+            self.least = Some((size, run));
         }
     }
 
@@ -75,15 +84,15 @@ impl Sum {
             *sum += refused;
         }
         self.differ += other.differ;
-        if let Some((size, text)) = other.least {
-            self.least_of(size, text);
+        if let Some((size, run)) = other.least {
+            self.least_of(size, run);
         }
     }
 
     /// Prints what was compared; what never occurred counts as a difference.
     fn told(self) -> Count {
-        if let Some((_, text)) = &self.least {
-            println!("  the smallest run that differs: {text}");
+        if let Some((_, run)) = self.least {
+            print!("{}", run.least());
         }
         let problems: Vec<String> = self
             .problems
@@ -109,29 +118,27 @@ impl Sum {
     }
 }
 
-/// Every `of`-th random problem from the one numbered `from`.
-fn compare_part(seed: u64, problems: u64, from: u64, of: u64) -> Sum {
+/// The random problems of one part.
+fn compare_part(seed: u64, problems: u64, part: usize, progress: &Progress) -> Sum {
     let mut sum = Sum::default();
-    for i in (from..problems).step_by(of as usize) {
+    for i in (part as u64..problems).step_by(PARTS) {
         sum.add(problem::drawn(seed, i), seed ^ i << 32);
+        progress.add(1);
     }
     sum
 }
 
-pub fn compare(seed: u64, random: u64) -> Count {
-    let problems = random / SHARE;
-    let parts = std::thread::available_parallelism().map_or(1, usize::from) as u64;
+pub fn compare(seed: u64, problems: u64) -> Count {
     let mut sum = Sum::default();
     for (i, problem) in named::problems().into_iter().enumerate() {
         sum.add(problem, seed ^ i as u64);
     }
-    std::thread::scope(|scope| {
-        let started: Vec<_> = (0..parts)
-            .map(|part| scope.spawn(move || compare_part(seed, problems, part, parts)))
-            .collect();
-        for part in started {
-            sum.join(part.join().expect("runs are compared"));
-        }
-    });
+    let progress = Progress::new("runs", problems);
+    side_by_side(
+        PARTS,
+        |part| compare_part(seed, problems, part, &progress),
+        |part| sum.join(part),
+    );
+    drop(progress);
     sum.told()
 }

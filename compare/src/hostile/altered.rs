@@ -4,9 +4,9 @@ use crate::archive::{Run, Scalar};
 use crate::interval::operands::Random;
 use crate::runs::rattle::AREA;
 
-type Named<T> = (&'static str, fn(&mut Run) -> &mut T);
+pub type Named<T> = (&'static str, fn(&mut Run) -> &mut T);
 
-const COUNTS: [Named<usize>; 10] = [
+pub const COUNTS: [Named<usize>; 10] = [
     ("n", |run| &mut run.n),
     ("m", |run| &mut run.m),
     ("s", |run| &mut run.s),
@@ -19,7 +19,7 @@ const COUNTS: [Named<usize>; 10] = [
     ("turned_down", |run| &mut run.turned_down),
 ];
 
-const SCALARS: [Named<Scalar>; 6] = [
+pub const SCALARS: [Named<Scalar>; 6] = [
     ("mu", |run| &mut run.mu),
     ("radius", |run| &mut run.radius),
     ("predicted", |run| &mut run.predicted),
@@ -28,13 +28,13 @@ const SCALARS: [Named<Scalar>; 6] = [
     ("last_length", |run| &mut run.last_length),
 ];
 
-const CASES: [Named<u8>; 3] = [
+pub const CASES: [Named<u8>; 3] = [
     ("phase", |run| &mut run.phase),
     ("rejected", |run| &mut run.rejected),
     ("last", |run| &mut run.last),
 ];
 
-const MARKS: [Named<bool>; 2] = [
+pub const MARKS: [Named<bool>; 2] = [
     ("first", |run| &mut run.first),
     ("plain", |run| &mut run.plain),
 ];
@@ -80,24 +80,21 @@ const ENDS: [f64; 12] = [
     1e120,
 ];
 
-/// A run with one field altered, and which.
-pub type Alteration = (String, Run);
-
-fn counts(run: &Run, list: &mut Vec<Alteration>) {
-    for (name, field) in COUNTS {
+fn counts(run: &Run, list: &mut Vec<Run>) {
+    for (_, field) in COUNTS {
         let mut other = *run;
         let held = *field(&mut other);
         let beside = [held.wrapping_sub(1), held.wrapping_add(1)];
         for number in NUMBERS.into_iter().chain(beside) {
             *field(&mut other) = number;
-            list.push((format!("{name} {number}"), other));
+            list.push(other);
         }
     }
 }
 
 /// The lower end alone, the upper alone, and both.
-fn scalars(run: &Run, list: &mut Vec<Alteration>) {
-    for (name, field) in SCALARS {
+fn scalars(run: &Run, list: &mut Vec<Run>) {
+    for (_, field) in SCALARS {
         for end in ENDS {
             for which in 0..3 {
                 let mut other = *run;
@@ -108,35 +105,35 @@ fn scalars(run: &Run, list: &mut Vec<Alteration>) {
                 if which != 0 {
                     scalar.hi = end;
                 }
-                list.push((format!("{name} {end:e} ({which})"), other));
+                list.push(other);
             }
         }
     }
 }
 
-fn cases(run: &Run, list: &mut Vec<Alteration>) {
-    for (name, field) in CASES {
+fn cases(run: &Run, list: &mut Vec<Run>) {
+    for (_, field) in CASES {
         for number in [0, 1, 2, 3, 4, 5, 127, 255] {
             let mut other = *run;
             *field(&mut other) = number;
-            list.push((format!("{name} {number}"), other));
+            list.push(other);
         }
     }
-    for (name, field) in MARKS {
+    for (_, field) in MARKS {
         let mut other = *run;
         let mark = field(&mut other);
         *mark = !*mark;
-        list.push((name.to_string(), other));
+        list.push(other);
     }
     for i in 0..run.moving.len() {
         let mut other = *run;
         other.moving[i] = !other.moving[i];
-        list.push((format!("moving {i}"), other));
+        list.push(other);
     }
 }
 
 /// Every field in turn.
-pub fn alterations(run: &Run) -> Vec<Alteration> {
+pub fn alterations(run: &Run) -> Vec<Run> {
     let mut list = Vec::new();
     counts(run, &mut list);
     scalars(run, &mut list);

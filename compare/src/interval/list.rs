@@ -1,6 +1,6 @@
 //! The fixed list of the Rust's answers that `interval_replay` reads: a line for each answer, all of one width.
 
-use crate::interval::functions::{FUNCTIONS, Function, Operands, Takes};
+use crate::interval::functions::{Answer, FUNCTIONS, Function, Operands, Takes};
 use crate::interval::operands::{self, Random};
 use crate::words::NAN;
 
@@ -63,7 +63,7 @@ fn is_float(takes: Takes) -> bool {
 }
 
 /// A NaN operand has one pattern in the list.
-fn plain(takes: Takes, operands: &Operands) -> Operands {
+pub fn plain(takes: Takes, operands: &Operands) -> Operands {
     operands.map(|w| {
         if is_float(takes) && f64::from_bits(w).is_nan() {
             NAN
@@ -74,14 +74,19 @@ fn plain(takes: Takes, operands: &Operands) -> Operands {
 }
 
 /// The function's code, four operands, the number of the refusal or 0, and two words of the answer.
-fn line(function: &Function, operands: &Operands) -> String {
-    let [a, b, c, d] = plain(function.takes, operands);
-    let answer = (function.rust)(&[a, b, c, d]);
+pub fn line(function: &Function, operands: &Operands, answer: Answer) -> String {
+    let [a, b, c, d] = operands;
     let [lo, hi] = answer.words;
     format!(
         "{:02X} {a:016X} {b:016X} {c:016X} {d:016X} = {} {lo:016X} {hi:016X}\n",
         function.code, answer.number
     )
+}
+
+/// The same with the Rust's answer.
+fn rust_line(function: &Function, operands: &Operands) -> String {
+    let operands = plain(function.takes, operands);
+    line(function, &operands, (function.rust)(&operands))
 }
 
 /// Special operands spread over the whole list of them.
@@ -101,14 +106,14 @@ fn function(code: u8) -> &'static Function {
 pub fn lines(seed: u64) -> Vec<String> {
     let mut lines: Vec<String> = NAMED
         .iter()
-        .map(|(code, w)| line(function(*code), w))
+        .map(|(code, w)| rust_line(function(*code), w))
         .collect();
     for function in FUNCTIONS.iter().filter(|f| f.takes != Takes::Nothing) {
         let mut random = Random::new(seed ^ u64::from(function.code) << 56);
         let specials = spread(&operands::specials(function.takes), &mut random);
         let drawn = (0..RANDOM).map(|_| random.operands(function.takes));
         let operands: Vec<Operands> = specials.into_iter().chain(drawn).collect();
-        lines.extend(operands.iter().map(|w| line(function, w)));
+        lines.extend(operands.iter().map(|w| rust_line(function, w)));
     }
     lines
 }

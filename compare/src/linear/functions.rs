@@ -31,6 +31,16 @@ pub struct Reply {
     pub kept: bool,
 }
 
+/// How many there are of something: one, the rows or the columns.
+#[derive(Clone, Copy, PartialEq, Eq)]
+pub enum Axis {
+    One,
+    Rows,
+    Columns,
+}
+
+use Axis::{Columns, One, Rows};
+
 /// The lengths of a call's slices.
 pub struct Shape {
     pub inputs: Vec<usize>,
@@ -46,13 +56,30 @@ pub struct Function {
     pub counts: usize,
     /// Whether its output is a value and no slice of the caller's.
     pub gives_value: bool,
-    pub shape: fn(usize, usize) -> Shape,
+    /// The lists and matrices that it reads, whether it has a mark for each column, and what it gives.
+    pub inputs: &'static [[Axis; 2]],
+    pub marks: bool,
+    pub out: [Axis; 2],
     pub draw: fn(&mut Random, usize, usize) -> Call,
     pub rust: fn(&Call) -> Reply,
     pub rattle: fn(&Call, &mut [f64], &mut [bool]) -> u64,
 }
 
 impl Function {
+    pub fn shape(&self, m: usize, n: usize) -> Shape {
+        let size = |axis: Axis| match axis {
+            One => 1,
+            Rows => m,
+            Columns => n,
+        };
+        let numbers = |axes: &[Axis; 2]| 2 * size(axes[0]) * size(axes[1]);
+        Shape {
+            inputs: self.inputs.iter().map(numbers).collect(),
+            marks: if self.marks { n } else { 0 },
+            out: numbers(&self.out),
+        }
+    }
+
     /// The archive's reply to a call, with what the output holds before it.
     pub fn replied(&self, call: &Call, mut out: Vec<f64>) -> Reply {
         let lent = call.clone();
@@ -257,21 +284,15 @@ fn archive_minus_solved(call: &Call, out: &mut [f64], _marks: &mut [bool]) -> u6
     }
 }
 
-fn shape(inputs: &[usize], marks: usize, out: usize) -> Shape {
-    Shape {
-        inputs: inputs.to_vec(),
-        marks,
-        out,
-    }
-}
-
 pub const FUNCTIONS: [Function; 8] = [
     Function {
         name: "dot",
         code: 1,
         counts: 1,
         gives_value: true,
-        shape: |_, n| shape(&[2 * n, 2 * n], 0, 2),
+        inputs: &[[One, Columns], [One, Columns]],
+        marks: false,
+        out: [One, One],
         draw: matrices::for_dot,
         rust: |call| {
             let sum = solver::dot(&scalars(&call.inputs[0]), &scalars(&call.inputs[1]));
@@ -284,7 +305,9 @@ pub const FUNCTIONS: [Function; 8] = [
         code: 2,
         counts: 1,
         gives_value: true,
-        shape: |_, n| shape(&[2 * n], 0, 2),
+        inputs: &[[One, Columns]],
+        marks: false,
+        out: [One, One],
         draw: matrices::for_list,
         rust: |call| {
             reply_of(
@@ -300,7 +323,9 @@ pub const FUNCTIONS: [Function; 8] = [
         code: 3,
         counts: 0,
         gives_value: true,
-        shape: |_, _| shape(&[2], 0, 2),
+        inputs: &[[One, One]],
+        marks: false,
+        out: [One, One],
         draw: matrices::for_choose,
         rust: |call| {
             reply_of(
@@ -316,7 +341,9 @@ pub const FUNCTIONS: [Function; 8] = [
         code: 4,
         counts: 1,
         gives_value: false,
-        shape: |_, n| shape(&[2 * n], 0, 2 * n),
+        inputs: &[[One, Columns]],
+        marks: false,
+        out: [One, Columns],
         draw: matrices::for_list,
         rust: |call| {
             reply_of(
@@ -332,7 +359,9 @@ pub const FUNCTIONS: [Function; 8] = [
         code: 5,
         counts: 1,
         gives_value: false,
-        shape: |_, n| shape(&[2 * n * n], n, 2 * n * n),
+        inputs: &[[Columns, Columns]],
+        marks: true,
+        out: [Columns, Columns],
         draw: matrices::for_cholesky,
         rust: factor,
         rattle: archive_cholesky,
@@ -342,7 +371,9 @@ pub const FUNCTIONS: [Function; 8] = [
         code: 6,
         counts: 1,
         gives_value: false,
-        shape: |_, n| shape(&[2 * n * n, 2 * n], n, 2 * n),
+        inputs: &[[Columns, Columns], [One, Columns]],
+        marks: true,
+        out: [One, Columns],
         draw: matrices::for_solve,
         rust: solved,
         rattle: archive_solve_cholesky,
@@ -352,7 +383,9 @@ pub const FUNCTIONS: [Function; 8] = [
         code: 7,
         counts: 2,
         gives_value: false,
-        shape: |m, n| shape(&[2 * m * n, 2 * m], 0, 2 * n),
+        inputs: &[[Rows, Columns], [One, Rows]],
+        marks: false,
+        out: [One, Columns],
         draw: matrices::for_least_squares,
         rust: squares,
         rattle: archive_least_squares,
@@ -362,7 +395,9 @@ pub const FUNCTIONS: [Function; 8] = [
         code: 8,
         counts: 2,
         gives_value: false,
-        shape: |m, n| shape(&[2 * m * n, 2 * m, 2 * n], 0, 2 * n),
+        inputs: &[[Rows, Columns], [One, Rows], [One, Columns]],
+        marks: false,
+        out: [One, Columns],
         draw: matrices::for_minus_solved,
         rust: minus,
         rattle: archive_minus_solved,

@@ -21,7 +21,7 @@ fn call(
     changed: usize,
     by: isize,
 ) -> Option<(Call, usize)> {
-    let shape = (function.shape)(m, n);
+    let shape = function.shape(m, n);
     let mut lengths = shape.inputs.clone();
     lengths.extend([shape.marks, shape.out]);
     lengths[changed] = lengths[changed].checked_add_signed(by)?;
@@ -40,7 +40,7 @@ fn call(
 
 /// The slices of a function that can have a wrong length, by their place in `call`.
 fn slices(function: &Function) -> Vec<usize> {
-    let shape = (function.shape)(1, 1);
+    let shape = function.shape(1, 1);
     let inputs = shape.inputs.len();
     let mut slices: Vec<usize> = (0..inputs).collect();
     if shape.marks > 0 {

@@ -19,7 +19,7 @@ const SHORT: usize = 60;
 
 /// The function's code, the counts, the lengths of three inputs, of the marks and of the output, and the number of the
 /// refusal or 0; then the words of the inputs and of the marks, and of the output and the marks as the call leaves them.
-fn line(function: &Function, call: &Call, reply: &Reply) -> String {
+pub fn line(function: &Function, call: &Call, reply: &Reply) -> String {
     let length = |i: usize| call.inputs.get(i).map_or(0, Vec::len);
     let counts = [
         call.m,

@@ -79,12 +79,17 @@ pub fn shift(e: &Evaluation, moving: &[bool], n: usize) -> GeopResult<Vec<Scalar
     )
 }
 
-/// Nothing here waits.
-pub fn finished<T>(future: impl Future<Output = T>) -> T {
+/// What a future gives, or nothing where it waits.
+pub fn polled<T>(future: impl Future<Output = T>) -> Option<T> {
     match pin!(future).poll(&mut Context::from_waker(Waker::noop())) {
-        Poll::Ready(value) => value,
-        Poll::Pending => panic!("it waits"),
+        Poll::Ready(value) => Some(value),
+        Poll::Pending => None,
     }
+}
+
+/// What one gives that never waits.
+pub fn finished<T>(future: impl Future<Output = T>) -> T {
+    polled(future).expect("nothing here waits")
 }
 
 /// The point that `corrected` asks for first, from x, or its refusal's number; nothing where it asks for none.

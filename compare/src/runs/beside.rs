@@ -7,6 +7,7 @@ use crate::runs::area::{self, Stood};
 use crate::runs::problem::{MOST, Sizes};
 use crate::runs::rattle::{self, AREA, bits, run_words};
 use crate::runs::rust::Played;
+use crate::runs::text;
 
 /// One question in so many gets a refused reply first.
 const REFUSED: u64 = 8;
@@ -17,10 +18,13 @@ pub struct Compared {
     pub answers: u64,
     /// Refused replies in between, by what was wrong with them: rows, ends, area.
     pub refused: [u64; 3],
-    /// The first difference.
-    pub differs: Option<String>,
+    /// The answer at which it differs first, and how.
+    pub differs: Option<(usize, String)>,
+    /// The run as a case of the list, with the answers that are expected and with those that are given.
+    pub texts: Option<[String; 2]>,
 }
 
+#[derive(Clone)]
 pub struct Held {
     pub run: Run,
     pub area: Vec<f64>,
@@ -60,8 +64,15 @@ pub fn bad_reply(sizes: Sizes, random: &mut Random, which: usize) -> Option<Bad>
 
 impl Compared {
     fn differ(&mut self, at: usize, text: String) {
-        if self.differs.is_none() {
-            self.differs = Some(format!("answer {at}: {text}"));
+        self.differs.get_or_insert((at, text));
+    }
+
+    /// What is called, and what it is answered.
+    fn tell(&mut self, call: impl Fn() -> String, expected: &Answer, given: &Answer) {
+        if let Some(texts) = &mut self.texts {
+            for (text, answer) in texts.iter_mut().zip([expected, given]) {
+                *text += &format!("{}{}\n", call(), answer.line());
+            }
         }
     }
 
@@ -80,6 +91,11 @@ impl Compared {
         let before = bits(&held.area);
         let (run, told) = rattle::reply(held.run, &mut held.area[..lent], rows);
         let answer = rattle::answer(run, &held.area, told);
+        // The list has no areas.
+        if lent == AREA {
+            let reply = rows.map(<[f64]>::to_vec);
+            self.tell(|| text::reply(&reply), &Answer::Refused(number), &answer);
+        }
         if answer != Answer::Refused(number) {
             self.differ(
                 at,
@@ -114,44 +130,63 @@ impl Compared {
         let before = bits(&held.area);
         let (run, told) = rattle::reply(held.run, &mut held.area, None);
         let same = run_words(&run) == run_words(&held.run) && bits(&held.area) == before;
-        if rattle::answer(run, &held.area, told) != Answer::Refused(4) || !same {
+        let answer = rattle::answer(run, &held.area, told);
+        self.tell(|| text::reply(&None), &Answer::Refused(4), &answer);
+        if answer != Answer::Refused(4) || !same {
             let text = "a reply after the end is not refused by 4, or changes something";
             self.differ(played.replies.len(), text.to_string());
         }
     }
 }
 
+/// How the Rattle is played beside a run.
+#[derive(Clone, Copy, Default)]
+pub struct Manner {
+    /// Of what its area holds before, and of the refused replies.
+    pub word: u64,
+    /// Whether there are refused replies in between.
+    pub refuses: bool,
+    /// Whether it is told as a case of the list.
+    pub tells: bool,
+}
+
 /// Plays the Rattle against a run of the Rust, from an area of any bits; `seen` is shown the state before each reply, and at the
 /// end.
-pub fn compared(
-    played: &Played,
-    random: &mut Random,
-    mut seen: impl FnMut(&Held, usize),
-) -> Compared {
-    let mut compared = Compared::default();
+pub fn compared(played: &Played, manner: Manner, mut seen: impl FnMut(&Held, usize)) -> Compared {
+    let mut random = Random::new(manner.word);
+    let mut compared = Compared {
+        texts: manner.tells.then(Default::default),
+        ..Compared::default()
+    };
     let mut stood = Stood::default();
     let mut area = vec![f64::from_bits(random.word()); AREA];
     let (run, told) = rattle::begin(played.sizes, &played.start, played.max_step, &mut area);
     let mut held = Held { run, area };
     let answer = rattle::answer(run, &held.area, told);
+    let beginning = || text::beginning(played.sizes, played.max_step, &played.start);
+    compared.tell(beginning, &played.answers[0], &answer);
     compared.answer(0, &held, &answer, played, &stood);
     for (i, reply) in played.replies.iter().enumerate() {
         if compared.differs.is_some() {
             break;
         }
-        if random.at_odds(REFUSED) {
-            compared.refuse(i, &mut held, played, random);
+        if random.at_odds(REFUSED) && manner.refuses {
+            compared.refuse(i, &mut held, played, &mut random);
         }
         seen(&held, i);
         let (run, told) = rattle::reply(held.run, &mut held.area, reply.as_deref());
         held.run = run;
         let answer = rattle::answer(run, &held.area, told);
         stood.stands(played, run.standing);
+        compared.tell(|| text::reply(reply), &played.answers[i + 1], &answer);
         compared.answer(i + 1, &held, &answer, played, &stood);
     }
-    if compared.differs.is_none() {
+    if compared.differs.is_none() && played.is_over() {
         seen(&held, played.replies.len());
         compared.after_the_end(&mut held, played);
+    }
+    for text in compared.texts.iter_mut().flatten() {
+        *text += "end\n";
     }
     compared
 }

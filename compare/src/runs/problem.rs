@@ -42,6 +42,8 @@ pub enum Source {
     Script(Script),
     /// These in order, then none.
     Given(std::vec::IntoIter<Reply>),
+    /// These in order; then the run is left, with its question open.
+    Left(std::vec::IntoIter<Reply>),
 }
 
 impl Source {
@@ -55,7 +57,13 @@ impl Source {
             Source::Smooth(_) => "smooth",
             Source::Script(_) => "scripts",
             Source::Given(_) => "named",
+            Source::Left(_) => "left",
         }
+    }
+
+    /// Whether the run is left here.
+    pub fn leaves(&self) -> bool {
+        matches!(self, Source::Left(replies) if replies.len() == 0)
     }
 
     /// The answer at a point: none where some end would be outside the domain.
@@ -64,7 +72,7 @@ impl Source {
             Source::Frame(frame) => frame.rows(point),
             Source::Smooth(smooth) => smooth.rows(point),
             Source::Script(script) => script.next(),
-            Source::Given(replies) => replies.next().flatten(),
+            Source::Given(replies) | Source::Left(replies) => replies.next().flatten(),
         };
         rows.filter(|rows| in_domain(rows))
     }

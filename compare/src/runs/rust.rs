@@ -3,7 +3,7 @@
 
 use crate::interval::functions::number_of;
 use crate::run::pieces::{Call, evaluation, flat};
-use crate::run::rust::finished;
+use crate::run::rust::polled;
 use crate::runs::answers::{Answer, Finish, Moment, Question};
 use crate::runs::problem::{Problem, Reply, Sizes};
 use crate::words::words;
@@ -15,7 +15,8 @@ use geop_core_math::solvers::least_squares::{
 use geop_core_math::trace::{self, Event};
 use std::cell::RefCell;
 
-/// A run from its beginning to its end. The answer to the beginning comes first, then one for each reply.
+/// A run from its beginning to its end, or to where it was left. The answer to the beginning comes first, then one for each
+/// reply.
 pub struct Played {
     pub sizes: Sizes,
     pub max_step: Scalar,
@@ -29,6 +30,11 @@ pub struct Played {
 impl Played {
     pub fn last(&self) -> &Answer {
         self.answers.last().expect("an answer to the beginning")
+    }
+
+    /// Whether it has ended.
+    pub fn is_over(&self) -> bool {
+        !matches!(self.last(), Answer::Question(_))
     }
 
     /// The rows that were answered to a question.
@@ -153,12 +159,17 @@ pub fn played(problem: Problem) -> Played {
         source,
     } = problem;
     let name = source.name();
-    let asked: RefCell<Vec<(Vec<u64>, Reply)>> = RefCell::default();
+    let points: RefCell<Vec<Vec<u64>>> = RefCell::default();
+    let replies: RefCell<Vec<Reply>> = RefCell::default();
     let source = RefCell::new(source);
     let evaluate = async |point: &Vec<Scalar>| -> Option<Evaluation> {
+        points.borrow_mut().push(words(&flat(point)));
+        if source.borrow().leaves() {
+            std::future::pending::<()>().await;
+        }
         let reply = source.borrow_mut().reply(point);
         let evaluation = reply.as_ref().map(|rows| evaluated(sizes, rows));
-        asked.borrow_mut().push((words(&flat(point)), reply));
+        replies.borrow_mut().push(reply);
         evaluation
     };
     let options = Options {
@@ -166,11 +177,11 @@ pub fn played(problem: Problem) -> Played {
         max_step,
     };
     trace::told();
-    let end = finished(minimize(&Euclidean, evaluate, start.clone(), options));
+    let end = polled(minimize(&Euclidean, evaluate, start.clone(), options));
     let events = trace::told();
     let told = told(&events);
-    let (points, replies): (Vec<Vec<u64>>, Vec<Reply>) = asked.into_inner().into_iter().unzip();
-    let last = ended(end, &told, &points[told.standing]);
+    let (points, replies) = (points.into_inner(), replies.into_inner());
+    let last = end.map(|end| ended(end, &told, &points[told.standing]));
     let questions = points.into_iter().zip(&told.questions).enumerate();
     let mut answers: Vec<Answer> = questions
         .map(|(number, (point, &(kind, standing)))| {
@@ -182,7 +193,7 @@ pub fn played(problem: Problem) -> Played {
             })
         })
         .collect();
-    answers.push(last);
+    answers.extend(last);
     Played {
         sizes,
         max_step,

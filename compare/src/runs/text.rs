@@ -2,7 +2,6 @@
 //! each reply a line, `r count words` or `n`, and its answer; then `end`. Numbers are hexadecimal, words have 16 digits.
 
 use crate::runs::problem::{Reply, Sizes};
-use crate::runs::rust::Played;
 use crate::words::{hex, words};
 use geop_core_math::scalars::Scalar;
 
@@ -22,16 +21,4 @@ pub fn reply(reply: &Reply) -> String {
         Some(rows) if rows.is_empty() => "r 0\n".to_string(),
         Some(rows) => format!("r {:X} {}\n", rows.len(), hex(&words(rows))),
     }
-}
-
-/// The whole run.
-pub fn text(played: &Played) -> String {
-    let mut text = beginning(played.sizes, played.max_step, &played.start);
-    for (i, answer) in played.answers.iter().enumerate() {
-        text += &format!("{}\n", answer.line());
-        if let Some(next) = played.replies.get(i) {
-            text += &reply(next);
-        }
-    }
-    text + "end\n"
 }
