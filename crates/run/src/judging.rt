@@ -94,8 +94,11 @@ pub fn judge_landed(st: State, area: &mut [f64], theta: Scalar) -> Out
         last,
         &area[area::STEP..area::MULTIPLIERS],
     );
-    match judgement {
-        Judgement::Of(j) => decide(st, area, theta, j),
-        Judgement::Refused(e) => refuse(st, area, e),
-    }
+    let j = match judgement {
+        Judgement::Of(j) => j,
+        Judgement::Refused(e) => {
+            return refuse(st, area, e);
+        }
+    };
+    decide(st, area, theta, j)
 }

@@ -81,15 +81,16 @@ fn keep(st: State, area: &mut [f64], rows: &[f64], theta: Scalar) -> Out
         &mut d,
     );
     match shift {
-        Done::Finished => {
-            correction::shifted_step(st.sizes.n, &mut area[area::STEP..area::MULTIPLIERS], &d);
-            area::landed(area, rows);
-            let corrections = st.counts.corrections + 1;
-            let t = with_landed_number(st, corrections);
-            correct_or_judge(t, area, theta, corrections < 4)
+        Done::Finished => {}
+        Done::Refused(e) => {
+            return refuse(st, area, e);
         }
-        Done::Refused(e) => refuse(st, area, e),
     }
+    correction::shifted_step(st.sizes.n, &mut area[area::STEP..area::MULTIPLIERS], &d);
+    area::landed(area, rows);
+    let corrections = st.counts.corrections + 1;
+    let t = with_landed_number(st, corrections);
+    correct_or_judge(t, area, theta, corrections < 4)
 }
 
 // A correction's rows, from a standing point with violation theta: kept where they are nearer than the landed ones.
@@ -97,25 +98,23 @@ fn land_correction(st: State, area: &mut [f64], rows: &[f64], theta: Scalar) -> 
     requires { ⌜ (length (now area) ≡ 8000) × ((length (now rows) ≡ rowNumbers (st .sizes .n) (st .sizes .m) (st .sizes .s)) × (Underway st × (st .counts .corrections ≤ 4))) ⌝ }
     ensures { λ r. ⌜ ((w : Memory) → Holds w (now (area .entry)) → Leaves (landCorrection st w (now (rows .entry)) theta) r (now (area .exit))) ⌝ }
 {
-    match rows::violation(rows, st.sizes.n, st.sizes.m) {
-        Answer::Value(new) => {
-            let landed = rows::violation(
-                &area[area::LANDED_ROWS..area::STEP],
-                st.sizes.n,
-                st.sizes.m,
-            );
-            match landed {
-                Answer::Value(old) => {
-                    if new.definitely_less(old) {
-                        return keep(st, area, rows, theta);
-                    }
-                    judge_landed(st, area, theta)
-                }
-                Answer::Refused(e) => refuse(st, area, e),
-            }
+    let new = match rows::violation(rows, st.sizes.n, st.sizes.m) {
+        Answer::Value(v) => v,
+        Answer::Refused(e) => {
+            return refuse(st, area, e);
         }
-        Answer::Refused(e) => refuse(st, area, e),
+    };
+    let landed = rows::violation(&area[area::LANDED_ROWS..area::STEP], st.sizes.n, st.sizes.m);
+    let old = match landed {
+        Answer::Value(v) => v,
+        Answer::Refused(e) => {
+            return refuse(st, area, e);
+        }
+    };
+    if new.definitely_less(old) {
+        return keep(st, area, rows, theta);
     }
+    judge_landed(st, area, theta)
 }
 
 // A start's rows: what they say moves, and the first iteration.
@@ -137,24 +136,22 @@ fn trial_answered(st: State, area: &mut [f64], rows: &[f64]) -> Out
         st.sizes.n,
         st.sizes.m,
     );
-    match standing {
-        Answer::Value(theta) => {
-            area::landed(area, rows);
-            let t = with_landed_number(st, 0);
-            let landed = rows::violation(
-                &area[area::LANDED_ROWS..area::STEP],
-                st.sizes.n,
-                st.sizes.m,
-            );
-            match landed {
-                Answer::Value(new) => {
-                    correct_or_judge(t, area, theta, new.definitely_greater(theta))
-                }
-                Answer::Refused(e) => refuse(t, area, e),
-            }
+    let theta = match standing {
+        Answer::Value(v) => v,
+        Answer::Refused(e) => {
+            return refuse(st, area, e);
         }
-        Answer::Refused(e) => refuse(st, area, e),
-    }
+    };
+    area::landed(area, rows);
+    let t = with_landed_number(st, 0);
+    let landed = rows::violation(&area[area::LANDED_ROWS..area::STEP], st.sizes.n, st.sizes.m);
+    let new = match landed {
+        Answer::Value(v) => v,
+        Answer::Refused(e) => {
+            return refuse(t, area, e);
+        }
+    };
+    correct_or_judge(t, area, theta, new.definitely_greater(theta))
 }
 
 fn correction_answered(st: State, area: &mut [f64], rows: &[f64]) -> Out
@@ -166,10 +163,13 @@ fn correction_answered(st: State, area: &mut [f64], rows: &[f64]) -> Out
         st.sizes.n,
         st.sizes.m,
     );
-    match standing {
-        Answer::Value(theta) => land_correction(st, area, rows, theta),
-        Answer::Refused(e) => refuse(st, area, e),
-    }
+    let theta = match standing {
+        Answer::Value(v) => v,
+        Answer::Refused(e) => {
+            return refuse(st, area, e);
+        }
+    };
+    land_correction(st, area, rows, theta)
 }
 
 fn correction_none(st: State, area: &mut [f64]) -> Out
@@ -181,10 +181,13 @@ fn correction_none(st: State, area: &mut [f64]) -> Out
         st.sizes.n,
         st.sizes.m,
     );
-    match standing {
-        Answer::Value(theta) => judge_landed(st, area, theta),
-        Answer::Refused(e) => refuse(st, area, e),
-    }
+    let theta = match standing {
+        Answer::Value(v) => v,
+        Answer::Refused(e) => {
+            return refuse(st, area, e);
+        }
+    };
+    judge_landed(st, area, theta)
 }
 
 // What follows an accepted answer with rows.

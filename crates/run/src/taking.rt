@@ -116,13 +116,14 @@ fn take_with(
     let z = st.sizes;
     let mut b = [0.0; 288];
     match learn(z.n, z.m, z.s, st.search.plain, area, &mut b) {
-        Done::Finished => {
-            let f = rows::sum_squared(&area[area::STANDING_ROWS..area::LANDED_ROWS], z.n, z.m, z.s);
-            area::with_taken(area, &b, st.counts.iterations, f, theta);
-            iterate(standing_on(st, span, mu, radius), area)
+        Done::Finished => {}
+        Done::Refused(e) => {
+            return refuse(st, area, e);
         }
-        Done::Refused(e) => refuse(st, area, e),
     }
+    let f = rows::sum_squared(&area[area::STANDING_ROWS..area::LANDED_ROWS], z.n, z.m, z.s);
+    area::with_taken(area, &b, st.counts.iterations, f, theta);
+    iterate(standing_on(st, span, mu, radius), area)
 }
 
 // The step of that length is taken, from a point with violation theta.
@@ -131,14 +132,18 @@ pub fn take(st: State, area: &mut [f64], theta: Scalar, span: Scalar) -> Out
     ensures { λ r. ⌜ ((w : Memory) → Holds w (now (area .entry)) → Leaves (take st w theta span) r (now (area .exit))) ⌝ }
 {
     let mu = st.search.mu;
-    match linear_of(st, area, theta) {
-        Linear::Known(linear) => match mu.div(Scalar::degenerate(3.0)) {
-            ScalarResult::Value(third) => {
-                let radius = reach(span, st.search.radius, st.max_step, linear);
-                take_with(st, area, theta, span, shrunk(mu, third), radius)
-            }
-            ScalarResult::Refused(e) => refuse(st, area, LinearError::Arithmetic(e)),
-        },
-        Linear::Refused(e) => refuse(st, area, e),
-    }
+    let linear = match linear_of(st, area, theta) {
+        Linear::Known(known) => known,
+        Linear::Refused(e) => {
+            return refuse(st, area, e);
+        }
+    };
+    let third = match mu.div(Scalar::degenerate(3.0)) {
+        ScalarResult::Value(q) => q,
+        ScalarResult::Refused(e) => {
+            return refuse(st, area, LinearError::Arithmetic(e));
+        }
+    };
+    let radius = reach(span, st.search.radius, st.max_step, linear);
+    take_with(st, area, theta, span, shrunk(mu, third), radius)
 }

@@ -70,39 +70,43 @@ fn search(st: State, area: &mut [f64]) -> Out
     requires { ⌜ (length (now area) ≡ 8000) × Bounded 2147483648 st ⌝ }
     ensures { λ r. ⌜ ((w : Memory) → Holds w (now (area .entry)) → Leaves (run.search st w) r (now (area .exit))) ⌝ }
 {
+    let z = st.sizes;
+    let standing = violation(&area[area::STANDING_ROWS..area::LANDED_ROWS], z.n, z.m);
+    let theta = match standing {
+        Answer::Value(v) => v,
+        Answer::Refused(e) => {
+            return refuse(st, area, e);
+        }
+    };
     let mut b = [0.0; 288];
     let mut delta = [0.0; 24];
     let mut lambda = [0.0; 24];
     let mut next = [0.0; 24];
-    let z = st.sizes;
-    let theta = violation(&area[area::STANDING_ROWS..area::LANDED_ROWS], z.n, z.m);
-    match theta {
-        Answer::Refused(e) => refuse(st, area, e),
-        Answer::Value(v) => {
-            let from = st.search;
-            let moving = st.moving;
-            let rows = &area[area::STANDING_ROWS..area::LANDED_ROWS];
-            let f = sum_squared(rows, z.n, z.m, z.s);
-            bent(from.plain, &area[area::CURVATURE..area::FILTER], &mut b);
-            let found = seek(
-                z.n,
-                z.m,
-                z.s,
-                rows,
-                &area[area::STANDING..area::LANDED],
-                &b,
-                &moving,
-                f,
-                v,
-                st.max_step,
-                from,
-                &mut delta,
-                &mut lambda,
-                &mut next,
-            );
-            left_at(st, area, found, &delta, &lambda, &next)
-        }
-    }
+    let moving = st.moving;
+    let rows = &area[area::STANDING_ROWS..area::LANDED_ROWS];
+    let f = sum_squared(rows, z.n, z.m, z.s);
+    bent(
+        st.search.plain,
+        &area[area::CURVATURE..area::FILTER],
+        &mut b,
+    );
+    let found = seek(
+        z.n,
+        z.m,
+        z.s,
+        rows,
+        &area[area::STANDING..area::LANDED],
+        &b,
+        &moving,
+        f,
+        theta,
+        st.max_step,
+        st.search,
+        &mut delta,
+        &mut lambda,
+        &mut next,
+    );
+    left_at(st, area, found, &delta, &lambda, &next)
 }
 
 // A new iteration, or the finish where the limit is reached.

@@ -55,9 +55,6 @@ judge-requires c κs =
 enum-known-judgement : tie.Need-enum-known-judgement
 enum-known-judgement c = search needs
 
-decide-requires : tie.Need-decide-requires
-decide-requires c κs = c .before .before .before .before .before .before .before .before .before .before .before .before .pre
-
 enum-known-judgement-2 : tie.Need-enum-known-judgement-2
 enum-known-judgement-2 c = search needs
 
@@ -71,7 +68,10 @@ returns : tie.Need-returns
 returns c w h =
     let a = c .before .before .before .before .before .before .before .before .before .before .before .before .before .before .before .args in
     let z = a .st .sizes in
-    judge-known (a .st) w (a .theta) (sym (judged-is (z .n) (z .m) (z .s) (a .theta) (a .st .counts .iterations) (a .st .last) h (c .before .before .before .before .before .before .before .judge .ensures)) ∙ ap judgementOf (c .before .before .before .before .before .judgement .given .1)) (c .before .before .decide .ensures w h)
+    judge-refused (a .st) w (a .theta) (sym (judged-is (z .n) (z .m) (z .s) (a .theta) (a .st .counts .iterations) (a .st .last) h (c .before .before .before .before .before .before .before .judge .ensures)) ∙ ap judgementOf (c .before .before .before .before .before .judgement2 .given .1)) (c .before .before .refuse .ensures w h)
+
+decide-requires : tie.Need-decide-requires
+decide-requires c κs = c .before .before .before .before .before .before .before .before .before .before .before .before .pre
 
 same-length-2 : tie.Need-same-length-2
 same-length-2 c = search needs
@@ -80,7 +80,7 @@ returns-2 : tie.Need-returns-2
 returns-2 c w h =
     let a = c .before .before .before .before .before .before .before .before .before .before .before .before .before .before .before .args in
     let z = a .st .sizes in
-    judge-refused (a .st) w (a .theta) (sym (judged-is (z .n) (z .m) (z .s) (a .theta) (a .st .counts .iterations) (a .st .last) h (c .before .before .before .before .before .before .before .judge .ensures)) ∙ ap judgementOf (c .before .before .before .before .before .judgement2 .given .1)) (c .before .before .refuse .ensures w h)
+    judge-known (a .st) w (a .theta) (sym (judged-is (z .n) (z .m) (z .s) (a .theta) (a .st .counts .iterations) (a .st .last) h (c .before .before .before .before .before .before .before .judge .ensures)) ∙ ap judgementOf (c .before .before .before .before .before .judgement .given .1)) (c .before .before .decide .ensures w h)
 
 pub judge-landed-spec : {M : Type 1} → statement M
 judge-landed-spec =
@@ -100,10 +100,10 @@ judge-landed-spec =
     part-judge-end-4
     judge-requires
     enum-known-judgement
-    decide-requires
     enum-known-judgement-2
     refuse-requires
     same-length
     returns
+    decide-requires
     same-length-2
     returns-2)

@@ -25,9 +25,6 @@ violation-requires c κs = let p = c .before .before .before .pre in let b = p .
 enum-known-standing : tie.Need-enum-known-standing
 enum-known-standing c = search needs
 
-judge-landed-requires : tie.Need-judge-landed-requires
-judge-landed-requires c κs = c .before .before .before .before .before .before .before .before .pre
-
 enum-known-standing-2 : tie.Need-enum-known-standing-2
 enum-known-standing-2 c = search needs
 
@@ -38,13 +35,16 @@ same-length : tie.Need-same-length
 same-length c = search needs
 
 returns : tie.Need-returns
-returns c w h = let a = c .before .before .before .before .before .before .before .before .before .before .before .args in or-next (a .st) w (judge (a .st) w) (standing-violation (a .st) h (sym (ap resultOf (c .before .before .before .before .before .standing .given .1)) ∙ c .before .before .before .before .before .before .before .violation .ensures)) (c .before .before .judge-landed .ensures w h)
+returns c w h = let a = c .before .before .before .before .before .before .before .before .before .before .before .args in or-refused (a .st) w (judge (a .st) w) (standing-violation (a .st) h (sym (ap resultOf (c .before .before .before .before .before .standing2 .given .1)) ∙ c .before .before .before .before .before .before .before .violation .ensures)) (c .before .before .refuse .ensures w h)
+
+judge-landed-requires : tie.Need-judge-landed-requires
+judge-landed-requires c κs = c .before .before .before .before .before .before .before .before .pre
 
 same-length-2 : tie.Need-same-length-2
 same-length-2 c = search needs
 
 returns-2 : tie.Need-returns-2
-returns-2 c w h = let a = c .before .before .before .before .before .before .before .before .before .before .before .args in or-refused (a .st) w (judge (a .st) w) (standing-violation (a .st) h (sym (ap resultOf (c .before .before .before .before .before .standing2 .given .1)) ∙ c .before .before .before .before .before .before .before .violation .ensures)) (c .before .before .refuse .ensures w h)
+returns-2 c w h = let a = c .before .before .before .before .before .before .before .before .before .before .before .args in or-next (a .st) w (judge (a .st) w) (standing-violation (a .st) h (sym (ap resultOf (c .before .before .before .before .before .standing .given .1)) ∙ c .before .before .before .before .before .before .before .violation .ensures)) (c .before .before .judge-landed .ensures w h)
 
 pub correction-none-spec : {M : Type 1} → statement M
 correction-none-spec =
@@ -55,10 +55,10 @@ correction-none-spec =
     part-violation-end
     violation-requires
     enum-known-standing
-    judge-landed-requires
     enum-known-standing-2
     refuse-requires
     same-length
     returns
+    judge-landed-requires
     same-length-2
     returns-2)

@@ -39,6 +39,21 @@ shift-requires c κs = let s = c .before .before .before .before .before .before
 enum-told : tie.Need-enum-told
 enum-told c = search needs
 
+enum-known-shift : tie.Need-enum-known-shift
+enum-known-shift c = search needs
+
+refuse-requires : tie.Need-refuse-requires
+refuse-requires c κs = c .before .before .before .before .before .before .before .before .before .before .before .before .before .pre .0
+
+same-length : tie.Need-same-length
+same-length c = search needs
+
+returns : tie.Need-returns
+returns c w h =
+    let a = c .before .before .before .before .before .before .before .before .before .before .before .before .before .before .before .before .args in
+    let x = c .before .before .before .before .before .before .before .before .shift in
+    keep-refused (a .st) w (a .rows .now) (a .theta) refl (shift-read (a .st) h (x .ensures)) (ap (λ (r : Done). doneOf r (x .last .1 .1 .1 .1 .0)) (c .before .before .before .before .before .shift2 .given .1)) (c .before .before .refuse .ensures w h)
+
 sub-shifted-step : tie.Need-sub-shifted-step
 sub-shifted-step c = search needs
 
@@ -68,32 +83,17 @@ correct-or-judge-requires c κs =
     let p = c .before .before .before .before .before .before .before .before .before .before .before .before .before .before .before .before .before .before .before .before .before .before .before .pre in
     (search needs, subst (λ (x : State). Underway x) (sym (c .before .with-landed-number .ensures)) (landed-again _ (omega (arith, p .1 .1 .1)) (p .1 .1 .0)))
 
-enum-known-shift : tie.Need-enum-known-shift
-enum-known-shift c = search needs
+same-length-2 : tie.Need-same-length-2
+same-length-2 c = omega (arith, c .before .before .correct-or-judge .kept, correct-or-judge-requires (c .before .before .before) (c .before .before .correct-or-judge .lifetimes) .0, c .before .before .before .before .before .before .before .before .before .before .before .before .before .before .before .before .before .before .before .before .before .before .before .before .before .before .pre .0)
 
-refuse-requires : tie.Need-refuse-requires
-refuse-requires c κs = c .before .before .before .before .before .before .before .before .before .before .before .before .before .pre .0
-
-same-length : tie.Need-same-length
-same-length c = omega (arith, c .before .before .correct-or-judge .kept, correct-or-judge-requires (c .before .before .before) (c .before .before .correct-or-judge .lifetimes) .0, c .before .before .before .before .before .before .before .before .before .before .before .before .before .before .before .before .before .before .before .before .before .before .before .before .before .before .pre .0)
-
-returns : tie.Need-returns
-returns c w h =
+returns-2 : tie.Need-returns-2
+returns-2 c w h =
     let a = c .before .before .before .before .before .before .before .before .before .before .before .before .before .before .before .before .before .before .before .before .before .before .before .before .before .before .args in
     let x = c .before .before .before .before .before .before .before .before .before .before .before .before .before .before .before .before .before .before .shift in
     let d = x .last .1 .1 .1 .1 .0 in
     let s = shiftedStep (a .st .sizes .n) (w .step) d in
     keep-known (a .st) w (a .rows .now) (a .theta) refl (shift-read (a .st) h (x .ensures)) (ap (λ (r : Done). doneOf r d) (c .before .before .before .before .before .before .before .before .before .before .before .before .before .before .before .enum-told .given .1))
     (kept-known (a .st) w (a .rows .now) (a .theta) d (c .before .before .before .before .with-landed-number .ensures) (c .before .before .correct-or-judge .ensures (withLanded w (a .rows .now) s) (c .before .before .before .before .before .before .before .before .landed .ensures (withStep w s) (stepped (a .st .sizes .n) d h (c .before .before .before .before .before .before .before .before .before .before .before .before .shifted-step .ensures)))))
-
-same-length-2 : tie.Need-same-length-2
-same-length-2 c = search needs
-
-returns-2 : tie.Need-returns-2
-returns-2 c w h =
-    let a = c .before .before .before .before .before .before .before .before .before .before .before .before .before .before .before .before .args in
-    let x = c .before .before .before .before .before .before .before .before .shift in
-    keep-refused (a .st) w (a .rows .now) (a .theta) refl (shift-read (a .st) h (x .ensures)) (ap (λ (r : Done). doneOf r (x .last .1 .1 .1 .1 .0)) (c .before .before .before .before .before .shift2 .given .1)) (c .before .before .refuse .ensures w h)
 
 pub keep-spec : {M : Type 1} → statement M
 keep-spec =
@@ -106,6 +106,10 @@ keep-spec =
     slice-aggregate-shift-2
     shift-requires
     enum-told
+    enum-known-shift
+    refuse-requires
+    same-length
+    returns
     sub-shifted-step
     part-shifted-step-start
     part-shifted-step-end
@@ -115,9 +119,5 @@ keep-spec =
     add-corrections
     with-landed-number-requires
     correct-or-judge-requires
-    enum-known-shift
-    refuse-requires
-    same-length
-    returns
     same-length-2
     returns-2)

@@ -11,8 +11,20 @@ use Rattle.run.proofs.landing.land_correction.Tie as tie
 violation-requires : tie.Need-violation-requires
 violation-requires c κs = let s = c .before .before in let z = s .args .st .sizes in (s .pre .1 .1 .0 .bounded .few-constraints, omega (arith, rows-enough (z .n) (z .m) (z .s), s .pre .1 .0))
 
-enum-known-new : tie.Need-enum-known-new
-enum-known-new c = search needs
+enum-known-v : tie.Need-enum-known-v
+enum-known-v c = search needs
+
+enum-known-e : tie.Need-enum-known-e
+enum-known-e c = search needs
+
+refuse-requires : tie.Need-refuse-requires
+refuse-requires c κs = c .before .before .before .before .before .before .before .pre .0
+
+same-length : tie.Need-same-length
+same-length c = search needs
+
+returns : tie.Need-returns
+returns c w h = let a = c .before .before .before .before .before .before .before .before .before .before .args in correction-refused (a .st) w (a .rows .now) (a .theta) (sym (c .before .before .before .before .before .before .before .violation .ensures) ∙ ap resultOf (c .before .before .before .before .before .e .given .1)) (c .before .before .refuse .ensures w h)
 
 sub-violation : tie.Need-sub-violation
 sub-violation c = search needs
@@ -29,83 +41,71 @@ violation-requires-2 c κs = let p = c .before .before .before .before .before .
 enum-known-landed : tie.Need-enum-known-landed
 enum-known-landed c = search needs
 
-definitely-less-requires : tie.Need-definitely-less-requires
-definitely-less-requires c κs = search needs
-
-keep-requires : tie.Need-keep-requires
-keep-requires c κs = let p = c .before .before .before .before .before .before .before .before .before .before .before .before .before .before .before .pre in (p .0, (omega (arith, rows-few (p .1 .1 .0 .bounded), p .1 .0), p .1 .1))
-
-same-length : tie.Need-same-length
-same-length c = search needs
-
-returns : tie.Need-returns
-returns c w h =
-    let a = c .before .before .before .before .before .before .before .before .before .before .before .before .before .before .before .before .before .before .args in
-    correction-known (a .st) w (a .rows .now) (a .theta) (sym (c .before .before .before .before .before .before .before .before .before .before .before .before .before .before .before .violation .ensures) ∙ ap resultOf (c .before .before .before .before .before .before .before .before .before .before .before .before .before .new .given .1))
-    (nearer-kept (a .st) w (a .rows .now) (a .theta) (c .before .before .before .before .before .before .before .before .before .before .before .before .before .new .given .0 .0) (landed-violation (a .st) h (sym (ap resultOf (c .before .before .before .before .before .before .before .landed .given .1)) ∙ c .before .before .before .before .before .before .before .before .before .violation2 .ensures)) (c .before .before .before .before .before .definitely-less .ensures) (c .before .before .before .before .if1 .taken) (c .before .before .keep .ensures w h))
-
-judge-landed-requires : tie.Need-judge-landed-requires
-judge-landed-requires c κs = let p = c .before .before .before .before .before .before .before .before .before .before .before .before .before .before .before .pre in (p .0, p .1 .1 .0)
-
 enum-known-landed-2 : tie.Need-enum-known-landed-2
 enum-known-landed-2 c = search needs
 
-refuse-requires : tie.Need-refuse-requires
-refuse-requires c κs = c .before .before .before .before .before .before .before .before .before .before .before .before .before .pre .0
-
-enum-known-e : tie.Need-enum-known-e
-enum-known-e c = search needs
-
 refuse-requires-2 : tie.Need-refuse-requires-2
-refuse-requires-2 c κs = c .before .before .before .before .before .before .before .pre .0
+refuse-requires-2 c κs = c .before .before .before .before .before .before .before .before .before .before .before .before .before .pre .0
 
 same-length-2 : tie.Need-same-length-2
 same-length-2 c = search needs
 
 returns-2 : tie.Need-returns-2
 returns-2 c w h =
-    let a = c .before .before .before .before .before .before .before .before .before .before .before .before .before .before .before .before .before .before .args in
-    correction-known (a .st) w (a .rows .now) (a .theta) (sym (c .before .before .before .before .before .before .before .before .before .before .before .before .before .before .before .violation .ensures) ∙ ap resultOf (c .before .before .before .before .before .before .before .before .before .before .before .before .before .new .given .1))
-    (nearer-not (a .st) w (a .rows .now) (a .theta) (c .before .before .before .before .before .before .before .before .before .before .before .before .before .new .given .0 .0) (landed-violation (a .st) h (sym (ap resultOf (c .before .before .before .before .before .before .before .landed .given .1)) ∙ c .before .before .before .before .before .before .before .before .before .violation2 .ensures)) (c .before .before .before .before .before .definitely-less .ensures) (c .before .before .before .before .if1 .left) (c .before .before .judge-landed .ensures w h))
+    let a = c .before .before .before .before .before .before .before .before .before .before .before .before .before .before .before .before .args in
+    correction-known (a .st) w (a .rows .now) (a .theta) (sym (c .before .before .before .before .before .before .before .before .before .before .before .before .before .violation .ensures) ∙ ap resultOf (c .before .before .before .before .before .before .before .before .before .before .before .v .given .1))
+    (nearer-refused (a .st) w (a .rows .now) (a .theta) (c .before .before .before .before .before .before .before .before .before .before .before .v .given .0 .0) (landed-violation (a .st) h (sym (ap resultOf (c .before .before .before .before .before .landed2 .given .1)) ∙ c .before .before .before .before .before .before .before .violation2 .ensures)) (c .before .before .refuse2 .ensures w h))
+
+definitely-less-requires : tie.Need-definitely-less-requires
+definitely-less-requires c κs = search needs
+
+keep-requires : tie.Need-keep-requires
+keep-requires c κs = let p = c .before .before .before .before .before .before .before .before .before .before .before .before .before .before .before .pre in (p .0, (omega (arith, rows-few (p .1 .1 .0 .bounded), p .1 .0), p .1 .1))
 
 same-length-3 : tie.Need-same-length-3
 same-length-3 c = search needs
 
 returns-3 : tie.Need-returns-3
 returns-3 c w h =
-    let a = c .before .before .before .before .before .before .before .before .before .before .before .before .before .before .before .before .args in
-    correction-known (a .st) w (a .rows .now) (a .theta) (sym (c .before .before .before .before .before .before .before .before .before .before .before .before .before .violation .ensures) ∙ ap resultOf (c .before .before .before .before .before .before .before .before .before .before .before .new .given .1))
-    (nearer-refused (a .st) w (a .rows .now) (a .theta) (c .before .before .before .before .before .before .before .before .before .before .before .new .given .0 .0) (landed-violation (a .st) h (sym (ap resultOf (c .before .before .before .before .before .landed2 .given .1)) ∙ c .before .before .before .before .before .before .before .violation2 .ensures)) (c .before .before .refuse .ensures w h))
+    let a = c .before .before .before .before .before .before .before .before .before .before .before .before .before .before .before .before .before .before .args in
+    correction-known (a .st) w (a .rows .now) (a .theta) (sym (c .before .before .before .before .before .before .before .before .before .before .before .before .before .before .before .violation .ensures) ∙ ap resultOf (c .before .before .before .before .before .before .before .before .before .before .before .before .before .v .given .1))
+    (nearer-kept (a .st) w (a .rows .now) (a .theta) (c .before .before .before .before .before .before .before .before .before .before .before .before .before .v .given .0 .0) (landed-violation (a .st) h (sym (ap resultOf (c .before .before .before .before .before .before .before .landed .given .1)) ∙ c .before .before .before .before .before .before .before .before .before .violation2 .ensures)) (c .before .before .before .before .before .definitely-less .ensures) (c .before .before .before .before .if1 .taken) (c .before .before .keep .ensures w h))
+
+judge-landed-requires : tie.Need-judge-landed-requires
+judge-landed-requires c κs = let p = c .before .before .before .before .before .before .before .before .before .before .before .before .before .before .before .pre in (p .0, p .1 .1 .0)
 
 same-length-4 : tie.Need-same-length-4
 same-length-4 c = search needs
 
 returns-4 : tie.Need-returns-4
-returns-4 c w h = let a = c .before .before .before .before .before .before .before .before .before .before .args in correction-refused (a .st) w (a .rows .now) (a .theta) (sym (c .before .before .before .before .before .before .before .violation .ensures) ∙ ap resultOf (c .before .before .before .before .before .e .given .1)) (c .before .before .refuse2 .ensures w h)
+returns-4 c w h =
+    let a = c .before .before .before .before .before .before .before .before .before .before .before .before .before .before .before .before .before .before .args in
+    correction-known (a .st) w (a .rows .now) (a .theta) (sym (c .before .before .before .before .before .before .before .before .before .before .before .before .before .before .before .violation .ensures) ∙ ap resultOf (c .before .before .before .before .before .before .before .before .before .before .before .before .before .v .given .1))
+    (nearer-not (a .st) w (a .rows .now) (a .theta) (c .before .before .before .before .before .before .before .before .before .before .before .before .before .v .given .0 .0) (landed-violation (a .st) h (sym (ap resultOf (c .before .before .before .before .before .before .before .landed .given .1)) ∙ c .before .before .before .before .before .before .before .before .before .violation2 .ensures)) (c .before .before .before .before .before .definitely-less .ensures) (c .before .before .before .before .if1 .left) (c .before .before .judge-landed .ensures w h))
 
 pub land-correction-spec : {M : Type 1} → statement M
 land-correction-spec =
     tie.close
     (tie.spec
     violation-requires
-    enum-known-new
+    enum-known-v
+    enum-known-e
+    refuse-requires
+    same-length
+    returns
     sub-violation
     part-violation-start
     part-violation-end
     violation-requires-2
     enum-known-landed
-    definitely-less-requires
-    keep-requires
-    same-length
-    returns
-    judge-landed-requires
     enum-known-landed-2
-    refuse-requires
-    enum-known-e
     refuse-requires-2
     same-length-2
     returns-2
+    definitely-less-requires
+    keep-requires
     same-length-3
     returns-3
+    judge-landed-requires
     same-length-4
     returns-4)

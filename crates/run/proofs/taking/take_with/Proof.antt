@@ -25,6 +25,21 @@ learn-requires c κs = let s = c .before .before .before .before in let b = s .p
 enum-told : tie.Need-enum-told
 enum-told c = search needs
 
+enum-known-e : tie.Need-enum-known-e
+enum-known-e c = search needs
+
+refuse-requires : tie.Need-refuse-requires
+refuse-requires c κs = c .before .before .before .before .before .before .before .before .before .before .pre .0
+
+same-length : tie.Need-same-length
+same-length c = search needs
+
+returns : tie.Need-returns
+returns c w h =
+    let a = c .before .before .before .before .before .before .before .before .before .before .before .before .before .args in
+    let l = c .before .before .before .before .before .before .before .before .learn in
+    learned-refused (a .st) w (a .theta) (a .span) (a .mu) (a .radius) (sym (l .ensures w h) ∙ ap (λ (d : Done). doneOf d (l .last .1 .1 .1 .1 .1 .0)) (c .before .before .before .before .before .e .given .1)) (c .before .before .refuse .ensures w h)
+
 sub-sum-squared : tie.Need-sub-sum-squared
 sub-sum-squared c = search needs
 
@@ -52,32 +67,17 @@ iterate-requires c κs =
     let a = s .args in
     (omega (arith, c .before .before .before .before .with-taken .kept, s .pre .0), subst (λ (x : State). Bounded 2147483648 x) (sym (c .before .standing-on .ensures)) (stood (a .span) (a .mu) (a .radius) (s .pre .1 .0) (s .pre .1 .1)))
 
-enum-known-e : tie.Need-enum-known-e
-enum-known-e c = search needs
+same-length-2 : tie.Need-same-length-2
+same-length-2 c = search needs
 
-refuse-requires : tie.Need-refuse-requires
-refuse-requires c κs = c .before .before .before .before .before .before .before .before .before .before .pre .0
-
-same-length : tie.Need-same-length
-same-length c = search needs
-
-returns : tie.Need-returns
-returns c w h =
+returns-2 : tie.Need-returns-2
+returns-2 c w h =
     let a = c .before .before .before .before .before .before .before .before .before .before .before .before .before .before .before .before .before .before .before .before .before .args in
     let z = a .st .sizes in
     let l = c .before .before .before .before .before .before .before .before .before .before .before .before .before .before .before .before .learn in
     let b = l .last .1 .1 .1 .1 .1 .0 in
     learned-known (a .st) w (a .theta) (a .span) (a .mu) (a .radius) (sym (l .ensures w h) ∙ ap (λ (d : Done). doneOf d b) (c .before .before .before .before .before .before .before .before .before .before .before .before .before .enum-told .given .1))
     (stands-on (a .st) w (a .theta) (a .span) (a .mu) (a .radius) b (c .before .before .before .before .standing-on .ensures) (c .before .before .before .before .before .before .before .before .before .before .sum-squared .ensures ∙ ap (λ (x : List Float). sumSquared (sumOf (z .n) (z .m) (z .s) x)) (standing-rows-read h)) (c .before .before .before .before .before .before .before .with-taken .ensures w h) (c .before .before .iterate .ensures))
-
-same-length-2 : tie.Need-same-length-2
-same-length-2 c = search needs
-
-returns-2 : tie.Need-returns-2
-returns-2 c w h =
-    let a = c .before .before .before .before .before .before .before .before .before .before .before .before .before .args in
-    let l = c .before .before .before .before .before .before .before .before .learn in
-    learned-refused (a .st) w (a .theta) (a .span) (a .mu) (a .radius) (sym (l .ensures w h) ∙ ap (λ (d : Done). doneOf d (l .last .1 .1 .1 .1 .1 .0)) (c .before .before .before .before .before .e .given .1)) (c .before .before .refuse .ensures w h)
 
 pub take-with-spec : {M : Type 1} → statement M
 take-with-spec =
@@ -86,6 +86,10 @@ take-with-spec =
     slice-aggregate-learn
     learn-requires
     enum-told
+    enum-known-e
+    refuse-requires
+    same-length
+    returns
     sub-sum-squared
     part-sum-squared-start
     part-sum-squared-end
@@ -94,9 +98,5 @@ take-with-spec =
     with-taken-requires
     standing-on-requires
     iterate-requires
-    enum-known-e
-    refuse-requires
-    same-length
-    returns
     same-length-2
     returns-2)

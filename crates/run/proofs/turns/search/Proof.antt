@@ -24,14 +24,22 @@ part-violation-end c = search needs
 violation-requires : tie.Need-violation-requires
 violation-requires c κs = search needs
 
-enum-known-theta : tie.Need-enum-known-theta
-enum-known-theta c = search needs
+enum-known-standing : tie.Need-enum-known-standing
+enum-known-standing c = search needs
+
+enum-known-standing-2 : tie.Need-enum-known-standing-2
+enum-known-standing-2 c = search needs
 
 refuse-requires : tie.Need-refuse-requires
 refuse-requires c κs = search needs
 
-enum-known-theta-2 : tie.Need-enum-known-theta-2
-enum-known-theta-2 c = search needs
+same-length : tie.Need-same-length
+same-length c = search needs
+
+returns : tie.Need-returns
+returns c w h =
+    let st = c .before .before .before .before .before .before .before .before .before .before .before .before .args .st in
+    search-refused st w (standing-violation st h (sym (ap resultOf (c .before .before .before .before .before .standing2 .given .1)) ∙ c .before .before .before .before .before .before .before .violation .ensures)) (c .before .before .refuse .ensures w h)
 
 sub-rows : tie.Need-sub-rows
 sub-rows c = search needs
@@ -58,7 +66,7 @@ slice-aggregate-bent : tie.Need-slice-aggregate-bent
 slice-aggregate-bent c = search needs
 
 bent-requires : tie.Need-bent-requires
-bent-requires c κs = cut-length 288 1992 (c .before .before .before .before .before .before .before .before .before .before .before .before .before .before .before .args .area .now) (omega (arith, c .before .before .before .before .before .before .before .before .before .before .before .before .before .before .before .pre .0))
+bent-requires c κs = cut-length 288 1992 (c .before .before .before .before .before .before .before .before .before .before .before .before .before .before .args .area .now) (omega (arith, c .before .before .before .before .before .before .before .before .before .before .before .before .before .before .pre .0))
 
 sub-seek : tie.Need-sub-seek
 sub-seek c = search needs
@@ -73,7 +81,7 @@ slice-aggregate-seek : tie.Need-slice-aggregate-seek
 slice-aggregate-seek c = search needs
 
 slice-aggregate-seek-2 : tie.Need-slice-aggregate-seek-2
-slice-aggregate-seek-2 c = sym (length-unmapped Bool (c .before .before .before .before .before .before .before .before .before .before .before .before .before .before .before .before .before .before .before .before .args .st .moving) 12 (c .before .before .before .before .before .before .before .before .before .before .before .before .before .before .before .before .before .before .before .before .good .0 .1 .1 .1 .1 .1 .1 .1 .1 .1 .0 .1 .0 .1))
+slice-aggregate-seek-2 c = sym (length-unmapped Bool (c .before .before .before .before .before .before .before .before .before .before .before .before .before .before .before .before .before .before .before .args .st .moving) 12 (c .before .before .before .before .before .before .before .before .before .before .before .before .before .before .before .before .before .before .before .good .0 .1 .1 .1 .1 .1 .1 .1 .1 .1 .0 .1 .0 .1))
 
 slice-aggregate-seek-3 : tie.Need-slice-aggregate-seek-3
 slice-aggregate-seek-3 c = search needs
@@ -86,8 +94,8 @@ slice-aggregate-seek-5 c = search needs
 
 seek-requires : tie.Need-seek-requires
 seek-requires c κs =
-    let b = c .before .before .before .before .before .before .before .before .before .before .before .before .before .before .before .before .before .before .before .before .before .before .before .pre .1 in
-    ((b .few-variables, (b .few-constraints, (b .few-sums, (length-unmapped Bool (c .before .before .before .before .before .before .before .before .before .before .before .before .before .before .before .before .before .before .before .before .before .before .before .args .st .moving) 12 (c .before .before .before .before .before .before .before .before .before .before .before .before .before .before .before .before .before .before .before .before .before .before .before .good .0 .1 .1 .1 .1 .1 .1 .1 .1 .1 .0 .1 .0 .1), (refl, (refl, refl)))))), (b .few-turned, b .damping))
+    let b = c .before .before .before .before .before .before .before .before .before .before .before .before .before .before .before .before .before .before .before .before .before .before .pre .1 in
+    ((b .few-variables, (b .few-constraints, (b .few-sums, (length-unmapped Bool (c .before .before .before .before .before .before .before .before .before .before .before .before .before .before .before .before .before .before .before .before .before .before .args .st .moving) 12 (c .before .before .before .before .before .before .before .before .before .before .before .before .before .before .before .before .before .before .before .before .before .before .good .0 .1 .1 .1 .1 .1 .1 .1 .1 .1 .0 .1 .0 .1), (refl, (refl, refl)))))), (b .few-turned, b .damping))
 
 slice-aggregate-left-at : tie.Need-slice-aggregate-left-at
 slice-aggregate-left-at c = search needs
@@ -100,17 +108,9 @@ slice-aggregate-left-at-3 c = search needs
 
 left-at-requires : tie.Need-left-at-requires
 left-at-requires c κs =
-    let p = c .before .before .before .before .before .before .before .before .before .before .before .before .before .before .before .before .before .before .before .before .before .before .before .before .before .before .before .before .before .before .before .pre in
+    let p = c .before .before .before .before .before .before .before .before .before .before .before .before .before .before .before .before .before .before .before .before .before .before .before .before .before .before .before .before .before .before .pre in
     let k = c .before .before .before .before .before .before .before .seek .kept .1 .1 .1 .1 .1 .1 .1 .1 .1 .1 .1 in
     (p .0, (p .1 .few-questions, (k .0, (k .1 .0, k .1 .1 .0))))
-
-same-length : tie.Need-same-length
-same-length c = search needs
-
-returns : tie.Need-returns
-returns c w h =
-    let st = c .before .before .before .before .before .before .before .before .before .before .before .before .args .st in
-    search-refused st w (standing-violation st h (sym (ap resultOf (c .before .before .before .before .before .theta .given .1)) ∙ c .before .before .before .before .before .before .before .violation .ensures)) (c .before .before .refuse .ensures w h)
 
 same-length-2 : tie.Need-same-length-2
 same-length-2 c = search needs
@@ -118,8 +118,8 @@ same-length-2 c = search needs
 returns-2 : tie.Need-returns-2
 unfolding ofBits
 returns-2 c w h =
-    let st = c .before .before .before .before .before .before .before .before .before .before .before .before .before .before .before .before .before .before .before .before .before .before .before .before .before .before .before .before .before .before .before .before .before .before .args .st in
-    search-next st w (standing-violation st h (sym (ap resultOf (c .before .before .before .before .before .before .before .before .before .before .before .before .before .before .before .before .before .before .before .before .before .before .before .before .before .before .before .theta2 .given .1)) ∙ c .before .before .before .before .before .before .before .before .before .before .before .before .before .before .before .before .before .before .before .before .before .before .before .before .before .before .before .before .before .violation .ensures))
+    let st = c .before .before .before .before .before .before .before .before .before .before .before .before .before .before .before .before .before .before .before .before .before .before .before .before .before .before .before .before .before .before .before .before .before .args .st in
+    search-next st w (standing-violation st h (sym (ap resultOf (c .before .before .before .before .before .before .before .before .before .before .before .before .before .before .before .before .before .before .before .before .before .before .before .before .before .before .standing .given .1)) ∙ c .before .before .before .before .before .before .before .before .before .before .before .before .before .before .before .before .before .before .before .before .before .before .before .before .before .before .before .before .violation .ensures))
     (c .before .before .before .before .before .before .before .before .before .before .seek .ensures ∙ ap (λ (S : Standing). searchOf S (st .«max_step») (st .search)) (stood-on st _ h (c .before .before .before .before .before .before .before .before .before .before .before .before .before .before .before .before .before .before .before .before .before .sum-squared .ensures) refl (c .before .before .before .before .before .before .before .before .before .before .before .before .before .before .before .before .before .before .bent .ensures))) (c .before .before .left-at .ensures w h)
 
 pub search-spec : {M : Type 1} → statement M
@@ -130,9 +130,11 @@ search-spec =
     part-violation-start
     part-violation-end
     violation-requires
-    enum-known-theta
+    enum-known-standing
+    enum-known-standing-2
     refuse-requires
-    enum-known-theta-2
+    same-length
+    returns
     sub-rows
     part-rows-start
     part-rows-end
@@ -155,7 +157,5 @@ search-spec =
     slice-aggregate-left-at-2
     slice-aggregate-left-at-3
     left-at-requires
-    same-length
-    returns
     same-length-2
     returns-2)
