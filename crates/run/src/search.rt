@@ -9,7 +9,7 @@ ghost use Rattle.interval.specs.Scaling.{isPositive};
 ghost use Rattle.run.specs.Proposal.{standingWith, proposalResult};
 ghost use Rattle.run.specs.Rows.{evaluationOf};
 ghost use Rattle.run.specs.Search as defined;
-ghost use Rattle.run.specs.Search.{anew, flatOr, damped, goesOn, stopsAt, follow, searchOf, turnOf, foundResult, turnResult};
+ghost use Rattle.run.specs.Search.{rejectedFor, withRadius, anew, flatOr, damped, goesOn, stopsAt, follow, searchOf, turnOf, foundResult, turnResult};
 use crate::proposal::Proposal;
 use crate::proposal::propose;
 use crate::state::Rejection;
@@ -52,22 +52,23 @@ pub fn renew(x: Search, mu: Scalar, radius: Scalar) -> Search
     }
 }
 
-// Four times the damping and a turn-down, while that damping is finite.
-pub fn damp(x: Search) -> Damped
+// Rejected, with that radius: four times the damping and a turn-down, while that damping is finite.
+pub fn damp(x: Search, radius: Scalar, why: Rejection) -> Damped
     requires { ⌜ x .«turned_down» < 2 ^ 32 ⌝ }
-    ensures { λ r. ⌜ r ≡ damped goesOn stopsAt x ⌝ }
+    ensures { λ r. ⌜ r ≡ damped goesOn stopsAt (rejectedFor (withRadius x radius) why) ⌝ }
 {
     let mu = x.mu.mul(Scalar::degenerate(4.0)).sharpen();
     let y = Search {
         mu,
+        radius,
         turned_down: x.turned_down + 1,
         first: false,
-        ..x
+        plain: x.plain,
+        rejected: why,
     };
     if mu.is_finite() {
         return Damped::On(y);
     }
-    let why = x.rejected;
     Damped::Stop(y, Stop::Damped(why))
 }
 
@@ -104,21 +105,8 @@ fn follow(p: Proposal, x: Search, m: usize, max: Scalar) -> Turn
         }
         Proposal::NoDrop(r) => Turn::Leave(Found::Stop(x, flat(x, r, m))),
         Proposal::Refused(e) => Turn::Leave(Found::Refused(x, e)),
-        Proposal::Unresolved => {
-            let y = Search {
-                radius: max,
-                rejected: Rejection::Unresolved,
-                ..x
-            };
-            turned(damp(y))
-        }
-        Proposal::NotPositive => {
-            let y = Search {
-                rejected: Rejection::NotPositive,
-                ..x
-            };
-            turned(damp(y))
-        }
+        Proposal::Unresolved => turned(damp(x, max, Rejection::Unresolved)),
+        Proposal::NotPositive => turned(damp(x, x.radius, Rejection::NotPositive)),
     }
 }
 

@@ -127,22 +127,20 @@ pub fn turn_down(st: State, area: &mut [f64], why: Rejection) -> Out
     requires { ⌜ (length (now area) ≡ 8000) × Bounded 1073741824 st ⌝ }
     ensures { λ r. ⌜ ((w : Memory) → Holds w (now (area .entry)) → Leaves (run.turnDown st w why) r (now (area .exit))) ⌝ }
 {
-    let t = st.trial;
     let from = st.search;
-    let x = Search {
-        rejected: why,
-        ..from
-    };
-    match t.tried.div(Scalar::degenerate(4.0)) {
-        ScalarResult::Value(q) => {
-            let radius = q.sharpen();
-            let within = Search { radius, ..x };
-            match damp(within) {
-                Damped::On(y) => search(with_search(st, y), area),
-                Damped::Stop(y, stop) => finish(with_search(st, y), area, stop),
-            }
+    let quarter = match st.trial.tried.div(Scalar::degenerate(4.0)) {
+        ScalarResult::Value(q) => q,
+        ScalarResult::Refused(e) => {
+            let x = Search {
+                rejected: why,
+                ..from
+            };
+            return refuse(with_search(st, x), area, LinearError::Arithmetic(e));
         }
-        ScalarResult::Refused(e) => refuse(with_search(st, x), area, LinearError::Arithmetic(e)),
+    };
+    match damp(from, quarter.sharpen(), why) {
+        Damped::On(y) => search(with_search(st, y), area),
+        Damped::Stop(y, stop) => finish(with_search(st, y), area, stop),
     }
 }
 

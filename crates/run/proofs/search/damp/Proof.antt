@@ -9,11 +9,11 @@ use Rattle.run.proofs.search.damp.Tie as tie
 
 -- the damping, and the test
 module _ (k : tie.After-is-finite) where
-  quadruple : k .before .before .before .sharpen .result ≡ quadrupled (k .before .before .before .before .before .before .args .x .mu)
+  quadruple : k .before .before .sharpen .result ≡ quadrupled (k .before .before .before .before .before .args .x .mu)
   unfolding ofBits
-  quadruple = k .before .before .before .sharpen .ensures ∙ ap sharpen (k .before .before .before .before .mul .ensures .value ∙ ap (mulOf (k .before .before .before .before .before .before .args .x .mu)) (k .before .before .before .before .before .degenerate .ensures))
+  quadruple = k .before .before .sharpen .ensures ∙ ap sharpen (k .before .before .before .mul .ensures .value ∙ ap (mulOf (k .before .before .before .before .before .args .x .mu)) (k .before .before .before .before .degenerate .ensures))
 
-  tested : k .is-finite .result ≡ isFinite (quadrupled (k .before .before .before .before .before .before .args .x .mu))
+  tested : k .is-finite .result ≡ isFinite (quadrupled (k .before .before .before .before .before .args .x .mu))
   tested = k .is-finite .ensures ∙ ap isFinite quadruple
 
 degenerate-requires : tie.Need-degenerate-requires
@@ -25,8 +25,8 @@ mul-requires c κs = search needs
 sharpen-requires : tie.Need-sharpen-requires
 sharpen-requires c κs = search needs
 
-add-t7 : tie.Need-add-t7
-add-t7 c = search needs
+add-t8 : tie.Need-add-t8
+add-t8 c = search needs
 
 is-finite-requires : tie.Need-is-finite-requires
 is-finite-requires c κs = search needs
@@ -44,7 +44,7 @@ damp-spec =
     degenerate-requires
     mul-requires
     sharpen-requires
-    add-t7
+    add-t8
     is-finite-requires
     returns
     returns-2)

@@ -27,7 +27,7 @@ enum-told-2 : tie.Need-enum-told-2
 enum-told-2 c = search needs
 
 damp-requires : tie.Need-damp-requires
-damp-requires c κs = c .before .before .before .pre
+damp-requires c κs = c .before .before .pre
 
 turned-requires : tie.Need-turned-requires
 turned-requires c κs = search needs
@@ -36,7 +36,7 @@ enum-told-3 : tie.Need-enum-told-3
 enum-told-3 c = search needs
 
 damp-requires-2 : tie.Need-damp-requires-2
-damp-requires-2 c κs = c .before .before .before .before .pre
+damp-requires-2 c κs = c .before .before .pre
 
 turned-requires-2 : tie.Need-turned-requires-2
 turned-requires-2 c κs = search needs
@@ -54,10 +54,10 @@ returns-4 : tie.Need-returns-4
 returns-4 c on delta lambda next = rw (c .before .p3 .given .1)
 
 returns-5 : tie.Need-returns-5
-returns-5 c on delta lambda next = let a = c .before .before .before .before .before .args in rw (c .before .before .before .enum-told2 .given .1) (damped-turn (rejectedFor (withRadius (a .x) (a .max)) why.Unresolved) (c .turned .ensures ∙ ap turnOf (c .before .damp .ensures)) on delta lambda next)
+returns-5 c on delta lambda next = let a = c .before .before .before .before .args in rw (c .before .before .enum-told2 .given .1) (damped-turn (rejectedFor (withRadius (a .x) (a .max)) why.Unresolved) (c .turned .ensures ∙ ap turnOf (c .before .damp .ensures)) on delta lambda next)
 
 returns-6 : tie.Need-returns-6
-returns-6 c on delta lambda next = rw (c .before .before .before .before .enum-told3 .given .1) (damped-turn (rejectedFor (c .before .before .before .before .before .before .args .x) why.NotPositive) (c .turned2 .ensures ∙ ap turnOf (c .before .damp2 .ensures)) on delta lambda next)
+returns-6 c on delta lambda next = rw (c .before .before .enum-told3 .given .1) (damped-turn (rejectedFor (c .before .before .before .before .args .x) why.NotPositive) (c .turned2 .ensures ∙ ap turnOf (c .before .damp2 .ensures)) on delta lambda next)
 
 pub follow-spec : {M : Type 1} → statement M
 follow-spec =
