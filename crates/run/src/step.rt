@@ -38,7 +38,7 @@ pub enum StepEnd {
 }
 
 // What pulls against the kept step, and whether both are finite.
-pub fn pulled(k: usize, h: &[f64], g: &[f64], kept: &[f64], out: &mut [f64]) -> bool
+pub fn finite_pull(k: usize, h: &[f64], g: &[f64], kept: &[f64], out: &mut [f64]) -> bool
     requires { ⌜ (k ≤ 12) × (length (now out) ≡ 24) ⌝ }
     ensures { λ r. ⌜ (now (out .exit) ≡ pullOf (curved k (now (h .entry)) (now (g .entry))) (now (kept .entry))) × (r ≡ (allFinite (now (kept .entry)) 12 && allFinite (now (out .exit)) 12)) ⌝ }
 {
@@ -60,7 +60,7 @@ pub fn multiplied(d: Done, r: usize) -> StepEnd
 }
 
 // The step along `count` directions z, from the correction delta on, with its multipliers, where it and what pulls against it are finite.
-fn freed(
+fn free_step(
     k: usize,
     r: usize,
     count: usize,
@@ -79,7 +79,7 @@ fn freed(
     let mut p = [0.0; 24];
     match free_part(k, count, h, g, z, delta) {
         Along::Found => {
-            if pulled(k, h, g, delta, &mut p) {
+            if finite_pull(k, h, g, delta, &mut p) {
                 return multiplied(multipliers(k, r, q, coefficients, order, &p, lambda), r);
             }
             StepEnd::NotPositive
@@ -92,7 +92,7 @@ fn freed(
 // ---- over the kept variables
 
 // The step from the basis on.
-fn based(
+fn step_from_basis(
     k: usize,
     m: usize,
     r: usize,
@@ -115,7 +115,7 @@ fn based(
     match correction(k, m, r, q, coefficients, dependent, order, xs, c, kept) {
         Done::Finished => match free_directions(k, r, q, &mut z, &mut left) {
             Found::Of(count) => {
-                freed(k, r, count, h, g, q, coefficients, order, &z, kept, lambda)
+                free_step(k, r, count, h, g, q, coefficients, order, &z, kept, lambda)
             }
             Found::Refused(e) => StepEnd::Refused(e),
         },
@@ -155,7 +155,7 @@ fn kept_step(
         &mut dependent,
         &mut order,
     ) {
-        Rank::Of(r) => based(
+        Rank::Of(r) => step_from_basis(
             k,
             m,
             r,

@@ -29,20 +29,20 @@ basis-requires c κs = let p = c .before .before .before .before .before .before
 enum-known-r : tie.Need-enum-known-r
 enum-known-r c = search needs
 
-slice-aggregate-based : tie.Need-slice-aggregate-based
-slice-aggregate-based c = search needs
+slice-aggregate-step-from-basis : tie.Need-slice-aggregate-step-from-basis
+slice-aggregate-step-from-basis c = search needs
 
-slice-aggregate-based-2 : tie.Need-slice-aggregate-based-2
-slice-aggregate-based-2 c = search needs
+slice-aggregate-step-from-basis-2 : tie.Need-slice-aggregate-step-from-basis-2
+slice-aggregate-step-from-basis-2 c = search needs
 
-slice-aggregate-based-3 : tie.Need-slice-aggregate-based-3
-slice-aggregate-based-3 c = search needs
+slice-aggregate-step-from-basis-3 : tie.Need-slice-aggregate-step-from-basis-3
+slice-aggregate-step-from-basis-3 c = search needs
 
-slice-aggregate-based-4 : tie.Need-slice-aggregate-based-4
-slice-aggregate-based-4 c = search needs
+slice-aggregate-step-from-basis-4 : tie.Need-slice-aggregate-step-from-basis-4
+slice-aggregate-step-from-basis-4 c = search needs
 
-based-requires : tie.Need-based-requires
-based-requires c κs =
+step-from-basis-requires : tie.Need-step-from-basis-requires
+step-from-basis-requires c κs =
     let p = c .before .before .before .before .before .before .before .before .before .before .before .before .before .before .before .before .before .before .before .before .before .before .before .before .before .before .before .pre in
     let b = c .before .before .before .before .before .before .before .before .before .before .before .before .before .before .basis in
     (p .0, (p .1 .0, (omega (arith, rw (c .before .before .before .before .before .before .before .r .given .1) at (rank-bound _ _ _ _ _ _ (b .result) (b .ensures)), p .1 .0), (b .kept .1 .1 .1 .1 .1 .1 .1 .1 .0, (p .1 .1 .0, p .1 .1 .1)))))
@@ -57,7 +57,7 @@ same-length-2 : tie.Need-same-length-2
 same-length-2 c = search needs
 
 returns : tie.Need-returns
-returns c = let b = c .before .before .before .before .before .before .before .before .before .before .before .before .before .before .before .before .before .before .before .basis in kept-on _ _ _ _ _ _ (b .result) (b .ensures) (c .before .before .before .before .before .before .before .before .before .before .before .before .r .given .1) (c .before .before .before .before .based .ensures)
+returns c = let b = c .before .before .before .before .before .before .before .before .before .before .before .before .before .before .before .before .before .before .before .basis in kept-on _ _ _ _ _ _ (b .result) (b .ensures) (c .before .before .before .before .before .before .before .before .before .before .before .before .r .given .1) (c .before .before .before .before .step-from-basis .ensures)
 
 returns-2 : tie.Need-returns-2
 returns-2 c = let b = c .before .before .before .before .before .before .before .before .basis in kept-refused _ _ _ _ _ _ (b .result) (b .ensures) (c .before .e .given .1)
@@ -73,11 +73,11 @@ kept-step-spec =
     slice-aggregate-basis-5
     basis-requires
     enum-known-r
-    slice-aggregate-based
-    slice-aggregate-based-2
-    slice-aggregate-based-3
-    slice-aggregate-based-4
-    based-requires
+    slice-aggregate-step-from-basis
+    slice-aggregate-step-from-basis-2
+    slice-aggregate-step-from-basis-3
+    slice-aggregate-step-from-basis-4
+    step-from-basis-requires
     enum-known-e
     same-length
     same-length-2

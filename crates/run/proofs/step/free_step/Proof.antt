@@ -1,11 +1,11 @@
--- `freed` meets its contract: the weights along the directions decide, then whether the step and what pulls against it are finite; the multipliers end it.
+-- `free_step` meets its contract: the weights along the directions decide, then whether the step and what pulls against it are finite; the multipliers end it.
 use mathlib.Core.Path.{_∙_}
 use Rattle.linear.specs.Results.{bind}
 use Rattle.run.proofs.BasisLaws.{multipliers-reads}
 use Rattle.run.proofs.StepLaws.{free-step, stepped-not, stepped-on}
 use borrow.Author.Needs.{needs}
-use Rattle.run.proofs.step.freed.Statement.{statement}
-use Rattle.run.proofs.step.freed.Tie as tie
+use Rattle.run.proofs.step.free_step.Statement.{statement}
+use Rattle.run.proofs.step.free_step.Tie as tie
 
 free-part-requires : tie.Need-free-part-requires
 free-part-requires c κs = search needs
@@ -13,11 +13,11 @@ free-part-requires c κs = search needs
 enum-told : tie.Need-enum-told
 enum-told c = search needs
 
-slice-aggregate-pulled : tie.Need-slice-aggregate-pulled
-slice-aggregate-pulled c = search needs
+slice-aggregate-finite-pull : tie.Need-slice-aggregate-finite-pull
+slice-aggregate-finite-pull c = search needs
 
-pulled-requires : tie.Need-pulled-requires
-pulled-requires c κs = search needs
+finite-pull-requires : tie.Need-finite-pull-requires
+finite-pull-requires c κs = search needs
 
 slice-aggregate-multipliers : tie.Need-slice-aggregate-multipliers
 slice-aggregate-multipliers c = search needs
@@ -37,7 +37,7 @@ same-length-2 c = search needs
 returns : tie.Need-returns
 unfolding bind
 returns c =
-    let e = c .before .before .before .before .before .before .before .before .pulled .ensures in
+    let e = c .before .before .before .before .before .before .before .before .finite-pull .ensures in
     c .multiplied .ensures _ _ ∙ stepped-on _ _ _ (e .0) (e .1) (c .before .before .before .before .before .before .if1 .taken) (c .before .before .before .multipliers .ensures ∙ multipliers-reads _ _ _)
     ∙ free-step _ _ _ _ (rw (c .before .before .before .before .before .before .before .before .before .before .before .enum-told .given .1) at (c .before .before .before .before .before .before .before .before .before .before .before .before .before .before .before .free-part .ensures))
 
@@ -53,7 +53,7 @@ same-length-3 c = search needs
 returns-2 : tie.Need-returns-2
 unfolding bind
 returns-2 c =
-    let e = c .before .before .pulled .ensures in
+    let e = c .before .before .finite-pull .ensures in
     stepped-not _ _ _ (e .0) (e .1) (c .if1 .left) ∙ free-step _ _ _ _ (rw (c .before .before .before .before .before .enum-told .given .1) at (c .before .before .before .before .before .before .before .before .before .free-part .ensures))
 
 same-length-4 : tie.Need-same-length-4
@@ -70,14 +70,14 @@ returns-4 : tie.Need-returns-4
 unfolding bind
 returns-4 c = free-step _ _ _ _ (rw (c .before .e .given .1) at (c .before .before .before .before .before .free-part .ensures))
 
-pub freed-spec : {M : Type 1} → statement M
-freed-spec =
+pub free-step-spec : {M : Type 1} → statement M
+free-step-spec =
     tie.close
     (tie.spec
     free-part-requires
     enum-told
-    slice-aggregate-pulled
-    pulled-requires
+    slice-aggregate-finite-pull
+    finite-pull-requires
     slice-aggregate-multipliers
     multipliers-requires
     multiplied-requires

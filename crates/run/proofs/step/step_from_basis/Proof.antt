@@ -1,12 +1,12 @@
--- `based` meets its contract: the correction decides, then the directions, and each arm is the definition's.
+-- `step_from_basis` meets its contract: the correction decides, then the directions, and each arm is the definition's.
 use mathlib.Core.Path.{refl, _∙_}
 use native.Mathlib.Omega.{arith}
 use Rattle.run.proofs.BasisLaws.{correction-reads}
 use Rattle.run.proofs.DirectionLaws.{directions-few}
 use Rattle.run.proofs.StepLaws.{free-read, corrected-refused, corrected-on, based-refused, based-on}
 use borrow.Author.Needs.{needs}
-use Rattle.run.proofs.step.based.Statement.{statement}
-use Rattle.run.proofs.step.based.Tie as tie
+use Rattle.run.proofs.step.step_from_basis.Statement.{statement}
+use Rattle.run.proofs.step.step_from_basis.Tie as tie
 
 correction-requires : tie.Need-correction-requires
 correction-requires c κs = search needs
@@ -26,11 +26,11 @@ free-directions-requires c κs = search needs
 enum-known-count : tie.Need-enum-known-count
 enum-known-count c = search needs
 
-slice-aggregate-freed : tie.Need-slice-aggregate-freed
-slice-aggregate-freed c = search needs
+slice-aggregate-free-step : tie.Need-slice-aggregate-free-step
+slice-aggregate-free-step c = search needs
 
-freed-requires : tie.Need-freed-requires
-freed-requires c κs =
+free-step-requires : tie.Need-free-step-requires
+free-step-requires c κs =
     let p = c .before .before .before .before .before .before .before .before .before .before .before .before .before .before .before .before .before .before .before .before .before .before .before .before .before .before .pre in
     let few = directions-few _ _ _ (rw (c .before .before .before .before .count .given .1) at (c .before .before .before .before .before .before .before .before .free-directions .ensures)) in
     (p .0, (p .1 .1 .0, (omega (arith, few, p .0), (p .1 .1 .1 .0, p .1 .1 .1 .1 .1))))
@@ -50,7 +50,7 @@ same-length-2 c = search needs
 returns : tie.Need-returns
 returns c =
     based-on _ _ (rw (c .before .before .before .before .before .before .before .before .before .before .before .before .before .before .before .before .enum-told .given .1) at (c .before .before .before .before .before .before .before .before .before .before .before .before .before .before .before .before .before .before .before .before .correction .ensures) ∙ correction-reads _ _)
-    (corrected-on _ _ _ (rw (c .before .before .before .before .before .before .before .before .before .count .given .1) at (c .before .before .before .before .before .before .before .before .before .before .before .before .before .free-directions .ensures)) (c .before .before .before .before .freed .ensures ∙ free-read _ _ _ _))
+    (corrected-on _ _ _ (rw (c .before .before .before .before .before .before .before .before .before .count .given .1) at (c .before .before .before .before .before .before .before .before .before .before .before .before .before .free-directions .ensures)) (c .before .before .before .before .free-step .ensures ∙ free-read _ _ _ _))
 
 same-length-3 : tie.Need-same-length-3
 same-length-3 c = search needs
@@ -66,8 +66,8 @@ same-length-4 c = search needs
 returns-3 : tie.Need-returns-3
 returns-3 c = based-refused _ _ (rw (c .before .e2 .given .1) at (c .before .before .before .before .before .correction .ensures) ∙ correction-reads _ _)
 
-pub based-spec : {M : Type 1} → statement M
-based-spec =
+pub step-from-basis-spec : {M : Type 1} → statement M
+step-from-basis-spec =
     tie.close
     (tie.spec
     correction-requires
@@ -76,8 +76,8 @@ based-spec =
     slice-aggregate-free-directions-2
     free-directions-requires
     enum-known-count
-    slice-aggregate-freed
-    freed-requires
+    slice-aggregate-free-step
+    free-step-requires
     enum-known-e
     enum-known-e-2
     same-length

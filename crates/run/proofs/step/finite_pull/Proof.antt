@@ -1,7 +1,7 @@
--- `pulled` meets its contract: the first test decides whether the second is asked.
+-- `finite_pull` meets its contract: the first test decides whether the second is asked.
 use borrow.Author.Needs.{needs}
-use Rattle.run.proofs.step.pulled.Statement.{statement}
-use Rattle.run.proofs.step.pulled.Tie as tie
+use Rattle.run.proofs.step.finite_pull.Statement.{statement}
+use Rattle.run.proofs.step.finite_pull.Tie as tie
 
 pull-requires : tie.Need-pull-requires
 pull-requires c κs = search needs
@@ -24,8 +24,8 @@ same-length-2 c = search needs
 returns-2 : tie.Need-returns-2
 returns-2 c = (c .before .before .before .before .pull .ensures, rw (← c .before .all-finite .ensures, c .if1 .left))
 
-pub pulled-spec : {M : Type 1} → statement M
-pulled-spec =
+pub finite-pull-spec : {M : Type 1} → statement M
+finite-pull-spec =
     tie.close
     (tie.spec
     pull-requires
