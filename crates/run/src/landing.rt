@@ -47,13 +47,16 @@ fn correct(st: State, area: &mut [f64], theta: Scalar) -> Out
         &mut next,
     );
     match shifted {
-        Shifted::To => {
-            area::place(area, area::ASKED, &next);
-            ask(st, Kind::Correction, st.counts.corrections)
+        Shifted::To => {}
+        Shifted::Stay => {
+            return judge_landed(st, area, theta);
         }
-        Shifted::Stay => judge_landed(st, area, theta),
-        Shifted::Refused(e) => refuse(st, area, e),
+        Shifted::Refused(e) => {
+            return refuse(st, area, e);
+        }
     }
+    area::place(area, area::ASKED, &next);
+    ask(st, Kind::Correction, st.counts.corrections)
 }
 
 fn correct_or_judge(st: State, area: &mut [f64], theta: Scalar, corrects: bool) -> Out

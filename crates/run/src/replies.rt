@@ -15,30 +15,32 @@ use crate::state::State;
 pub fn reply(st: State, area: &mut [f64], rows: &[f64]) -> Out
     ensures { λ r. ⌜ leftOf r (now (area .exit)) ≡ replyOf st (now (area .entry)) (now (rows .entry)) ⌝ }
 {
-    match checks::check_rows(st, area.len(), rows) {
-        Checked::Refuse(number) => Out {
-            state: st,
-            answer: Answer::Refused(number),
-        },
-        Checked::Accept(kind) => {
-            tidy(area, st);
-            answered(kind, st, area, rows)
+    let asked = match checks::check_rows(st, area.len(), rows) {
+        Checked::Accept(kind) => kind,
+        Checked::Refuse(number) => {
+            return Out {
+                state: st,
+                answer: Answer::Refused(number),
+            };
         }
-    }
+    };
+    tidy(area, st);
+    answered(asked, st, area, rows)
 }
 
 // Answers the open question with none: the point cannot be evaluated.
 pub fn reply_none(st: State, area: &mut [f64]) -> Out
     ensures { λ r. ⌜ leftOf r (now (area .exit)) ≡ replyNoneOf st (now (area .entry)) ⌝ }
 {
-    match checks::check(st, area.len()) {
-        Checked::Refuse(number) => Out {
-            state: st,
-            answer: Answer::Refused(number),
-        },
-        Checked::Accept(kind) => {
-            tidy(area, st);
-            answered_none(kind, st, area)
+    let asked = match checks::check(st, area.len()) {
+        Checked::Accept(kind) => kind,
+        Checked::Refuse(number) => {
+            return Out {
+                state: st,
+                answer: Answer::Refused(number),
+            };
         }
-    }
+    };
+    tidy(area, st);
+    answered_none(asked, st, area)
 }

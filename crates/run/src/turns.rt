@@ -138,10 +138,13 @@ pub fn turn_down(st: State, area: &mut [f64], why: Rejection) -> Out
             return refuse(with_search(st, x), area, LinearError::Arithmetic(e));
         }
     };
-    match damp(from, quarter.sharpen(), why) {
-        Damped::On(y) => search(with_search(st, y), area),
-        Damped::Stop(y, stop) => finish(with_search(st, y), area, stop),
-    }
+    let grown = match damp(from, quarter.sharpen(), why) {
+        Damped::On(y) => y,
+        Damped::Stop(y, stop) => {
+            return finish(with_search(st, y), area, stop);
+        }
+    };
+    search(with_search(st, grown), area)
 }
 
 // Whether a step that is not lower is tried again without the curvature learned.

@@ -44,6 +44,36 @@ shift-from-requires c κs = let s = c .before .before .before .before .before .b
 enum-told : tie.Need-enum-told
 enum-told c = search needs
 
+enum-told-2 : tie.Need-enum-told-2
+enum-told-2 c = search needs
+
+judge-landed-requires : tie.Need-judge-landed-requires
+judge-landed-requires c κs = c .before .before .before .before .before .before .before .before .before .before .before .before .pre
+
+same-length : tie.Need-same-length
+same-length c = search needs
+
+returns : tie.Need-returns
+returns c w h =
+    let a = c .before .before .before .before .before .before .before .before .before .before .before .before .before .before .before .args in
+    let x = c .before .before .before .before .before .before .before .shift-from in
+    correct-stays (a .st) w (a .theta) refl (shifted-read (a .st) h (x .ensures)) (ap (λ (r : Shifted). shiftedOf r (x .last .1 .1 .1 .1 .1 .0)) (c .before .before .before .before .enum-told2 .given .1)) (c .before .before .judge-landed .ensures w h)
+
+enum-known-shifted : tie.Need-enum-known-shifted
+enum-known-shifted c = search needs
+
+refuse-requires : tie.Need-refuse-requires
+refuse-requires c κs = c .before .before .before .before .before .before .before .before .before .before .before .before .before .pre .0
+
+same-length-2 : tie.Need-same-length-2
+same-length-2 c = search needs
+
+returns-2 : tie.Need-returns-2
+returns-2 c w h =
+    let a = c .before .before .before .before .before .before .before .before .before .before .before .before .before .before .before .before .args in
+    let x = c .before .before .before .before .before .before .before .before .shift-from in
+    correct-refused (a .st) w (a .theta) refl (shifted-read (a .st) h (x .ensures)) (ap (λ (r : Shifted). shiftedOf r (x .last .1 .1 .1 .1 .1 .0)) (c .before .before .before .before .before .shifted .given .1)) (c .before .before .refuse .ensures w h)
+
 slice-aggregate-place : tie.Need-slice-aggregate-place
 slice-aggregate-place c = search needs
 
@@ -53,44 +83,14 @@ place-requires c κs = omega (arith, c .before .before .before .before .before .
 ask-requires : tie.Need-ask-requires
 ask-requires c κs = c .before .before .before .before .before .before .before .before .before .before .before .before .before .before .before .before .pre .1 .bounded .few-questions
 
-enum-told-2 : tie.Need-enum-told-2
-enum-told-2 c = search needs
-
-judge-landed-requires : tie.Need-judge-landed-requires
-judge-landed-requires c κs = c .before .before .before .before .before .before .before .before .before .before .before .before .pre
-
-enum-known-shifted : tie.Need-enum-known-shifted
-enum-known-shifted c = search needs
-
-refuse-requires : tie.Need-refuse-requires
-refuse-requires c κs = c .before .before .before .before .before .before .before .before .before .before .before .before .before .pre .0
-
-same-length : tie.Need-same-length
-same-length c = search needs
-
-returns : tie.Need-returns
-returns c w h =
-    let a = c .before .before .before .before .before .before .before .before .before .before .before .before .before .before .before .before .before .args in
-    let x = c .before .before .before .before .before .before .before .before .before .shift-from in
-    correct-asks (a .st) w (a .theta) refl (shifted-read (a .st) h (x .ensures)) (ap (λ (r : Shifted). shiftedOf r (x .last .1 .1 .1 .1 .1 .0)) (c .before .before .before .before .before .before .enum-told .given .1)) (c .ask .ensures _ _ (asked-read h (x .last .1 .1 .1 .1 .1 .0) (c .before .before .before .place .ensures) (x .kept .1 .1 .1 .1 .1 .0)))
-
-same-length-2 : tie.Need-same-length-2
-same-length-2 c = search needs
-
-returns-2 : tie.Need-returns-2
-returns-2 c w h =
-    let a = c .before .before .before .before .before .before .before .before .before .before .before .before .before .before .before .args in
-    let x = c .before .before .before .before .before .before .before .shift-from in
-    correct-stays (a .st) w (a .theta) refl (shifted-read (a .st) h (x .ensures)) (ap (λ (r : Shifted). shiftedOf r (x .last .1 .1 .1 .1 .1 .0)) (c .before .before .before .before .enum-told2 .given .1)) (c .before .before .judge-landed .ensures w h)
-
 same-length-3 : tie.Need-same-length-3
 same-length-3 c = search needs
 
 returns-3 : tie.Need-returns-3
 returns-3 c w h =
-    let a = c .before .before .before .before .before .before .before .before .before .before .before .before .before .before .before .before .args in
-    let x = c .before .before .before .before .before .before .before .before .shift-from in
-    correct-refused (a .st) w (a .theta) refl (shifted-read (a .st) h (x .ensures)) (ap (λ (r : Shifted). shiftedOf r (x .last .1 .1 .1 .1 .1 .0)) (c .before .before .before .before .before .shifted .given .1)) (c .before .before .refuse .ensures w h)
+    let a = c .before .before .before .before .before .before .before .before .before .before .before .before .before .before .before .before .before .args in
+    let x = c .before .before .before .before .before .before .before .before .before .shift-from in
+    correct-asks (a .st) w (a .theta) refl (shifted-read (a .st) h (x .ensures)) (ap (λ (r : Shifted). shiftedOf r (x .last .1 .1 .1 .1 .1 .0)) (c .before .before .before .before .before .before .enum-told .given .1)) (c .ask .ensures _ _ (asked-read h (x .last .1 .1 .1 .1 .1 .0) (c .before .before .before .place .ensures) (x .kept .1 .1 .1 .1 .1 .0)))
 
 pub correct-spec : {M : Type 1} → statement M
 correct-spec =
@@ -106,16 +106,16 @@ correct-spec =
     slice-aggregate-shift-from-2
     shift-from-requires
     enum-told
+    enum-told-2
+    judge-landed-requires
+    same-length
+    returns
+    enum-known-shifted
+    refuse-requires
+    same-length-2
+    returns-2
     slice-aggregate-place
     place-requires
     ask-requires
-    enum-told-2
-    judge-landed-requires
-    enum-known-shifted
-    refuse-requires
-    same-length
-    returns
-    same-length-2
-    returns-2
     same-length-3
     returns-3)

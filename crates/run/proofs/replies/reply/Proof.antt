@@ -12,11 +12,14 @@ use Rattle.run.proofs.replies.reply.Tie as tie
 check-rows-requires : tie.Need-check-rows-requires
 check-rows-requires c κs = search needs
 
+enum-known-kind : tie.Need-enum-known-kind
+enum-known-kind c = search needs
+
 enum-known-number : tie.Need-enum-known-number
 enum-known-number c = search needs
 
-enum-known-kind : tie.Need-enum-known-kind
-enum-known-kind c = search needs
+returns : tie.Need-returns
+returns c = let a = c .before .before .before .before .before .before .args in sym (rows-refused (a .st) (a .area .now) (a .rows .now) _ (sym (c .before .before .before .check-rows .ensures) ∙ c .before .number .given .1))
 
 tidy-requires : tie.Need-tidy-requires
 tidy-requires c κs =
@@ -32,9 +35,6 @@ answered-requires c κs =
     let v = w .reply .run in
     (omega (arith, c .before .before .before .tidy .kept, w .reply .whole), (w .full, (reply-bounded (a .st) _ v (w .reply .opened), (bounds (a .st) v .corrections, reply-phase (a .st) _ v (w .reply .opened)))))
 
-returns : tie.Need-returns
-returns c = let a = c .before .before .before .before .before .before .args in sym (rows-refused (a .st) (a .area .now) (a .rows .now) _ (sym (c .before .before .before .check-rows .ensures) ∙ c .before .number .given .1))
-
 same-length : tie.Need-same-length
 same-length c = search needs
 
@@ -48,10 +48,10 @@ reply-spec =
     tie.close
     (tie.spec
     check-rows-requires
-    enum-known-number
     enum-known-kind
+    enum-known-number
+    returns
     tidy-requires
     answered-requires
-    returns
     same-length
     returns-2)

@@ -12,11 +12,14 @@ use Rattle.run.proofs.replies.reply_none.Tie as tie
 check-requires : tie.Need-check-requires
 check-requires c κs = search needs
 
+enum-known-kind : tie.Need-enum-known-kind
+enum-known-kind c = search needs
+
 enum-known-number : tie.Need-enum-known-number
 enum-known-number c = search needs
 
-enum-known-kind : tie.Need-enum-known-kind
-enum-known-kind c = search needs
+returns : tie.Need-returns
+returns c = let a = c .before .before .before .before .before .args in sym (none-refused (a .st) (a .area .now) _ (sym (c .before .before .before .check .ensures) ∙ c .before .number .given .1))
 
 tidy-requires : tie.Need-tidy-requires
 tidy-requires c κs =
@@ -31,9 +34,6 @@ answered-none-requires c κs =
     let r = accepted (a .st) (length (a .area .now)) _ (sym (c .before .before .before .before .before .before .before .before .check .ensures) ∙ c .before .before .before .before .before .before .kind .given .1) in
     (omega (arith, c .before .before .before .tidy .kept, r .whole), (reply-bounded (a .st) _ (r .run) (r .opened), reply-phase (a .st) _ (r .run) (r .opened)))
 
-returns : tie.Need-returns
-returns c = let a = c .before .before .before .before .before .args in sym (none-refused (a .st) (a .area .now) _ (sym (c .before .before .before .check .ensures) ∙ c .before .number .given .1))
-
 same-length : tie.Need-same-length
 same-length c = search needs
 
@@ -47,10 +47,10 @@ reply-none-spec =
     tie.close
     (tie.spec
     check-requires
-    enum-known-number
     enum-known-kind
+    enum-known-number
+    returns
     tidy-requires
     answered-none-requires
-    returns
     same-length
     returns-2)

@@ -61,22 +61,11 @@ damp-requires c κs = omega (arith, c .before .before .before .before .before .b
 enum-known-y : tie.Need-enum-known-y
 enum-known-y c = search needs
 
-with-search-requires-2 : tie.Need-with-search-requires-2
-with-search-requires-2 c κs = search needs
-
-search-requires : tie.Need-search-requires
-unfolding within
-search-requires c κs =
-    let s = c .before .before .before .before .before .before .before .before .before .before .before .before .before .before in
-    let b = s .pre .1 in
-    let g = s .good .0 .1 .1 .1 .1 .0 .1 .1 .0 .1 .1 in
-    rw (c .before .with-search2 .ensures) (s .pre .0, grown-bounded _ (searched (within (c .before .before .before .before .before .before)) b (b .few-turned) (b .damping)) (omega arith) (yes (g .0 .1), yes (g .1 .0 .1)) (sym (c .before .before .before .y .given .1) ∙ c .before .before .before .before .before .damp .ensures))
-
 enum-known-y-2 : tie.Need-enum-known-y-2
 enum-known-y-2 c = search needs
 
-with-search-requires-3 : tie.Need-with-search-requires-3
-with-search-requires-3 c κs = search needs
+with-search-requires-2 : tie.Need-with-search-requires-2
+with-search-requires-2 c κs = search needs
 
 finish-requires : tie.Need-finish-requires
 finish-requires c κs = c .before .before .before .before .before .before .before .before .before .before .before .before .before .before .pre .0
@@ -88,7 +77,18 @@ returns-2 : tie.Need-returns-2
 unfolding within
 returns-2 c w h =
     let a = c .before .before .before .before .before .before .before .before .before .before .before .before .before .before .before .before .before .args in
-    turn-next (a .st) w (a .why) refl (divided (c .before .before .before .before .before .before .before .before .before .before .before .before .before) (c .before .before .before .before .before .before .before .before .before .before .before .q .given .1)) (c .before .before .before .before .before .before .before .before .before .sharpen .ensures) refl refl (grow-on (searching (a .st) (within (c .before .before .before .before .before .before .before .before .before))) w (sym (c .before .before .before .before .before .before .y .given .1) ∙ c .before .before .before .before .before .before .before .before .damp .ensures) (c .before .before .before .before .with-search2 .ensures) (c .before .before .search .ensures w h))
+    turn-next (a .st) w (a .why) refl (divided (c .before .before .before .before .before .before .before .before .before .before .before .before .before) (c .before .before .before .before .before .before .before .before .before .before .before .q .given .1)) (c .before .before .before .before .before .before .before .before .before .sharpen .ensures) refl refl (grow-stops (searching (a .st) (within (c .before .before .before .before .before .before .before .before .before))) w (sym (c .before .before .before .before .before .before .y2 .given .1) ∙ c .before .before .before .before .before .before .before .before .damp .ensures) (c .before .before .before .before .with-search2 .ensures) (c .before .before .finish .ensures w h))
+
+with-search-requires-3 : tie.Need-with-search-requires-3
+with-search-requires-3 c κs = search needs
+
+search-requires : tie.Need-search-requires
+unfolding within
+search-requires c κs =
+    let s = c .before .before .before .before .before .before .before .before .before .before .before .before .before .before in
+    let b = s .pre .1 in
+    let g = s .good .0 .1 .1 .1 .1 .0 .1 .1 .0 .1 .1 in
+    rw (c .before .with-search3 .ensures) (s .pre .0, grown-bounded _ (searched (within (c .before .before .before .before .before .before)) b (b .few-turned) (b .damping)) (omega arith) (yes (g .0 .1), yes (g .1 .0 .1)) (sym (c .before .before .before .y .given .1) ∙ c .before .before .before .before .before .damp .ensures))
 
 same-length-3 : tie.Need-same-length-3
 same-length-3 c = search needs
@@ -97,7 +97,7 @@ returns-3 : tie.Need-returns-3
 unfolding within
 returns-3 c w h =
     let a = c .before .before .before .before .before .before .before .before .before .before .before .before .before .before .before .before .before .args in
-    turn-next (a .st) w (a .why) refl (divided (c .before .before .before .before .before .before .before .before .before .before .before .before .before) (c .before .before .before .before .before .before .before .before .before .before .before .q .given .1)) (c .before .before .before .before .before .before .before .before .before .sharpen .ensures) refl refl (grow-stops (searching (a .st) (within (c .before .before .before .before .before .before .before .before .before))) w (sym (c .before .before .before .before .before .before .y2 .given .1) ∙ c .before .before .before .before .before .before .before .before .damp .ensures) (c .before .before .before .before .with-search3 .ensures) (c .before .before .finish .ensures w h))
+    turn-next (a .st) w (a .why) refl (divided (c .before .before .before .before .before .before .before .before .before .before .before .before .before) (c .before .before .before .before .before .before .before .before .before .before .before .q .given .1)) (c .before .before .before .before .before .before .before .before .before .sharpen .ensures) refl refl (grow-on (searching (a .st) (within (c .before .before .before .before .before .before .before .before .before))) w (sym (c .before .before .before .before .before .before .y .given .1) ∙ c .before .before .before .before .before .before .before .before .damp .ensures) (c .before .before .before .before .with-search3 .ensures) (c .before .before .search .ensures w h))
 
 pub turn-down-spec : {M : Type 1} → statement M
 turn-down-spec =
@@ -114,12 +114,12 @@ turn-down-spec =
     sharpen-requires
     damp-requires
     enum-known-y
-    with-search-requires-2
-    search-requires
     enum-known-y-2
-    with-search-requires-3
+    with-search-requires-2
     finish-requires
     same-length-2
     returns-2
+    with-search-requires-3
+    search-requires
     same-length-3
     returns-3)
