@@ -82,14 +82,11 @@ fn search(st: State, area: &mut [f64]) -> Out
     let mut delta = [0.0; 24];
     let mut lambda = [0.0; 24];
     let mut next = [0.0; 24];
+    let plain = st.search.plain;
     let moving = st.moving;
     let rows = &area[area::STANDING_ROWS..area::LANDED_ROWS];
     let f = sum_squared(rows, z.n, z.m, z.s);
-    bent(
-        st.search.plain,
-        &area[area::CURVATURE..area::FILTER],
-        &mut b,
-    );
+    bent(plain, &area[area::CURVATURE..area::FILTER], &mut b);
     let found = seek(
         z.n,
         z.m,
