@@ -8,6 +8,7 @@ pub mod Spacing
 pub mod Rank
 pub mod Tests
 pub mod NextUp
+pub mod NextDown
 pub mod Outward
 pub mod MinMax
 pub mod Order

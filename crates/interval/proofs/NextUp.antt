@@ -104,10 +104,10 @@ or-second false b h = h
 over : (m : ℕ) (e : ℤ) → 0 < suc m * up e * 1
 over m e = subst (λ (z : ℕ). 0 < z) (sym (mul-one (suc m * up e))) (mul-pos (zero-lt-suc m) (up-pos e))
 
-abbrev Up : Float → Type 0
+abbrev pub Up : Float → Type 0
 Up x = (toBits binary64 x % 9223372036854775808 < infBits binary64) × (ofBits binary64 (toBits binary64 x % 9223372036854775808 + 1) ≡ nextUp x)
 
-up-side : (x : Float) → T (fits binary64 x) → lt x (inf false) ≡ true → le (fin false 0 (pos 0)) x ≡ true → Up x
+pub up-side : (x : Float) → T (fits binary64 x) → lt x (inf false) ≡ true → le (fin false 0 (pos 0)) x ≡ true → Up x
 unfolding lt le eq nextUp
 up-side nan t a b = absurd (false≢true a)
 up-side (inf true) t a b = absurd (false≢true b)

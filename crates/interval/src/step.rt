@@ -1,7 +1,7 @@
 // The next float either way, by the bit pattern.
 ghost use mathlib.Core.Path.{_≡_};
 ghost use mathlib.Core.Bool.{true, false, cond};
-ghost use Prim.Native.Nat.{_+_, _-_, _%_, _≤_};
+ghost use Prim.Native.Nat.{_+_, _-_, _%_, _≤_, _<_};
 ghost use Rattle.interval.specs.Step.{nextUp, nextDown};
 
 // The pattern one step up from b: away from zero for a number that is not negative, whose sign bit
@@ -26,8 +26,23 @@ pub fn next_up(x: f64) -> f64
     x
 }
 
+// The pattern one step down from b: away from zero for a number that is not positive, whose sign bit
+// is set so that +0 counts as -0, and towards zero for a positive one.
+fn pattern_below(not_positive: bool, b: u64) -> u64
+    requires { ⌜ («not_positive» ≡ true → b % 9223372036854775808 < 9223372036854775807) × («not_positive» ≡ false → 1 ≤ b) ⌝ }
+    ensures { λ r. ⌜ r ≡ cond «not_positive» (b % 9223372036854775808 + 9223372036854775809) (b - 1) ⌝ }
+{
+    if not_positive {
+        return b % 9223372036854775808 + 9223372036854775809;
+    }
+    b - 1
+}
+
 pub fn next_down(x: f64) -> f64
     ensures { λ r. ⌜ r ≡ nextDown x ⌝ }
 {
-    -next_up(-x)
+    if -x < 1.0 / 0.0 {
+        return f64::from_bits(pattern_below(-x >= 0.0, f64::to_bits(x)));
+    }
+    x
 }
