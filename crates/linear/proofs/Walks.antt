@@ -1,16 +1,16 @@
 -- A walk along a run of scalars with its place cut off at the list's end: the place is the run's, or both are outside the list.
-use Prim.Native.Nat.{ℕ, _+_, _*_, _≤_, min}
+use Prim.Native.Nat.{ℕ, _+_, _-_, _*_, _/_, _≤_, _<_, min}
 use mathlib.Core.Logic.{⊎-elim}
 use mathlib.Core.Path.{_≡_, sym, ap, _∙_}
 use mathlib.Core.List.{List}
-use native.Mathlib.Nat.{suc-mul}
+use native.Mathlib.Nat.{le-refl, mul-le-mul, suc-mul}
 use native.Mathlib.Numerals.{add-one}
 use native.Mathlib.Omega.{arith}
 use borrow.Author.Tests.{le-ltb}
 use lib.Ieee.{Float, nan}
 use lib.ListN.{length}
 use Rattle.interval.specs.Scalar.{degenerate}
-use Rattle.linear.specs.Flat.{at}
+use Rattle.linear.specs.Flat.{at, Inside}
 use Rattle.linear.proofs.FlatLaws.{at-outside}
 use Rattle.linear.proofs.FactorEntries.{same-or-not}
 
@@ -35,3 +35,8 @@ module _ (size base step : ℕ) where
 
   pub cut-more : {i r : ℕ} (t : ℕ) → Cut size i (base + t * step) → r ≡ min (i + step) size → Cut size r (base + (t + 1) * step)
   cut-more t e q = let m : (t + 1) * step ≡ t * step + step = rw (add-one, suc-mul) in omega arith
+
+-- the places are inside where the last of them is
+pub inside-reach : (base step k len : ℕ) → base < len / 2 - (k - 1) * step → Inside base step k len
+inside-reach base step k len h t l =
+    let m : t * step ≤ (k - 1) * step = mul-le-mul (omega (arith, l)) (le-refl step) in omega (arith, h, m)

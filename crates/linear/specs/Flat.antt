@@ -1,5 +1,5 @@
 -- Scalars in a flat list of numbers: the i-th has its lower end at 2 i and its upper end at 2 i + 1. Reading outside the list gives NaN, and writing there changes nothing.
-use Prim.Native.Nat.{ℕ, zero, suc, _+_, _*_}
+use Prim.Native.Nat.{ℕ, zero, suc, _+_, _*_, _<_}
 use mathlib.Core.Bool.{Bool}
 use mathlib.Core.List.{List, [], _∷_, _++_}
 use lib.Dec.{ltb}
@@ -24,6 +24,10 @@ zeros n = replicate n zero64
 -- the scalars from base on, step apart: a row with step 1, a column with the row's length
 unfoldable pub along : List Float → ℕ → ℕ → ℕ → Scalar
 along xs base step j = at xs (base + j * step)
+
+-- the first k of them are inside a list of so many numbers
+abbrev pub Inside : ℕ → ℕ → ℕ → ℕ → Type 0
+Inside base step k len = (t : ℕ) → t < k → 2 * (base + t * step) + 1 < len
 
 -- the list of the first n scalars of an index function
 unfoldable pub listTo : (ℕ → Scalar) → ℕ → List Float

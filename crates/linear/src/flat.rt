@@ -1,8 +1,9 @@
 // Scalars in a flat slice.
 ghost use mathlib.Core.Path.{_≡_};
-ghost use Prim.Native.Nat.{_+_, _*_, min};
+ghost use mathlib.Core.Bool.{true};
+ghost use Prim.Native.Nat.{_+_, _*_, _<_, min};
 ghost use lib.ListN.{length};
-ghost use Rattle.linear.specs.Flat.{at, put, zeros, along};
+ghost use Rattle.linear.specs.Flat.{at, put, zeros, along, Inside};
 use interval::Scalar;
 
 // The i-th scalar; NaN outside the slice.
@@ -17,6 +18,49 @@ pub fn at(xs: &[f64], i: usize) -> Scalar
         };
     }
     Scalar::degenerate(0.0 / 0.0)
+}
+
+// The i-th scalar of those inside.
+pub fn at_inside(xs: &[f64], i: usize) -> Scalar
+    requires { ⌜ 2 * i + 1 < length (now xs) ⌝ }
+    ensures { λ r. ⌜ r ≡ at (now (xs .entry)) i ⌝ }
+{
+    let k = 2 * i;
+    Scalar {
+        lo: xs[k],
+        hi: xs[k + 1],
+    }
+}
+
+// Whether k scalars from base on, step apart, are found to be inside len numbers; never of a step or a count above 65535.
+fn is_inside(base: usize, step: usize, k: usize, len: usize) -> bool
+    ensures { λ r. ⌜ (r ≡ true → Inside base step k len) ⌝ }
+{
+    if k == 0 {
+        return true;
+    }
+    if k > 65535 {
+        return false;
+    }
+    if step > 65535 {
+        return false;
+    }
+    let reach = (k - 1) * step;
+    let half = len / 2;
+    if reach < half {
+        return base < half - reach;
+    }
+    false
+}
+
+// The same of two runs.
+pub fn both_inside(a0: usize, sa: usize, a: usize, b0: usize, sb: usize, b: usize, k: usize) -> bool
+    ensures { λ r. ⌜ (r ≡ true → Inside a0 sa k a × Inside b0 sb k b) ⌝ }
+{
+    if is_inside(a0, sa, k, a) {
+        return is_inside(b0, sb, k, b);
+    }
+    false
 }
 
 // i + step, or len where that is beyond it.

@@ -1,4 +1,4 @@
--- `plus_dot` meets its contract: the sum is that of the products so far, and each place is its run's, or outside the slice.
+-- `plus_cut` meets its contract: the sum is that of the products so far, and each place is its run's, or outside the slice.
 use mathlib.Core.Path.{_≡_, _∙_}
 use Prim.Native.Nat.{_+_, _*_, _≤_, _-_}
 use native.Mathlib.Nat.{le-antisymm}
@@ -8,8 +8,8 @@ use Rattle.linear.specs.Flat.{along}
 use Rattle.linear.specs.Dot.{plusTo}
 use Rattle.linear.proofs.Sums.{plusTo-more}
 use Rattle.linear.proofs.Walks.{Cut, at-cut, cut-none, cut-more}
-use Rattle.linear.proofs.dots.plus_dot.Statement.{statement}
-use Rattle.linear.proofs.dots.plus_dot.Tie as tie
+use Rattle.linear.proofs.dots.plus_cut.Statement.{statement}
+use Rattle.linear.proofs.dots.plus_cut.Tie as tie
 
 abbrev Inv-loop : tie.InvT-loop
 Inv-loop a a0 sa b b0 sb k sum₀ i₀ j₀ t₀ sum i j t = (t ≤ k) × (sum ≡ plusTo (along a a0 sa) (along b b0 sb) sum₀ t) × Cut (length a) i (a0 + t * sa) × Cut (length b) j (b0 + t * sb)
@@ -57,8 +57,8 @@ loop-again c =
 returns : tie.Need-returns Inv-loop μ-loop
 returns c = rw (le-antisymm (c .before .loop .inv .0) (c .loop-test .left)) at (c .before .loop .inv .1)
 
-pub plus-dot-spec : {M : Type 1} → statement M
-plus-dot-spec =
+pub plus-cut-spec : {M : Type 1} → statement M
+plus-cut-spec =
     tie.close
     (tie.spec
     Inv-loop

@@ -1,0 +1,24 @@
+-- `plus_dot` meets its contract: both ways give the sum.
+use borrow.Author.Needs.{needs}
+use Rattle.linear.proofs.dots.plus_dot.Statement.{statement}
+use Rattle.linear.proofs.dots.plus_dot.Tie as tie
+
+both-inside-requires : tie.Need-both-inside-requires
+both-inside-requires c κs = search needs
+
+plus-inside-requires : tie.Need-plus-inside-requires
+plus-inside-requires c κs = c .before .both-inside .ensures (c .if1 .taken)
+
+returns : tie.Need-returns
+returns c = c .plus-inside .ensures
+
+plus-cut-requires : tie.Need-plus-cut-requires
+plus-cut-requires c κs = search needs
+
+returns-2 : tie.Need-returns-2
+returns-2 c = c .plus-cut .ensures
+
+pub plus-dot-spec : {M : Type 1} → statement M
+plus-dot-spec =
+    tie.close
+    (tie.spec both-inside-requires plus-inside-requires returns plus-cut-requires returns-2)
