@@ -2,7 +2,9 @@
 """Copies the scalars of geop-core-math and two of its solvers to a folder, as a crate that rustc compiles alone and that
 tells what a run does.
 
-usage: prepare.py SOURCE OUT      SOURCE: the folder that holds core/geop-core-math; OUT: where the crate is written
+usage: prepare.py SOURCE OUT [--silent]
+  SOURCE: the folder that holds core/geop-core-math; OUT: where the crate is written
+  --silent: a run tells nothing, so that its time is that of the Rust as it is
 
 Each file must be the one that the comparison was written for, by its sha256. Each edit replaces an exact text an exact
 number of times. Where either does not hold, nothing is written.
@@ -120,6 +122,9 @@ EDITS = [
     *[("solvers/linear.rs", 1, f"\npub fn {name}", f"\n#[cfg(any())]\npub fn {name}") for name in FIXED_SIZE],
 ]
 
+# What a run tells is kept by this line.
+TELLS = "        EVENTS.with_borrow_mut(|events| events.push(event));\n"
+
 ROOT = """pub mod geop_error;
 pub mod scalars;
 
@@ -161,6 +166,7 @@ pub mod trace {
         static EVENTS: RefCell<Vec<Event>> = const { RefCell::new(Vec::new()) };
     }
 
+    #[inline(always)]
     pub fn tell(event: Event) {
         EVENTS.with_borrow_mut(|events| events.push(event));
     }
@@ -201,10 +207,14 @@ def prepared(folder):
 
 
 def main():
-    if len(sys.argv) != 3:
+    silent = sys.argv[3:] == ["--silent"]
+    if len(sys.argv) != 3 and not silent:
         sys.exit(__doc__)
-    source, out = sys.argv[1:]
-    for name, text in prepared(os.path.join(source, "core/geop-core-math/src")).items():
+    source, out = sys.argv[1:3]
+    texts = prepared(os.path.join(source, "core/geop-core-math/src"))
+    if silent:
+        texts["lib.rs"] = texts["lib.rs"].replace(TELLS, "")
+    for name, text in texts.items():
         path = os.path.join(out, name)
         os.makedirs(os.path.dirname(path), exist_ok=True)
         with open(path, "w", encoding="utf-8") as file:

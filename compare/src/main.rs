@@ -4,6 +4,7 @@
 //! any answer differs, or where runs never show what they must.
 
 mod archive;
+mod bench;
 mod hostile;
 mod interval;
 mod linear;
@@ -53,6 +54,8 @@ impl Scale {
 }
 
 struct Settings {
+    /// Nothing is compared, times are printed.
+    bench: bool,
     seed: u64,
     scale: Scale,
     lists: Vec<(String, String)>,
@@ -101,13 +104,17 @@ fn crate_and_file(value: &str) -> (String, String) {
 }
 
 fn settings() -> Settings {
-    let (mut seed, mut random) = (1, 1_000_000);
+    let (mut bench, mut seed, mut random) = (false, 1, 1_000_000);
     let mut scale: fn(u64) -> Scale = Scale::test;
     let mut lists = Vec::new();
     let mut args = std::env::args().skip(1);
     while let Some(name) = args.next() {
         if name == "--progress" {
             progress::ask();
+            continue;
+        }
+        if name == "--bench" {
+            bench = true;
             continue;
         }
         let Some(value) = args.next() else {
@@ -122,7 +129,12 @@ fn settings() -> Settings {
         }
     }
     let scale = scale(random);
-    Settings { seed, scale, lists }
+    Settings {
+        bench,
+        seed,
+        scale,
+        lists,
+    }
 }
 
 fn write_list(name: &str, path: &str, seed: u64) {
@@ -143,7 +155,16 @@ fn case(of: &str, rust: &str, rattle: &str) -> String {
 }
 
 fn main() -> ExitCode {
-    let Settings { seed, scale, lists } = settings();
+    let Settings {
+        bench,
+        seed,
+        scale,
+        lists,
+    } = settings();
+    if bench {
+        bench::print();
+        return ExitCode::SUCCESS;
+    }
     for (name, path) in &lists {
         write_list(name, path, seed);
     }
