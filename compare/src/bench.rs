@@ -8,7 +8,7 @@ mod settled;
 use std::time::{Duration, Instant};
 
 /// So many rounds.
-const ROUNDS: usize = 400;
+const ROUNDS: usize = 200;
 
 /// A part of a task, done by one side: what it gives, summed, and how long it took.
 type Timed<'a> = Box<dyn FnMut() -> (u64, Duration) + 'a>;
