@@ -1,9 +1,8 @@
 -- The steps of a correction, from what each call gives.
-use Prim.Native.Nat.{ℕ, _+_, _*_, _/_, _%_, _≤_}
+use Prim.Native.Nat.{ℕ, _*_, _/_, _%_, _≤_}
 use mathlib.Core.Bool.{Bool, true, false}
 use mathlib.Core.List.{List}
 use mathlib.Core.Path.{_≡_, refl, _∙_}
-use native.Mathlib.Nat.{div-add-mod'}
 use native.Mathlib.Omega.{arith}
 use lib.Ieee.{Float}
 use lib.ListN.{length, getD, length-replicate}
@@ -13,24 +12,22 @@ use Rattle.interval.specs.Scalar.{zeroS, zero64, pick}
 use Rattle.linear.specs.Answers.{doneOf}
 use Rattle.linear.specs.Calls.{minusSolvedReply}
 use Rattle.linear.specs.Choose.{chooseOf}
-use Rattle.linear.specs.Flat.{at, zeros, listTo}
+use Rattle.linear.specs.Flat.{zeros, listTo}
 use Rattle.linear.specs.Replies.{replied}
 use Rattle.linear.specs.Solved.{minusSolvedOf}
 use Rattle.linear.specs.declared.answers.Done.{Done}
 use Rattle.linear.proofs.Lists.{length-listTo}
 use Rattle.run.specs.Scratch.{chosenOf, allFinite}
-use Rattle.run.specs.Rows.{constraintsOf, valueAt}
+use Rattle.run.specs.Rows.{constraintsOf, valueAt, slopeAt}
 use Rattle.run.specs.Proposal.{movedOf, sameOf}
 use Rattle.run.specs.Correction.{movingSlope, Shift, to, stay}
 use Rattle.run.proofs.ScratchLaws.{fill-whole}
 use Rattle.run.proofs.LinearCalls.{minus-solved-result}
 
--- the slope at the place p is that of a row and a variable
+-- a slope, from what was read of its row and variable
 pub slope-is : (moving : List Bool) (xs : List Float) (n m p : ℕ) {v r : Scalar}
-    → v ≡ at xs (m + p) → r ≡ pick (getD moving (p % n) false) (chooseOf v) zeroS → r ≡ movingSlope moving (constraintsOf n m xs) (p / n) (p % n)
-slope-is moving xs n m p ev er =
-    let e : m + p / n * n + p % n ≡ m + p = omega (arith, div-add-mod' p n) in
-    rw (er, ev, e)
+    → v ≡ slopeAt (constraintsOf n m xs) (p / n) (p % n) → r ≡ pick (getD moving (p % n) false) (chooseOf v) zeroS → r ≡ movingSlope moving (constraintsOf n m xs) (p / n) (p % n)
+slope-is moving xs n m p ev er = rw (er, ev)
 
 pub shift-solved : (n m : ℕ) (moving : List Bool) (xs jc c₀ c clear out : List Float) (r : Done) (x : List Float)
     → n ≤ 12 → m ≤ 12 → length out ≡ 2 * n → length c₀ ≡ 2 * m

@@ -14,7 +14,6 @@ use Rattle.interval.specs.Scalar.{addOf, mulOf}
 use Rattle.linear.specs.Choose.{chooseOf}
 use Rattle.linear.specs.Dot.{plusTo}
 use Rattle.linear.specs.Flat.{along, zeros}
-use Rattle.linear.proofs.Cells.{product-small}
 use Rattle.run.specs.Curvature.{curvatureAt}
 use Rattle.run.specs.Model.{Kept, keepNext, keptTo, squeezedOf, scalingAt, dampedAt, dampedOf, gradientOf, problemOf, problemIn}
 use Rattle.run.specs.Rows.{Rows, rowsIn, constraintSet, sumSet, constraintsOf, evaluationOf, valueAt}
@@ -66,10 +65,6 @@ module _ {k : Kept} (moving : List Bool) (n : ℕ) (e : k ≡ keptTo moving n) w
 
   pub kept-near : n ≤ 12 → (p : ℕ) → getD (k .index) p 0 < 65536
   kept-near h p = rw e (omega (arith, h, kept-below moving n p))
-
--- the place of a row
-pub row-place : {i count : ℕ} (n : ℕ) → i < count → count ≤ 24 → n ≤ 12 → i * n ≤ 576
-row-place n h c v = product-small (omega arith) (omega arith)
 
 -- an entry of B, read along its column
 pub curvature-along : (n : ℕ) (b : List Float) (i j : ℕ) → along b j n i ≡ curvatureAt n b i j

@@ -1,23 +1,21 @@
--- Rows at their places in an answered list: products of counts are small, so the places are, the constraint values are the list's first scalars, and the moving marks one by one.
-use Prim.Native.Nat.{ℕ, _+_, _*_, _<_, _≤_}
+-- Rows at their places in an answered list: products of counts are small, so the places are, a slope by its row and by its variable, and the moving marks one by one.
+use Prim.Native.Nat.{ℕ, _+_, _*_, _/_, _%_, _<_, _≤_}
 use mathlib.Core.Bool.{Bool, true, false}
 use mathlib.Core.Logic.{⊎-elim}
-use mathlib.Core.Path.{_≡_, refl, ap, _∙_}
+use mathlib.Core.Path.{_≡_, refl, sym, _∙_}
 use mathlib.Core.List.{List}
-use native.Mathlib.Nat.{mul-le-mul, le-of-lt, not-suc-le-zero, eq-or-lt-of-le}
+use native.Mathlib.Nat.{mul-le-mul, le-of-lt, not-suc-le-zero, eq-or-lt-of-le, div-add-mod'}
 use native.Mathlib.Omega.{arith}
 use borrow.Author.Tests.{ltb-true, ltb-false}
 use lib.Dec.{ltb}
-use lib.Ieee.{Float}
 use lib.ListN.{length, getD, set, replicate, length-set, getD-replicate}
 use lib.Seq.{getD-set-same, getD-set-other}
 use Rattle.interval.specs.Scalar.{pick}
 use Rattle.linear.specs.Cholesky.{marksTo}
-use Rattle.linear.specs.Flat.{at}
-use Rattle.linear.specs.Norm.{normOf}
-use Rattle.linear.proofs.Agree.{normOf-ext}
+use Rattle.linear.specs.Flat.{at, along}
 use Rattle.linear.proofs.Marks.{is-marksTo}
-use Rattle.run.specs.Rows.{Small, constraintSet, sumSet, constraintsOf, violationOf}
+use Rattle.linear.proofs.Sums.{along-row}
+use Rattle.run.specs.Rows.{Rows, Small, constraintSet, sumSet, slopeAt, slopesOf, slopesBy}
 
 -- products of counts
 pub few : {m n : ℕ} → m ≤ 12 → n ≤ 12 → m * n ≤ 144
@@ -38,10 +36,16 @@ sum-small {n} {m} hn hm hs =
 pub row-near : {i n : ℕ} → i < 65536 → n ≤ 12 → i * n ≤ 786432
 row-near hi hn = mul-le-mul (le-of-lt hi) hn
 
--- the norm of the first scalars is the violation
-pub violation-first : (n m : ℕ) (xs : List Float) → normOf (at xs) m ≡ violationOf (constraintsOf n m xs)
-unfolding violationOf
-violation-first n m xs = normOf-ext (at xs) (λ i. at xs (0 + i)) m (λ i h. ap (at xs) (omega arith))
+-- a slope as one of its row's, as one of those by its variable, and by its place among all
+pub slope-in-row : (e : Rows) (i j : ℕ) → slopeAt e i j ≡ slopesOf e i j
+slope-in-row e i j = sym (along-row (e .list) (e .slopes + i * e .n) j)
+
+pub slope-by : (e : Rows) (i j : ℕ) → slopeAt e i j ≡ slopesBy e j i
+unfolding along
+slope-by e i j = let h : e .slopes + i * e .n + j ≡ e .slopes + j + i * e .n = omega arith in rw h
+
+pub slope-among : (e : Rows) (p : ℕ) → slopeAt e (p / e .n) (p % e .n) ≡ at (e .list) (e .slopes + p)
+slope-among e p = let h : e .slopes + p / e .n * e .n + p % e .n ≡ e .slopes + p = omega (arith, div-add-mod' p (e .n)) in rw h
 
 -- a list of 12 marks whose first j are those of g, and which has no other
 pub record Marked (g : ℕ → Bool) (j : ℕ) (xs : List Bool) : Type 0 where

@@ -19,6 +19,7 @@ ghost use Rattle.linear.specs.Substitution.{storeR, solveOf};
 ghost use Rattle.run.specs.Basis.{Basis, noRows, packed, partsOut, gramStep, gramRow, extended, rowStep, basisOf, orderAt, coefficientAt, correctionOf, multiplierStep, multipliersOf, basisBy, takenBy, problemBy, rankedOf};
 ghost use Rattle.run.specs.Rows.{rowsIn, valueAt};
 ghost use Rattle.run.specs.Scratch.{vector, row, column, entry, fillTo, combinedTo};
+use crate::row_view::value_of;
 use crate::rows::RowSet;
 use crate::scratch::combine;
 use crate::scratch::minus_scaled;
@@ -30,7 +31,6 @@ use interval::ScalarResult;
 use linear::Answer;
 use linear::Done;
 use linear::LinearError;
-use linear::along;
 use linear::at;
 use linear::choose;
 use linear::clear;
@@ -355,12 +355,12 @@ fn order_at(r: usize, order: &[usize], t: usize) -> usize
 }
 
 // The right-hand side: the constraint values in that order, chosen, negated.
-fn sides(m: usize, r: usize, order: &[usize], xs: &[f64], values: usize, rhs: &mut [f64])
+fn sides(m: usize, r: usize, order: &[usize], xs: &[f64], e: RowSet, rhs: &mut [f64])
     requires { ⌜ (m ≤ 12) × ((length (now order) ≡ 24) × (length (now rhs) ≡ 2 * m)) ⌝ }
-    ensures { λ _. ⌜ now (rhs .exit) ≡ listTo (λ t. negOf (chooseOf (at (now (xs .entry)) (values + orderAt (basisBy r [] [] [] [] (now (order .entry))) t)))) m ⌝ }
+    ensures { λ _. ⌜ now (rhs .exit) ≡ listTo (λ t. negOf (chooseOf (valueAt (rowsIn (now (xs .entry)) e) (orderAt (basisBy r [] [] [] [] (now (order .entry))) t)))) m ⌝ }
 {
     for t in 0..m {
-        let c = along(xs, values, 1, order_at(r, order, t));
+        let c = value_of(xs, e, order_at(r, order, t));
         put(rhs, t, choose(c).neg());
     }
 }
@@ -389,7 +389,7 @@ pub fn correction(
     let mut y = [0.0; 24];
     let mut weights = [0.0; 24];
     coefficient_rows(m, r, coefficients, dependent, &mut rows[..s]);
-    sides(m, r, order, xs, e.values, &mut rhs[..u]);
+    sides(m, r, order, xs, e, &mut rhs[..u]);
     match linear::least_squares(m, r, &rows[..s], &rhs[..u], &mut y[..w]) {
         Done::Finished => {
             linear::sharp(r, &y[..w], &mut weights[..w]);

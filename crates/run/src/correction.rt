@@ -13,8 +13,10 @@ ghost use Rattle.run.specs.Proposal.{movedOf, sameOf};
 ghost use Rattle.run.specs.Correction.{to, stay, movingSlope, shiftOf, shiftFrom, shiftedOf, shiftedStep};
 use crate::points::moved;
 use crate::points::same;
+use crate::row_view::slope_of;
+use crate::rows::chosen_values;
+use crate::rows::constraints;
 use crate::scratch::all_finite;
-use crate::scratch::chosen;
 use interval::Scalar;
 use linear::Done;
 use linear::LinearError;
@@ -46,9 +48,10 @@ fn moving_slopes(n: usize, m: usize, xs: &[f64], moving: &[bool], jc: &mut [f64]
     requires { ⌜ (n ≤ 12) × ((m ≤ 12) × ((length (now moving) ≡ 12) × (length (now jc) ≡ 2 * (m * n)))) ⌝ }
     ensures { λ _. ⌜ now (jc .exit) ≡ listTo (λ p. movingSlope (now (moving .entry)) (constraintsOf n m (now (xs .entry))) (p / n) (p % n)) (m * n) ⌝ }
 {
+    let e = constraints(n, m);
     let q = m * n;
     for p in 0..q {
-        let v = at(xs, m + p);
+        let v = slope_of(xs, e, p / n, p % n);
         put(jc, p, moving_slope(moving[p % n], v));
     }
 }
@@ -78,7 +81,7 @@ pub fn shift(n: usize, m: usize, xs: &[f64], moving: &[bool], d: &mut [f64]) -> 
     let zero = [0.0; 24];
     let mut out = [0.0; 24];
     moving_slopes(n, m, xs, moving, &mut jc[..q]);
-    chosen(xs, 0, m, &mut c[..k]);
+    chosen_values(xs, constraints(n, m), &mut c[..k]);
     match minus_solved(m, n, &jc[..q], &c[..k], &zero[..w], &mut out[..w]) {
         Done::Finished => {
             sharpened(n, &out[..w], d);

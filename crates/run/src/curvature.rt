@@ -14,10 +14,11 @@ ghost use Rattle.linear.specs.Substitution.{storeR};
 ghost use Rattle.run.specs.Scratch.{vector, fillTo};
 ghost use Rattle.run.specs.Rows.{constraintsOf, evaluationOf};
 ghost use Rattle.run.specs.Curvature.{learnedOf, alongOf, turnedAt, turnedOf, chosenSum, rankOneStep, rankOneOf, correctedBy, updatedBy, updateCurvature};
+use crate::rows::chosen_slopes;
+use crate::rows::chosen_values;
 use crate::rows::constraints;
 use crate::rows::sum;
 use crate::rows::transposed_at;
-use crate::scratch::chosen;
 use interval::Scalar;
 use interval::ScalarResult;
 use linear::Done;
@@ -77,7 +78,7 @@ pub fn along_constraints(n: usize, m: usize, xs: &[f64], v: &[f64], out: &mut [f
     let w = 2 * n;
     let mut jc = [0.0; 288];
     let mut rhs = [0.0; 24];
-    chosen(xs, m, m * n, &mut jc[..q]);
+    chosen_slopes(xs, constraints(n, m), &mut jc[..q]);
     products(n, m, &jc[..q], v, &mut rhs[..k]);
     minus_solved(m, n, &jc[..q], &rhs[..k], &v[..w], out)
 }
@@ -129,7 +130,7 @@ pub fn turned(n: usize, m: usize, s: usize, xs: &[f64], next: &[f64], lambda: &[
     ensures { λ _. ⌜ now (y .exit) ≡ turnedOf n (evaluationOf n m s (now (xs .entry))) (evaluationOf n m s (now (next .entry))) (now (lambda .entry)) ⌝ }
 {
     let mut r = [0.0; 48];
-    chosen(next, m * (n + 1), s, &mut r);
+    chosen_values(next, sum(n, m, s), &mut r);
     turns(n, m, s, xs, next, lambda, &r, y);
 }
 

@@ -6,6 +6,7 @@ ghost use lib.ListN.{length};
 ghost use Rattle.interval.specs.Scalar.{subOf, definitelyLess};
 ghost use Rattle.run.specs.Rows.{rowsIn, Small, sumOf, sumSquared, evaluationOf};
 ghost use Rattle.run.specs.Judgement.{sumChange, filterSum, filterViolation, beatsTo, rises, indefinite, contracts, judgedBy, judgeOf, judgementOf};
+use crate::row_view::value_of;
 use crate::rows;
 use crate::rows::RowSet;
 use crate::scratch::norm_of;
@@ -35,8 +36,8 @@ fn sum_change(xs: &[f64], ys: &[f64], e: RowSet) -> Scalar
     let mut total = Scalar::ZERO;
     let count = e.count;
     for i in 0..count {
-        let a = at(xs, e.values + i);
-        let b = at(ys, e.values + i);
+        let a = value_of(xs, e, i);
+        let b = value_of(ys, e, i);
         total = total.add(a.sub(b).mul(a.add(b)));
     }
     total

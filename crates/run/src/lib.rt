@@ -16,6 +16,7 @@ mod pieces;
 mod points;
 mod proposal;
 mod replies;
+mod row_view;
 mod rows;
 mod scratch;
 mod search;

@@ -7,9 +7,11 @@ ghost use Rattle.linear.specs.Dot.{dotTo};
 ghost use Rattle.linear.specs.Flat.{at, zeros};
 ghost use Rattle.run.specs.Curvature.{curvatureAt};
 ghost use Rattle.run.specs.Model.{keptBy, keepNext, keptTo, squeezedOf, scalingAt, dampedAt, dampedOf, gradientOf, problemOf, problemIn};
-ghost use Rattle.run.specs.Rows.{Small, rowsIn, constraintsOf, evaluationOf, valueAt, slopesBy};
+ghost use Rattle.run.specs.Rows.{Small, rowsIn, constraintsOf, evaluationOf, valueAt, slopeAt, slopesBy};
 ghost use Rattle.run.specs.Scratch.{matrix, fillTo, fillRows, chosenOf};
+use crate::row_view::slope_of;
 use crate::rows::RowSet;
+use crate::rows::chosen_values;
 use crate::rows::constraints;
 use crate::rows::sum;
 use crate::rows::transposed_at;
@@ -48,13 +50,21 @@ pub fn keep(moving: &[bool], n: usize, index: &mut [usize]) -> usize
 
 // ---- slopes
 
-// The kept slopes of the row that stands in xs from `base` on, from t0 on in `to`.
-fn squeeze_row(xs: &[f64], base: usize, index: &[usize], k: usize, to: &mut [f64], t0: usize)
-    requires { ⌜ (k ≤ 12) × ((length (now index) ≡ 12) × (t0 < 65536)) ⌝ }
-    ensures { λ _. ⌜ now (to .exit) ≡ fillTo (now (to .entry)) t0 (λ p. at (now (xs .entry)) (base + getD (now (index .entry)) p 0)) k ⌝ }
+// The kept slopes of row i, from t0 on in `to`.
+fn squeeze_row(
+    xs: &[f64],
+    e: RowSet,
+    i: usize,
+    index: &[usize],
+    k: usize,
+    to: &mut [f64],
+    t0: usize,
+)
+    requires { ⌜ (Small e × (i < 65536)) × ((k ≤ 12) × ((length (now index) ≡ 12) × (t0 < 65536))) ⌝ }
+    ensures { λ _. ⌜ now (to .exit) ≡ fillTo (now (to .entry)) t0 (λ p. slopeAt (rowsIn (now (xs .entry)) e) i (getD (now (index .entry)) p 0)) k ⌝ }
 {
     for p in 0..k {
-        put(to, t0 + p, along(xs, base, 1, index[p]));
+        put(to, t0 + p, slope_of(xs, e, i, index[p]));
     }
 }
 
@@ -65,7 +75,7 @@ pub fn squeeze(xs: &[f64], e: RowSet, index: &[usize], k: usize, to: &mut [f64])
 {
     let count = e.count;
     for i in 0..count {
-        squeeze_row(xs, e.slopes + i * e.n, index, k, to, 12 * i);
+        squeeze_row(xs, e, i, index, k, to, 12 * i);
     }
 }
 
@@ -153,7 +163,7 @@ pub fn gradient(xs: &[f64], e: RowSet, index: &[usize], k: usize, g: &mut [f64])
     ensures { λ _. ⌜ now (g .exit) ≡ gradientOf (keptBy k (now (index .entry))) (rowsIn (now (xs .entry)) e) ⌝ }
 {
     let mut r = [0.0; 48];
-    chosen(xs, e.values, e.count, &mut r);
+    chosen_values(xs, e, &mut r);
     clear(g);
     for p in 0..k {
         put(g, p, choose(transposed_at(xs, e, &r, index[p])));

@@ -1,17 +1,19 @@
-// Rows as they are answered: constraint values, their slopes row by row, then the sum's. Everything is read at its place in the answered slice.
+// Rows as they are answered: constraint values, their slopes row by row, then the sum's. Everything is read through a view of the answered slice.
 ghost use mathlib.Core.Bool.{_||_};
 ghost use mathlib.Core.Path.{_≡_};
 ghost use Prim.Native.Nat.{_*_, _<_, _≤_};
 ghost use lib.ListN.{length};
 ghost use Rattle.linear.specs.Answers.{resultOf};
 ghost use Rattle.run.specs.Calls.{inDomain, allInDomain};
-ghost use Rattle.run.specs.Scratch.{fillTo};
-ghost use Rattle.run.specs.Rows.{rowsIn, Small, constraintSet, sumSet, constraintsOf, sumOf, linearizedAt, squaredOf, transposedAt, sumSquared, violationOf, predictedOf, dependsOn, movingOf, evaluationOf};
+ghost use Rattle.run.specs.Scratch.{fillTo, chosenOf};
+ghost use Rattle.run.specs.Rows.{rowsIn, Small, constraintSet, sumSet, constraintsOf, sumOf, valueAt, linearizedAt, squaredOf, transposedAt, sumSquared, violationOf, predictedOf, dependsOn, movingOf, evaluationOf};
+use crate::row_view::slope_of;
+use crate::row_view::value_of;
 use crate::scratch::norm_of;
 use interval::Scalar;
 use linear::Answer;
 use linear::at;
-use linear::plus_dot;
+use linear::choose;
 use linear::put;
 
 // Rows of one kind: `count` values from the place `values` on, and n slopes for each from the place `slopes` on.
@@ -51,8 +53,11 @@ pub fn linearized_at(xs: &[f64], e: RowSet, delta: &[f64], d: usize, i: usize) -
     requires { ⌜ Small e × (i < 65536) ⌝ }
     ensures { λ r. ⌜ r ≡ linearizedAt (rowsIn (now (xs .entry)) e) (now (delta .entry)) d i ⌝ }
 {
-    let v = at(xs, e.values + i);
-    v.add(plus_dot(xs, e.slopes + i * e.n, 1, delta, 0, 1, Scalar::ZERO, d))
+    let mut total = Scalar::ZERO;
+    for j in 0..d {
+        total = total.add(slope_of(xs, e, i, j).mul(at(delta, j)));
+    }
+    value_of(xs, e, i).add(total)
 }
 
 // |values + slopes delta|², over the first d variables: with d = 0, the sum of squares.
@@ -74,7 +79,12 @@ pub fn transposed_at(xs: &[f64], e: RowSet, w: &[f64], j: usize) -> Scalar
     requires { ⌜ Small e × (j < 65536) ⌝ }
     ensures { λ r. ⌜ r ≡ transposedAt (rowsIn (now (xs .entry)) e) (now (w .entry)) j ⌝ }
 {
-    plus_dot(xs, e.slopes + j, e.n, w, 0, 1, Scalar::ZERO, e.count)
+    let mut total = Scalar::ZERO;
+    let count = e.count;
+    for i in 0..count {
+        total = total.add(slope_of(xs, e, i, j).mul(at(w, i)));
+    }
+    total
 }
 
 // f of a point, from its rows.
@@ -85,12 +95,46 @@ pub fn sum_squared(xs: &[f64], n: usize, m: usize, s: usize) -> Scalar
     squared(xs, sum(n, m, s), xs, 0)
 }
 
+// All values, from the start of `out` on.
+fn values(xs: &[f64], e: RowSet, out: &mut [f64])
+    ensures { λ _. ⌜ now (out .exit) ≡ fillTo (now (out .entry)) 0 (valueAt (rowsIn (now (xs .entry)) e)) (e .count) ⌝ }
+{
+    let count = e.count;
+    for i in 0..count {
+        put(out, i, value_of(xs, e, i));
+    }
+}
+
+// The same, chosen.
+pub fn chosen_values(xs: &[f64], e: RowSet, out: &mut [f64])
+    ensures { λ _. ⌜ now (out .exit) ≡ chosenOf (now (out .entry)) (now (xs .entry)) (e .values) (e .count) ⌝ }
+{
+    let count = e.count;
+    for i in 0..count {
+        put(out, i, choose(value_of(xs, e, i)));
+    }
+}
+
+// All slopes, row by row, chosen.
+pub fn chosen_slopes(xs: &[f64], e: RowSet, out: &mut [f64])
+    requires { ⌜ Small e ⌝ }
+    ensures { λ _. ⌜ now (out .exit) ≡ chosenOf (now (out .entry)) (now (xs .entry)) (e .slopes) (e .count * e .n) ⌝ }
+{
+    let n = e.n;
+    let count = e.count * n;
+    for p in 0..count {
+        put(out, p, choose(slope_of(xs, e, p / n, p % n)));
+    }
+}
+
 // The violation of a point, from its rows.
 pub fn violation(xs: &[f64], n: usize, m: usize) -> Answer
     requires { ⌜ (m ≤ 12) × (2 * m ≤ length (now xs)) ⌝ }
     ensures { λ r. ⌜ resultOf r ≡ violationOf (constraintsOf n m (now (xs .entry))) ⌝ }
 {
-    norm_of(xs, m)
+    let mut c = [0.0; 24];
+    values(xs, constraints(n, m), &mut c);
+    norm_of(&c, m)
 }
 
 // All rows linearized, from the start of `out` on.
@@ -121,8 +165,7 @@ pub fn depends_on(xs: &[f64], e: RowSet, j: usize) -> bool
 {
     let count = e.count;
     for i in 0..count {
-        let v = at(xs, e.slopes + i * e.n + j);
-        if v.definitely_not_equal(Scalar::ZERO) {
+        if slope_of(xs, e, i, j).definitely_not_equal(Scalar::ZERO) {
             return true;
         }
     }

@@ -2,34 +2,32 @@
 use borrow.Author.Needs.{needs}
 use mathlib.Core.Path.{_≡_, sym, _∙_}
 use mathlib.Core.List.{List, [], _++_}
-use Prim.Native.Nat.{ℕ, _+_, _*_, _≤_, _-_}
+use Prim.Native.Nat.{ℕ, _*_, _≤_, _-_}
 use native.Mathlib.Nat.{le-antisymm}
 use native.Mathlib.Omega.{arith}
-use lib.Ieee.{Float}
 use lib.ListN.{length, drop}
 use Rattle.interval.specs.declared.Scalar.{Scalar}
 use Rattle.interval.specs.Scalar.{negOf}
 use Rattle.linear.specs.Choose.{chooseOf}
-use Rattle.linear.specs.Flat.{at, listTo}
+use Rattle.linear.specs.Flat.{listTo}
 use Rattle.linear.proofs.Lists.{listTo-none, listTo-more, listTo-all}
-use Rattle.linear.proofs.Sums.{along-row}
 use Rattle.run.specs.Basis.{basisBy, orderAt}
+use Rattle.run.specs.Rows.{Rows, rowsIn, valueAt}
 use Rattle.run.proofs.basis.sides.Statement.{statement}
 use Rattle.run.proofs.basis.sides.Tie as tie
 
 -- the t-th side
-abbrev sideAt : ℕ → List ℕ → List Float → ℕ → ℕ → Scalar
-sideAt r order xs values t = negOf (chooseOf (at xs (values + orderAt (basisBy r [] [] [] [] order) t)))
+abbrev sideAt : ℕ → List ℕ → Rows → ℕ → Scalar
+sideAt r order e t = negOf (chooseOf (valueAt e (orderAt (basisBy r [] [] [] [] order) t)))
 
-side : (r : ℕ) (order : List ℕ) (xs : List Float) (values t : ℕ) {o : ℕ} {c d v : Scalar} → o ≡ orderAt (basisBy r [] [] [] [] order) t → c ≡ at xs (values + o) → d ≡ chooseOf c → v ≡ negOf d
-    → v ≡ sideAt r order xs values t
-side r order xs values t eo ec ed ev = rw (ev, ed, ec, eo)
+side : (r : ℕ) (order : List ℕ) (e : Rows) (t : ℕ) {o : ℕ} {c d v : Scalar} → o ≡ orderAt (basisBy r [] [] [] [] order) t → c ≡ valueAt e o → d ≡ chooseOf c → v ≡ negOf d → v ≡ sideAt r order e t
+side r order e t eo ec ed ev = rw (ev, ed, ec, eo)
 
 abbrev Inv-loop : tie.InvT-loop
-Inv-loop m r order xs values rhs₀ t₀ rhs t = (t ≤ m) × (length rhs ≡ length rhs₀) × (rhs ≡ listTo (sideAt r order xs values) t ++ drop (2 * t) rhs₀)
+Inv-loop m r order xs e rhs₀ t₀ rhs t = (t ≤ m) × (length rhs ≡ length rhs₀) × (rhs ≡ listTo (sideAt r order (rowsIn xs e)) t ++ drop (2 * t) rhs₀)
 
 abbrev μ-loop : tie.MeasureT-loop
-μ-loop m r order xs values rhs₀ t₀ rhs t = m - t
+μ-loop m r order xs e rhs₀ t₀ rhs t = m - t
 
 loop-holds : tie.Need-loop-holds Inv-loop μ-loop
 loop-holds c = (search needs, search needs, sym (listTo-none _ _))
@@ -37,8 +35,8 @@ loop-holds c = (search needs, search needs, sym (listTo-none _ _))
 order-at-requires : tie.Need-order-at-requires Inv-loop μ-loop
 order-at-requires c κs = search needs
 
-along-requires : tie.Need-along-requires Inv-loop μ-loop
-along-requires c κs = tt
+value-of-requires : tie.Need-value-of-requires Inv-loop μ-loop
+value-of-requires c κs = tt
 
 choose-requires : tie.Need-choose-requires Inv-loop μ-loop
 choose-requires c κs = search needs
@@ -59,9 +57,9 @@ loop-again : tie.Need-loop-again Inv-loop μ-loop
 loop-again c =
     let s = c .before .before .before .before .before .before .before .before .before .before .before .before .before in
     let a = s .args in
-    let v = side (a .r) (a .order .now) (a .xs .now) (a .values) (c .before .before .before .before .before .before .before .before .before .loop .t) (c .before .before .before .before .before .before .before .order-at .ensures) (c .before .before .before .before .before .before .along .ensures ∙ along-row (a .xs .now) (a .values) (c .before .before .before .before .before .before .before .order-at .result)) (c .before .before .before .before .choose .ensures) (c .before .before .before .neg .ensures .value) in
+    let v = side (a .r) (a .order .now) (rowsIn (a .xs .now) (a .e)) (c .before .before .before .before .before .before .before .before .before .loop .t) (c .before .before .before .before .before .before .before .order-at .ensures) (c .before .before .before .before .before .before .value-of .ensures) (c .before .before .before .before .choose .ensures) (c .before .before .before .neg .ensures .value) in
     let e = rw (c .before .before .before .before .before .before .before .before .before .loop .inv .2, v) at (c .before .before .put .ensures) in
-    (search needs, search needs, e ∙ listTo-more (sideAt (a .r) (a .order .now) (a .xs .now) (a .values)) (c .before .before .before .before .before .before .before .before .before .loop .t) (a .rhs .now) (omega (arith, s .pre .1 .1, c .before .before .before .before .before .before .before .before .loop-test .taken)))
+    (search needs, search needs, e ∙ listTo-more (sideAt (a .r) (a .order .now) (rowsIn (a .xs .now) (a .e))) (c .before .before .before .before .before .before .before .before .before .loop .t) (a .rhs .now) (omega (arith, s .pre .1 .1, c .before .before .before .before .before .before .before .before .loop-test .taken)))
 
 same-length : tie.Need-same-length Inv-loop μ-loop
 same-length c = search needs
@@ -71,7 +69,7 @@ returns c =
     let s = c .before .before .before .before .before in
     let a = s .args in
     let e = rw (le-antisymm (c .before .loop .inv .0) (c .loop-test .left)) at (c .before .loop .inv .2) in
-    e ∙ listTo-all (sideAt (a .r) (a .order .now) (a .xs .now) (a .values)) (a .m) (a .rhs .now) (s .pre .1 .1)
+    e ∙ listTo-all (sideAt (a .r) (a .order .now) (rowsIn (a .xs .now) (a .e))) (a .m) (a .rhs .now) (s .pre .1 .1)
 
 pub sides-spec : {M : Type 1} → statement M
 sides-spec =
@@ -81,7 +79,7 @@ sides-spec =
     μ-loop
     loop-holds
     order-at-requires
-    along-requires
+    value-of-requires
     choose-requires
     neg-requires
     put-requires

@@ -45,38 +45,41 @@ slice-aggregate-moving-slopes c = sym (length-take-le _ _ (room (c .before .befo
 moving-slopes-requires : tie.Need-moving-slopes-requires
 moving-slopes-requires c κs = let s = (c .before .before .before .before) in let p = s .pre in (p .0, (p .1 .0, (p .1 .1 .0, length-take-le _ _ (room s))))
 
+constraints-requires : tie.Need-constraints-requires
+constraints-requires c κs = search needs
+
 array-borrow-prefix-c : tie.Need-array-borrow-prefix-c
 array-borrow-prefix-c c = search needs
 
-slice-aggregate-chosen : tie.Need-slice-aggregate-chosen
-slice-aggregate-chosen c = sym (length-take-le _ _ (high (c .before .before .before .before .before .before .before)))
+slice-aggregate-chosen-values : tie.Need-slice-aggregate-chosen-values
+slice-aggregate-chosen-values c = sym (length-take-le _ _ (high (c .before .before .before .before .before .before .before .before)))
 
-chosen-requires : tie.Need-chosen-requires
-chosen-requires c κs = search needs
+chosen-values-requires : tie.Need-chosen-values-requires
+chosen-values-requires c κs = tt
 
 array-share-prefix-jc : tie.Need-array-share-prefix-jc
-array-share-prefix-jc c = front-room _ (c .before .before .before .before .moving-slopes .last .1 .1 .1 .1 .0) _ (room (c .before .before .before .before .before .before .before .before .before)) (c .before .before .before .before .moving-slopes .kept .1 .1 .1 .1 .0)
+array-share-prefix-jc c = front-room _ (c .before .before .before .before .before .moving-slopes .last .1 .1 .1 .1 .0) _ (room (c .before .before .before .before .before .before .before .before .before .before)) (c .before .before .before .before .before .moving-slopes .kept .1 .1 .1 .1 .0)
 
 slice-aggregate-minus-solved : tie.Need-slice-aggregate-minus-solved
-slice-aggregate-minus-solved c = sym (length-take-le _ _ (front-room _ (c .before .before .before .before .before .moving-slopes .last .1 .1 .1 .1 .0) _ (room (c .before .before .before .before .before .before .before .before .before .before)) (c .before .before .before .before .before .moving-slopes .kept .1 .1 .1 .1 .0)))
+slice-aggregate-minus-solved c = sym (length-take-le _ _ (front-room _ (c .before .before .before .before .before .before .moving-slopes .last .1 .1 .1 .1 .0) _ (room (c .before .before .before .before .before .before .before .before .before .before .before)) (c .before .before .before .before .before .before .moving-slopes .kept .1 .1 .1 .1 .0)))
 
 array-share-prefix-c : tie.Need-array-share-prefix-c
-array-share-prefix-c c = front-room _ (c .before .before .chosen .last .1 .1 .1 .0) _ (high (c .before .before .before .before .before .before .before .before .before .before)) (c .before .before .chosen .kept .1 .1 .1 .0)
+array-share-prefix-c c = front-room _ (c .before .before .chosen-values .last .1 .1 .0) _ (high (c .before .before .before .before .before .before .before .before .before .before .before)) (c .before .before .chosen-values .kept .1 .1 .0)
 
 slice-aggregate-minus-solved-2 : tie.Need-slice-aggregate-minus-solved-2
-slice-aggregate-minus-solved-2 c = sym (length-take-le _ _ (front-room _ (c .before .before .before .chosen .last .1 .1 .1 .0) _ (high (c .before .before .before .before .before .before .before .before .before .before .before)) (c .before .before .before .chosen .kept .1 .1 .1 .0)))
+slice-aggregate-minus-solved-2 c = sym (length-take-le _ _ (front-room _ (c .before .before .before .chosen-values .last .1 .1 .0) _ (high (c .before .before .before .before .before .before .before .before .before .before .before .before)) (c .before .before .before .chosen-values .kept .1 .1 .0)))
 
 array-share-prefix-zero : tie.Need-array-share-prefix-zero
 array-share-prefix-zero c = search needs
 
 slice-aggregate-minus-solved-3 : tie.Need-slice-aggregate-minus-solved-3
-slice-aggregate-minus-solved-3 c = sym (length-take-le _ _ (short (c .before .before .before .before .before .before .before .before .before .before .before .before)))
+slice-aggregate-minus-solved-3 c = sym (length-take-le _ _ (short (c .before .before .before .before .before .before .before .before .before .before .before .before .before)))
 
 array-borrow-prefix-out : tie.Need-array-borrow-prefix-out
 array-borrow-prefix-out c = search needs
 
 slice-aggregate-minus-solved-4 : tie.Need-slice-aggregate-minus-solved-4
-slice-aggregate-minus-solved-4 c = sym (length-take-le _ _ (short (c .before .before .before .before .before .before .before .before .before .before .before .before .before)))
+slice-aggregate-minus-solved-4 c = sym (length-take-le _ _ (short (c .before .before .before .before .before .before .before .before .before .before .before .before .before .before)))
 
 minus-solved-requires : tie.Need-minus-solved-requires
 minus-solved-requires c κs = tt
@@ -85,13 +88,13 @@ enum-told : tie.Need-enum-told
 enum-told c = search needs
 
 array-share-prefix-out : tie.Need-array-share-prefix-out
-array-share-prefix-out c = front-room _ (c .before .before .before .minus-solved .last .1 .1 .1 .1 .1 .0) _ (short (c .before .before .before .before .before .before .before .before .before .before .before .before .before .before .before .before .before)) (c .before .before .before .minus-solved .kept .1 .1 .1 .1 .1 .0)
+array-share-prefix-out c = front-room _ (c .before .before .before .minus-solved .last .1 .1 .1 .1 .1 .0) _ (short (c .before .before .before .before .before .before .before .before .before .before .before .before .before .before .before .before .before .before)) (c .before .before .before .minus-solved .kept .1 .1 .1 .1 .1 .0)
 
 slice-aggregate-sharpened : tie.Need-slice-aggregate-sharpened
-slice-aggregate-sharpened c = sym (length-take-le _ _ (front-room _ (c .before .before .before .before .minus-solved .last .1 .1 .1 .1 .1 .0) _ (short (c .before .before .before .before .before .before .before .before .before .before .before .before .before .before .before .before .before .before)) (c .before .before .before .before .minus-solved .kept .1 .1 .1 .1 .1 .0)))
+slice-aggregate-sharpened c = sym (length-take-le _ _ (front-room _ (c .before .before .before .before .minus-solved .last .1 .1 .1 .1 .1 .0) _ (short (c .before .before .before .before .before .before .before .before .before .before .before .before .before .before .before .before .before .before .before)) (c .before .before .before .before .minus-solved .kept .1 .1 .1 .1 .1 .0)))
 
 sharpened-requires : tie.Need-sharpened-requires
-sharpened-requires c κs = search needs
+sharpened-requires c κs = c .before .before .before .before .before .before .before .before .before .before .before .before .before .before .before .before .before .before .before .before .pre .1 .1 .1
 
 enum-known-e : tie.Need-enum-known-e
 enum-known-e c = search needs
@@ -102,25 +105,25 @@ same-length c = search needs
 returns : tie.Need-returns
 unfolding shiftOf ofBits
 returns c =
-    let s = (c .before .before .before .before .before .before .before .before .before .before .before .before .before .before .before .before .before .before .before .before .before .before) in
+    let s = (c .before .before .before .before .before .before .before .before .before .before .before .before .before .before .before .before .before .before .before .before .before .before .before) in
     let a = s .args in
     let p = s .pre in
-    let fj = front-kept _ (c .before .before .before .before .before .before .before .before .before .before .before .before .before .before .before .before .before .moving-slopes .last .1 .1 .1 .1 .0) _ (room s) (c .before .before .before .before .before .before .before .before .before .before .before .before .before .before .before .before .before .moving-slopes .kept .1 .1 .1 .1 .0) in
-    let fc = front-kept _ (c .before .before .before .before .before .before .before .before .before .before .before .before .before .before .chosen .last .1 .1 .1 .0) _ (high s) (c .before .before .before .before .before .before .before .before .before .before .before .before .before .before .chosen .kept .1 .1 .1 .0) in
+    let fj = front-kept _ (c .before .before .before .before .before .before .before .before .before .before .before .before .before .before .before .before .before .before .moving-slopes .last .1 .1 .1 .1 .0) _ (room s) (c .before .before .before .before .before .before .before .before .before .before .before .before .before .before .before .before .before .before .moving-slopes .kept .1 .1 .1 .1 .0) in
+    let fc = front-kept _ (c .before .before .before .before .before .before .before .before .before .before .before .before .before .before .chosen-values .last .1 .1 .0) _ (high s) (c .before .before .before .before .before .before .before .before .before .before .before .before .before .before .chosen-values .kept .1 .1 .0) in
     let fo = front-kept _ (c .before .before .before .before .before .before .before .before .minus-solved .last .1 .1 .1 .1 .1 .0) _ (short s) (c .before .before .before .before .before .before .before .before .minus-solved .kept .1 .1 .1 .1 .1 .0) in
-    let x = shift-solved (a .n) (a .m) (a .moving .now) (a .xs .now) _ _ _ _ _ (c .before .before .before .before .before .before .before .before .minus-solved .result) _ (p .0) (p .1 .0) (length-take-le _ _ (short s)) (length-take-le _ _ (high s)) (c .before .before .before .before .before .before .before .before .before .before .before .before .before .before .before .before .before .moving-slopes .ensures) (c .before .before .before .before .before .before .before .before .before .before .before .before .before .before .chosen .ensures) (take-replicate _ _ _ (short s)) (rw (fj, fc) at (c .before .before .before .before .before .before .before .before .minus-solved .ensures)) in
+    let x = shift-solved (a .n) (a .m) (a .moving .now) (a .xs .now) _ _ _ _ _ (c .before .before .before .before .before .before .before .before .minus-solved .result) _ (p .0) (p .1 .0) (length-take-le _ _ (short s)) (length-take-le _ _ (high s)) (c .before .before .before .before .before .before .before .before .before .before .before .before .before .before .before .before .before .before .moving-slopes .ensures) (rw (c .before .before .before .before .before .before .before .before .before .before .before .before .before .before .before .before .constraints .ensures) at (c .before .before .before .before .before .before .before .before .before .before .before .before .before .before .chosen-values .ensures)) (take-replicate _ _ _ (short s)) (rw (fj, fc) at (c .before .before .before .before .before .before .before .before .minus-solved .ensures)) in
     let f = rw (c .before .before .before .before .before .enum-told .given .1) at x in
     ap ok (rw fo at (c .before .before .sharpened .ensures)) ∙ sym (bind-ok _ (sym f))
 
 returns-2 : tie.Need-returns-2
 unfolding shiftOf ofBits
 returns-2 c =
-    let s = (c .before .before .before .before .before .before .before .before .before .before .before .before .before .before .before .before .before .before) in
+    let s = (c .before .before .before .before .before .before .before .before .before .before .before .before .before .before .before .before .before .before .before) in
     let a = s .args in
     let p = s .pre in
-    let fj = front-kept _ (c .before .before .before .before .before .before .before .before .before .before .before .before .before .moving-slopes .last .1 .1 .1 .1 .0) _ (room s) (c .before .before .before .before .before .before .before .before .before .before .before .before .before .moving-slopes .kept .1 .1 .1 .1 .0) in
-    let fc = front-kept _ (c .before .before .before .before .before .before .before .before .before .before .chosen .last .1 .1 .1 .0) _ (high s) (c .before .before .before .before .before .before .before .before .before .before .chosen .kept .1 .1 .1 .0) in
-    let x = shift-solved (a .n) (a .m) (a .moving .now) (a .xs .now) _ _ _ _ _ (c .before .before .before .before .minus-solved .result) (c .before .before .before .before .minus-solved .last .1 .1 .1 .1 .1 .0) (p .0) (p .1 .0) (length-take-le _ _ (short s)) (length-take-le _ _ (high s)) (c .before .before .before .before .before .before .before .before .before .before .before .before .before .moving-slopes .ensures) (c .before .before .before .before .before .before .before .before .before .before .chosen .ensures) (take-replicate _ _ _ (short s)) (rw (fj, fc) at (c .before .before .before .before .minus-solved .ensures)) in
+    let fj = front-kept _ (c .before .before .before .before .before .before .before .before .before .before .before .before .before .before .moving-slopes .last .1 .1 .1 .1 .0) _ (room s) (c .before .before .before .before .before .before .before .before .before .before .before .before .before .before .moving-slopes .kept .1 .1 .1 .1 .0) in
+    let fc = front-kept _ (c .before .before .before .before .before .before .before .before .before .before .chosen-values .last .1 .1 .0) _ (high s) (c .before .before .before .before .before .before .before .before .before .before .chosen-values .kept .1 .1 .0) in
+    let x = shift-solved (a .n) (a .m) (a .moving .now) (a .xs .now) _ _ _ _ _ (c .before .before .before .before .minus-solved .result) (c .before .before .before .before .minus-solved .last .1 .1 .1 .1 .1 .0) (p .0) (p .1 .0) (length-take-le _ _ (short s)) (length-take-le _ _ (high s)) (c .before .before .before .before .before .before .before .before .before .before .before .before .before .before .moving-slopes .ensures) (rw (c .before .before .before .before .before .before .before .before .before .before .before .before .constraints .ensures) at (c .before .before .before .before .before .before .before .before .before .before .chosen-values .ensures)) (take-replicate _ _ _ (short s)) (rw (fj, fc) at (c .before .before .before .before .minus-solved .ensures)) in
     let f = rw (c .before .e .given .1) at x in
     sym (bind-refused _ (sym f))
 
@@ -135,9 +138,10 @@ shift-spec =
     array-borrow-prefix-jc
     slice-aggregate-moving-slopes
     moving-slopes-requires
+    constraints-requires
     array-borrow-prefix-c
-    slice-aggregate-chosen
-    chosen-requires
+    slice-aggregate-chosen-values
+    chosen-values-requires
     array-share-prefix-jc
     slice-aggregate-minus-solved
     array-share-prefix-c

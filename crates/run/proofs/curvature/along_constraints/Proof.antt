@@ -5,7 +5,7 @@ use native.Mathlib.Omega.{arith}
 use lib.Seq.{length-take-le}
 use Rattle.run.proofs.CurvatureLaws.{along-is}
 use Rattle.run.proofs.Prefixes.{front-room, front-kept}
-use Rattle.run.proofs.RowLaws.{few}
+use Rattle.run.proofs.RowLaws.{few, constraints-small}
 use borrow.Author.Needs.{needs}
 use Rattle.run.proofs.curvature.along_constraints.Statement.{statement}
 use Rattle.run.proofs.curvature.along_constraints.Tie as tie
@@ -28,47 +28,47 @@ mul-k c = search needs
 mul-w : tie.Need-mul-w
 mul-w c = search needs
 
-mul-chosen : tie.Need-mul-chosen
-mul-chosen c = omega (arith, room (c .before .before .before))
+constraints-requires : tie.Need-constraints-requires
+constraints-requires c κs = search needs
 
 array-borrow-prefix-jc : tie.Need-array-borrow-prefix-jc
-array-borrow-prefix-jc c = room (c .before .before .before)
+array-borrow-prefix-jc c = room (c .before .before .before .before)
 
-slice-aggregate-chosen : tie.Need-slice-aggregate-chosen
-slice-aggregate-chosen c = sym (length-take-le _ _ (room (c .before .before .before .before)))
+slice-aggregate-chosen-slopes : tie.Need-slice-aggregate-chosen-slopes
+slice-aggregate-chosen-slopes c = sym (length-take-le _ _ (room (c .before .before .before .before .before)))
 
-chosen-requires : tie.Need-chosen-requires
-chosen-requires c κs = let s = (c .before .before .before .before) in (omega (arith, s .pre .1 .0), omega (arith, room s))
+chosen-slopes-requires : tie.Need-chosen-slopes-requires
+chosen-slopes-requires c κs = let s = c .before .before .before .before .before in rw (c .before .constraints .ensures) (constraints-small (s .pre .0) (s .pre .1 .0))
 
 array-share-prefix-jc : tie.Need-array-share-prefix-jc
-array-share-prefix-jc c = front-room _ (c .before .chosen .last .1 .1 .1 .0) _ (room (c .before .before .before .before .before .before)) (c .before .chosen .kept .1 .1 .1 .0)
+array-share-prefix-jc c = front-room _ (c .before .chosen-slopes .last .1 .1 .0) _ (room (c .before .before .before .before .before .before .before)) (c .before .chosen-slopes .kept .1 .1 .0)
 
 slice-aggregate-products : tie.Need-slice-aggregate-products
-slice-aggregate-products c = sym (length-take-le _ _ (front-room _ (c .before .before .chosen .last .1 .1 .1 .0) _ (room (c .before .before .before .before .before .before .before)) (c .before .before .chosen .kept .1 .1 .1 .0)))
+slice-aggregate-products c = sym (length-take-le _ _ (front-room _ (c .before .before .chosen-slopes .last .1 .1 .0) _ (room (c .before .before .before .before .before .before .before .before)) (c .before .before .chosen-slopes .kept .1 .1 .0)))
 
 array-borrow-prefix-rhs : tie.Need-array-borrow-prefix-rhs
 array-borrow-prefix-rhs c = search needs
 
 slice-aggregate-products-2 : tie.Need-slice-aggregate-products-2
-slice-aggregate-products-2 c = sym (length-take-le _ _ (high (c .before .before .before .before .before .before .before .before)))
+slice-aggregate-products-2 c = sym (length-take-le _ _ (high (c .before .before .before .before .before .before .before .before .before)))
 
 products-requires : tie.Need-products-requires
 products-requires c κs = search needs
 
 array-share-prefix-jc-2 : tie.Need-array-share-prefix-jc-2
-array-share-prefix-jc-2 c = front-room _ (c .before .before .before .before .before .chosen .last .1 .1 .1 .0) _ (room (c .before .before .before .before .before .before .before .before .before .before)) (c .before .before .before .before .before .chosen .kept .1 .1 .1 .0)
+array-share-prefix-jc-2 c = front-room _ (c .before .before .before .before .before .chosen-slopes .last .1 .1 .0) _ (room (c .before .before .before .before .before .before .before .before .before .before .before)) (c .before .before .before .before .before .chosen-slopes .kept .1 .1 .0)
 
 slice-aggregate-minus-solved : tie.Need-slice-aggregate-minus-solved
-slice-aggregate-minus-solved c = sym (length-take-le _ _ (front-room _ (c .before .before .before .before .before .before .chosen .last .1 .1 .1 .0) _ (room (c .before .before .before .before .before .before .before .before .before .before .before)) (c .before .before .before .before .before .before .chosen .kept .1 .1 .1 .0)))
+slice-aggregate-minus-solved c = sym (length-take-le _ _ (front-room _ (c .before .before .before .before .before .before .chosen-slopes .last .1 .1 .0) _ (room (c .before .before .before .before .before .before .before .before .before .before .before .before)) (c .before .before .before .before .before .before .chosen-slopes .kept .1 .1 .0)))
 
 array-share-prefix-rhs : tie.Need-array-share-prefix-rhs
-array-share-prefix-rhs c = front-room _ (c .before .before .products .last .1 .1 .1 .1 .0) _ (high (c .before .before .before .before .before .before .before .before .before .before .before)) (c .before .before .products .kept .1 .1 .1 .1 .0)
+array-share-prefix-rhs c = front-room _ (c .before .before .products .last .1 .1 .1 .1 .0) _ (high (c .before .before .before .before .before .before .before .before .before .before .before .before)) (c .before .before .products .kept .1 .1 .1 .1 .0)
 
 slice-aggregate-minus-solved-2 : tie.Need-slice-aggregate-minus-solved-2
-slice-aggregate-minus-solved-2 c = sym (length-take-le _ _ (front-room _ (c .before .before .before .products .last .1 .1 .1 .1 .0) _ (high (c .before .before .before .before .before .before .before .before .before .before .before .before)) (c .before .before .before .products .kept .1 .1 .1 .1 .0)))
+slice-aggregate-minus-solved-2 c = sym (length-take-le _ _ (front-room _ (c .before .before .before .products .last .1 .1 .1 .1 .0) _ (high (c .before .before .before .before .before .before .before .before .before .before .before .before .before)) (c .before .before .before .products .kept .1 .1 .1 .1 .0)))
 
 slice-aggregate-minus-solved-3 : tie.Need-slice-aggregate-minus-solved-3
-slice-aggregate-minus-solved-3 c = sym (length-take-le _ _ ((c .before .before .before .before .before .before .before .before .before .before .before .before .before) .pre .1 .1 .0))
+slice-aggregate-minus-solved-3 c = sym (length-take-le _ _ ((c .before .before .before .before .before .before .before .before .before .before .before .before .before .before) .pre .1 .1 .0))
 
 minus-solved-requires : tie.Need-minus-solved-requires
 minus-solved-requires c κs = tt
@@ -78,12 +78,12 @@ same-length c = search needs
 
 returns : tie.Need-returns
 returns c =
-    let s = (c .before .before .before .before .before .before .before .before .before .before .before .before .before .before .before .before .before) in
+    let s = (c .before .before .before .before .before .before .before .before .before .before .before .before .before .before .before .before .before .before) in
     let a = s .args in
     let p = s .pre in
-    let fj = front-kept _ (c .before .before .before .before .before .before .before .before .before .before .before .before .chosen .last .1 .1 .1 .0) _ (room s) (c .before .before .before .before .before .before .before .before .before .before .before .before .chosen .kept .1 .1 .1 .0) in
+    let fj = front-kept _ (c .before .before .before .before .before .before .before .before .before .before .before .before .chosen-slopes .last .1 .1 .0) _ (room s) (c .before .before .before .before .before .before .before .before .before .before .before .before .chosen-slopes .kept .1 .1 .0) in
     let fr = front-kept _ (c .before .before .before .before .before .before .before .before .products .last .1 .1 .1 .1 .0) _ (high s) (c .before .before .before .before .before .before .before .before .products .kept .1 .1 .1 .1 .0) in
-    along-is (a .n) (a .m) (a .xs .now) (a .v .now) _ _ (a .out .now) (p .0) (p .1 .0) (p .1 .1 .0) _ _ (c .before .before .minus-solved .result) _ (p .1 .1 .1) (length-take-le _ _ (room s)) (length-take-le _ _ (high s)) (c .before .before .before .before .before .before .before .before .before .before .before .before .chosen .ensures) (rw fj at (c .before .before .before .before .before .before .before .before .products .ensures)) (rw (fj, fr) at (c .before .before .minus-solved .ensures))
+    along-is (a .n) (a .m) (a .xs .now) (a .v .now) _ _ (a .out .now) (p .0) (p .1 .0) (p .1 .1 .0) _ _ (c .before .before .minus-solved .result) _ (p .1 .1 .1) (length-take-le _ _ (room s)) (length-take-le _ _ (high s)) (rw (c .before .before .before .before .before .before .before .before .before .before .before .before .before .before .constraints .ensures) at (c .before .before .before .before .before .before .before .before .before .before .before .before .chosen-slopes .ensures)) (rw fj at (c .before .before .before .before .before .before .before .before .products .ensures)) (rw (fj, fr) at (c .before .before .minus-solved .ensures))
 
 pub along-constraints-spec : {M : Type 1} → statement M
 along-constraints-spec =
@@ -93,10 +93,10 @@ along-constraints-spec =
     mul-q-2
     mul-k
     mul-w
-    mul-chosen
+    constraints-requires
     array-borrow-prefix-jc
-    slice-aggregate-chosen
-    chosen-requires
+    slice-aggregate-chosen-slopes
+    chosen-slopes-requires
     array-share-prefix-jc
     slice-aggregate-products
     array-borrow-prefix-rhs

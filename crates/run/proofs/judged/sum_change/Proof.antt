@@ -3,7 +3,6 @@ use borrow.Author.Needs.{needs}
 use mathlib.Core.Path.{_≡_, refl}
 use Prim.Native.Nat.{_≤_, _-_}
 use native.Mathlib.Nat.{le-antisymm}
-use native.Mathlib.Omega.{arith}
 use lib.Ieee.{ofBits}
 use Rattle.interval.specs.declared.Scalar.{Scalar}
 use Rattle.interval.specs.Scalar.{addOf, subOf}
@@ -32,17 +31,11 @@ loop-holds : tie.Need-loop-holds Inv-loop μ-loop
 unfolding plusTo ofBits
 loop-holds c = (search needs, refl)
 
-add-at : tie.Need-add-at Inv-loop μ-loop
-add-at c = omega (arith, c .before .before .before .before .before .pre .few-rows, c .before .before .before .before .before .pre .values-near)
+value-of-requires : tie.Need-value-of-requires Inv-loop μ-loop
+value-of-requires c κs = tt
 
-at-requires : tie.Need-at-requires Inv-loop μ-loop
-at-requires c κs = search needs
-
-add-at-2 : tie.Need-add-at-2 Inv-loop μ-loop
-add-at-2 c = omega (arith, c .before .before .before .before .before .before .before .pre .few-rows, c .before .before .before .before .before .before .before .pre .values-near)
-
-at-requires-2 : tie.Need-at-requires-2 Inv-loop μ-loop
-at-requires-2 c κs = search needs
+value-of-requires-2 : tie.Need-value-of-requires-2 Inv-loop μ-loop
+value-of-requires-2 c κs = tt
 
 sub-requires : tie.Need-sub-requires Inv-loop μ-loop
 sub-requires c κs = search needs
@@ -64,8 +57,8 @@ loop-less c = search needs
 
 loop-again : tie.Need-loop-again Inv-loop μ-loop
 loop-again c =
-    let l = c .before .before .before .before .before .before .before .before .before .loop in
-    (search needs, plusTo-more _ _ _ (l .i) (l .inv .1) (less (c .before .before .before .before .before .before .at .ensures) (c .before .before .before .before .at2 .ensures) (c .before .before .before .sub .ensures .value)) (more (c .before .before .before .before .before .before .at .ensures) (c .before .before .before .before .at2 .ensures) (c .before .before .add .ensures .value)) (c .before .mul .ensures .value) (c .add2 .ensures .value))
+    let l = c .before .before .before .before .before .before .before .loop in
+    (search needs, plusTo-more _ _ _ (l .i) (l .inv .1) (less (c .before .before .before .before .before .value-of .ensures) (c .before .before .before .before .value-of2 .ensures) (c .before .before .before .sub .ensures .value)) (more (c .before .before .before .before .before .value-of .ensures) (c .before .before .before .before .value-of2 .ensures) (c .before .before .add .ensures .value)) (c .before .mul .ensures .value) (c .add2 .ensures .value))
 
 returns : tie.Need-returns Inv-loop μ-loop
 unfolding sumChange
@@ -78,10 +71,8 @@ sum-change-spec =
     Inv-loop
     μ-loop
     loop-holds
-    add-at
-    at-requires
-    add-at-2
-    at-requires-2
+    value-of-requires
+    value-of-requires-2
     sub-requires
     add-requires
     mul-requires

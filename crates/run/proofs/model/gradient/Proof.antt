@@ -22,11 +22,11 @@ Inv-loop xs e index k g₀ r p₀ g p = (p ≤ k) × (length g ≡ length g₀) 
 abbrev μ-loop : tie.MeasureT-loop
 μ-loop xs e index k g₀ r p₀ g p = k - p
 
-slice-aggregate-chosen : tie.Need-slice-aggregate-chosen Inv-loop μ-loop
-slice-aggregate-chosen c = search needs
+slice-aggregate-chosen-values : tie.Need-slice-aggregate-chosen-values Inv-loop μ-loop
+slice-aggregate-chosen-values c = search needs
 
-chosen-requires : tie.Need-chosen-requires Inv-loop μ-loop
-chosen-requires c κs = let s = c .before .before .before .before in (omega (arith, s .pre .0 .values-near), omega (arith, s .pre .0 .few-rows))
+chosen-values-requires : tie.Need-chosen-values-requires Inv-loop μ-loop
+chosen-values-requires c κs = tt
 
 clear-requires : tie.Need-clear-requires Inv-loop μ-loop
 clear-requires c κs = search needs
@@ -63,7 +63,7 @@ loop-again : tie.Need-loop-again Inv-loop μ-loop
 unfolding transposedAt
 loop-again c =
     let a = c .before .before .before .before .before .before .before .before .before .before .before .before .before .before .before .before .before .before .before .before .args in
-    let r = c .before .before .before .before .before .before .before .before .before .before .before .before .before .before .before .chosen .last .1 .1 .1 .0 in
+    let r = c .before .before .before .before .before .before .before .before .before .before .before .before .before .before .before .chosen-values .last .1 .1 .0 in
     let l = c .before .before .before .before .before .before .before .before .before .loop in
     (search needs, search needs, c .before .before .put .ensures ∙ fill-first vector (λ j. chooseOf (dotTo (slopesBy (rowsIn (a .xs .now) (a .e)) (getD (a .index .now) j 0)) (at r) (a .e .count))) (l .p) (l .inv .2) (c .before .before .before .choose .ensures ∙ ap chooseOf (c .before .before .before .before .transposed-at .ensures)))
 
@@ -74,7 +74,7 @@ returns : tie.Need-returns Inv-loop μ-loop
 unfolding gradientOf ofBits
 returns c =
     let i = rw (le-antisymm (c .before .loop .inv .0) (c .loop-test .left)) at (c .before .loop .inv .2) in
-    rw (c .before .before .before .before .before .before .before .chosen .ensures) at i
+    rw (c .before .before .before .before .before .before .before .chosen-values .ensures) at i
 
 pub gradient-spec : {M : Type 1} → statement M
 gradient-spec =
@@ -82,8 +82,8 @@ gradient-spec =
     (tie.spec
     Inv-loop
     μ-loop
-    slice-aggregate-chosen
-    chosen-requires
+    slice-aggregate-chosen-values
+    chosen-values-requires
     clear-requires
     loop-holds
     slice-aggregate-transposed-at

@@ -8,7 +8,6 @@ use lib.ListN.{length}
 use Rattle.run.specs.Model.{keptBy, variable, squeezedOf}
 use Rattle.run.specs.Rows.{rowsIn, slopeAt}
 use Rattle.run.specs.Scratch.{fillRows}
-use Rattle.run.proofs.ModelLaws.{row-place}
 use Rattle.run.proofs.ScratchLaws.{fill-rows-turn}
 use Rattle.run.proofs.model.squeeze.Statement.{statement}
 use Rattle.run.proofs.model.squeeze.Tie as tie
@@ -24,33 +23,24 @@ unfolding fillRows
 loop-holds c = search needs
 
 mul-squeeze-row : tie.Need-mul-squeeze-row Inv-loop μ-loop
-mul-squeeze-row c =
-    let s = c .before .before .before .before .before .before in
-    omega (arith, row-place (s .args .e .n) (c .before .loop-test .taken) (s .pre .0 .few-rows) (s .pre .0 .few-variables))
-
-add-squeeze-row : tie.Need-add-squeeze-row Inv-loop μ-loop
-add-squeeze-row c =
-    let s = c .before .before .before .before .before .before .before in
-    omega (arith, row-place (s .args .e .n) (c .before .before .loop-test .taken) (s .pre .0 .few-rows) (s .pre .0 .few-variables), s .pre .0 .slopes-near)
-
-mul-squeeze-row-2 : tie.Need-mul-squeeze-row-2 Inv-loop μ-loop
-mul-squeeze-row-2 c = omega (arith, c .before .before .before .loop-test .taken, c .before .before .before .before .before .before .before .before .pre .0 .few-rows)
+mul-squeeze-row c = omega (arith, c .before .loop-test .taken, c .before .before .before .before .before .before .pre .0 .few-rows)
 
 squeeze-row-requires : tie.Need-squeeze-row-requires Inv-loop μ-loop
 squeeze-row-requires c κs =
-    let s = c .before .before .before .before .before .before .before .before in
-    (s .pre .1 .0, (s .pre .1 .1, omega (arith, c .before .before .before .loop-test .taken, s .pre .0 .few-rows)))
+    let s = c .before .before .before .before .before .before in
+    let t = c .before .loop-test .taken in
+    ((s .pre .0, omega (arith, t, s .pre .0 .few-rows)), (s .pre .1 .0, (s .pre .1 .1, omega (arith, t, s .pre .0 .few-rows))))
 
 add-i : tie.Need-add-i Inv-loop μ-loop
-add-i c = omega (arith, c .before .before .before .before .before .before .loop-test .taken, c .before .before .before .before .before .before .before .before .before .before .before .pre .0 .few-rows)
+add-i c = omega (arith, c .before .before .before .before .loop-test .taken, c .before .before .before .before .before .before .before .before .before .pre .0 .few-rows)
 
 loop-less : tie.Need-loop-less Inv-loop μ-loop
 loop-less c = search needs
 
 loop-again : tie.Need-loop-again Inv-loop μ-loop
 loop-again c =
-    let a = c .before .before .before .before .before .before .before .before .before .before .before .args in
-    let l = c .before .before .before .before .before .before .before .loop in
+    let a = c .before .before .before .before .before .before .before .before .before .args in
+    let l = c .before .before .before .before .before .loop in
     (search needs, search needs, c .before .before .squeeze-row .ensures ∙ fill-rows-turn (a .to .now) (λ j p. slopeAt (rowsIn (a .xs .now) (a .e)) j (variable (keptBy (a .k) (a .index .now)) p)) (a .k) (l .i) (l .inv .2))
 
 same-length : tie.Need-same-length Inv-loop μ-loop
@@ -61,18 +51,4 @@ unfolding squeezedOf
 returns c = rw (le-antisymm (c .before .loop .inv .0) (c .loop-test .left)) at (c .before .loop .inv .2)
 
 pub squeeze-spec : {M : Type 1} → statement M
-squeeze-spec =
-    tie.close
-    (tie.spec
-    Inv-loop
-    μ-loop
-    loop-holds
-    mul-squeeze-row
-    add-squeeze-row
-    mul-squeeze-row-2
-    squeeze-row-requires
-    add-i
-    loop-less
-    loop-again
-    same-length
-    returns)
+squeeze-spec = tie.close (tie.spec Inv-loop μ-loop loop-holds mul-squeeze-row squeeze-row-requires add-i loop-less loop-again same-length returns)

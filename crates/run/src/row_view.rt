@@ -1,0 +1,69 @@
+// Rows of one kind as a view: the answered slice, and where the rows stand in it. The checker covers no function over a struct that holds a reference: each below that takes, makes or holds a view is thin and proved by hand. The work is
+// `value_at` and `slope_at`, on the slice and numbers; `value_of` and `slope_of`, with plain parameters, are how every other function reads an answer.
+ghost use mathlib.Core.Path.{_≡_};
+ghost use Prim.Native.Nat.{_+_, _*_, _<_, _≤_};
+ghost use Rattle.linear.specs.Flat.{at};
+ghost use Rattle.run.specs.Rows.{rowsIn, Small, valueAt, slopeAt};
+use crate::rows::RowSet;
+use interval::Scalar;
+use linear::along;
+
+pub struct RowView<'a> {
+    pub rows: &'a [f64],
+    pub set: RowSet,
+}
+
+// ---- the work
+
+// Value i of those from the place `values` on.
+fn value_at(rows: &[f64], values: usize, i: usize) -> Scalar
+    ensures { λ r. ⌜ r ≡ at (now (rows .entry)) (values + i) ⌝ }
+{
+    along(rows, values, 1, i)
+}
+
+// Slope j of row i, of rows of n from the place `slopes` on.
+fn slope_at(rows: &[f64], slopes: usize, n: usize, i: usize, j: usize) -> Scalar
+    requires { ⌜ (slopes < 1000) × ((n ≤ 12) × (i < 65536)) ⌝ }
+    ensures { λ r. ⌜ r ≡ at (now (rows .entry)) (slopes + i * n + j) ⌝ }
+{
+    along(rows, slopes + i * n, 1, j)
+}
+
+// ---- the view, made and taken apart
+
+fn viewed<'a>(rows: &'a [f64], set: RowSet) -> RowView<'a>
+    ensures { λ r. ⌜ (r .rows ≡ rows .entry) × (r .set ≡ set) ⌝ }
+{
+    RowView { rows, set }
+}
+
+fn value<'a>(v: RowView<'a>, i: usize) -> Scalar
+    ensures { λ r. ⌜ r ≡ valueAt (rowsIn (now (v .entry .rows)) (v .entry .set)) i ⌝ }
+{
+    value_at(v.rows, v.set.values, i)
+}
+
+fn slope<'a>(v: RowView<'a>, i: usize, j: usize) -> Scalar
+    requires { ⌜ Small (v .set) × (i < 65536) ⌝ }
+    ensures { λ r. ⌜ r ≡ slopeAt (rowsIn (now (v .entry .rows)) (v .entry .set)) i j ⌝ }
+{
+    slope_at(v.rows, v.set.slopes, v.set.n, i, j)
+}
+
+// ---- with plain parameters
+
+// The value of row i.
+pub fn value_of(xs: &[f64], e: RowSet, i: usize) -> Scalar
+    ensures { λ r. ⌜ r ≡ valueAt (rowsIn (now (xs .entry)) e) i ⌝ }
+{
+    value(viewed(xs, e), i)
+}
+
+// The slope of row i by variable j.
+pub fn slope_of(xs: &[f64], e: RowSet, i: usize, j: usize) -> Scalar
+    requires { ⌜ Small e × (i < 65536) ⌝ }
+    ensures { λ r. ⌜ r ≡ slopeAt (rowsIn (now (xs .entry)) e) i j ⌝ }
+{
+    slope(viewed(xs, e), i, j)
+}
