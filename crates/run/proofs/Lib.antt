@@ -1,6 +1,7 @@
 pub mod ScratchLaws
 pub mod Prefixes
 pub mod RowLaws
+pub mod FilterLaws
 pub mod Dampings
 pub mod PointLaws
 pub mod CurvatureLaws

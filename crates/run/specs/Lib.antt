@@ -7,6 +7,7 @@ pub mod Directions
 pub mod Step
 pub mod Proposal
 pub mod Judgement
+pub mod Filter
 pub mod Correction
 pub mod Area
 pub mod Search

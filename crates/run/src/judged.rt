@@ -6,6 +6,7 @@ ghost use lib.ListN.{length};
 ghost use Rattle.interval.specs.Scalar.{subOf, definitelyLess};
 ghost use Rattle.run.specs.Rows.{rowsIn, Small, sumOf, sumSquared, evaluationOf};
 ghost use Rattle.run.specs.Judgement.{sumChange, filterSum, filterViolation, beatsTo, rises, indefinite, contracts, judgedBy, judgeOf, judgementOf};
+use crate::filter::beats_as_pairs;
 use crate::row_view::value_of;
 use crate::rows;
 use crate::rows::RowSet;
@@ -54,7 +55,7 @@ fn beats_pair(filter: &[f64], f: Scalar, theta: Scalar, i: usize) -> bool
 }
 
 // Whether f or theta is definitely less than in each of the filter's first pairs.
-fn beats(filter: &[f64], f: Scalar, theta: Scalar, count: usize) -> bool
+pub fn beats(filter: &[f64], f: Scalar, theta: Scalar, count: usize) -> bool
     requires { ⌜ count < 65536 ⌝ }
     ensures { λ r. ⌜ r ≡ beatsTo (now (filter .entry)) f theta count ⌝ }
 {
@@ -116,7 +117,7 @@ fn judged_at(
 {
     let change = sum_change(at, next, rows::sum(n, m, s));
     let f = rows::sum_squared(next, n, m, s);
-    let beaten = beats(filter, f, theta_next, count);
+    let beaten = beats_as_pairs(filter, f, theta_next, count);
     let fall = theta.sub(theta_next);
     Judged {
         length,

@@ -7,6 +7,7 @@ mod correction;
 mod curvature;
 mod directions;
 mod endings;
+mod filter;
 mod free;
 mod judged;
 mod judging;

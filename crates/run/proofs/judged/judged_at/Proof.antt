@@ -27,8 +27,8 @@ sum-change-requires c κs = let p = c .before .before .before .before .pre in rw
 sum-squared-requires : tie.Need-sum-squared-requires
 sum-squared-requires c κs = search needs
 
-beats-requires : tie.Need-beats-requires
-beats-requires c κs = search needs
+beats-as-pairs-requires : tie.Need-beats-as-pairs-requires
+beats-as-pairs-requires c κs = search needs
 
 sub-requires : tie.Need-sub-requires
 sub-requires c κs = search needs
@@ -46,8 +46,8 @@ returns : tie.Need-returns
 returns c =
     let a = c .before .before .before .before .before .before .before .before .before .before .before .args in
     let change = c .before .before .before .before .before .before .sum-change .ensures ∙ ap (λ e. sumChange (rowsIn (a .at .now) e) (rowsIn (a .next .now) e)) (c .before .before .before .before .before .before .before .sum .ensures) in
-    let beaten = c .before .before .before .before .beats .ensures ∙ ap (λ f. beatsTo (a .filter .now) f (a .theta-next) (a .count)) (c .before .before .before .before .before .sum-squared .ensures) in
-    parts (a .last) change (c .before .before .before .sub .ensures .value) beaten (answers (c .before .before .before .before .before .before .sum-change .result) (c .before .before .before .sub .result) (c .before .before .before .before .beats .result) (a .length) (a .last) (c .before .before .is-lower .ensures) (c .before .is-undecided .ensures) (c .contracts .ensures))
+    let beaten = c .before .before .before .before .beats-as-pairs .ensures ∙ ap (λ f. beatsTo (a .filter .now) f (a .theta-next) (a .count)) (c .before .before .before .before .before .sum-squared .ensures) in
+    parts (a .last) change (c .before .before .before .sub .ensures .value) beaten (answers (c .before .before .before .before .before .before .sum-change .result) (c .before .before .before .sub .result) (c .before .before .before .before .beats-as-pairs .result) (a .length) (a .last) (c .before .before .is-lower .ensures) (c .before .is-undecided .ensures) (c .contracts .ensures))
 
 pub judged-at-spec : {M : Type 1} → statement M
 judged-at-spec =
@@ -56,7 +56,7 @@ judged-at-spec =
     sum-requires
     sum-change-requires
     sum-squared-requires
-    beats-requires
+    beats-as-pairs-requires
     sub-requires
     is-lower-requires
     is-undecided-requires
