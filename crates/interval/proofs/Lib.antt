@@ -25,3 +25,5 @@ pub mod OneSided
 pub mod OrderUnits
 pub mod Bounded
 pub mod Scaling
+pub mod Bounds
+pub mod Middle

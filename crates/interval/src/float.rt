@@ -4,7 +4,7 @@ ghost use lib.Ieee.Scale.{finite};
 ghost use Rattle.interval.specs.Float.{fmin, fmax, lesser, greater, least, greatest};
 
 // fmin for an a that is a number.
-fn lesser_of(a: f64, b: f64) -> f64
+pub fn lesser_of(a: f64, b: f64) -> f64
     ensures { λ r. ⌜ r ≡ lesser a b ⌝ }
 {
     if b < a { b } else { a }

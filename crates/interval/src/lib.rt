@@ -12,6 +12,8 @@ mod root;
 mod sets;
 mod step;
 
+pub use float::greatest_of;
+pub use float::lesser_of;
 pub use step::next_down;
 pub use step::next_up;
 
