@@ -4,10 +4,17 @@ use mathlib.Core.Path.{_≡_, sym, ap, _∙_}
 use native.Mathlib.Nat.{not-suc-le-zero, mul-le-mul, mod-lt, div-lt-iff-lt-mul}
 use native.Mathlib.Omega.{arith}
 use lib.Arith.{digits-lt, digits-div, digits-mod}
+use Rattle.linear.specs.Flat.{Inside}
 
 -- inside a flat list of n * n scalars
 pub cell-inside : {n r k m : ℕ} → r < n → k < n → m ≡ 2 * (n * n) → 2 * (r * n + k) + 1 < m
 cell-inside {n} {r} {k} hr hk e = omega (arith, digits-lt {q = r} {m = n} {r = k} {c = n} hr hk)
+
+-- the first k places of row r
+pub row-inside : {n r k m : ℕ} → r < n → k ≤ n → m ≡ 2 * (n * n) → Inside (r * n) 1 k m
+row-inside {n} {r} {k} hr hk e t h =
+    let inside : t < n = omega arith in
+    omega (arith, cell-inside {n = n} {r = r} {k = t} hr inside e)
 
 pub cell-row : {n k j : ℕ} (r s : ℕ) → k < n → j < n → r * n + k ≡ s * n + j → r ≡ s
 cell-row {n} r s hk hj e = sym (digits-div r hk) ∙ ap (λ p. p / n) e ∙ digits-div s hj

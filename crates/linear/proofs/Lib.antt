@@ -5,12 +5,15 @@ pub mod Turns
 pub mod Replied
 pub mod Walks
 pub mod Sums
+pub mod BoundLaws
+pub mod FillLaws
 pub mod Agree
 pub mod Cells
 pub mod Marks
 pub mod Pivots
 pub mod FactorEntries
 pub mod CholeskyRows
+pub mod LowerTriangle
 pub mod Reflections
 pub mod SquareLaws
 pub mod RootLaws

@@ -1,11 +1,10 @@
--- One reflection, law by law as the code takes it: the normal, the column less its share, a column reflected, and the marks beside it. Each takes what the calls gave, one equation a call,
+-- One reflection, law by law as the code takes it: the normal, a column reflected, and the marks beside it. Each takes what the calls gave, one equation a call,
 -- since the scalars' operations are written out wherever they stand.
 use Prim.Native.Nat.{ℕ, zero, suc, _+_, _*_, _≤_, _<_}
 use mathlib.Core.Bool.{Bool}
 use mathlib.Core.List.{List}
 use mathlib.Core.Path.{_≡_, sym}
 use native.Mathlib.Nat.{mul-le-mul, mul-zero, not-suc-le-zero}
-use native.Mathlib.Numerals.{add-one}
 use native.Mathlib.Omega.{arith}
 use lib.Ieee.{Float}
 use Rattle.interval.specs.declared.Scalar.{Scalar}
@@ -18,7 +17,8 @@ use Rattle.linear.specs.Flat.{at, put, along}
 use Rattle.linear.specs.Dot.{dotTo}
 use Rattle.linear.specs.Choose.{chooseOf}
 use Rattle.linear.specs.Cholesky.{factorOf}
-use Rattle.linear.specs.Householder.{alphaOf, normalOf, lessTo, reflectStep, withMarks}
+use Rattle.linear.specs.Scaled.{minusScaled}
+use Rattle.linear.specs.Householder.{alphaOf, normalOf, reflectStep, withMarks}
 use Rattle.linear.proofs.Folds.{bind-ok, bind-refused}
 
 -- ---- the columns: r of m rows, and the right-hand side
@@ -37,13 +37,8 @@ pub normal-is : (xs : List Float) (size : Scalar) {x a s v : Scalar} {xs′ : Li
 unfolding normalOf
 normal-is xs size ex ea es ev e = rw (e, ev, es, ea, ex)
 
--- one scalar more
-pub less-more : (f : Scalar) (v : List Float) (base : ℕ) (cols : List Float) (k : ℕ) {c c′ : List Float} {x y p s z : Scalar} → c ≡ lessTo f v base cols k → x ≡ at c (base + k) → y ≡ at v k → p ≡ mulOf f y → s ≡ subOf x p → z ≡ chooseOf s → c′ ≡ put c (base + k) z → c′ ≡ lessTo f v base cols (k + 1)
-unfolding lessTo
-less-more f v base cols k ec ex ey ep es ez e = rw (add-one, e, ez, es, ep, ex, ey, ec)
-
 module _ (v : List Float) (vv : Scalar) (n base : ℕ) (cols : List Float) {s p : Scalar} (es : s ≡ dotTo (at v) (along cols base 1) n) (ep : p ≡ mulOf s (degenerate two64)) where
-  pub reflect-ok : {f : Scalar} {c : List Float} → ok f ≡ divOf p vv → c ≡ lessTo f v base cols n → ok c ≡ reflectStep v vv n base cols
+  pub reflect-ok : {f : Scalar} {c : List Float} → ok f ≡ divOf p vv → c ≡ minusScaled cols base f v 0 n → ok c ≡ reflectStep v vv n base cols
   unfolding reflectStep
   reflect-ok ef e = rw e (sym (bind-ok _ (sym (rw (ep, es) at ef))))
 

@@ -36,6 +36,13 @@ module _ (size base step : ℕ) where
   pub cut-more : {i r : ℕ} (t : ℕ) → Cut size i (base + t * step) → r ≡ min (i + step) size → Cut size r (base + (t + 1) * step)
   cut-more t e q = let m : (t + 1) * step ≡ t * step + step = rw (add-one, suc-mul) in omega arith
 
+-- the same of a run with step 1, along a list that keeps its size
+pub cut-next : (base t : ℕ) {size n i r : ℕ} → Cut size i (base + t) → r ≡ min (i + 1) n → n ≡ size → Cut size r (base + (t + 1))
+cut-next base t e q h = omega arith
+
+pub cut-size : {size n i p : ℕ} → Cut size i p → n ≡ size → Cut n i p
+cut-size e h = rw h e
+
 -- the places are inside where the last of them is
 pub inside-reach : (base step k len : ℕ) → base < len / 2 - (k - 1) * step → Inside base step k len
 inside-reach base step k len h t l =

@@ -29,6 +29,11 @@ along xs base step j = at xs (base + j * step)
 abbrev pub Inside : ℕ → ℕ → ℕ → ℕ → Type 0
 Inside base step k len = (t : ℕ) → t < k → 2 * (base + t * step) + 1 < len
 
+-- xs with f 0 to f (k - 1) stored from the place base on
+unfoldable pub fillTo : List Float → ℕ → (ℕ → Scalar) → ℕ → List Float
+fillTo xs base f zero = xs
+fillTo xs base f (suc k) = put (fillTo xs base f k) (base + k) (f k)
+
 -- the list of the first n scalars of an index function
 unfoldable pub listTo : (ℕ → Scalar) → ℕ → List Float
 listTo f zero = []

@@ -1,5 +1,5 @@
 -- `least_squares`: the y with |rows y - rhs| least, by Householder reflections, each value chosen. The rows stand by columns in one list, column t at t * m, the right-hand side last.
-use Prim.Native.Nat.{ℕ, zero, suc, _+_, _*_, _-_, _/_, _%_, min}
+use Prim.Native.Nat.{ℕ, _+_, _*_, _-_, _/_, _%_, min}
 use mathlib.Core.Bool.{Bool, true, false, not, _||_}
 use mathlib.Core.List.{List}
 use lib.Dec.{ltb}
@@ -13,6 +13,7 @@ use Rattle.linear.specs.Results.{bind, foldR}
 use Rattle.linear.specs.Dot.{dotTo, minusTo}
 use Rattle.linear.specs.Choose.{chooseOf}
 use Rattle.linear.specs.Norm.{normOf}
+use Rattle.linear.specs.Scaled.{minusScaled}
 use Rattle.linear.specs.Substitution.{storeR}
 use Rattle.linear.specs.Cholesky.{Factor, factorOf}
 
@@ -35,15 +36,10 @@ alphaOf x0 length = pick (definitelyLess x0 zeroS) length (negOf length)
 unfoldable pub normalOf : List Float → Scalar → List Float
 normalOf x length = put x 0 (chooseOf (subOf (at x 0) (alphaOf (at x 0) length)))
 
--- the first k of a column from base on, less f times those of v, each chosen
-unfoldable pub lessTo : Scalar → List Float → ℕ → List Float → ℕ → List Float
-lessTo f v base cols zero = cols
-lessTo f v base cols (suc k) = put (lessTo f v base cols k) (base + k) (chooseOf (subOf (at (lessTo f v base cols k) (base + k)) (mulOf f (at v k))))
-
 -- one column reflected: n of its rows, from base on
 unfoldable pub reflectStep : List Float → Scalar → ℕ → ℕ → List Float → Res (List Float)
 unfolding bind
-reflectStep v vv n base cols = bind (divOf (mulOf (dotTo (at v) (along cols base 1) n) (degenerate two64)) vv) (λ f. ok (lessTo f v base cols n))
+reflectStep v vv n base cols = bind (divOf (mulOf (dotTo (at v) (along cols base 1) n) (degenerate two64)) vv) (λ f. ok (minusScaled cols base f v 0 n))
 
 -- the columns from column j on reflected, the right-hand side among them
 unfoldable pub reflectTo : ℕ → ℕ → List Float → Scalar → List Float → ℕ → Res (List Float)

@@ -3,7 +3,9 @@ pub mod Results
 pub mod Answers
 pub mod Replies
 pub mod Dot
+pub mod Bounds
 pub mod Choose
+pub mod Scaled
 pub mod Norm
 pub mod Squares
 pub mod Cholesky

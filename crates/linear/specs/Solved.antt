@@ -1,8 +1,11 @@
 -- `minus_solved`: from - Jᵀ k with J Jᵀ k = rhs, each value chosen; J has m rows and n columns. Rows of J that say nothing the others do not are left out.
 use Prim.Native.Nat.{ℕ, _*_, _/_, _%_}
+use lib.Dec.{ltb}
 use mathlib.Core.List.{List}
 use lib.Ieee.{Float}
+use Rattle.interval.specs.declared.Scalar.{Scalar}
 use Rattle.interval.specs.Result.{Res, ok}
+use Rattle.interval.specs.Scalar.{zeroS, pick}
 use Rattle.linear.specs.Flat.{at, along, listTo}
 use Rattle.linear.specs.Results.{bind}
 use Rattle.linear.specs.Dot.{dotTo, minusTo}
@@ -13,6 +16,13 @@ use Rattle.linear.specs.Substitution.{solveOf}
 -- J Jᵀ
 unfoldable pub gramOf : ℕ → ℕ → List Float → List Float
 gramOf m n jc = listTo (λ p. dotTo (along jc (p / m * n) 1) (along jc (p % m * n) 1) n) (m * m)
+
+-- its lower triangle, which is all that a factor reads; +0 above
+unfoldable pub gramAt : ℕ → List Float → ℕ → ℕ → Scalar
+gramAt n jc i j = pick (ltb i j) zeroS (dotTo (along jc (i * n) 1) (along jc (j * n) 1) n)
+
+unfoldable pub lowerGramOf : ℕ → ℕ → List Float → List Float
+lowerGramOf m n jc = listTo (λ p. gramAt n jc (p / m) (p % m)) (m * m)
 
 unfoldable pub minusOf : ℕ → ℕ → List Float → List Float → List Float → List Float
 minusOf m n jc from k = listTo (λ i. chooseOf (minusTo (along jc i n) (at k) (at from i) m)) n

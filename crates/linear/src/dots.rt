@@ -1,20 +1,48 @@
-// Sums of products. A sum whose places are all inside its slices is worked out with no test of a place; the test before it and the
-// walk that is cut off at the slice's end give the same for every base, step and count.
+// Sums of products. A sum whose places are all inside its slices is worked out with no test of a place, by the two upper bounds of an interval; the tests before it and the
+// walk that is cut off at the slice's end give the same for every start, base, step and count.
+ghost use mathlib.Core.Bool.{true};
 ghost use mathlib.Core.Path.{_≡_};
+ghost use lib.Dec.{T};
 ghost use lib.ListN.{length};
 ghost use Rattle.linear.specs.Answers.{resultOf};
+ghost use Rattle.linear.specs.Bounds.{boundsOf, isProper};
 ghost use Rattle.linear.specs.Calls.{dotReply};
 ghost use Rattle.linear.specs.Dot.{plusTo, dotTo, minusTo};
 ghost use Rattle.linear.specs.Flat.{at, along, Inside};
 use crate::answers::Answer;
 use crate::answers::LinearError;
+use crate::bounds::bounds_of;
+use crate::bounds::is_proper;
+use crate::bounds::minus_fresh;
+use crate::bounds::minus_product;
+use crate::bounds::plus_product;
+use crate::bounds::scalar_of;
 use crate::flat::ahead;
 use crate::flat::at;
 use crate::flat::at_inside;
 use crate::flat::both_inside;
 use interval::Scalar;
 
-// plus_dot where every place is inside.
+// Whether k places of two runs are found to be inside, and the bounds of z are proper.
+fn is_plain(
+    a0: usize,
+    sa: usize,
+    a: usize,
+    b0: usize,
+    sb: usize,
+    b: usize,
+    z: Scalar,
+    k: usize,
+) -> bool
+    ensures { λ r. ⌜ (r ≡ true → Inside a0 sa k a × Inside b0 sb k b × T (isProper (boundsOf z))) ⌝ }
+{
+    if both_inside(a0, sa, a, b0, sb, b, k) {
+        return is_proper(bounds_of(z));
+    }
+    false
+}
+
+// plus_dot where every place is inside and the bounds of z are proper.
 fn plus_inside(
     a: &[f64],
     a0: usize,
@@ -25,14 +53,14 @@ fn plus_inside(
     z: Scalar,
     k: usize,
 ) -> Scalar
-    requires { ⌜ Inside a0 sa k (length (now a)) × Inside b0 sb k (length (now b)) ⌝ }
+    requires { ⌜ Inside a0 sa k (length (now a)) × Inside b0 sb k (length (now b)) × T (isProper (boundsOf z)) ⌝ }
     ensures { λ r. ⌜ r ≡ plusTo (along (now (a .entry)) a0 sa) (along (now (b .entry)) b0 sb) z k ⌝ }
 {
-    let mut sum = z;
+    let mut sum = bounds_of(z);
     for t in 0..k {
-        sum = sum.add(at_inside(a, a0 + t * sa).mul(at_inside(b, b0 + t * sb)));
+        sum = plus_product(sum, at_inside(a, a0 + t * sa), at_inside(b, b0 + t * sb));
     }
-    sum
+    scalar_of(sum)
 }
 
 // plus_dot for every place.
@@ -72,13 +100,13 @@ pub fn plus_dot(
 ) -> Scalar
     ensures { λ r. ⌜ r ≡ plusTo (along (now (a .entry)) a0 sa) (along (now (b .entry)) b0 sb) z k ⌝ }
 {
-    if both_inside(a0, sa, a.len(), b0, sb, b.len(), k) {
+    if is_plain(a0, sa, a.len(), b0, sb, b.len(), z, k) {
         return plus_inside(a, a0, sa, b, b0, sb, z, k);
     }
     plus_cut(a, a0, sa, b, b0, sb, z, k)
 }
 
-// minus_dot where every place is inside.
+// minus_dot where every place is inside and the bounds of z are proper.
 fn minus_inside(
     a: &[f64],
     a0: usize,
@@ -89,14 +117,14 @@ fn minus_inside(
     z: Scalar,
     k: usize,
 ) -> Scalar
-    requires { ⌜ Inside a0 sa k (length (now a)) × Inside b0 sb k (length (now b)) ⌝ }
+    requires { ⌜ Inside a0 sa k (length (now a)) × Inside b0 sb k (length (now b)) × T (isProper (boundsOf z)) ⌝ }
     ensures { λ r. ⌜ r ≡ minusTo (along (now (a .entry)) a0 sa) (along (now (b .entry)) b0 sb) z k ⌝ }
 {
-    let mut sum = z;
+    let mut sum = bounds_of(z);
     for t in 0..k {
-        sum = sum.sub(at_inside(a, a0 + t * sa).mul(at_inside(b, b0 + t * sb)));
+        sum = minus_product(sum, at_inside(a, a0 + t * sa), at_inside(b, b0 + t * sb));
     }
-    sum
+    scalar_of(sum)
 }
 
 // minus_dot for every place.
@@ -136,10 +164,33 @@ pub fn minus_dot(
 ) -> Scalar
     ensures { λ r. ⌜ r ≡ minusTo (along (now (a .entry)) a0 sa) (along (now (b .entry)) b0 sb) z k ⌝ }
 {
-    if both_inside(a0, sa, a.len(), b0, sb, b.len(), k) {
+    if is_plain(a0, sa, a.len(), b0, sb, b.len(), z, k) {
         return minus_inside(a, a0, sa, b, b0, sb, z, k);
     }
     minus_cut(a, a0, sa, b, b0, sb, z, k)
+}
+
+// rows_minus where the bounds of z are proper.
+fn rows_inside(l: &[f64], i0: usize, j0: usize, z: Scalar, k: usize) -> Scalar
+    requires { ⌜ Inside i0 1 k (length (now l)) × Inside j0 1 k (length (now l)) × T (isProper (boundsOf z)) ⌝ }
+    ensures { λ r. ⌜ r ≡ minusTo (along (now (l .entry)) i0 1) (along (now (l .entry)) j0 1) z k ⌝ }
+{
+    let mut sum = bounds_of(z);
+    for t in 0..k {
+        sum = minus_fresh(sum, at_inside(l, i0 + t), at_inside(l, j0 + t));
+    }
+    scalar_of(sum)
+}
+
+// z less k products of two rows of one slice, the first of which was just stored; all places are inside.
+pub fn rows_minus(l: &[f64], i0: usize, j0: usize, z: Scalar, k: usize) -> Scalar
+    requires { ⌜ Inside i0 1 k (length (now l)) × Inside j0 1 k (length (now l)) ⌝ }
+    ensures { λ r. ⌜ r ≡ minusTo (along (now (l .entry)) i0 1) (along (now (l .entry)) j0 1) z k ⌝ }
+{
+    if is_proper(bounds_of(z)) {
+        return rows_inside(l, i0, j0, z, k);
+    }
+    minus_dot(l, i0, 1, l, j0, 1, z, k)
 }
 
 // The first n products.

@@ -12,7 +12,7 @@ ghost use Rattle.linear.specs.Replies.{replied, replyOf};
 ghost use Rattle.linear.specs.Results.{foldR};
 use crate::answers::Done;
 use crate::answers::LinearError;
-use crate::dots::minus_dot;
+use crate::dots::rows_minus;
 use crate::flat::at;
 use crate::flat::clear;
 use crate::flat::put;
@@ -63,7 +63,7 @@ fn pivot_of(s: Scalar) -> Pivoted
 
 // The entry of row i and column j, below the diagonal.
 fn entry(n: usize, a: &[f64], l: &mut [f64], left_out: &[bool], i: usize, j: usize) -> Done
-    requires { ⌜ (i < n) × ((j < i) × ((n ≤ 24) × (length (now «left_out») ≡ n))) ⌝ }
+    requires { ⌜ (i < n) × ((j < i) × ((n ≤ 24) × ((length (now «left_out») ≡ n) × (length (now l) ≡ 2 * (n * n))))) ⌝ }
     ensures { λ r. ⌜ doneOf r (now (l .exit)) ≡ entryStep n (now (a .entry)) (now («left_out» .entry)) i (now (l .entry)) j ⌝ }
 {
     if left_out[j] {
@@ -71,13 +71,13 @@ fn entry(n: usize, a: &[f64], l: &mut [f64], left_out: &[bool], i: usize, j: usi
     }
     let row = i * n;
     let top = j * n;
-    let s = minus_dot(l, row, 1, l, top, 1, at(a, row + j), j);
+    let s = rows_minus(l, row, top, at(a, row + j), j);
     store(l, row + j, s.div(at(l, top + j)))
 }
 
 // The entries of row i below the diagonal.
 fn entries(n: usize, a: &[f64], l: &mut [f64], left_out: &[bool], i: usize) -> Done
-    requires { ⌜ (i < n) × ((n ≤ 24) × (length (now «left_out») ≡ n)) ⌝ }
+    requires { ⌜ (i < n) × ((n ≤ 24) × ((length (now «left_out») ≡ n) × (length (now l) ≡ 2 * (n * n)))) ⌝ }
     ensures { λ r. ⌜ doneOf r (now (l .exit)) ≡ foldR (entryStep n (now (a .entry)) (now («left_out» .entry)) i) (now (l .entry)) i ⌝ }
 {
     for j in 0..i {
@@ -120,17 +120,17 @@ fn settle_pivot(n: usize, l: &mut [f64], left_out: &mut [bool], i: usize, p: Piv
 }
 
 fn pivot_row(n: usize, a: &[f64], l: &mut [f64], left_out: &mut [bool], i: usize) -> Done
-    requires { ⌜ (i < n) × ((n ≤ 24) × (length (now «left_out») ≡ n)) ⌝ }
+    requires { ⌜ (i < n) × ((n ≤ 24) × ((length (now «left_out») ≡ n) × (length (now l) ≡ 2 * (n * n)))) ⌝ }
     ensures { λ r. ⌜ doneOf r (factorOf (now (l .exit)) (now («left_out» .exit))) ≡ pivotStep n (now (a .entry)) (now («left_out» .entry)) i (now (l .entry)) ⌝ }
 {
     let row = i * n;
-    let s = minus_dot(l, row, 1, l, row, 1, at(a, row + i), i);
+    let s = rows_minus(l, row, row, at(a, row + i), i);
     settle_pivot(n, l, left_out, i, pivot_of(s))
 }
 
 // Row i of the factor.
 fn factor_row(n: usize, a: &[f64], l: &mut [f64], left_out: &mut [bool], i: usize) -> Done
-    requires { ⌜ (i < n) × ((n ≤ 24) × (length (now «left_out») ≡ n)) ⌝ }
+    requires { ⌜ (i < n) × ((n ≤ 24) × ((length (now «left_out») ≡ n) × (length (now l) ≡ 2 * (n * n)))) ⌝ }
     ensures { λ r. ⌜ doneOf r (factorOf (now (l .exit)) (now («left_out» .exit))) ≡ rowStep n (now (a .entry)) (factorOf (now (l .entry)) (now («left_out» .entry))) i ⌝ }
 {
     match entries(n, a, l, left_out, i) {
@@ -140,7 +140,7 @@ fn factor_row(n: usize, a: &[f64], l: &mut [f64], left_out: &mut [bool], i: usiz
 }
 
 fn factor_rows(n: usize, a: &[f64], l: &mut [f64], left_out: &mut [bool]) -> Done
-    requires { ⌜ (n ≤ 24) × (length (now «left_out») ≡ n) ⌝ }
+    requires { ⌜ (n ≤ 24) × ((length (now «left_out») ≡ n) × (length (now l) ≡ 2 * (n * n))) ⌝ }
     ensures { λ r. ⌜ doneOf r (factorOf (now (l .exit)) (now («left_out» .exit))) ≡ foldR (rowStep n (now (a .entry))) (factorOf (now (l .entry)) (now («left_out» .entry))) n ⌝ }
 {
     for i in 0..n {

@@ -107,6 +107,16 @@ pub fn put(xs: &mut [f64], i: usize, v: Scalar)
     }
 }
 
+// Stores the i-th scalar of those inside.
+pub fn put_inside(xs: &mut [f64], i: usize, v: Scalar)
+    requires { ⌜ 2 * i + 1 < length (now xs) ⌝ }
+    ensures { λ _. ⌜ now (xs .exit) ≡ put (now (xs .entry)) i v ⌝ }
+{
+    let k = 2 * i;
+    xs[k] = v.lo;
+    xs[k + 1] = v.hi;
+}
+
 // Sets every number to +0.
 pub fn clear(xs: &mut [f64])
     ensures { λ _. ⌜ now (xs .exit) ≡ zeros (length (now (xs .entry))) ⌝ }

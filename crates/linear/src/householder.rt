@@ -7,7 +7,7 @@ ghost use Rattle.linear.specs.Answers.{doneOf};
 ghost use Rattle.linear.specs.Calls.{leastSquaresReply};
 ghost use Rattle.linear.specs.Cholesky.{factorOf};
 ghost use Rattle.linear.specs.Flat.{zeros};
-ghost use Rattle.linear.specs.Householder.{columnEntry, columnsOf, tailOf, alphaOf, normalOf, lessTo, reflectStep, reflectTo, reflectBy, reflectWith, householderStep, chosen, valueStep, leastSquaresOf};
+ghost use Rattle.linear.specs.Householder.{columnEntry, columnsOf, tailOf, alphaOf, normalOf, reflectStep, reflectTo, reflectBy, reflectWith, householderStep, chosen, valueStep, leastSquaresOf};
 ghost use Rattle.linear.specs.Replies.{replied, replyOf};
 ghost use Rattle.linear.specs.Results.{foldR};
 use crate::answers::Done;
@@ -21,6 +21,7 @@ use crate::flat::at;
 use crate::flat::clear;
 use crate::flat::put;
 use crate::norms::norm_of;
+use crate::scaled::minus_scaled;
 use crate::store::store;
 use crate::substitution::cleared;
 use interval::Scalar;
@@ -79,26 +80,15 @@ fn normal(x: &mut [f64], length: Scalar)
     put(x, 0, choose(x0.sub(alpha(x0, length))));
 }
 
-fn less(f: Scalar, v: &[f64], base: usize, cols: &mut [f64], n: usize)
-    requires { ⌜ (base < 65536) × (n < 65536) ⌝ }
-    ensures { λ _. ⌜ now (cols .exit) ≡ lessTo f (now (v .entry)) base (now (cols .entry)) n ⌝ }
-{
-    for k in 0..n {
-        let x = at(cols, base + k).sub(f.mul(at(v, k)));
-        put(cols, base + k, choose(x));
-    }
-}
-
 // One column reflected.
 fn reflect(v: &[f64], vv: Scalar, n: usize, base: usize, cols: &mut [f64]) -> Done
-    requires { ⌜ (base < 65536) × (n < 65536) ⌝ }
     ensures { λ r. ⌜ doneOf r (now (cols .exit)) ≡ reflectStep (now (v .entry)) vv n base (now (cols .entry)) ⌝ }
 {
     let s = plus_dot(v, 0, 1, cols, base, 1, Scalar::ZERO, n);
     let q = s.mul(Scalar::TWO).div(vv);
     match q {
         ScalarResult::Value(f) => {
-            less(f, v, base, cols, n);
+            minus_scaled(cols, base, f, v, 0, n);
             Done::Finished
         }
         ScalarResult::Refused(e) => Done::Refused(LinearError::Arithmetic(e)),
@@ -182,7 +172,7 @@ fn reflections(
     left_out: &mut [bool],
     v: &mut [f64],
 ) -> Done
-    requires { ⌜ (k ≤ m) × ((k ≤ r) × ((m ≤ 24) × ((r ≤ 24) × ((length (now «left_out») ≡ r) × (length (now v) ≡ 48))))) ⌝ }
+    requires { ⌜ (k ≤ m) × ((k ≤ r) × ((m ≤ 24) × ((r ≤ 24) × ((length (now «left_out») ≡ r) × (2 * m ≤ length (now v)))))) ⌝ }
     ensures { λ d. ⌜ doneOf d (factorOf (now (cols .exit)) (now («left_out» .exit))) ≡ foldR (householderStep m r) (factorOf (now (cols .entry)) (now («left_out» .entry))) k ⌝ }
 {
     for j in 0..k {
@@ -267,7 +257,7 @@ fn squares_in(
     left_out: &mut [bool],
     v: &mut [f64],
 ) -> Done
-    requires { ⌜ (m ≤ 24) × ((r ≤ 24) × ((length (now y) ≡ 2 * r) × ((length (now cols) ≡ 2 * ((r + 1) * m)) × ((length (now «left_out») ≡ r) × (length (now v) ≡ 48))))) ⌝ }
+    requires { ⌜ (m ≤ 24) × ((r ≤ 24) × ((length (now y) ≡ 2 * r) × ((length (now cols) ≡ 2 * ((r + 1) * m)) × ((length (now «left_out») ≡ r) × (2 * m ≤ length (now v)))))) ⌝ }
     ensures { λ d. ⌜ replied d (now (y .exit)) ≡ replyOf (zeros (2 * r)) (leastSquaresOf m r (now (rows .entry)) (now (rhs .entry))) ⌝ }
 {
     clear(y);
@@ -290,14 +280,26 @@ fn squares_cut(
     left_out: &mut [bool],
     v: &mut [f64],
 ) -> Done
-    requires { ⌜ (m ≤ 24) × ((r ≤ 24) × ((length (now y) ≡ 2 * r) × ((length (now cols) ≡ 1200) × ((length (now «left_out») ≡ 24) × (length (now v) ≡ 48))))) ⌝ }
+    requires { ⌜ (m ≤ 24) × ((r ≤ 24) × ((length (now y) ≡ 2 * r) × ((2 * ((r + 1) * m) ≤ length (now cols)) × ((r ≤ length (now «left_out»)) × (2 * m ≤ length (now v)))))) ⌝ }
     ensures { λ d. ⌜ replied d (now (y .exit)) ≡ replyOf (zeros (2 * r)) (leastSquaresOf m r (now (rows .entry)) (now (rhs .entry))) ⌝ }
 {
     let e = 2 * ((r + 1) * m);
     squares_in(m, r, rows, rhs, y, &mut cols[..e], &mut left_out[..r], v)
 }
 
-fn squares_sized(m: usize, r: usize, rows: &[f64], rhs: &[f64], y: &mut [f64]) -> Done
+// The same of at most 12 rows and columns, as a run has them, with arrays of its own.
+fn squares_small(m: usize, r: usize, rows: &[f64], rhs: &[f64], y: &mut [f64]) -> Done
+    requires { ⌜ (m ≤ 12) × ((r ≤ 12) × (length (now y) ≡ 2 * r)) ⌝ }
+    ensures { λ d. ⌜ replied d (now (y .exit)) ≡ replyOf (zeros (2 * r)) (leastSquaresOf m r (now (rows .entry)) (now (rhs .entry))) ⌝ }
+{
+    let mut cols = [0.0; 312];
+    let mut left_out = [false; 12];
+    let mut v = [0.0; 24];
+    squares_cut(m, r, rows, rhs, y, &mut cols, &mut left_out, &mut v)
+}
+
+// The same of at most 24.
+fn squares_large(m: usize, r: usize, rows: &[f64], rhs: &[f64], y: &mut [f64]) -> Done
     requires { ⌜ (m ≤ 24) × ((r ≤ 24) × (length (now y) ≡ 2 * r)) ⌝ }
     ensures { λ d. ⌜ replied d (now (y .exit)) ≡ replyOf (zeros (2 * r)) (leastSquaresOf m r (now (rows .entry)) (now (rhs .entry))) ⌝ }
 {
@@ -305,6 +307,16 @@ fn squares_sized(m: usize, r: usize, rows: &[f64], rhs: &[f64], y: &mut [f64]) -
     let mut left_out = [false; 24];
     let mut v = [0.0; 48];
     squares_cut(m, r, rows, rhs, y, &mut cols, &mut left_out, &mut v)
+}
+
+fn squares_sized(m: usize, r: usize, rows: &[f64], rhs: &[f64], y: &mut [f64]) -> Done
+    requires { ⌜ (m ≤ 24) × ((r ≤ 24) × (length (now y) ≡ 2 * r)) ⌝ }
+    ensures { λ d. ⌜ replied d (now (y .exit)) ≡ replyOf (zeros (2 * r)) (leastSquaresOf m r (now (rows .entry)) (now (rhs .entry))) ⌝ }
+{
+    if m <= 12 && r <= 12 {
+        return squares_small(m, r, rows, rhs, y);
+    }
+    squares_large(m, r, rows, rhs, y)
 }
 
 // The y with |rows y - rhs| least, for m rows of r columns.

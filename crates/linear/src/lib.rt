@@ -2,14 +2,16 @@
 // geop-core-math's solvers, by the same names. Nothing is kept on a heap.
 //
 // Public functions are total: they answer 1 where a count is above 24, then 2 where a slice has the wrong length, with nothing written, and 5 or 6 in the Rust's order of operations, with
-// the output slice all +0. Inputs are never written. `at`, `along`, `plus_dot` and `minus_dot` read NaN outside a slice, and `put` changes nothing there.
+// the output slice all +0. Inputs are never written. `at`, `along`, `plus_dot`, `minus_dot` and `minus_scaled` read NaN outside a slice, and `put` and `minus_scaled` change nothing there.
 mod answers;
+mod bounds;
 mod choices;
 mod dots;
 mod factor;
 mod flat;
 mod householder;
 mod norms;
+mod scaled;
 mod solved;
 mod store;
 mod substitution;
@@ -29,5 +31,6 @@ pub use flat::clear;
 pub use flat::put;
 pub use householder::least_squares;
 pub use norms::norm;
+pub use scaled::minus_scaled;
 pub use solved::minus_solved;
 pub use substitution::solve_cholesky;

@@ -1,12 +1,12 @@
 // The shortest step onto linear constraints.
 ghost use mathlib.Core.Path.{_≡_};
-ghost use Prim.Native.Nat.{_*_, _≤_};
+ghost use Prim.Native.Nat.{_*_, _<_, _≤_};
 ghost use lib.ListN.{length};
 ghost use Rattle.linear.specs.Answers.{doneOf};
 ghost use Rattle.linear.specs.Calls.{minusSolvedReply};
 ghost use Rattle.linear.specs.Flat.{zeros};
 ghost use Rattle.linear.specs.Replies.{replied, replyOf};
-ghost use Rattle.linear.specs.Solved.{gramOf, multipliersOf, minusOf, minusSolvedOf};
+ghost use Rattle.linear.specs.Solved.{gramAt, lowerGramOf, multipliersOf, minusOf, minusSolvedOf};
 use crate::answers::Done;
 use crate::answers::LinearError;
 use crate::choices::choose;
@@ -19,16 +19,25 @@ use crate::substitution::cleared;
 use crate::substitution::solve_sized;
 use interval::Scalar;
 
-// The products of all rows.
+// The product of rows i and j; zero above the diagonal, where no factor reads it.
+fn gram_at(n: usize, jc: &[f64], i: usize, j: usize) -> Scalar
+    requires { ⌜ (n ≤ 24) × ((i < 24) × (j < 24)) ⌝ }
+    ensures { λ r. ⌜ r ≡ gramAt n (now (jc .entry)) i j ⌝ }
+{
+    if i < j {
+        return Scalar::ZERO;
+    }
+    plus_dot(jc, i * n, 1, jc, j * n, 1, Scalar::ZERO, n)
+}
+
+// The products of the rows, the lower triangle.
 fn gram(m: usize, n: usize, jc: &[f64], g: &mut [f64])
     requires { ⌜ (m ≤ 24) × ((n ≤ 24) × (length (now g) ≡ 2 * (m * m))) ⌝ }
-    ensures { λ _. ⌜ now (g .exit) ≡ gramOf m n (now (jc .entry)) ⌝ }
+    ensures { λ _. ⌜ now (g .exit) ≡ lowerGramOf m n (now (jc .entry)) ⌝ }
 {
     let q = m * m;
     for p in 0..q {
-        let x = p / m * n;
-        let y = p % m * n;
-        put(g, p, plus_dot(jc, x, 1, jc, y, 1, Scalar::ZERO, n));
+        put(g, p, gram_at(n, jc, p / m, p % m));
     }
 }
 
@@ -97,7 +106,7 @@ fn solved_cut(
     l: &mut [f64],
     left_out: &mut [bool],
 ) -> Done
-    requires { ⌜ (m ≤ 24) × ((n ≤ 24) × ((length (now out) ≡ 2 * n) × ((length (now k) ≡ 48) × ((length (now g) ≡ 1152) × ((length (now l) ≡ 1152) × (length (now «left_out») ≡ 24)))))) ⌝ }
+    requires { ⌜ (m ≤ 24) × ((n ≤ 24) × ((length (now out) ≡ 2 * n) × ((2 * m ≤ length (now k)) × ((2 * (m * m) ≤ length (now g)) × ((2 * (m * m) ≤ length (now l)) × (m ≤ length (now «left_out»))))))) ⌝ }
     ensures { λ r. ⌜ replied r (now (out .exit)) ≡ replyOf (zeros (2 * n)) (minusSolvedOf m n (now (jc .entry)) (now (rhs .entry)) (now (from .entry))) ⌝ }
 {
     let q = 2 * m;
@@ -116,7 +125,31 @@ fn solved_cut(
     )
 }
 
-fn solved_sized(m: usize, n: usize, jc: &[f64], rhs: &[f64], from: &[f64], out: &mut [f64]) -> Done
+// The same of at most 12 rows, as a run has them, with arrays of its own.
+fn solved_small(m: usize, n: usize, jc: &[f64], rhs: &[f64], from: &[f64], out: &mut [f64]) -> Done
+    requires { ⌜ (m ≤ 12) × ((n ≤ 24) × (length (now out) ≡ 2 * n)) ⌝ }
+    ensures { λ r. ⌜ replied r (now (out .exit)) ≡ replyOf (zeros (2 * n)) (minusSolvedOf m n (now (jc .entry)) (now (rhs .entry)) (now (from .entry))) ⌝ }
+{
+    let mut k = [0.0; 24];
+    let mut g = [0.0; 288];
+    let mut l = [0.0; 288];
+    let mut left_out = [false; 12];
+    solved_cut(
+        m,
+        n,
+        jc,
+        rhs,
+        from,
+        out,
+        &mut k,
+        &mut g,
+        &mut l,
+        &mut left_out,
+    )
+}
+
+// The same of at most 24.
+fn solved_large(m: usize, n: usize, jc: &[f64], rhs: &[f64], from: &[f64], out: &mut [f64]) -> Done
     requires { ⌜ (m ≤ 24) × ((n ≤ 24) × (length (now out) ≡ 2 * n)) ⌝ }
     ensures { λ r. ⌜ replied r (now (out .exit)) ≡ replyOf (zeros (2 * n)) (minusSolvedOf m n (now (jc .entry)) (now (rhs .entry)) (now (from .entry))) ⌝ }
 {
@@ -136,6 +169,16 @@ fn solved_sized(m: usize, n: usize, jc: &[f64], rhs: &[f64], from: &[f64], out: 
         &mut l,
         &mut left_out,
     )
+}
+
+fn solved_sized(m: usize, n: usize, jc: &[f64], rhs: &[f64], from: &[f64], out: &mut [f64]) -> Done
+    requires { ⌜ (m ≤ 24) × ((n ≤ 24) × (length (now out) ≡ 2 * n)) ⌝ }
+    ensures { λ r. ⌜ replied r (now (out .exit)) ≡ replyOf (zeros (2 * n)) (minusSolvedOf m n (now (jc .entry)) (now (rhs .entry)) (now (from .entry))) ⌝ }
+{
+    if m <= 12 {
+        return solved_small(m, n, jc, rhs, from, out);
+    }
+    solved_large(m, n, jc, rhs, from, out)
 }
 
 // from - Jᵀ k with J Jᵀ k = rhs, each value chosen; J has m rows of n.

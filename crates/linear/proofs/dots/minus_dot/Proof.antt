@@ -3,11 +3,11 @@ use borrow.Author.Needs.{needs}
 use Rattle.linear.proofs.dots.minus_dot.Statement.{statement}
 use Rattle.linear.proofs.dots.minus_dot.Tie as tie
 
-both-inside-requires : tie.Need-both-inside-requires
-both-inside-requires c κs = search needs
+is-plain-requires : tie.Need-is-plain-requires
+is-plain-requires c κs = search needs
 
 minus-inside-requires : tie.Need-minus-inside-requires
-minus-inside-requires c κs = c .before .both-inside .ensures (c .if1 .taken)
+minus-inside-requires c κs = c .before .is-plain .ensures (c .if1 .taken)
 
 returns : tie.Need-returns
 returns c = c .minus-inside .ensures
@@ -21,4 +21,4 @@ returns-2 c = c .minus-cut .ensures
 pub minus-dot-spec : {M : Type 1} → statement M
 minus-dot-spec =
     tie.close
-    (tie.spec both-inside-requires minus-inside-requires returns minus-cut-requires returns-2)
+    (tie.spec is-plain-requires minus-inside-requires returns minus-cut-requires returns-2)

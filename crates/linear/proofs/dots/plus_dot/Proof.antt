@@ -3,11 +3,11 @@ use borrow.Author.Needs.{needs}
 use Rattle.linear.proofs.dots.plus_dot.Statement.{statement}
 use Rattle.linear.proofs.dots.plus_dot.Tie as tie
 
-both-inside-requires : tie.Need-both-inside-requires
-both-inside-requires c κs = search needs
+is-plain-requires : tie.Need-is-plain-requires
+is-plain-requires c κs = search needs
 
 plus-inside-requires : tie.Need-plus-inside-requires
-plus-inside-requires c κs = c .before .both-inside .ensures (c .if1 .taken)
+plus-inside-requires c κs = c .before .is-plain .ensures (c .if1 .taken)
 
 returns : tie.Need-returns
 returns c = c .plus-inside .ensures
@@ -21,4 +21,4 @@ returns-2 c = c .plus-cut .ensures
 pub plus-dot-spec : {M : Type 1} → statement M
 plus-dot-spec =
     tie.close
-    (tie.spec both-inside-requires plus-inside-requires returns plus-cut-requires returns-2)
+    (tie.spec is-plain-requires plus-inside-requires returns plus-cut-requires returns-2)

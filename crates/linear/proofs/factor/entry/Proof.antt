@@ -3,7 +3,7 @@ use Prim.Native.Nat.{_*_, _≤_}
 use native.Mathlib.Omega.{arith}
 use borrow.Author.Needs.{needs}
 use Rattle.linear.specs.CholeskyRows.{entryStep}
-use Rattle.linear.proofs.Cells.{product-small}
+use Rattle.linear.proofs.Cells.{product-small, row-inside}
 use Rattle.linear.proofs.factor.entry.Statement.{statement}
 use Rattle.linear.proofs.factor.entry.Tie as tie
 
@@ -32,8 +32,10 @@ add-at c = omega (arith, row (c .before .before .before .before .before .before)
 at-requires : tie.Need-at-requires
 at-requires c κs = search needs
 
-minus-dot-requires : tie.Need-minus-dot-requires
-minus-dot-requires c κs = tt
+rows-minus-requires : tie.Need-rows-minus-requires
+rows-minus-requires c κs =
+    let p = c .before .before .before .before .before .before .before .pre in
+    (row-inside (p .0) (omega (arith, p)) (p .1 .1 .1 .1), row-inside (omega (arith, p)) (omega (arith, p)) (p .1 .1 .1 .1))
 
 add-store : tie.Need-add-store
 add-store c = omega (arith, row (c .before .before .before .before .before .before .before .before .before))
@@ -58,7 +60,7 @@ unfolding entryStep
 returns-2 c =
     let q = c .before .before .before in
     let k = q .before .before .before .before in
-    rw (k .before .before .before .if1 .left, ← k .before .at .ensures, ← k .minus-dot .ensures, ← q .before .at2 .ensures, ← q .div .ensures .value) (c .before .before .store .ensures)
+    rw (k .before .before .before .if1 .left, ← k .before .at .ensures, ← k .rows-minus .ensures, ← q .before .at2 .ensures, ← q .div .ensures .value) (c .before .before .store .ensures)
 
 pub entry-spec : {M : Type 1} → statement M
 entry-spec =
@@ -70,7 +72,7 @@ entry-spec =
     mul-top
     add-at
     at-requires
-    minus-dot-requires
+    rows-minus-requires
     add-store
     add-at-2
     at-requires-2

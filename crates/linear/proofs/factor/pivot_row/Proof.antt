@@ -3,7 +3,7 @@ use Prim.Native.Nat.{_*_, _≤_}
 use native.Mathlib.Omega.{arith}
 use borrow.Author.Needs.{needs}
 use Rattle.linear.specs.CholeskyRows.{pivotStep}
-use Rattle.linear.proofs.Cells.{product-small}
+use Rattle.linear.proofs.Cells.{product-small, row-inside}
 use Rattle.linear.proofs.factor.pivot_row.Statement.{statement}
 use Rattle.linear.proofs.factor.pivot_row.Tie as tie
 
@@ -19,8 +19,10 @@ add-at c = omega (arith, row (c .before .before .before .before))
 at-requires : tie.Need-at-requires
 at-requires c κs = search needs
 
-minus-dot-requires : tie.Need-minus-dot-requires
-minus-dot-requires c κs = tt
+rows-minus-requires : tie.Need-rows-minus-requires
+rows-minus-requires c κs =
+    let p = c .before .before .before .before .before .pre in
+    (row-inside (p .0) (omega (arith, p)) (p .1 .1 .1), row-inside (p .0) (omega (arith, p)) (p .1 .1 .1))
 
 pivot-of-requires : tie.Need-pivot-of-requires
 pivot-of-requires c κs = search needs
@@ -38,7 +40,7 @@ returns : tie.Need-returns
 unfolding pivotStep
 returns c =
     let k = c .before .before .before .before .before in
-    rw (← k .before .before .before .before .at .ensures, ← k .before .before .before .minus-dot .ensures, ← k .pivot-of .ensures) (c .before .before .before .before .settle-pivot .ensures)
+    rw (← k .before .before .before .before .at .ensures, ← k .before .before .before .rows-minus .ensures, ← k .pivot-of .ensures) (c .before .before .before .before .settle-pivot .ensures)
 
 pub pivot-row-spec : {M : Type 1} → statement M
 pivot-row-spec =
@@ -47,7 +49,7 @@ pivot-row-spec =
     mul-row
     add-at
     at-requires
-    minus-dot-requires
+    rows-minus-requires
     pivot-of-requires
     settle-pivot-requires
     same-length

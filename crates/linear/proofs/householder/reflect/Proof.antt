@@ -18,8 +18,8 @@ div-requires c κs = search needs
 enum-known-q : tie.Need-enum-known-q
 enum-known-q c = search needs
 
-less-requires : tie.Need-less-requires
-less-requires c κs = search needs
+minus-scaled-requires : tie.Need-minus-scaled-requires
+minus-scaled-requires c κs = search needs
 
 enum-known-q-2 : tie.Need-enum-known-q-2
 enum-known-q-2 c = search needs
@@ -31,7 +31,7 @@ returns : tie.Need-returns
 unfolding ofBits
 returns c =
     let q = rw (c .before .before .before .before .before .q .given .1) at (c .before .before .before .before .before .before .before .div .ensures .value) in
-    reflect-ok _ _ _ _ _ (rw along-start at (c .before .before .before .before .before .before .before .before .before .plus-dot .ensures)) (c .before .before .before .before .before .before .before .before .mul .ensures .value) q (c .before .before .less .ensures)
+    reflect-ok _ _ _ _ _ (rw along-start at (c .before .before .before .before .before .before .before .before .before .plus-dot .ensures)) (c .before .before .before .before .before .before .before .before .mul .ensures .value) q (c .before .before .minus-scaled .ensures)
 
 same-length-2 : tie.Need-same-length-2
 same-length-2 c = search needs
@@ -50,7 +50,7 @@ reflect-spec =
     mul-requires
     div-requires
     enum-known-q
-    less-requires
+    minus-scaled-requires
     enum-known-q-2
     same-length
     returns

@@ -40,7 +40,7 @@ add-reflect-2 : tie.Need-add-reflect-2 Inv-loop μ-loop
 add-reflect-2 c = omega (arith, start c)
 
 reflect-requires : tie.Need-reflect-requires Inv-loop μ-loop
-reflect-requires c κs = (omega (arith, start (c .before)), omega arith)
+reflect-requires c κs = search needs
 
 enum-told : tie.Need-enum-told Inv-loop μ-loop
 enum-told c = search needs

@@ -1,4 +1,4 @@
--- `multipliers` meets its contract: the factor of the products, then the solve through it.
+-- `multipliers` meets its contract: the factor of the products, of which it reads the lower triangle alone, then the solve through it.
 use mathlib.Core.Path.{_≡_, sym, _∙_}
 use Prim.Native.Nat.{_*_}
 use borrow.Author.Needs.{needs}
@@ -11,6 +11,7 @@ use Rattle.linear.specs.Substitution.{solveOf}
 use Rattle.linear.proofs.solved.multipliers.Statement.{statement}
 use Rattle.linear.proofs.solved.multipliers.Tie as tie
 use Rattle.linear.proofs.Folds.{bind-ok, bind-refused}
+use Rattle.linear.proofs.LowerTriangle.{cholesky-gram}
 use Rattle.linear.proofs.Replied.{done-is}
 
 -- the factor of the products
@@ -21,7 +22,8 @@ factored : (k : tie.After-factor-sized)
 factored k =
     let a = k .before .before .before .before .before .before .before .before .before .before .before .before .before .before .args in
     let l = k .factor-sized .last .1 .1 in
-    rw (k .before .before .before .before .before .before .gram .ensures) at (done-is (k .factor-sized .result) (factorOf (l .0) (l .1 .0)) (blank (a .m)) (choleskyOf (a .m) (k .before .before .before .before .before .before .gram .last .1 .1 .1 .0)) (k .factor-sized .ensures))
+    (rw (k .before .before .before .before .before .before .gram .ensures) at (done-is (k .factor-sized .result) (factorOf (l .0) (l .1 .0)) (blank (a .m)) (choleskyOf (a .m) (k .before .before .before .before .before .before .gram .last .1 .1 .1 .0)) (k .factor-sized .ensures)))
+    ∙ cholesky-gram (a .m) (a .n) (a .jc .now)
 
 gram-requires : tie.Need-gram-requires
 gram-requires c κs = search needs

@@ -27,7 +27,7 @@ slice-aggregate-solved-in : tie.Need-slice-aggregate-solved-in
 slice-aggregate-solved-in c = sym (length-take-le _ _ (omega arith))
 
 slice-relend-prefix-solved-in-2 : tie.Need-slice-relend-prefix-solved-in-2
-slice-relend-prefix-solved-in-2 c = omega (arith, room (c .before .before .before .before .before .before .before .before .before .before))
+slice-relend-prefix-solved-in-2 c = search needs
 
 slice-aggregate-solved-in-2 : tie.Need-slice-aggregate-solved-in-2
 slice-aggregate-solved-in-2 c = sym (length-take-le _ _ (omega (arith, room (c .before .before .before .before .before .before .before .before .before .before .before))))

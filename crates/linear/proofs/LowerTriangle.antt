@@ -1,0 +1,86 @@
+-- A factor is that of the lower triangle alone: matrices that agree there have the same factor, marks and refusal. An entry is given by the entries in the columns before it, so the rows agree column by column.
+use Prim.Native.Nat.{ℕ, zero, suc, _+_, _*_, _/_, _%_, _≤_, _<_}
+use mathlib.Core.Path.{_≡_, refl, sym, _∙_}
+use mathlib.Core.List.{List}
+use native.Mathlib.Nat.{le-refl, le-trans, le-suc}
+use native.Mathlib.Omega.{arith}
+use borrow.Author.Tests.{le-ltb}
+use lib.Arith.{digits-lt, digits-div, digits-mod}
+use lib.Ieee.{Float}
+use Rattle.interval.specs.declared.Scalar.{Scalar}
+use Rattle.linear.specs.Flat.{at, along, listTo}
+use Rattle.linear.specs.Dot.{dotTo, minusTo}
+use Rattle.linear.specs.Cholesky.{rowTo, pivotAt, markAt, factorAt, refusedTo, entry, marksTo, choleskyOf}
+use Rattle.linear.specs.Solved.{gramOf, gramAt, lowerGramOf}
+use Rattle.linear.proofs.Agree.{minusTo-ext, listTo-ext}
+use Rattle.linear.proofs.Cells.{place-row}
+use Rattle.linear.proofs.Lists.{at-listTo}
+
+-- the first n rows agree up to the diagonal
+abbrev pub SameBelow : (ℕ → ℕ → Scalar) → (ℕ → ℕ → Scalar) → ℕ → Type 0
+SameBelow a b n = (i j : ℕ) → i < n → j ≤ i → a i j ≡ b i j
+
+module _ (a b : ℕ → ℕ → Scalar) (n : ℕ) (same : SameBelow a b n) where
+  -- what is left of an entry, where the entries before it agree
+  left-same : (j i : ℕ) → j ≤ i → i < n → ((k : ℕ) → rowTo a j i k ≡ rowTo b j i k) → ((k : ℕ) → rowTo a j j k ≡ rowTo b j j k) → minusTo (rowTo a j i) (rowTo a j j) (a i j) j ≡ minusTo (rowTo b j i) (rowTo b j j) (b i j) j
+  left-same j i h l p q = rw (same i j l h) (minusTo-ext (rowTo a j i) (rowTo b j i) (rowTo a j j) (rowTo b j j) (b i j) j (λ t _. p t) (λ t _. q t))
+
+  rowTo-same : (j i : ℕ) → j ≤ i → i < n → (k : ℕ) → rowTo a j i k ≡ rowTo b j i k
+  unfolding rowTo
+  rowTo-same zero i h l k = refl
+  rowTo-same (suc j) i h l k =
+      let before : j ≤ i = omega arith in
+      let above : j < n = omega arith in
+      let row : (t : ℕ) → rowTo a j i t ≡ rowTo b j i t = rowTo-same j i before l in
+      let top : (t : ℕ) → rowTo a j j t ≡ rowTo b j j t = rowTo-same j j (le-refl j) above in
+      rw (left-same j j (le-refl j) above top top, left-same j i before l row top, row k)
+
+  pivot-same : (i : ℕ) → i < n → pivotAt a i ≡ pivotAt b i
+  pivot-same i l =
+      let row : (t : ℕ) → rowTo a i i t ≡ rowTo b i i t = rowTo-same i i (le-refl i) l in
+      rw (left-same i i (le-refl i) l row row)
+
+  mark-same : (i : ℕ) → i < n → markAt a i ≡ markAt b i
+  unfolding markAt
+  mark-same i l = rw (pivot-same i l)
+
+  factor-same : (i j : ℕ) → i < n → factorAt a i j ≡ factorAt b i j
+  unfolding factorAt
+  factor-same i j l = rw (mark-same i l, rowTo-same i i (le-refl i) l j, pivot-same i l)
+
+  refused-same : (k : ℕ) → k ≤ n → refusedTo a k ≡ refusedTo b k
+  unfolding refusedTo
+  refused-same zero h = refl
+  refused-same (suc k) h = rw (refused-same k (omega arith), pivot-same k h)
+
+  marks-same : (k : ℕ) → k ≤ n → marksTo (markAt a) k ≡ marksTo (markAt b) k
+  unfolding marksTo
+  marks-same zero h = refl
+  marks-same (suc k) h = rw (marks-same k (omega arith), mark-same k h)
+
+pub cholesky-lower : (n : ℕ) (a b : List Float) → SameBelow (entry n a) (entry n b) n → choleskyOf n a ≡ choleskyOf n b
+unfolding choleskyOf
+cholesky-lower n a b same =
+    rw (
+      refused-same (entry n a) (entry n b) n same n (le-refl n),
+      marks-same (entry n a) (entry n b) n same n (le-refl n),
+      listTo-ext
+          (λ p. factorAt (entry n a) (p / n) (p % n))
+          (λ p. factorAt (entry n b) (p / n) (p % n))
+          (n * n)
+          (λ p h. factor-same (entry n a) (entry n b) n same (p / n) (p % n) (place-row h)),
+    )
+
+-- the products of the lower triangle have the factor of all products
+module _ (m n : ℕ) (jc : List Float) where
+  lower-entry : SameBelow (entry m (lowerGramOf m n jc)) (entry m (gramOf m n jc)) m
+  unfolding lowerGramOf gramOf gramAt
+  lower-entry i j h l =
+      let k : j < m = omega arith in
+      let inside : i * m + j < m * m = digits-lt {q = i} {m = m} {r = j} {c = m} h k in
+      let lower : at (listTo (λ p. gramAt n jc (p / m) (p % m)) (m * m)) (i * m + j) ≡ dotTo (along jc (i * n) 1) (along jc (j * n) 1) n = at-listTo (λ p. gramAt n jc (p / m) (p % m)) (m * m) (i * m + j) inside ∙ rw (digits-div i k, digits-mod i k, le-ltb i j l) in
+      let all : at (listTo (λ p. dotTo (along jc (p / m * n) 1) (along jc (p % m * n) 1) n) (m * m)) (i * m + j) ≡ dotTo (along jc (i * n) 1) (along jc (j * n) 1) n = at-listTo (λ p. dotTo (along jc (p / m * n) 1) (along jc (p % m * n) 1) n) (m * m) (i * m + j) inside ∙ rw (digits-div i k, digits-mod i k) in
+      lower ∙ sym all
+
+  pub cholesky-gram : choleskyOf m (lowerGramOf m n jc) ≡ choleskyOf m (gramOf m n jc)
+  cholesky-gram = cholesky-lower m (lowerGramOf m n jc) (gramOf m n jc) lower-entry

@@ -1,0 +1,35 @@
+-- `rows_minus` meets its contract: both ways give the sum.
+use mathlib.Core.Path.{sym}
+use borrow.Author.Needs.{needs}
+use Rattle.interval.proofs.Given.{yes}
+use Rattle.linear.proofs.dots.rows_minus.Statement.{statement}
+use Rattle.linear.proofs.dots.rows_minus.Tie as tie
+
+bounds-of-requires : tie.Need-bounds-of-requires
+bounds-of-requires c κs = search needs
+
+is-proper-requires : tie.Need-is-proper-requires
+is-proper-requires c κs = search needs
+
+rows-inside-requires : tie.Need-rows-inside-requires
+rows-inside-requires c κs = (c .before .before .before .before .pre .0, c .before .before .before .before .pre .1, yes (sym (rw (c .before .before .bounds-of .ensures, c .if1 .taken) at (c .before .is-proper .ensures))))
+
+returns : tie.Need-returns
+returns c = c .rows-inside .ensures
+
+minus-dot-requires : tie.Need-minus-dot-requires
+minus-dot-requires c κs = search needs
+
+returns-2 : tie.Need-returns-2
+returns-2 c = c .minus-dot .ensures
+
+pub rows-minus-spec : {M : Type 1} → statement M
+rows-minus-spec =
+    tie.close
+    (tie.spec
+    bounds-of-requires
+    is-proper-requires
+    rows-inside-requires
+    returns
+    minus-dot-requires
+    returns-2)
