@@ -15,31 +15,17 @@ use Rattle.interval.specs.declared.Scalar.{Scalar}
 use Rattle.linear.specs.Calls.{normReply}
 use Rattle.linear.specs.Flat.{at, put, listTo}
 use Rattle.linear.specs.Norm.{normOf}
+pub use Rattle.linear.proofs.FillLaws.{fill-turn, at-fill-other, at-fill-ahead}
 use Rattle.linear.proofs.FlatLaws.{at-inside, length-put, at-put-same, at-put-other}
 use Rattle.linear.proofs.Lists.{listTo-none, listTo-more, length-listTo, is-listTo}
 use Rattle.linear.proofs.Agree.{Agree, normOf-ext}
 use Rattle.run.specs.Scratch.{fillTo, fillRows, allTo, anyTo}
 
 module _ (xs : List Float) (base : ℕ) (f : ℕ → Scalar) where
-  -- one turn of a loop that stores f 0, f 1, ..
-  pub fill-turn : {s : List Float} {v : Scalar} (i : ℕ) → s ≡ fillTo xs base f i → v ≡ f i → put s (base + i) v ≡ fillTo xs base f (i + 1)
-  unfolding fillTo
-  fill-turn i es ev = rw (es, ev, add-one)
-
   pub length-fillTo : (k : ℕ) → length (fillTo xs base f k) ≡ length xs
   unfolding fillTo
   length-fillTo zero = refl
   length-fillTo (suc k) = length-put (fillTo xs base f k) (base + k) (f k) ∙ length-fillTo k
-
-  -- a place that is not among those filled
-  pub at-fill-other : (k i : ℕ) → ((j : ℕ) → j < k → i ≢ base + j) → at (fillTo xs base f k) i ≡ at xs i
-  unfolding fillTo
-  at-fill-other zero i h = refl
-  at-fill-other (suc k) i h = at-put-other (fillTo xs base f k) (base + k) i (f k) (h k (lt-suc-self k)) ∙ at-fill-other k i (λ j l. h j (omega arith))
-
-  -- one that is still to be filled
-  pub at-fill-ahead : (k j : ℕ) → k ≤ j → at (fillTo xs base f k) (base + j) ≡ at xs (base + j)
-  at-fill-ahead k j h = at-fill-other k (base + j) (λ i l e. omega arith)
 
   pub at-fill-in : (k i : ℕ) → i < k → 2 * (base + k) ≤ length xs → at (fillTo xs base f k) (base + i) ≡ f i
   unfolding fillTo

@@ -6,8 +6,10 @@ use lib.Ieee.{Float}
 use lib.ListN.{getD}
 use Rattle.interval.specs.declared.Scalar.{Scalar}
 use Rattle.interval.specs.Result.{Res, ok, refused}
-use Rattle.interval.specs.Scalar.{zeroS, isFinite, negOf, subOf, mulOf, divOf}
+use Rattle.interval.specs.Scalar.{zeroS, isFinite, negOf, divOf}
 use Rattle.linear.specs.Flat.{at, put, zeros, along}
+unfoldable pub use Rattle.linear.specs.Flat.{fillTo}
+unfoldable pub use Rattle.linear.specs.Scaled.{minusScaled}
 use Rattle.linear.specs.Choose.{chooseOf}
 
 abbrev pub vector : List Float
@@ -25,11 +27,6 @@ column a j = along a j 12
 
 abbrev pub entry : List Float → ℕ → ℕ → Scalar
 entry a i j = at a (12 * i + j)
-
--- xs with f 0 to f (k - 1) stored from the place base on
-unfoldable pub fillTo : List Float → ℕ → (ℕ → Scalar) → ℕ → List Float
-fillTo xs base f zero = xs
-fillTo xs base f (suc k) = put (fillTo xs base f k) (base + k) (f k)
 
 -- a matrix with the first k entries of its first rows stored
 unfoldable pub fillRows : List Float → (ℕ → ℕ → Scalar) → ℕ → ℕ → List Float
@@ -51,10 +48,6 @@ allFinite xs k = allTo (λ i. isFinite (at xs i)) k
 -- k scalars of xs from the place base on, each chosen, from the start of `to` on
 abbrev pub chosenOf : List Float → List Float → ℕ → ℕ → List Float
 chosenOf to xs base k = fillTo to 0 (λ i. chooseOf (at xs (base + i))) k
-
--- `minus_scaled`: k places of v from v0 on, less a times those of w from w0 on, each chosen
-unfoldable pub minusScaled : List Float → ℕ → Scalar → List Float → ℕ → ℕ → List Float
-minusScaled v v0 a w w0 k = fillTo v v0 (λ p. chooseOf (subOf (at v (v0 + p)) (mulOf a (at w (w0 + p))))) k
 
 -- zero where a division is refused
 abbrev pub orZero : Res Scalar → Scalar

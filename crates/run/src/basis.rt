@@ -22,7 +22,6 @@ ghost use Rattle.run.specs.Scratch.{vector, row, column, entry, fillTo, 
 use crate::row_view::value_of;
 use crate::rows::RowSet;
 use crate::scratch::combine;
-use crate::scratch::minus_scaled;
 use crate::scratch::norm_of;
 use crate::scratch::spread;
 use crate::scratch::unit;
@@ -35,6 +34,7 @@ use linear::at;
 use linear::choose;
 use linear::clear;
 use linear::minus_dot;
+use linear::minus_scaled;
 use linear::plus_dot;
 use linear::put;
 

@@ -5,13 +5,13 @@ ghost use lib.ListN.{length};
 ghost use Rattle.interval.specs.Result as scalar;
 ghost use Rattle.interval.specs.Scalar.{pick, sqrtOf, definitelyGreater};
 ghost use Rattle.run.specs.Directions.{partOff, leftAfter, remaindersTo, withoutTo, squareOf, longestTo, longestIn, directionsTo, directionsOf, directionsIn, turnOf, nextOf, foundOf};
-use crate::scratch::minus_scaled;
 use crate::scratch::unit;
 use interval::Scalar;
 use interval::ScalarResult;
 use linear::LinearError;
 use linear::choose;
 use linear::clear;
+use linear::minus_scaled;
 use linear::plus_dot;
 use linear::put;
 

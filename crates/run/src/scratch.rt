@@ -6,13 +6,14 @@ ghost use Rattle.interval.specs.Result as scalar;
 ghost use Rattle.linear.specs.Answers.{resultOf};
 ghost use Rattle.linear.specs.Flat.{at, along};
 ghost use Rattle.linear.specs.Norm.{normOf};
-ghost use Rattle.run.specs.Scratch.{fillTo, allFinite, chosenOf, minusScaled, orZero, unitAt, combinedTo, spreadTo};
+ghost use Rattle.run.specs.Scratch.{fillTo, allFinite, chosenOf, orZero, unitAt, combinedTo, spreadTo};
 use interval::Scalar;
 use interval::ScalarResult;
 use linear::Answer;
 use linear::at;
 use linear::choose;
 use linear::clear;
+use linear::minus_scaled;
 use linear::norm;
 use linear::put;
 
@@ -44,17 +45,6 @@ pub fn chosen(xs: &[f64], base: usize, k: usize, to: &mut [f64])
 {
     for i in 0..k {
         put(to, i, choose(at(xs, base + i)));
-    }
-}
-
-// k places of v from v0 on, less a times those of w from w0 on, each chosen.
-pub fn minus_scaled(v: &mut [f64], v0: usize, a: Scalar, w: &[f64], w0: usize, k: usize)
-    requires { ⌜ (v0 < 65536) × ((w0 < 65536) × (k < 65536)) ⌝ }
-    ensures { λ _. ⌜ now (v .exit) ≡ minusScaled (now (v .entry)) v0 a (now (w .entry)) w0 k ⌝ }
-{
-    for p in 0..k {
-        let x = at(v, v0 + p);
-        put(v, v0 + p, choose(x.sub(a.mul(at(w, w0 + p)))));
     }
 }
 
