@@ -32,6 +32,7 @@ pub mod ModelLaws
 pub mod ProposalLaws
 pub mod SearchLaws
 pub mod AreaSlots
+pub mod Frames
 pub mod PieceLaws
 pub mod ReadLaws
 pub mod FollowLaws

@@ -2,23 +2,26 @@
 use Prim.Native.Nat.{ℕ, zero, suc, _+_, _*_, _<_, _≤_}
 use mathlib.Core.Bool.{Bool, true, false}
 use mathlib.Core.Logic.{_≢_}
-use mathlib.Core.Path.{_≡_}
-use mathlib.Core.List.{List, [], _∷_}
+use mathlib.Core.Path.{_≡_, refl}
+use mathlib.Core.List.{List, [], _∷_, _++_}
 use native.Mathlib.Numerals.{add-one}
 use native.Mathlib.Omega.{arith}
 use borrow.Author.Tests.{eq-eqb, ne-eqb}
+use lib.Dec.{eqb}
 use lib.Ieee.{Float}
-use lib.ListN.{getD, set, replicate}
+use lib.ListN.{length, getD, set, replicate}
 use Rattle.interval.specs.declared.Scalar.{Scalar}
-use Rattle.interval.specs.Scalar.{addOf, mulOf}
+use Rattle.interval.specs.Scalar.{pick, addOf, mulOf}
 use Rattle.linear.specs.Choose.{chooseOf}
 use Rattle.linear.specs.Dot.{plusTo}
-use Rattle.linear.specs.Flat.{along, zeros}
+use Rattle.linear.specs.Flat.{at, along, zeros}
 use Rattle.run.specs.Curvature.{curvatureAt}
-use Rattle.run.specs.Model.{Kept, keepNext, keptTo, squeezedOf, scalingAt, dampedAt, dampedOf, gradientOf, problemOf, problemIn}
+use Rattle.run.specs.Model.{Kept, keepNext, keptTo, variable, squeezedOf, scalingAt, dampedAt, dampedOf, gradientOf, problemOf, problemIn, undampedAt, undampedOf, scalingsOf, dampedEntry, dampedBy, dampedCurve, gradientIn}
 use Rattle.run.specs.Rows.{Rows, rowsIn, constraintSet, sumSet, constraintsOf, evaluationOf, valueAt}
-use Rattle.run.specs.Scratch.{matrix, column, chosenOf}
+use Rattle.run.specs.Scratch.{vector, matrix, column, fillTo, fillRows, chosenOf}
 use Rattle.run.specs.declared.rows.RowSet.{RowSet}
+use Rattle.run.proofs.Frames.{first-of-three, second-of-three, third-of-three}
+use Rattle.run.proofs.ScratchLaws.{length-fillTo, at-fill-in, length-fillRows, fill-rows-ext, at-fill-rows}
 
 pub keep-turn : (moving : List Bool) (i : ℕ) {k k′ : Kept} → k ≡ keptTo moving i → k′ ≡ keepNext (getD moving i false) k i → k′ ≡ keptTo moving (i + 1)
 unfolding keptTo
@@ -71,15 +74,71 @@ pub curvature-along : (n : ℕ) (b : List Float) (i j : ℕ) → along b j n i �
 unfolding along
 curvature-along n b i j = let e : j + i * n ≡ i * n + j = omega arith in rw e
 
--- an entry of H, from what each call gives
-module _ (jr : List Float) (s : ℕ) (jc : List Float) (m : ℕ) (mu b : Scalar) (i j : ℕ) {v : Scalar} (ev : v ≡ plusTo (column jr i) (column jr j) b s) where
-  pub damped-off : {r : Scalar} → i ≢ j → r ≡ chooseOf v → r ≡ dampedAt jr s jc m mu b i j
-  unfolding dampedAt
-  damped-off h er = rw (er, ev, ne-eqb _ _ h)
+-- an entry that is not damped, and one of H, from what each call gives
+module _ (jr : List Float) (s : ℕ) (b : Scalar) (i j : ℕ) {v : Scalar} (ev : v ≡ plusTo (column jr i) (column jr j) b s) where
+  pub undamped-on : i ≡ j → v ≡ undampedAt jr s b i j
+  unfolding undampedAt
+  undamped-on h = rw (ev, eq-eqb _ _ h)
 
-  pub damped-on : {d p w r : Scalar} → i ≡ j → d ≡ scalingAt jr s jc m i → p ≡ mulOf mu d → w ≡ addOf v p → r ≡ chooseOf w → r ≡ dampedAt jr s jc m mu b i j
-  unfolding dampedAt
-  damped-on h ed ep ew er = rw (er, ew, ep, ed, ev, eq-eqb _ _ h)
+  pub undamped-off : {r : Scalar} → i ≢ j → r ≡ chooseOf v → r ≡ undampedAt jr s b i j
+  unfolding undampedAt
+  undamped-off h er = rw (er, ev, ne-eqb _ _ h)
+
+module _ (v d mu : Scalar) (i j : ℕ) where
+  pub damped-on : {p w r : Scalar} → i ≡ j → p ≡ mulOf mu d → w ≡ addOf v p → r ≡ chooseOf w → r ≡ dampedEntry v d mu i j
+  unfolding dampedEntry
+  damped-on h ep ew er = rw (er, ew, ep, eq-eqb _ _ h)
+
+  pub damped-off : i ≢ j → v ≡ dampedEntry v d mu i j
+  unfolding dampedEntry
+  damped-off h = rw (ne-eqb _ _ h)
+
+-- damped after or at once: the same entry
+either : (diagonal : Bool) (v d mu : Scalar) → pick diagonal (chooseOf (addOf (pick diagonal v (chooseOf v)) (mulOf mu d))) (pick diagonal v (chooseOf v)) ≡ chooseOf (pick diagonal (addOf v (mulOf mu d)) v)
+either true v d mu = refl
+either false v d mu = refl
+
+entry-damped : (jr : List Float) (s : ℕ) (jc : List Float) (m : ℕ) (mu b : Scalar) (i j : ℕ) → dampedEntry (undampedAt jr s b i j) (scalingAt jr s jc m i) mu i j ≡ dampedAt jr s jc m mu b i j
+unfolding dampedEntry undampedAt dampedAt
+entry-damped jr s jc m mu b i j = either (eqb i j) (plusTo (column jr i) (column jr j) b s) (scalingAt jr s jc m i) mu
+
+module _ (n : ℕ) (k : Kept) (jr : List Float) (s : ℕ) (jc : List Float) (m : ℕ) (b : List Float) where
+  -- what is filled before it is damped
+  abbrev before : ℕ → ℕ → Scalar
+  before i j = undampedAt jr s (curvatureAt n b (variable k i) (variable k j)) i j
+
+  damped-is : (mu : Scalar) → k .count ≤ 12 → dampedBy (k .count) (undampedOf n k jr s b) (scalingsOf (k .count) jr s jc m) mu ≡ dampedOf n k jr s jc m b mu
+  unfolding dampedBy undampedOf scalingsOf dampedOf
+  damped-is mu h =
+      let r : ℕ = k .count in
+      let lm : length matrix ≡ 288 = refl in
+      let lv : length vector ≡ 24 = refl in
+      fill-rows-ext matrix (λ i j. dampedEntry (at (fillRows matrix before r r) (12 * i + j)) (at (fillTo vector 0 (scalingAt jr s jc m) r) i) mu i j) (λ i j. dampedAt jr s jc m mu (curvatureAt n b (variable k i) (variable k j)) i j) r r
+      (λ i j hi hj.
+      let z : 0 + i ≡ i = omega arith in
+      let e : at (fillTo vector 0 (scalingAt jr s jc m) r) i ≡ scalingAt jr s jc m i = rw z at (at-fill-in vector 0 (scalingAt jr s jc m) r i hi (omega (arith, lv, h))) in
+      rw (at-fill-rows matrix before r r i j h hi hj (omega (arith, lm, h)), e) (entry-damped jr s jc m mu (curvatureAt n b (variable k i) (variable k j)) i j))
+
+  length-undamped : length (undampedOf n k jr s b) ≡ 288
+  unfolding undampedOf
+  length-undamped = length-fillRows matrix before (k .count) (k .count)
+
+  length-scalings : length (scalingsOf (k .count) jr s jc m) ≡ 24
+  unfolding scalingsOf
+  length-scalings = length-fillTo vector 0 (scalingAt jr s jc m) (k .count)
+
+  module _ (e : Rows) where
+    length-gradient : length (gradientOf k e) ≡ 24
+    unfolding gradientOf
+    length-gradient = length-fillTo vector 0 _ (k .count)
+
+    -- a curve, as it is read
+    module _ {curve : List Float} (ec : curve ≡ undampedOf n k jr s b ++ (scalingsOf (k .count) jr s jc m ++ gradientOf k e)) where
+      pub curve-damped : (mu : Scalar) → k .count ≤ 12 → dampedCurve (k .count) curve mu ≡ dampedOf n k jr s jc m b mu
+      curve-damped mu h = rw (first-of-three curve (undampedOf n k jr s b) (scalingsOf (k .count) jr s jc m) (gradientOf k e) length-undamped length-scalings length-gradient ec, second-of-three curve (undampedOf n k jr s b) (scalingsOf (k .count) jr s jc m) (gradientOf k e) length-undamped length-scalings length-gradient ec) (damped-is mu h)
+
+      pub curve-gradient : gradientIn curve ≡ gradientOf k e
+      curve-gradient = third-of-three curve (undampedOf n k jr s b) (scalingsOf (k .count) jr s jc m) (gradientOf k e) length-undamped length-scalings length-gradient ec
 
 -- H from the sum's slopes, and the whole problem, from what each call gives
 pub curve-is : (n : ℕ) (k : Kept) (e : Rows) (jc : List Float) (m : ℕ) (b : List Float) (mu : Scalar) {wide₀ jr₀ wide jr h : List Float}

@@ -104,6 +104,22 @@ unfolding fillRows
 length-fillRows xs f k zero = refl
 length-fillRows xs f k (suc i) = length-fillTo (fillRows xs f k i) (12 * i) (f i) k ∙ length-fillRows xs f k i
 
+pub fill-rows-ext : (xs : List Float) (f g : ℕ → ℕ → Scalar) (k i : ℕ) → ((t j : ℕ) → t < i → j < k → f t j ≡ g t j) → fillRows xs f k i ≡ fillRows xs g k i
+unfolding fillRows
+fill-rows-ext xs f g k zero h = refl
+fill-rows-ext xs f g k (suc i) h =
+    rw (fill-rows-ext xs f g k i (λ t j l. h t j (omega arith))) (fill-ext (fillRows xs g k i) (12 * i) (f i) (g i) k (λ j l. h i j (lt-suc-self i) l))
+
+-- an entry of the first rows
+pub at-fill-rows : (xs : List Float) (f : ℕ → ℕ → Scalar) (k r i j : ℕ) → k ≤ 12 → i < r → j < k → 24 * r ≤ length xs → at (fillRows xs f k r) (12 * i + j) ≡ f i j
+unfolding fillRows
+at-fill-rows xs f k zero i j hk hi hj l = absurd (not-suc-le-zero hi)
+at-fill-rows xs f k (suc r) i j hk hi hj l =
+    ⊎-elim
+    (λ e. rw e (at-fill-in (fillRows xs f k r) (12 * r) (f r) k j hj (omega (arith, length-fillRows xs f k r))))
+    (λ m. at-fill-other (fillRows xs f k r) (12 * r) (f r) k (12 * i + j) (λ t h e. omega arith) ∙ at-fill-rows xs f k r i j hk m hj (omega arith))
+    (eq-or-lt-of-le (le-of-suc-le-suc hi))
+
 module _ (p : ℕ → Bool) where
   -- all so far, and one more
   pub all-turn : (i : ℕ) → allTo p i ≡ true → p i ≡ true → allTo p (i + 1) ≡ true

@@ -2,9 +2,10 @@
 use Prim.Native.Nat.{ℕ, _≤_}
 use mathlib.Core.Bool.{Bool, true, false, _&&_}
 use mathlib.Core.Path.{_≡_, refl, sym, ap, _∙_}
-use mathlib.Core.List.{List, []}
+use mathlib.Core.List.{List, [], _++_}
 use native.Mathlib.Omega.{arith}
 use lib.Ieee.{Float}
+use lib.ListN.{length, take, drop}
 use Rattle.interval.specs.declared.Scalar.{Scalar}
 use Rattle.interval.specs.Result.{Res, ok, refused}
 use Rattle.interval.specs.Scalar.{zeroS, pick}
@@ -14,13 +15,16 @@ use Rattle.linear.specs.declared.answers.LinearError.{LinearError}
 use Rattle.linear.specs.Cholesky.{Factor, choleskyOf}
 use Rattle.run.specs.Scratch.{allFinite}
 use Rattle.run.specs.Rows.{Evaluation}
-use Rattle.run.specs.Model.{Kept, keptTo, Problem, problemOf, problemIn}
+use Rattle.run.specs.Model.{Kept, keptTo, Problem, problemOf, problemIn, dampedCurve, gradientIn}
 use Rattle.run.specs.Basis.{Basis, basisOf, correctionOf, multiplierStep, multipliersOf, basisBy, problemBy, rankedOf}
 use Rattle.run.specs.declared.basis.Rank.{Rank}
 use Rattle.run.specs.declared.basis.Rank.the-variants as rank
+use Rattle.run.specs.declared.step.Prepared.{Prepared}
+use Rattle.run.specs.declared.step.Prepared.the-variants as prepared
 use Rattle.run.specs.Directions.{Directions, directionsOf}
-use Rattle.run.specs.Step.{Stepped, notPositive, forceOf, pullOf, reducedOf, againstOf, Weights, weights, none, weightsOf, steppedBy, alongZ, freeStep, keptStep, spreadStep, stepOf, curved, spanned, solvedWith, addedTo, freePart, withMultipliers, spreadEnd, basisFor, correctedStep, basedStep, testedStep, rankOf}
+use Rattle.run.specs.Step.{Stepped, notPositive, forceOf, pullOf, reducedOf, againstOf, Weights, weights, none, weightsOf, steppedBy, alongZ, freeStep, keptStep, spreadStep, stepOf, curved, spanned, solvedWith, addedTo, freePart, withMultipliers, spreadEnd, basisFor, correctedStep, basedStep, testedStep, rankOf, readyStep, framedStep, dampedStep, preparedStep}
 use Rattle.run.proofs.BasisLaws.{basis-reads, rank-small}
+use Rattle.run.proofs.Frames.{first-of-four, second-of-four, third-of-four, fourth-of-four}
 
 -- the kept step, once its part along Z is added
 abbrev pub onward : Problem → Basis → Weights → Res Stepped
@@ -156,15 +160,38 @@ pub rank-bound : (P : Problem) (q gram coefficients dependent : List Float) (ord
 rank-bound P q gram coefficients dependent order (rank.Of r) e = rank-small P (sym e)
 rank-bound P q gram coefficients dependent order (rank.Refused x) e = omega arith
 
--- where H is finite
-module _ (P : Problem) {finite : Bool} (ef : finite ≡ allFinite (P .h) 144) where
-  pub tested-not : finite ≡ false → ok notPositive ≡ testedStep P
-  unfolding testedStep
-  tested-not q = rw (← ef, q)
+-- ---- what no damping changes
 
-  pub tested-on : {x : Res Stepped} → finite ≡ true → x ≡ keptStep P → x ≡ testedStep P
-  unfolding testedStep
-  tested-on q ex = rw (← ef, q) ex
+-- a frame, as it is read
+pub framed-is : (x : Prepared) (P : Problem) (order : List ℕ) (frame q c delta z : List Float) → length q ≡ 288 → length c ≡ 288 → length delta ≡ 24 → length z ≡ 288 → frame ≡ q ++ (c ++ (delta ++ z))
+    → framedStep x P order frame ≡ readyStep x P q c order delta z
+framed-is x P order frame q c delta z lq lc ld lz e =
+    rw (first-of-four frame q c delta z lq lc ld lz e, second-of-four frame q c delta z lq lc ld lz e, third-of-four frame q c delta z lq lc ld lz e, fourth-of-four frame q c delta z lq lc ld lz e)
+
+-- the step from it, where the correction is copied, or the refusal
+module _ {x : Prepared} (P : Problem) (order : List ℕ) (frame : List Float) where
+  pub ready-on : {r count : ℕ} {kept : List Float} {y : Res Stepped} → x ≡ prepared.Ready r count → kept ≡ take 24 (drop 576 frame)
+      → y ≡ freeStep P (basisFor r (take 288 frame) (take 288 (drop 288 frame)) order) kept (spanned count (take 288 (drop 600 frame))) → y ≡ framedStep x P order frame
+  ready-on ex ek ey = rw ex (rw ek at ey)
+
+  pub ready-refused : {e : LinearError} → x ≡ prepared.Refused e → refused (numberOf e) ≡ framedStep x P order frame
+  ready-refused ex = rw ex
+
+-- where H is finite
+module _ (k : ℕ) (x : Prepared) (order : List ℕ) (curve frame : List Float) (mu : Scalar) {h : List Float} {finite : Bool} (eh : h ≡ dampedCurve k curve mu) (ef : finite ≡ allFinite h 144) where
+  pub damped-not : finite ≡ false → ok notPositive ≡ dampedStep k x order curve frame mu
+  unfolding dampedStep
+  damped-not q = rw (← eh, ← ef, q)
+
+  pub damped-on : {y : Res Stepped} → finite ≡ true → y ≡ framedStep x (curved k h (gradientIn curve)) order frame → y ≡ dampedStep k x order curve frame mu
+  unfolding dampedStep
+  damped-on q ey = rw (← eh, ← ef, q) ey
+
+damped-tested : (k m : ℕ) (c : ℕ → Scalar) (wide jc : List Float) (x : Prepared) (order : List ℕ) (curve frame : List Float) (mu : Scalar)
+    → ((h g : List Float) → framedStep x (curved k h g) order frame ≡ keptStep (problemIn k m c wide jc h g))
+    → dampedStep k x order curve frame mu ≡ testedStep (problemIn k m c wide jc (dampedCurve k curve mu) (gradientIn curve))
+unfolding dampedStep testedStep
+damped-tested k m c wide jc x order curve frame mu f = ap (λ (y : Res Stepped). pick (allFinite (dampedCurve k curve mu) 144) y (ok notPositive)) (f (dampedCurve k curve mu) (gradientIn curve))
 
 -- over all
 spread-tested : (k : Kept) (finite : Bool) (x : Res Stepped) → spreadEnd k (pick finite x (ok notPositive)) ≡ pick finite (bind x (λ y. ok (spreadStep k y))) (ok notPositive)
@@ -176,3 +203,14 @@ pub step-is : (n : ℕ) (e : Evaluation) (b : List Float) (moving : List Bool) (
     → k ≡ keptTo moving n → x ≡ testedStep (problemOf n k e b mu) → y ≡ spreadEnd k x → y ≡ stepOf n e b moving mu
 unfolding stepOf testedStep
 step-is n e b moving mu {k} ek ex ey = ey ∙ ap (spreadEnd k) ex ∙ spread-tested k (allFinite (problemOf n k e b mu .h) 144) (keptStep (problemOf n k e b mu)) ∙ rw ek
+
+module _ (n : ℕ) (moving : List Bool) (x : Prepared) (order : List ℕ) (curve frame : List Float) (mu : Scalar) {k : Kept} (ek : k ≡ keptTo moving n) where
+  pub prepared-by : {y z : Res Stepped} → y ≡ dampedStep (k .count) x order curve frame mu → z ≡ spreadEnd k y → z ≡ preparedStep n moving x order curve frame mu
+  unfolding preparedStep
+  prepared-by ey ez = ez ∙ ap (spreadEnd k) ey ∙ rw ek
+
+  pub prepared-is : (e : Evaluation) (b : List Float) (m : ℕ) (c : ℕ → Scalar) (wide jc : List Float)
+      → problemIn (k .count) m c wide jc (dampedCurve (k .count) curve mu) (gradientIn curve) ≡ problemOf n k e b mu
+      → ((h g : List Float) → framedStep x (curved (k .count) h g) order frame ≡ keptStep (problemIn (k .count) m c wide jc h g)) → preparedStep n moving x order curve frame mu ≡ stepOf n e b moving mu
+  prepared-is e b m c wide jc ep f =
+      sym (prepared-by refl refl) ∙ step-is n e b moving mu ek (damped-tested (k .count) m c wide jc x order curve frame mu f ∙ ap testedStep ep) refl

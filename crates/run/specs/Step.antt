@@ -1,10 +1,11 @@
 -- `step`: the step of the linearized problem by the null-space method, with the constraints' multipliers and the number of independent rows. None where the damped curvature is not positive along
 -- the directions that the constraints leave free.
-use Prim.Native.Nat.{ℕ, _*_, _/_, _%_}
+use Prim.Native.Nat.{ℕ, _*_, _/_, _%_, _≤_}
 use mathlib.Core.Bool.{Bool, false, _&&_}
 use mathlib.Core.List.{List}
+use mathlib.Core.Path.{_≡_}
 use lib.Ieee.{Float}
-use lib.ListN.{getD}
+use lib.ListN.{length, getD, take, drop}
 use Rattle.interval.specs.declared.Scalar.{Scalar}
 use Rattle.interval.specs.Result.{Res, ok, refused}
 use Rattle.interval.specs.Scalar.{pick, negOf, addOf}
@@ -17,13 +18,15 @@ use Rattle.linear.specs.Cholesky.{Factor, choleskyOf}
 use Rattle.linear.specs.Substitution.{solveOf}
 use Rattle.run.specs.Scratch.{vector, matrix, row, fillTo, fillRows, anyTo, allFinite, combinedTo, spreadTo}
 use Rattle.run.specs.Rows.{Evaluation}
-use Rattle.run.specs.Model.{Kept, keptTo, Problem, problemOf}
+use Rattle.run.specs.Model.{Kept, keptTo, Problem, problemOf, dampedCurve, gradientIn}
 use Rattle.run.specs.Basis.{Basis, basisOf, correctionOf, multipliersOf}
 use Rattle.run.specs.Directions.{Directions, directionsOf, directionsIn}
 use Rattle.run.specs.declared.basis.Rank.{Rank}
 use Rattle.run.specs.declared.basis.Rank.the-variants as rank
 use Rattle.run.specs.declared.free.Along.{Along}
 use Rattle.run.specs.declared.free.Along.the-variants as a
+use Rattle.run.specs.declared.step.Prepared.{Prepared}
+use Rattle.run.specs.declared.step.Prepared.the-variants as p
 use Rattle.run.specs.declared.step.StepEnd.{StepEnd}
 use Rattle.run.specs.declared.step.StepEnd.the-variants as s
 
@@ -165,3 +168,49 @@ testedStep P = pick (allFinite (P .h) 144) (keptStep P) (ok notPositive)
 abbrev pub rankOf : Rank → ℕ
 rankOf (rank.Of r) = r
 rankOf (rank.Refused e) = 0
+
+-- ---- what no damping changes
+
+-- how many rows are in the basis, and how many directions are free
+abbrev pub independentIn : Prepared → ℕ
+independentIn (p.Ready r count) = r
+independentIn (p.Refused e) = 0
+
+abbrev pub freeIn : Prepared → ℕ
+freeIn (p.Ready r count) = count
+freeIn (p.Refused e) = 0
+
+-- at most twelve of each
+pub record Few (x : Prepared) : Type 0 where
+  pub independent : independentIn x ≤ 12
+  pub free : freeIn x ≤ 12
+
+-- the step over the kept variables from it, for the curvature and the gradient of a problem
+abbrev pub readyStep : Prepared → Problem → List Float → List Float → List ℕ → List Float → List Float → Res Stepped
+readyStep (p.Ready r count) P q coefficients order delta z = freeStep P (basisFor r q coefficients order) delta (spanned count z)
+readyStep (p.Refused e) P q coefficients order delta z = refused (numberOf e)
+
+-- from a frame: Q, the coefficients, the correction and the directions, one behind the other
+abbrev pub framedStep : Prepared → Problem → List ℕ → List Float → Res Stepped
+framedStep x P order frame = readyStep x P (take 288 frame) (take 288 (drop 288 frame)) order (take 24 (drop 576 frame)) (take 288 (drop 600 frame))
+
+-- with the damping mu; none where H is not finite
+unfoldable pub dampedStep : ℕ → Prepared → List ℕ → List Float → List Float → Scalar → Res Stepped
+dampedStep k x order curve frame mu =
+    let h = dampedCurve k curve mu in
+    pick (allFinite h 144) (framedStep x (curved k h (gradientIn curve)) order frame) (ok notPositive)
+
+-- over all variables
+unfoldable pub preparedStep : ℕ → List Bool → Prepared → List ℕ → List Float → List Float → Scalar → Res Stepped
+preparedStep n moving x order curve frame mu = let k = keptTo moving n in spreadEnd k (dampedStep (k .count) x order curve frame mu)
+
+pub record Framed (x : Prepared) (order : List ℕ) (curve frame : List Float) : Type 0 where
+  pub few : Few x
+  pub order-length : length order ≡ 24
+  pub curve-length : length curve ≡ 336
+  pub frame-length : length frame ≡ 888
+
+-- what is prepared gives the step of every damping
+pub record PreparedFor (n : ℕ) (e : Evaluation) (b : List Float) (moving : List Bool) (x : Prepared) (order : List ℕ) (curve frame : List Float) : Type 0 where
+  pub framed : Framed x order curve frame
+  pub steps : (mu : Scalar) → preparedStep n moving x order curve frame mu ≡ stepOf n e b moving mu

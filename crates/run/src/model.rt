@@ -1,14 +1,16 @@
 // The linearized problem over the variables that move: its slopes, its damped curvature, and the sum's gradient.
 ghost use mathlib.Core.Path.{_≡_};
+ghost use mathlib.Core.List.{_++_};
 ghost use Prim.Native.Nat.{ℕ, _+_, _*_, _<_, _≤_};
 ghost use lib.ListN.{length, getD, replicate};
 ghost use Rattle.linear.specs.Choose.{chooseOf};
 ghost use Rattle.linear.specs.Dot.{dotTo};
 ghost use Rattle.linear.specs.Flat.{at, zeros};
 ghost use Rattle.run.specs.Curvature.{curvatureAt};
-ghost use Rattle.run.specs.Model.{keptBy, keepNext, keptTo, squeezedOf, scalingAt, dampedAt, dampedOf, gradientOf, problemOf, problemIn};
+ghost use Rattle.run.specs.Model.{keptBy, keepNext, keptTo, squeezedOf, scalingAt, gradientOf, problemOf, problemIn, undampedAt, undampedOf, scalingsOf, dampedEntry, dampedBy, dampedCurve, gradientIn};
 ghost use Rattle.run.specs.Rows.{Small, rowsIn, constraintsOf, evaluationOf, valueAt, slopeAt, slopesBy};
 ghost use Rattle.run.specs.Scratch.{matrix, fillTo, fillRows, chosenOf};
+use crate::area::place;
 use crate::row_view::slope_of;
 use crate::rows::RowSet;
 use crate::rows::chosen_values;
@@ -18,10 +20,18 @@ use crate::rows::transposed_at;
 use crate::scratch::chosen;
 use interval::Scalar;
 use linear::along;
+use linear::at;
 use linear::choose;
 use linear::clear;
 use linear::plus_dot;
 use linear::put;
+
+// Where each part of a curve begins, behind the curvature that is not damped.
+pub const SCALINGS: usize = 288;
+
+pub const GRADIENT: usize = 312;
+
+pub const CURVE: usize = 336;
 
 // ---- the variables that move
 
@@ -79,7 +89,7 @@ pub fn squeeze(xs: &[f64], e: RowSet, index: &[usize], k: usize, to: &mut [f64])
     }
 }
 
-// ---- the damped curvature
+// ---- the curvature
 
 // D's entry for the i-th kept variable.
 fn scaling(jr: &[f64], s: usize, jc: &[f64], m: usize, i: usize) -> Scalar
@@ -89,69 +99,91 @@ fn scaling(jr: &[f64], s: usize, jc: &[f64], m: usize, i: usize) -> Scalar
     plus_dot(jc, i, 12, jc, i, 12, d, m)
 }
 
-// H's entry, from the curvature's entry b.
-fn damped_at(
-    jr: &[f64],
-    s: usize,
-    jc: &[f64],
-    m: usize,
-    mu: Scalar,
-    b: Scalar,
-    i: usize,
-    j: usize,
-) -> Scalar
-    ensures { λ r. ⌜ r ≡ dampedAt (now (jr .entry)) s (now (jc .entry)) m mu b i j ⌝ }
+// D, over the kept variables.
+fn scalings(k: usize, jr: &[f64], s: usize, jc: &[f64], m: usize, d: &mut [f64])
+    requires { ⌜ (k ≤ 12) × (length (now d) ≡ 24) ⌝ }
+    ensures { λ _. ⌜ now (d .exit) ≡ scalingsOf k (now (jr .entry)) s (now (jc .entry)) m ⌝ }
+{
+    clear(d);
+    for i in 0..k {
+        put(d, i, scaling(jr, s, jc, m, i));
+    }
+}
+
+// An entry of J_rᵀ J_r + B, from B's entry b; chosen off the diagonal.
+fn undamped_at(jr: &[f64], s: usize, b: Scalar, i: usize, j: usize) -> Scalar
+    ensures { λ r. ⌜ r ≡ undampedAt (now (jr .entry)) s b i j ⌝ }
 {
     let v = plus_dot(jr, i, 12, jr, j, 12, b, s);
     if i == j {
-        return choose(v.add(mu.mul(scaling(jr, s, jc, m, i))));
+        return v;
     }
     choose(v)
 }
 
-// Row i of H.
-fn damped_row(
+// Row i of it.
+fn undamped_row(
     n: usize,
     index: &[usize],
     k: usize,
     jr: &[f64],
     s: usize,
-    jc: &[f64],
-    m: usize,
     b: &[f64],
-    mu: Scalar,
     h: &mut [f64],
     i: usize,
 )
     requires { ⌜ (k ≤ 12) × ((length (now index) ≡ 12) × (i < k)) ⌝ }
-    ensures { λ _. ⌜ now (h .exit) ≡ fillTo (now (h .entry)) (12 * i) (λ j. dampedAt (now (jr .entry)) s (now (jc .entry)) m mu (curvatureAt n (now (b .entry)) (getD (now (index .entry)) i 0) (getD (now (index .entry)) j 0)) i j) k ⌝ }
+    ensures { λ _. ⌜ now (h .exit) ≡ fillTo (now (h .entry)) (12 * i) (λ j. undampedAt (now (jr .entry)) s (curvatureAt n (now (b .entry)) (getD (now (index .entry)) i 0) (getD (now (index .entry)) j 0)) i j) k ⌝ }
 {
     let row = index[i];
     for j in 0..k {
         let start = along(b, index[j], n, row);
-        put(h, 12 * i + j, damped_at(jr, s, jc, m, mu, start, i, j));
+        put(h, 12 * i + j, undamped_at(jr, s, start, i, j));
     }
 }
 
-// H = J_rᵀ J_r + B + mu D over the kept variables, chosen.
-pub fn damped(
-    n: usize,
-    index: &[usize],
-    k: usize,
-    jr: &[f64],
-    s: usize,
-    jc: &[f64],
-    m: usize,
-    b: &[f64],
-    mu: Scalar,
-    h: &mut [f64],
-)
+// J_rᵀ J_r + B over the kept variables.
+fn undamped(n: usize, index: &[usize], k: usize, jr: &[f64], s: usize, b: &[f64], h: &mut [f64])
     requires { ⌜ (k ≤ 12) × ((length (now index) ≡ 12) × (length (now h) ≡ 288)) ⌝ }
-    ensures { λ _. ⌜ now (h .exit) ≡ dampedOf n (keptBy k (now (index .entry))) (now (jr .entry)) s (now (jc .entry)) m (now (b .entry)) mu ⌝ }
+    ensures { λ _. ⌜ now (h .exit) ≡ undampedOf n (keptBy k (now (index .entry))) (now (jr .entry)) s (now (b .entry)) ⌝ }
 {
     clear(h);
     for i in 0..k {
-        damped_row(n, index, k, jr, s, jc, m, b, mu, h, i);
+        undamped_row(n, index, k, jr, s, b, h, i);
+    }
+}
+
+// ---- damped
+
+// H's entry, from the entry v that is not damped, and D's entry d.
+fn damped_at(v: Scalar, d: Scalar, mu: Scalar, i: usize, j: usize) -> Scalar
+    ensures { λ r. ⌜ r ≡ dampedEntry v d mu i j ⌝ }
+{
+    if i == j {
+        return choose(v.add(mu.mul(d)));
+    }
+    v
+}
+
+// Row i of H.
+fn damped_row(k: usize, v: &[f64], d: &[f64], mu: Scalar, h: &mut [f64], i: usize)
+    requires { ⌜ (k ≤ 12) × (i < k) ⌝ }
+    ensures { λ _. ⌜ now (h .exit) ≡ fillTo (now (h .entry)) (12 * i) (λ j. dampedEntry (at (now (v .entry)) (12 * i + j)) (at (now (d .entry)) i) mu i j) k ⌝ }
+{
+    let scale = at(d, i);
+    for j in 0..k {
+        put(h, 12 * i + j, damped_at(at(v, 12 * i + j), scale, mu, i, j));
+    }
+}
+
+// H = J_rᵀ J_r + B + mu D, from J_rᵀ J_r + B and D.
+pub fn damped(k: usize, v: &[f64], d: &[f64], mu: Scalar, h: &mut [f64])
+    requires { ⌜ (k ≤ 12) × (length (now h) ≡ 288) ⌝ }
+    ensures { λ _. ⌜ now (h .exit) ≡ dampedBy k (now (v .entry)) (now (d .entry)) mu ⌝ }
+{
+    clear(h);
+    for i in 0..k {
+        damped_row(k, v, d, mu, h, i);
     }
 }
 
@@ -181,7 +213,43 @@ fn slopes(xs: &[f64], e: RowSet, index: &[usize], k: usize, wide: &mut [f64], na
     chosen(wide, 0, 12 * e.count, narrow);
 }
 
-// The problem over the k kept variables, from an answer's rows: the constraints' slopes, into clear slices, the same chosen, H, and the gradient.
+// A curve from its parts, one behind the other.
+fn join(h: &[f64], d: &[f64], g: &[f64], curve: &mut [f64])
+    requires { ⌜ (length (now h) ≡ 288) × ((length (now d) ≡ 24) × ((length (now g) ≡ 24) × (length (now curve) ≡ 336))) ⌝ }
+    ensures { λ _. ⌜ now (curve .exit) ≡ now (h .entry) ++ (now (d .entry) ++ now (g .entry)) ⌝ }
+{
+    place(curve, 0, h);
+    place(curve, SCALINGS, d);
+    place(curve, GRADIENT, g);
+}
+
+// The curve: J_rᵀ J_r + B, D and the gradient, from the slopes chosen.
+fn fill_curve(
+    n: usize,
+    m: usize,
+    index: &[usize],
+    k: usize,
+    xs: &[f64],
+    e: RowSet,
+    b: &[f64],
+    jr: &[f64],
+    jc: &[f64],
+    curve: &mut [f64],
+)
+    requires { ⌜ Small e × ((k ≤ 12) × ((length (now index) ≡ 12) × (((p : ℕ) → getD (now index) p 0 < 65536) × (length (now curve) ≡ 336)))) ⌝ }
+    ensures { λ _. ⌜ now (curve .exit) ≡ undampedOf n (keptBy k (now (index .entry))) (now (jr .entry)) (e .count) (now (b .entry)) ++ (scalingsOf k (now (jr .entry)) (e .count) (now (jc .entry)) m ++ gradientOf (keptBy k (now (index .entry))) (rowsIn (now (xs .entry)) e)) ⌝ }
+{
+    let s = e.count;
+    let mut h = [0.0; 288];
+    let mut d = [0.0; 24];
+    let mut g = [0.0; 24];
+    undamped(n, index, k, jr, s, b, &mut h);
+    scalings(k, jr, s, jc, m, &mut d);
+    gradient(xs, e, index, k, &mut g);
+    join(&h, &d, &g, curve);
+}
+
+// The problem over the k kept variables, from an answer's rows, before it is damped: the constraints' slopes, into clear slices, the same chosen, and the curve.
 pub fn problem(
     n: usize,
     m: usize,
@@ -190,20 +258,17 @@ pub fn problem(
     k: usize,
     xs: &[f64],
     b: &[f64],
-    mu: Scalar,
     wide: &mut [f64],
     jc: &mut [f64],
-    h: &mut [f64],
-    g: &mut [f64],
+    curve: &mut [f64],
 )
-    requires { ⌜ (n ≤ 12) × ((m ≤ 12) × ((s ≤ 24) × ((k ≤ 12) × ((length (now index) ≡ 12) × (((p : ℕ) → getD (now index) p 0 < 65536) × ((now wide ≡ matrix) × ((now jc ≡ matrix) × ((length (now h) ≡ 288) × (length (now g) ≡ 24))))))))) ⌝ }
-    ensures { λ _. ⌜ problemIn k m (valueAt (constraintsOf n m (now (xs .entry)))) (now (wide .exit)) (now (jc .exit)) (now (h .exit)) (now (g .exit)) ≡ problemOf n (keptBy k (now (index .entry))) (evaluationOf n m s (now (xs .entry))) (now (b .entry)) mu ⌝ }
+    requires { ⌜ (n ≤ 12) × ((m ≤ 12) × ((s ≤ 24) × ((k ≤ 12) × ((length (now index) ≡ 12) × (((p : ℕ) → getD (now index) p 0 < 65536) × ((now wide ≡ matrix) × ((now jc ≡ matrix) × (length (now curve) ≡ 336)))))))) ⌝ }
+    ensures { λ _. ⌜ ((mu : Scalar) → problemIn k m (valueAt (constraintsOf n m (now (xs .entry)))) (now (wide .exit)) (now (jc .exit)) (dampedCurve k (now (curve .exit)) mu) (gradientIn (now (curve .exit))) ≡ problemOf n (keptBy k (now (index .entry))) (evaluationOf n m s (now (xs .entry))) (now (b .entry)) mu) ⌝ }
 {
     let e = sum(n, m, s);
     let mut all = [0.0; 576];
     let mut jr = [0.0; 576];
     slopes(xs, constraints(n, m), index, k, wide, jc);
     slopes(xs, e, index, k, &mut all, &mut jr);
-    damped(n, index, k, &jr, e.count, jc, m, b, mu, h);
-    gradient(xs, e, index, k, g);
+    fill_curve(n, m, index, k, xs, e, b, &jr, jc, curve);
 }

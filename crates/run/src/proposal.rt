@@ -11,6 +11,7 @@ ghost use Rattle.linear.specs.Flat.{at};
 ghost use Rattle.linear.specs.Results.{bind};
 ghost use Rattle.run.specs.Proposal.{ask, bentOf, expectsOf, trialOf, cutOf, shortenedOf, withinOf, proposalOf, standingWith, stillOf, modelOf, pointOf, expectedResult, proposalResult};
 ghost use Rattle.run.specs.Rows.{constraintsOf, evaluationOf};
+ghost use Rattle.run.specs.Step.{PreparedFor};
 use crate::points::moved;
 use crate::points::same;
 use crate::rows::predicted;
@@ -19,8 +20,9 @@ use crate::rows::sum;
 use crate::scratch::chosen;
 use crate::scratch::norm_of;
 use crate::state::Trial;
+use crate::step::Prepared;
 use crate::step::StepEnd;
-use crate::step::step;
+use crate::step::damped_step;
 use interval::Scalar;
 use interval::ScalarResult;
 use linear::Answer;
@@ -206,7 +208,7 @@ fn within(
     }
 }
 
-// What the damping mu proposes, within the radius; where it asks, delta, lambda and next hold the step, its multipliers and the point it leads to.
+// What the damping mu proposes, from what was prepared, within the radius; where it asks, delta, lambda and next hold the step, its multipliers and the point it leads to.
 pub fn propose(
     n: usize,
     m: usize,
@@ -217,17 +219,31 @@ pub fn propose(
     moving: &[bool],
     f: Scalar,
     theta: Scalar,
+    prepared: Prepared,
+    order: &[usize],
+    curve: &[f64],
+    frame: &[f64],
     mu: Scalar,
     radius: Scalar,
     delta: &mut [f64],
     lambda: &mut [f64],
     next: &mut [f64],
 ) -> Proposal
-    requires { ⌜ (n ≤ 12) × ((m ≤ 12) × ((s ≤ 24) × ((length (now moving) ≡ 12) × ((length (now delta) ≡ 24) × ((length (now lambda) ≡ 24) × (length (now next) ≡ 24)))))) ⌝ }
+    requires { ⌜ (n ≤ 12) × ((m ≤ 12) × ((s ≤ 24) × ((length (now moving) ≡ 12) × (PreparedFor n (evaluationOf n m s (now rows)) (now b) (now moving) prepared (now order) (now curve) (now frame) × ((length (now delta) ≡ 24) × ((length (now lambda) ≡ 24) × (length (now next) ≡ 24))))))) ⌝ }
     ensures { λ r. ⌜ proposalResult r (now (delta .exit)) (now (lambda .exit)) (now (next .exit)) ≡ proposalOf (standingWith n (now (x .entry)) (evaluationOf n m s (now (rows .entry))) f theta (now (b .entry)) (now (moving .entry))) mu radius ⌝ }
 {
     let mut raw = [0.0; 24];
-    match step(n, m, s, rows, b, moving, mu, &mut raw, lambda) {
+    match damped_step(
+        n,
+        moving,
+        prepared,
+        order,
+        curve,
+        frame,
+        mu,
+        &mut raw,
+        lambda,
+    ) {
         StepEnd::Found(r) => match expects(n, m, s, rows, b, f, theta, &raw) {
             Expected::Drop => within(n, m, s, rows, x, b, f, theta, radius, &mut raw, delta, next),
             Expected::NoDrop => Proposal::NoDrop(r),

@@ -10,12 +10,15 @@ ghost use Rattle.run.specs.Proposal.{standingWith, proposalResult};
 ghost use Rattle.run.specs.Rows.{evaluationOf};
 ghost use Rattle.run.specs.Search as defined;
 ghost use Rattle.run.specs.Search.{rejectedFor, withRadius, anew, flatOr, damped, goesOn, stopsAt, follow, searchOf, turnOf, foundResult, turnResult};
+ghost use Rattle.run.specs.Step.{PreparedFor};
 use crate::proposal::Proposal;
 use crate::proposal::propose;
 use crate::state::Rejection;
 use crate::state::Search;
 use crate::state::Stop;
 use crate::state::Trial;
+use crate::step::Prepared;
+use crate::step::prepare;
 use interval::Scalar;
 use linear::LinearError;
 
@@ -110,6 +113,65 @@ fn follow(p: Proposal, x: Search, m: usize, max: Scalar) -> Turn
     }
 }
 
+// The search, from what no damping changes.
+fn seek_from(
+    n: usize,
+    m: usize,
+    s: usize,
+    rows: &[f64],
+    x: &[f64],
+    b: &[f64],
+    moving: &[bool],
+    f: Scalar,
+    theta: Scalar,
+    max: Scalar,
+    prepared: Prepared,
+    order: &[usize],
+    curve: &[f64],
+    frame: &[f64],
+    from: Search,
+    delta: &mut [f64],
+    lambda: &mut [f64],
+    next: &mut [f64],
+) -> Found
+    requires { ⌜ (n ≤ 12) × ((m ≤ 12) × ((s ≤ 24) × ((length (now moving) ≡ 12) × (PreparedFor n (evaluationOf n m s (now rows)) (now b) (now moving) prepared (now order) (now curve) (now frame) × ((length (now delta) ≡ 24) × ((length (now lambda) ≡ 24) × (length (now next) ≡ 24))))))) ⌝ }
+    requires { ⌜ (from .«turned_down» < 2 ^ 31) × (isPositive (from .mu) ≡ true) ⌝ }
+    ensures { λ r. ⌜ foundResult r (now (delta .exit)) (now (lambda .exit)) (now (next .exit)) ≡ searchOf (standingWith n (now (x .entry)) (evaluationOf n m s (now (rows .entry))) f theta (now (b .entry)) (now (moving .entry))) max from ⌝ }
+{
+    let mut state = from;
+    let found = loop {
+        let p = propose(
+            n,
+            m,
+            s,
+            rows,
+            x,
+            b,
+            moving,
+            f,
+            theta,
+            prepared,
+            order,
+            curve,
+            frame,
+            state.mu,
+            state.radius,
+            delta,
+            lambda,
+            next,
+        );
+        match follow(p, state, m, max) {
+            Turn::Leave(left) => {
+                break left;
+            }
+            Turn::On(y) => {
+                state = y;
+            }
+        }
+    };
+    found
+}
+
 // The search from a standing point x with its rows, f, violation theta, curvature b and moving marks.
 pub fn seek(
     n: usize,
@@ -131,32 +193,28 @@ pub fn seek(
     requires { ⌜ (from .«turned_down» < 2 ^ 31) × (isPositive (from .mu) ≡ true) ⌝ }
     ensures { λ r. ⌜ foundResult r (now (delta .exit)) (now (lambda .exit)) (now (next .exit)) ≡ searchOf (standingWith n (now (x .entry)) (evaluationOf n m s (now (rows .entry))) f theta (now (b .entry)) (now (moving .entry))) max from ⌝ }
 {
-    let mut state = from;
-    let found = loop {
-        let p = propose(
-            n,
-            m,
-            s,
-            rows,
-            x,
-            b,
-            moving,
-            f,
-            theta,
-            state.mu,
-            state.radius,
-            delta,
-            lambda,
-            next,
-        );
-        match follow(p, state, m, max) {
-            Turn::Leave(left) => {
-                break left;
-            }
-            Turn::On(y) => {
-                state = y;
-            }
-        }
-    };
-    found
+    let mut order = [0; 24];
+    let mut curve = [0.0; 336];
+    let mut frame = [0.0; 888];
+    let prepared = prepare(n, m, s, rows, b, moving, &mut order, &mut curve, &mut frame);
+    seek_from(
+        n,
+        m,
+        s,
+        rows,
+        x,
+        b,
+        moving,
+        f,
+        theta,
+        max,
+        prepared,
+        &order,
+        &curve,
+        &frame,
+        from,
+        delta,
+        lambda,
+        next,
+    )
 }

@@ -1,16 +1,17 @@
 // The step over the kept variables and over all: what is tested of it, and how it ends.
 ghost use mathlib.Core.Bool.{_&&_};
-ghost use mathlib.Core.List.{List, []};
+ghost use mathlib.Core.List.{List, [], _++_};
 ghost use mathlib.Core.Path.{_≡_};
-ghost use Prim.Native.Nat.{ℕ, _<_, _≤_};
+ghost use Prim.Native.Nat.{_≤_};
 ghost use lib.Ieee.{Float};
-ghost use lib.ListN.{length, getD};
+ghost use lib.ListN.{length, replicate};
 ghost use Rattle.linear.specs.Answers.{doneOf};
 ghost use Rattle.run.specs.Basis.{basisBy};
-ghost use Rattle.run.specs.Model.{keptBy, problemOf, problemIn};
+ghost use Rattle.run.specs.Model.{problemIn};
 ghost use Rattle.run.specs.Rows.{rowsIn, evaluationOf, valueAt};
 ghost use Rattle.run.specs.Scratch.{allFinite};
-ghost use Rattle.run.specs.Step.{pullOf, freeStep, curved, spanned, endOf, withMultipliers, spreadEnd, basisFor, basedStep, keptStep, testedStep, stepOf};
+ghost use Rattle.run.specs.Step.{pullOf, freeStep, curved, spanned, endOf, withMultipliers, basisFor, basedStep, keptStep, stepOf, Few, readyStep, framedStep, dampedStep, preparedStep, Framed, PreparedFor};
+use crate::area::place;
 use crate::basis::Rank;
 use crate::basis::basis;
 use crate::basis::correction;
@@ -20,6 +21,10 @@ use crate::directions::free_directions;
 use crate::free::Along;
 use crate::free::free_part;
 use crate::free::pull;
+use crate::model::CURVE;
+use crate::model::GRADIENT;
+use crate::model::SCALINGS;
+use crate::model::damped;
 use crate::model::keep;
 use crate::model::problem;
 use crate::rows::RowSet;
@@ -36,6 +41,21 @@ pub enum StepEnd {
     NotPositive,
     Refused(LinearError),
 }
+
+// What no damping changes: with `Ready` how many rows are independent, and how many directions are free.
+pub enum Prepared {
+    Ready(usize, usize),
+    Refused(LinearError),
+}
+
+// Where each part of a frame begins, behind the basis.
+const COEFFICIENTS: usize = 288;
+
+const CORRECTION: usize = 576;
+
+const DIRECTIONS: usize = 600;
+
+const FRAME: usize = 888;
 
 // What pulls against the kept step, and whether both are finite.
 pub fn finite_pull(k: usize, h: &[f64], g: &[f64], kept: &[f64], out: &mut [f64]) -> bool
@@ -89,61 +109,66 @@ fn free_step(
     }
 }
 
-// ---- over the kept variables
+// ---- what no damping changes
 
-// The step from the basis on.
-fn step_from_basis(
+// The correction and the free directions, from the basis on.
+fn prepare_free(
     k: usize,
     m: usize,
     r: usize,
-    h: &[f64],
-    g: &[f64],
     q: &[f64],
     coefficients: &[f64],
     dependent: &[f64],
     order: &[usize],
     xs: &[f64],
     c: RowSet,
-    kept: &mut [f64],
-    lambda: &mut [f64],
-) -> StepEnd
-    requires { ⌜ (k ≤ 12) × ((m ≤ 12) × ((r ≤ 12) × ((length (now order) ≡ 24) × ((length (now kept) ≡ 24) × (length (now lambda) ≡ 24))))) ⌝ }
-    ensures { λ x. ⌜ endOf x (now (kept .exit)) (now (lambda .exit)) ≡ basedStep (problemIn k m (valueAt (rowsIn (now (xs .entry)) c)) [] [] (now (h .entry)) (now (g .entry))) (basisBy r (now (q .entry)) [] (now (coefficients .entry)) (now (dependent .entry)) (now (order .entry))) ⌝ }
+    delta: &mut [f64],
+    z: &mut [f64],
+) -> Prepared
+    requires { ⌜ (k ≤ 12) × ((m ≤ 12) × ((r ≤ 12) × ((length (now order) ≡ 24) × ((length (now delta) ≡ 24) × (length (now z) ≡ 288))))) ⌝ }
+    ensures { λ x. ⌜ ((h g : List Float) → readyStep x (curved k h g) (now (q .entry)) (now (coefficients .entry)) (now (order .entry)) (now (delta .exit)) (now (z .exit)) ≡ basedStep (problemIn k m (valueAt (rowsIn (now (xs .entry)) c)) [] [] h g) (basisBy r (now (q .entry)) [] (now (coefficients .entry)) (now (dependent .entry)) (now (order .entry)))) × Few x ⌝ }
 {
-    let mut z = [0.0; 288];
     let mut left = [0.0; 288];
-    match correction(k, m, r, q, coefficients, dependent, order, xs, c, kept) {
-        Done::Finished => match free_directions(k, r, q, &mut z, &mut left) {
-            Found::Of(count) => {
-                free_step(k, r, count, h, g, q, coefficients, order, &z, kept, lambda)
-            }
-            Found::Refused(e) => StepEnd::Refused(e),
+    match correction(k, m, r, q, coefficients, dependent, order, xs, c, delta) {
+        Done::Finished => match free_directions(k, r, q, z, &mut left) {
+            Found::Of(count) => Prepared::Ready(r, count),
+            Found::Refused(e) => Prepared::Refused(e),
         },
-        Done::Refused(e) => StepEnd::Refused(e),
+        Done::Refused(e) => Prepared::Refused(e),
     }
 }
 
-// The step over the kept variables, for the constraint values in xs.
-fn kept_step(
+// Q, the coefficients, the correction and the free directions, one behind the other.
+fn pack(q: &[f64], coefficients: &[f64], delta: &[f64], z: &[f64], frame: &mut [f64])
+    requires { ⌜ (length (now q) ≡ 288) × ((length (now coefficients) ≡ 288) × ((length (now delta) ≡ 24) × ((length (now z) ≡ 288) × (length (now frame) ≡ 888)))) ⌝ }
+    ensures { λ _. ⌜ now (frame .exit) ≡ now (q .entry) ++ (now (coefficients .entry) ++ (now (delta .entry) ++ now (z .entry))) ⌝ }
+{
+    place(frame, 0, q);
+    place(frame, COEFFICIENTS, coefficients);
+    place(frame, CORRECTION, delta);
+    place(frame, DIRECTIONS, z);
+}
+
+// The basis, and what follows from it, for the constraint values in xs.
+fn prepare_kept(
     k: usize,
     m: usize,
     wide: &[f64],
     jc: &[f64],
-    h: &[f64],
-    g: &[f64],
     xs: &[f64],
     c: RowSet,
-    kept: &mut [f64],
-    lambda: &mut [f64],
-) -> StepEnd
-    requires { ⌜ (k ≤ 12) × ((m ≤ 12) × ((length (now kept) ≡ 24) × (length (now lambda) ≡ 24))) ⌝ }
-    ensures { λ x. ⌜ endOf x (now (kept .exit)) (now (lambda .exit)) ≡ keptStep (problemIn k m (valueAt (rowsIn (now (xs .entry)) c)) (now (wide .entry)) (now (jc .entry)) (now (h .entry)) (now (g .entry))) ⌝ }
+    order: &mut [usize],
+    frame: &mut [f64],
+) -> Prepared
+    requires { ⌜ (k ≤ 12) × ((m ≤ 12) × ((now order ≡ replicate 24 0) × (length (now frame) ≡ 888))) ⌝ }
+    ensures { λ x. ⌜ ((h g : List Float) → framedStep x (curved k h g) (now (order .exit)) (now (frame .exit)) ≡ keptStep (problemIn k m (valueAt (rowsIn (now (xs .entry)) c)) (now (wide .entry)) (now (jc .entry)) h g)) × Few x ⌝ }
 {
     let mut q = [0.0; 288];
     let mut gram = [0.0; 288];
     let mut coefficients = [0.0; 288];
     let mut dependent = [0.0; 288];
-    let mut order = [0; 24];
+    let mut delta = [0.0; 24];
+    let mut z = [0.0; 288];
     match basis(
         k,
         m,
@@ -153,69 +178,155 @@ fn kept_step(
         &mut gram,
         &mut coefficients,
         &mut dependent,
-        &mut order,
+        order,
     ) {
-        Rank::Of(r) => step_from_basis(
-            k,
-            m,
-            r,
-            h,
-            g,
-            &q,
-            &coefficients,
-            &dependent,
-            &order,
-            xs,
-            c,
-            kept,
-            lambda,
-        ),
-        Rank::Refused(e) => StepEnd::Refused(e),
+        Rank::Of(r) => {
+            let end = prepare_free(
+                k,
+                m,
+                r,
+                &q,
+                &coefficients,
+                &dependent,
+                order,
+                xs,
+                c,
+                &mut delta,
+                &mut z,
+            );
+            pack(&q, &coefficients, &delta, &z, frame);
+            end
+        }
+        Rank::Refused(e) => Prepared::Refused(e),
     }
 }
 
-// The step over k kept variables, from an answer's rows; none where H is not finite.
-fn modelled(
+// What no damping changes of the step from an answer's rows and the curvature b, over the variables that move; the order is clear.
+pub fn prepare(
     n: usize,
     m: usize,
     s: usize,
-    index: &[usize],
-    k: usize,
-    xs: &[f64],
+    rows: &[f64],
     b: &[f64],
+    moving: &[bool],
+    order: &mut [usize],
+    curve: &mut [f64],
+    frame: &mut [f64],
+) -> Prepared
+    requires { ⌜ (n ≤ 12) × ((m ≤ 12) × ((s ≤ 24) × ((length (now moving) ≡ 12) × ((now order ≡ replicate 24 0) × ((length (now curve) ≡ 336) × (length (now frame) ≡ 888)))))) ⌝ }
+    ensures { λ x. ⌜ PreparedFor n (evaluationOf n m s (now (rows .entry))) (now (b .entry)) (now (moving .entry)) x (now (order .exit)) (now (curve .exit)) (now (frame .exit)) ⌝ }
+{
+    let mut index = [0; 12];
+    let mut wide = [0.0; 288];
+    let mut jc = [0.0; 288];
+    let k = keep(moving, n, &mut index);
+    problem(n, m, s, &index, k, rows, b, &mut wide, &mut jc, curve);
+    prepare_kept(k, m, &wide, &jc, rows, constraints(n, m), order, frame)
+}
+
+// ---- damped
+
+// The step from what was prepared, for an H that is finite.
+fn prepared_step(
+    k: usize,
+    prepared: Prepared,
+    order: &[usize],
+    h: &[f64],
+    g: &[f64],
+    frame: &[f64],
+    kept: &mut [f64],
+    lambda: &mut [f64],
+) -> StepEnd
+    requires { ⌜ (k ≤ 12) × (Few prepared × ((length (now order) ≡ 24) × ((length (now frame) ≡ 888) × ((length (now kept) ≡ 24) × (length (now lambda) ≡ 24))))) ⌝ }
+    ensures { λ x. ⌜ endOf x (now (kept .exit)) (now (lambda .exit)) ≡ framedStep prepared (curved k (now (h .entry)) (now (g .entry))) (now (order .entry)) (now (frame .entry)) ⌝ }
+{
+    match prepared {
+        Prepared::Ready(r, count) => {
+            place(kept, 0, &frame[CORRECTION..DIRECTIONS]);
+            free_step(
+                k,
+                r,
+                count,
+                h,
+                g,
+                &frame[0..COEFFICIENTS],
+                &frame[COEFFICIENTS..CORRECTION],
+                order,
+                &frame[DIRECTIONS..FRAME],
+                kept,
+                lambda,
+            )
+        }
+        Prepared::Refused(e) => StepEnd::Refused(e),
+    }
+}
+
+// The step over the k kept variables, with the damping mu; none where H is not finite.
+fn kept_step(
+    k: usize,
+    prepared: Prepared,
+    order: &[usize],
+    curve: &[f64],
+    frame: &[f64],
     mu: Scalar,
     kept: &mut [f64],
     lambda: &mut [f64],
 ) -> StepEnd
-    requires { ⌜ (n ≤ 12) × ((m ≤ 12) × ((s ≤ 24) × ((k ≤ 12) × ((length (now index) ≡ 12) × (((p : ℕ) → getD (now index) p 0 < 65536) × ((length (now kept) ≡ 24) × (length (now lambda) ≡ 24))))))) ⌝ }
-    ensures { λ x. ⌜ endOf x (now (kept .exit)) (now (lambda .exit)) ≡ testedStep (problemOf n (keptBy k (now (index .entry))) (evaluationOf n m s (now (xs .entry))) (now (b .entry)) mu) ⌝ }
+    requires { ⌜ (k ≤ 12) × (Framed prepared (now order) (now curve) (now frame) × ((length (now kept) ≡ 24) × (length (now lambda) ≡ 24))) ⌝ }
+    ensures { λ x. ⌜ endOf x (now (kept .exit)) (now (lambda .exit)) ≡ dampedStep k prepared (now (order .entry)) (now (curve .entry)) (now (frame .entry)) mu ⌝ }
 {
-    let mut wide = [0.0; 288];
-    let mut jc = [0.0; 288];
     let mut h = [0.0; 288];
-    let mut g = [0.0; 24];
-    problem(
-        n,
-        m,
-        s,
-        index,
+    damped(
         k,
-        xs,
-        b,
+        &curve[0..SCALINGS],
+        &curve[SCALINGS..GRADIENT],
         mu,
-        &mut wide,
-        &mut jc,
         &mut h,
-        &mut g,
     );
-    let c = constraints(n, m);
     if all_finite(&h, 144) {
-        return kept_step(k, m, &wide, &jc, &h, &g, xs, c, kept, lambda);
+        return prepared_step(
+            k,
+            prepared,
+            order,
+            &h,
+            &curve[GRADIENT..CURVE],
+            frame,
+            kept,
+            lambda,
+        );
     }
     StepEnd::NotPositive
 }
 
 // ---- over all variables
+
+// The step with the damping mu, from what was prepared for the variables that move, with the constraints' multipliers.
+pub fn damped_step(
+    n: usize,
+    moving: &[bool],
+    prepared: Prepared,
+    order: &[usize],
+    curve: &[f64],
+    frame: &[f64],
+    mu: Scalar,
+    delta: &mut [f64],
+    lambda: &mut [f64],
+) -> StepEnd
+    requires { ⌜ (n ≤ 12) × ((length (now moving) ≡ 12) × (Framed prepared (now order) (now curve) (now frame) × ((length (now delta) ≡ 24) × (length (now lambda) ≡ 24)))) ⌝ }
+    ensures { λ x. ⌜ endOf x (now (delta .exit)) (now (lambda .exit)) ≡ preparedStep n (now (moving .entry)) prepared (now (order .entry)) (now (curve .entry)) (now (frame .entry)) mu ⌝ }
+{
+    let mut index = [0; 12];
+    let mut kept = [0.0; 24];
+    let k = keep(moving, n, &mut index);
+    match kept_step(k, prepared, order, curve, frame, mu, &mut kept, lambda) {
+        StepEnd::Found(r) => {
+            spread(&index, &kept, k, delta);
+            StepEnd::Found(r)
+        }
+        StepEnd::NotPositive => StepEnd::NotPositive,
+        StepEnd::Refused(e) => StepEnd::Refused(e),
+    }
+}
 
 // The step of the linearized problem, from an answer's rows and the curvature b, over the variables that move, with the constraints' multipliers.
 pub fn step(
@@ -232,15 +343,9 @@ pub fn step(
     requires { ⌜ (n ≤ 12) × ((m ≤ 12) × ((s ≤ 24) × ((length (now moving) ≡ 12) × ((length (now delta) ≡ 24) × (length (now lambda) ≡ 24))))) ⌝ }
     ensures { λ r. ⌜ endOf r (now (delta .exit)) (now (lambda .exit)) ≡ stepOf n (evaluationOf n m s (now (rows .entry))) (now (b .entry)) (now (moving .entry)) mu ⌝ }
 {
-    let mut index = [0; 12];
-    let mut kept = [0.0; 24];
-    let k = keep(moving, n, &mut index);
-    match modelled(n, m, s, &index, k, rows, b, mu, &mut kept, lambda) {
-        StepEnd::Found(r) => {
-            spread(&index, &kept, k, delta);
-            StepEnd::Found(r)
-        }
-        StepEnd::NotPositive => StepEnd::NotPositive,
-        StepEnd::Refused(e) => StepEnd::Refused(e),
-    }
+    let mut order = [0; 24];
+    let mut curve = [0.0; 336];
+    let mut frame = [0.0; 888];
+    let end = prepare(n, m, s, rows, b, moving, &mut order, &mut curve, &mut frame);
+    damped_step(n, moving, end, &order, &curve, &frame, mu, delta, lambda)
 }

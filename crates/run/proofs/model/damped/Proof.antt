@@ -1,28 +1,28 @@
 -- `damped` meets its contract: the rows are filled from a clear matrix, one more in each turn.
 use borrow.Author.Needs.{needs}
 use mathlib.Core.Path.{_≡_, _∙_}
-use Prim.Native.Nat.{_≤_, _-_}
+use Prim.Native.Nat.{_+_, _*_, _≤_, _-_}
 use native.Mathlib.Nat.{le-antisymm}
-use lib.ListN.{length, getD}
-use Rattle.run.specs.Curvature.{curvatureAt}
-use Rattle.run.specs.Model.{dampedAt, dampedOf}
+use lib.ListN.{length}
+use Rattle.linear.specs.Flat.{at}
+use Rattle.run.specs.Model.{dampedEntry, dampedBy}
 use Rattle.run.specs.Scratch.{matrix, fillRows}
 use Rattle.run.proofs.ScratchLaws.{fill-rows-turn}
 use Rattle.run.proofs.model.damped.Statement.{statement}
 use Rattle.run.proofs.model.damped.Tie as tie
 
 abbrev Inv-loop : tie.InvT-loop
-Inv-loop n index k jr s jc m b mu h₀ i₀ h i = (i ≤ k) × (length h ≡ length h₀) × (h ≡ fillRows matrix (λ t j. dampedAt jr s jc m mu (curvatureAt n b (getD index t 0) (getD index j 0)) t j) k i)
+Inv-loop k v d mu h₀ i₀ h i = (i ≤ k) × (length h ≡ length h₀) × (h ≡ fillRows matrix (λ t j. dampedEntry (at v (12 * t + j)) (at d t) mu t j) k i)
 
 abbrev μ-loop : tie.MeasureT-loop
-μ-loop n index k jr s jc m b mu h₀ i₀ h i = k - i
+μ-loop k v d mu h₀ i₀ h i = k - i
 
 clear-requires : tie.Need-clear-requires Inv-loop μ-loop
 clear-requires c κs = search needs
 
 loop-holds : tie.Need-loop-holds Inv-loop μ-loop
 unfolding fillRows
-loop-holds c = (search needs, search needs, rw (c .before .before .before .before .before .before .before .before .before .pre .1 .1) at (c .before .before .clear .ensures))
+loop-holds c = (search needs, search needs, rw (c .before .before .before .before .before .before .before .pre .1) at (c .before .before .clear .ensures))
 
 damped-row-requires : tie.Need-damped-row-requires Inv-loop μ-loop
 damped-row-requires c κs = search needs
@@ -40,7 +40,7 @@ same-length : tie.Need-same-length Inv-loop μ-loop
 same-length c = search needs
 
 returns : tie.Need-returns Inv-loop μ-loop
-unfolding dampedOf
+unfolding dampedBy
 returns c = rw (le-antisymm (c .before .loop .inv .0) (c .loop-test .left)) at (c .before .loop .inv .2)
 
 pub damped-spec : {M : Type 1} → statement M

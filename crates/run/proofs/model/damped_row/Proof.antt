@@ -1,54 +1,44 @@
 -- `damped_row` meets its contract: one place more is filled in each turn.
-use borrow.Author.Needs.{needs}
-use mathlib.Core.Path.{_≡_, ap, _∙_}
-use mathlib.Core.List.{List}
-use Prim.Native.Nat.{ℕ, _*_, _≤_, _-_}
+use mathlib.Core.Path.{_≡_, _∙_}
+use Prim.Native.Nat.{_+_, _*_, _≤_, _-_}
 use native.Mathlib.Nat.{le-antisymm}
-use lib.Ieee.{Float}
-use lib.ListN.{length, getD}
+use lib.ListN.{length}
 use Rattle.interval.specs.declared.Scalar.{Scalar}
-use Rattle.run.specs.Curvature.{curvatureAt}
-use Rattle.run.specs.Model.{dampedAt}
+use Rattle.linear.specs.Flat.{at}
+use Rattle.run.specs.Model.{dampedEntry}
 use Rattle.run.specs.Scratch.{fillTo}
-use Rattle.run.proofs.ModelLaws.{curvature-along}
 use Rattle.run.proofs.ScratchLaws.{fill-turn}
+use borrow.Author.Needs.{needs}
 use Rattle.run.proofs.model.damped_row.Statement.{statement}
 use Rattle.run.proofs.model.damped_row.Tie as tie
 
--- an entry of H
-abbrev entryAt : ℕ → List ℕ → List Float → ℕ → List Float → ℕ → List Float → Scalar → ℕ → ℕ → Scalar
-entryAt n index jr s jc m b mu i j = dampedAt jr s jc m mu (curvatureAt n b (getD index i 0) (getD index j 0)) i j
-
 abbrev Inv-loop : tie.InvT-loop
-Inv-loop n index k jr s jc m b mu h₀ i row j₀ h j = (j ≤ k) × (length h ≡ length h₀) × (h ≡ fillTo h₀ (12 * i) (entryAt n index jr s jc m b mu i) j)
+Inv-loop k v d mu h₀ i scale j₀ h j = (j ≤ k) × (length h ≡ length h₀) × (h ≡ fillTo h₀ (12 * i) (λ t. dampedEntry (at v (12 * i + t)) (at d i) mu i t) j)
 
 abbrev μ-loop : tie.MeasureT-loop
-μ-loop n index k jr s jc m b mu h₀ i row j₀ h j = k - j
+μ-loop k v d mu h₀ i scale j₀ h j = k - j
 
-mul-row : tie.Need-mul-row Inv-loop μ-loop
-mul-row c = search needs
-
-shared-slice-read-row : tie.Need-shared-slice-read-row Inv-loop μ-loop
-shared-slice-read-row c = search needs
+at-requires : tie.Need-at-requires Inv-loop μ-loop
+at-requires c κs = search needs
 
 loop-holds : tie.Need-loop-holds Inv-loop μ-loop
 unfolding fillTo
 loop-holds c = search needs
-
-mul-along : tie.Need-mul-along Inv-loop μ-loop
-mul-along c = search needs
-
-shared-slice-read-along : tie.Need-shared-slice-read-along Inv-loop μ-loop
-shared-slice-read-along c = search needs
-
-along-requires : tie.Need-along-requires Inv-loop μ-loop
-along-requires c κs = tt
 
 mul-put : tie.Need-mul-put Inv-loop μ-loop
 mul-put c = search needs
 
 add-put : tie.Need-add-put Inv-loop μ-loop
 add-put c = search needs
+
+mul-at : tie.Need-mul-at Inv-loop μ-loop
+mul-at c = search needs
+
+add-at : tie.Need-add-at Inv-loop μ-loop
+add-at c = search needs
+
+at-requires-2 : tie.Need-at-requires-2 Inv-loop μ-loop
+at-requires-2 c κs = search needs
 
 damped-at-requires : tie.Need-damped-at-requires Inv-loop μ-loop
 damped-at-requires c κs = search needs
@@ -64,11 +54,9 @@ loop-less c = search needs
 
 loop-again : tie.Need-loop-again Inv-loop μ-loop
 loop-again c =
-    let a = c .before .before .before .before .before .before .before .before .before .before .before .before .before .before .before .args in
-    let l = c .before .before .before .before .before .before .before .before .loop in
-    let v = c .before .before .before .before .before .along .ensures ∙ curvature-along (a .n) (a .b .now) (getD (a .index .now) (a .i) 0) (getD (a .index .now) (l .j) 0) in
-    let e = c .before .before .before .damped-at .ensures ∙ ap (λ (z : Scalar). dampedAt (a .jr .now) (a .s) (a .jc .now) (a .m) (a .mu) z (a .i) (l .j)) v in
-    (search needs, search needs, c .before .before .put .ensures ∙ fill-turn (a .h .now) (12 * a .i) (entryAt (a .n) (a .index .now) (a .jr .now) (a .s) (a .jc .now) (a .m) (a .b .now) (a .mu) (a .i)) (l .j) (l .inv .2) e)
+    let a = c .before .before .before .before .before .before .before .before .before .before .before .before .args in
+    let l = c .before .before .before .before .before .before .before .loop in
+    (search needs, search needs, c .before .before .put .ensures ∙ fill-turn (a .h .now) (12 * a .i) (λ j. dampedEntry (at (a .v .now) (12 * a .i + j)) (at (a .d .now) (a .i)) (a .mu) (a .i) j) (l .j) (l .inv .2) (rw (c .before .before .before .before .at2 .ensures, c .before .before .before .before .before .before .before .before .at .ensures) at (c .before .before .before .damped-at .ensures)))
 
 same-length : tie.Need-same-length Inv-loop μ-loop
 same-length c = search needs
@@ -82,14 +70,13 @@ damped-row-spec =
     (tie.spec
     Inv-loop
     μ-loop
-    mul-row
-    shared-slice-read-row
+    at-requires
     loop-holds
-    mul-along
-    shared-slice-read-along
-    along-requires
     mul-put
     add-put
+    mul-at
+    add-at
+    at-requires-2
     damped-at-requires
     put-requires
     add-j

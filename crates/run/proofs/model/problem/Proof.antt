@@ -3,7 +3,7 @@ use mathlib.Core.Path.{refl, sym, subst}
 use lib.Ieee.{ofBits}
 use Rattle.run.specs.Model.{keptBy}
 use Rattle.run.specs.Rows.{Small}
-use Rattle.run.proofs.ModelLaws.{curve-is, problem-is}
+use Rattle.run.proofs.ModelLaws.{curve-is, problem-is, curve-damped, curve-gradient}
 use Rattle.run.proofs.RowLaws.{constraints-small, sum-small}
 use borrow.Author.Needs.{needs}
 use Rattle.run.proofs.model.problem.Statement.{statement}
@@ -17,7 +17,7 @@ constraints-requires c κs = search needs
 
 slopes-requires : tie.Need-slopes-requires
 slopes-requires c κs =
-    let p = (c .before .before .before .before .before .before .before .before .before .before .before) .pre in
+    let p = c .before .before .before .before .before .before .before .before .before .before .pre in
     (subst Small (sym (c .before .before .constraints .ensures)) (constraints-small (p .0) (p .1 .0)), (p .1 .1 .1 .0, p .1 .1 .1 .1 .0))
 
 slice-aggregate-slopes : tie.Need-slice-aggregate-slopes
@@ -28,19 +28,16 @@ slice-aggregate-slopes-2 c = search needs
 
 slopes-requires-2 : tie.Need-slopes-requires-2
 slopes-requires-2 c κs =
-    let p = (c .before .before .before .before .before .before .before .before .before .before .before .before .before .before .before .before .before .before) .pre in
+    let p = c .before .before .before .before .before .before .before .before .before .before .before .before .before .before .before .before .before .pre in
     (subst Small (sym (c .before .before .before .before .before .before .before .before .before .before .sum .ensures)) (sum-small (p .0) (p .1 .0) (p .1 .1 .0)), (p .1 .1 .1 .0, p .1 .1 .1 .1 .0))
 
-slice-aggregate-damped : tie.Need-slice-aggregate-damped
-slice-aggregate-damped c = search needs
+slice-aggregate-fill-curve : tie.Need-slice-aggregate-fill-curve
+slice-aggregate-fill-curve c = search needs
 
-damped-requires : tie.Need-damped-requires
-damped-requires c κs = let p = (c .before .before .before .before .before .before .before .before .before .before .before .before .before .before .before .before .before .before .before .before .before .before .before .before) .pre in (p .1 .1 .1 .0, (p .1 .1 .1 .1 .0, p .1 .1 .1 .1 .1 .1 .1 .1 .0))
-
-gradient-requires : tie.Need-gradient-requires
-gradient-requires c κs =
-    let p = (c .before .before .before .before .before .before .before .before .before .before .before .before .before .before .before .before .before .before .before .before .before .before .before .before .before .before .before .before) .pre in
-    (subst Small (sym (c .before .before .before .before .before .before .before .before .before .before .before .before .before .before .before .before .before .before .before .before .sum .ensures)) (sum-small (p .0) (p .1 .0) (p .1 .1 .0)), (p .1 .1 .1 .0, (p .1 .1 .1 .1 .0, (p .1 .1 .1 .1 .1 .0, p .1 .1 .1 .1 .1 .1 .1 .1 .1))))
+fill-curve-requires : tie.Need-fill-curve-requires
+fill-curve-requires c κs =
+    let p = c .before .before .before .before .before .before .before .before .before .before .before .before .before .before .before .before .before .before .before .before .before .before .before .pre in
+    (subst Small (sym (c .before .before .before .before .before .before .before .before .before .before .before .before .before .before .before .before .sum .ensures)) (sum-small (p .0) (p .1 .0) (p .1 .1 .0)), (p .1 .1 .1 .0, (p .1 .1 .1 .1 .0, (p .1 .1 .1 .1 .1 .0, p .1 .1 .1 .1 .1 .1 .1 .1))))
 
 same-length : tie.Need-same-length
 same-length c = search needs
@@ -51,17 +48,16 @@ same-length-2 c = search needs
 same-length-3 : tie.Need-same-length-3
 same-length-3 c = search needs
 
-same-length-4 : tie.Need-same-length-4
-same-length-4 c = search needs
-
 returns : tie.Need-returns
 unfolding ofBits
 returns c =
-    let s = (c .before .before .before .before .before .before .before .before .before .before .before .before .before .before .before .before .before .before .before .before .before .before .before .before .before .before .before .before .before .before .before) in
+    let s = c .before .before .before .before .before .before .before .before .before .before .before .before .before .before .before .before .before .before .before .before .before .before .before .before .before .before in
     let p = s .pre in
-    let e = c .before .before .before .before .before .before .before .before .before .before .before .before .before .before .before .before .before .before .before .slopes .ensures in
-    let f = c .before .before .before .before .before .before .before .before .before .before .before .before .slopes2 .ensures in
-    problem-is _ _ _ (keptBy (s .args .k) (s .args .index .now)) _ _ _ (c .before .before .before .before .before .before .before .before .before .before .before .before .before .before .before .before .before .before .before .before .before .before .before .sum .ensures) (c .before .before .before .before .before .before .before .before .before .before .before .before .before .before .before .before .before .before .before .before .before .before .constraints .ensures) (p .1 .1 .1 .1 .1 .1 .0) (p .1 .1 .1 .1 .1 .1 .1 .0) (e .0) (e .1) (curve-is _ _ _ _ _ _ _ refl refl (f .0) (f .1) (c .before .before .before .before .before .before .damped .ensures)) (c .before .before .gradient .ensures)
+    let k = keptBy (s .args .k) (s .args .index .now) in
+    let e = c .before .before .before .before .before .before .before .before .before .before .before .before .before .before .before .slopes .ensures in
+    let f = c .before .before .before .before .before .before .before .before .slopes2 .ensures in
+    let u = c .before .before .fill-curve .ensures in
+    λ mu. problem-is _ _ _ k _ _ mu (c .before .before .before .before .before .before .before .before .before .before .before .before .before .before .before .before .before .before .before .sum .ensures) (c .before .before .before .before .before .before .before .before .before .before .before .before .before .before .before .before .before .before .constraints .ensures) (p .1 .1 .1 .1 .1 .1 .0) (p .1 .1 .1 .1 .1 .1 .1 .0) (e .0) (e .1) (curve-is _ k _ _ _ _ mu refl refl (f .0) (f .1) (curve-damped _ k _ _ _ _ _ _ u mu (p .1 .1 .1 .0))) (curve-gradient _ k _ _ _ _ _ _ u)
 
 pub problem-spec : {M : Type 1} → statement M
 problem-spec =
@@ -73,11 +69,9 @@ problem-spec =
     slice-aggregate-slopes
     slice-aggregate-slopes-2
     slopes-requires-2
-    slice-aggregate-damped
-    damped-requires
-    gradient-requires
+    slice-aggregate-fill-curve
+    fill-curve-requires
     same-length
     same-length-2
     same-length-3
-    same-length-4
     returns)

@@ -1,54 +1,56 @@
--- `kept_step` meets its contract: the basis, from clear arrays, and the step from it on.
+-- `kept_step` meets its contract: H is damped into a clear array, then the test decides.
 use mathlib.Core.Path.{refl}
-use native.Mathlib.Omega.{arith}
-use lib.Ieee.{ofBits}
-use Rattle.run.proofs.StepLaws.{rank-bound, kept-on, kept-refused}
+use Rattle.run.proofs.StepLaws.{damped-not, damped-on}
 use borrow.Author.Needs.{needs}
 use Rattle.run.proofs.step.kept_step.Statement.{statement}
 use Rattle.run.proofs.step.kept_step.Tie as tie
 
-slice-aggregate-basis : tie.Need-slice-aggregate-basis
-slice-aggregate-basis c = search needs
+sub-damped : tie.Need-sub-damped
+sub-damped c = search needs
 
-slice-aggregate-basis-2 : tie.Need-slice-aggregate-basis-2
-slice-aggregate-basis-2 c = search needs
+part-damped-start : tie.Need-part-damped-start
+part-damped-start c = search needs
 
-slice-aggregate-basis-3 : tie.Need-slice-aggregate-basis-3
-slice-aggregate-basis-3 c = search needs
+part-damped-end : tie.Need-part-damped-end
+part-damped-end c = search needs
 
-slice-aggregate-basis-4 : tie.Need-slice-aggregate-basis-4
-slice-aggregate-basis-4 c = search needs
+sub-damped-2 : tie.Need-sub-damped-2
+sub-damped-2 c = search needs
 
-slice-aggregate-basis-5 : tie.Need-slice-aggregate-basis-5
-slice-aggregate-basis-5 c = search needs
+part-damped-start-2 : tie.Need-part-damped-start-2
+part-damped-start-2 c = search needs
 
-basis-requires : tie.Need-basis-requires
-unfolding ofBits
-basis-requires c κs = let p = c .before .before .before .before .before .before .before .before .before .before .before .before .pre in (p .0, (p .1 .0, refl))
+part-damped-end-2 : tie.Need-part-damped-end-2
+part-damped-end-2 c = search needs
 
-enum-known-r : tie.Need-enum-known-r
-enum-known-r c = search needs
+slice-aggregate-damped : tie.Need-slice-aggregate-damped
+slice-aggregate-damped c = search needs
 
-slice-aggregate-step-from-basis : tie.Need-slice-aggregate-step-from-basis
-slice-aggregate-step-from-basis c = search needs
+damped-requires : tie.Need-damped-requires
+damped-requires c κs = (c .before .before .before .before .before .before .before .before .pre .0, refl)
 
-slice-aggregate-step-from-basis-2 : tie.Need-slice-aggregate-step-from-basis-2
-slice-aggregate-step-from-basis-2 c = search needs
+slice-aggregate-all-finite : tie.Need-slice-aggregate-all-finite
+slice-aggregate-all-finite c = search needs
 
-slice-aggregate-step-from-basis-3 : tie.Need-slice-aggregate-step-from-basis-3
-slice-aggregate-step-from-basis-3 c = search needs
+all-finite-requires : tie.Need-all-finite-requires
+all-finite-requires c κs = search needs
 
-slice-aggregate-step-from-basis-4 : tie.Need-slice-aggregate-step-from-basis-4
-slice-aggregate-step-from-basis-4 c = search needs
+slice-aggregate-prepared-step : tie.Need-slice-aggregate-prepared-step
+slice-aggregate-prepared-step c = search needs
 
-step-from-basis-requires : tie.Need-step-from-basis-requires
-step-from-basis-requires c κs =
-    let p = c .before .before .before .before .before .before .before .before .before .before .before .before .before .before .before .before .before .before .before .before .before .before .before .before .before .before .before .pre in
-    let b = c .before .before .before .before .before .before .before .before .before .before .before .before .before .before .basis in
-    (p .0, (p .1 .0, (omega (arith, rw (c .before .before .before .before .before .before .before .r .given .1) at (rank-bound _ _ _ _ _ _ (b .result) (b .ensures)), p .1 .0), (b .kept .1 .1 .1 .1 .1 .1 .1 .1 .0, (p .1 .1 .0, p .1 .1 .1)))))
+sub-prepared-step : tie.Need-sub-prepared-step
+sub-prepared-step c = search needs
 
-enum-known-e : tie.Need-enum-known-e
-enum-known-e c = search needs
+part-prepared-step-start : tie.Need-part-prepared-step-start
+part-prepared-step-start c = search needs
+
+part-prepared-step-end : tie.Need-part-prepared-step-end
+part-prepared-step-end c = search needs
+
+prepared-step-requires : tie.Need-prepared-step-requires
+prepared-step-requires c κs =
+    let p = c .before .before .before .before .before .before .before .before .before .before .before .before .before .before .before .before .before .pre in
+    (p .0, (p .1 .0 .few, (p .1 .0 .order-length, (p .1 .0 .frame-length, (p .1 .1 .0, p .1 .1 .1)))))
 
 same-length : tie.Need-same-length
 same-length c = search needs
@@ -57,28 +59,30 @@ same-length-2 : tie.Need-same-length-2
 same-length-2 c = search needs
 
 returns : tie.Need-returns
-returns c = let b = c .before .before .before .before .before .before .before .before .before .before .before .before .before .before .before .before .before .before .before .basis in kept-on _ _ _ _ _ _ (b .result) (b .ensures) (c .before .before .before .before .before .before .before .before .before .before .before .before .r .given .1) (c .before .before .before .before .step-from-basis .ensures)
+returns c = damped-on _ _ _ _ _ _ (c .before .before .before .before .before .before .before .before .before .before .before .before .before .damped .ensures) (c .before .before .before .before .before .before .before .before .before .before .all-finite .ensures) (c .before .before .before .before .before .before .before .before .before .if1 .taken) (c .before .before .before .before .prepared-step .ensures)
 
 returns-2 : tie.Need-returns-2
-returns-2 c = let b = c .before .before .before .before .before .before .before .before .basis in kept-refused _ _ _ _ _ _ (b .result) (b .ensures) (c .before .e .given .1)
+returns-2 c = damped-not _ _ _ _ _ _ (c .before .before .before .before .damped .ensures) (c .before .all-finite .ensures) (c .if1 .left)
 
 pub kept-step-spec : {M : Type 1} → statement M
 kept-step-spec =
     tie.close
     (tie.spec
-    slice-aggregate-basis
-    slice-aggregate-basis-2
-    slice-aggregate-basis-3
-    slice-aggregate-basis-4
-    slice-aggregate-basis-5
-    basis-requires
-    enum-known-r
-    slice-aggregate-step-from-basis
-    slice-aggregate-step-from-basis-2
-    slice-aggregate-step-from-basis-3
-    slice-aggregate-step-from-basis-4
-    step-from-basis-requires
-    enum-known-e
+    sub-damped
+    part-damped-start
+    part-damped-end
+    sub-damped-2
+    part-damped-start-2
+    part-damped-end-2
+    slice-aggregate-damped
+    damped-requires
+    slice-aggregate-all-finite
+    all-finite-requires
+    slice-aggregate-prepared-step
+    sub-prepared-step
+    part-prepared-step-start
+    part-prepared-step-end
+    prepared-step-requires
     same-length
     same-length-2
     returns

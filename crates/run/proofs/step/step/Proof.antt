@@ -1,57 +1,38 @@
--- `step` meets its contract: the kept variables, into a clear array, their step, and where there is one, its spread.
-use Prim.Native.Nat.{ℕ, _≤_}
-use mathlib.Core.Path.{_≡_, refl}
-use native.Mathlib.Omega.{arith}
+-- `step` meets its contract: what no damping changes, from clear arrays, then the step with this one.
+use mathlib.Core.Path.{refl, _∙_}
 use lib.Ieee.{ofBits}
-use lib.ListN.{length}
-use Rattle.linear.specs.Results.{bind}
-use Rattle.run.specs.Step.{spreadEnd}
-use Rattle.run.proofs.ModelLaws.{kept-few, kept-near}
-use Rattle.run.proofs.StepLaws.{step-is}
 use borrow.Author.Needs.{needs}
 use Rattle.run.proofs.step.step.Statement.{statement}
 use Rattle.run.proofs.step.step.Tie as tie
 
--- the places are there
-inside : {k n l : ℕ} → k ≤ n → n ≤ 12 → l ≡ 12 → k ≤ l
-inside h j e = omega arith
+slice-aggregate-prepare : tie.Need-slice-aggregate-prepare
+slice-aggregate-prepare c = search needs
 
-slice-aggregate-keep : tie.Need-slice-aggregate-keep
-slice-aggregate-keep c = search needs
+slice-aggregate-prepare-2 : tie.Need-slice-aggregate-prepare-2
+slice-aggregate-prepare-2 c = search needs
 
-keep-requires : tie.Need-keep-requires
-keep-requires c κs = let p = (c .before .before .before .before .before .before) .pre in (p .0, (p .1 .1 .1 .0, refl))
+slice-aggregate-prepare-3 : tie.Need-slice-aggregate-prepare-3
+slice-aggregate-prepare-3 c = search needs
 
-slice-aggregate-modelled : tie.Need-slice-aggregate-modelled
-slice-aggregate-modelled c = search needs
-
-slice-aggregate-modelled-2 : tie.Need-slice-aggregate-modelled-2
-slice-aggregate-modelled-2 c = search needs
-
-modelled-requires : tie.Need-modelled-requires
+prepare-requires : tie.Need-prepare-requires
 unfolding ofBits
-modelled-requires c κs =
-    let p = (c .before .before .before .before .before .before .before .before .before .before .before) .pre in
-    let k = c .before .before .before .before .keep in
-    (p .0, (p .1 .0, (p .1 .1 .0, (omega (arith, kept-few _ _ (k .ensures), p .0), (k .kept .1 .1 .0, (kept-near _ _ (k .ensures) (p .0), (refl, p .1 .1 .1 .1 .1)))))))
+prepare-requires c κs =
+    let p = c .before .before .before .before .before .before .before .before .pre in
+    (p .0, (p .1 .0, (p .1 .1 .0, (p .1 .1 .1 .0, (refl, (refl, refl))))))
 
-enum-known-r : tie.Need-enum-known-r
-enum-known-r c = search needs
+slice-aggregate-damped-step : tie.Need-slice-aggregate-damped-step
+slice-aggregate-damped-step c = search needs
 
-slice-aggregate-spread : tie.Need-slice-aggregate-spread
-slice-aggregate-spread c = search needs
+slice-aggregate-damped-step-2 : tie.Need-slice-aggregate-damped-step-2
+slice-aggregate-damped-step-2 c = search needs
 
-slice-aggregate-spread-2 : tie.Need-slice-aggregate-spread-2
-slice-aggregate-spread-2 c = search needs
+slice-aggregate-damped-step-3 : tie.Need-slice-aggregate-damped-step-3
+slice-aggregate-damped-step-3 c = search needs
 
-spread-requires : tie.Need-spread-requires
-spread-requires c κs = let p = (c .before .before .before .before .before .before .before .before .before .before .before .before .before .before .before .before .before .before .before .before .before) .pre in let k = c .before .before .before .before .before .before .before .before .before .before .before .before .before .before .keep in (p .1 .1 .1 .1 .0, inside (kept-few _ _ (k .ensures)) (p .0) (k .kept .1 .1 .0))
-
-enum-told : tie.Need-enum-told
-enum-told c = search needs
-
-enum-known-e : tie.Need-enum-known-e
-enum-known-e c = search needs
+damped-step-requires : tie.Need-damped-step-requires
+damped-step-requires c κs =
+    let p = c .before .before .before .before .before .before .before .before .before .before .before .before .before .before .before .before .before .pre in
+    (p .0, (p .1 .1 .1 .0, (c .before .before .before .before .before .before .before .before .prepare .ensures .framed, (p .1 .1 .1 .1 .0, p .1 .1 .1 .1 .1))))
 
 same-length : tie.Need-same-length
 same-length c = search needs
@@ -60,42 +41,20 @@ same-length-2 : tie.Need-same-length-2
 same-length-2 c = search needs
 
 returns : tie.Need-returns
-unfolding spreadEnd bind
-returns c = step-is _ _ _ _ _ (c .before .before .before .before .before .before .before .before .before .before .before .before .before .before .before .before .before .keep .ensures) (rw (c .before .before .before .before .before .before .before .r .given .1) at (c .before .before .before .before .before .before .before .before .before .before .before .before .modelled .ensures)) (rw (c .before .before .spread .ensures))
-
-same-length-3 : tie.Need-same-length-3
-same-length-3 c = search needs
-
-returns-2 : tie.Need-returns-2
-unfolding spreadEnd bind
-returns-2 c = step-is _ _ _ _ _ (c .before .before .before .before .before .before .before .before .before .before .keep .ensures) (rw (c .enum-told .given .1) at (c .before .before .before .before .before .modelled .ensures)) refl
-
-same-length-4 : tie.Need-same-length-4
-same-length-4 c = search needs
-
-returns-3 : tie.Need-returns-3
-unfolding spreadEnd bind
-returns-3 c = step-is _ _ _ _ _ (c .before .before .before .before .before .before .before .before .before .before .before .keep .ensures) (rw (c .before .e .given .1) at (c .before .before .before .before .before .before .modelled .ensures)) refl
+returns c = c .before .before .before .before .damped-step .ensures ∙ c .before .before .before .before .before .before .before .before .before .before .before .before .before .prepare .ensures .steps (c .before .before .before .before .before .before .before .before .before .before .before .before .before .before .before .before .before .before .before .before .before .before .args .mu)
 
 pub step-spec : {M : Type 1} → statement M
 step-spec =
     tie.close
     (tie.spec
-    slice-aggregate-keep
-    keep-requires
-    slice-aggregate-modelled
-    slice-aggregate-modelled-2
-    modelled-requires
-    enum-known-r
-    slice-aggregate-spread
-    slice-aggregate-spread-2
-    spread-requires
-    enum-told
-    enum-known-e
+    slice-aggregate-prepare
+    slice-aggregate-prepare-2
+    slice-aggregate-prepare-3
+    prepare-requires
+    slice-aggregate-damped-step
+    slice-aggregate-damped-step-2
+    slice-aggregate-damped-step-3
+    damped-step-requires
     same-length
     same-length-2
-    returns
-    same-length-3
-    returns-2
-    same-length-4
-    returns-3)
+    returns)

@@ -1,0 +1,76 @@
+-- Lists that stand one behind the other in one: how they are written, and what is read of each.
+use mathlib.Core.Path.{_≡_, sym, ap, _∙_}
+use mathlib.Core.List.{List, _++_, append-assoc}
+use Prim.Native.Nat.{ℕ, _+_, _≤_}
+use native.Mathlib.Omega.{arith}
+use lib.Ieee.{Float}
+use lib.ListN.{length, take, drop, length-append}
+use lib.Seq.{take-length, take-at, drop-at, drop-drop}
+use Rattle.run.specs.Area.{written}
+use Rattle.run.proofs.AreaSlots.{written-twice}
+use Rattle.run.proofs.LeaveLaws.{written-all}
+
+-- one more list, right behind those that are written
+pub behind : (d s t : List Float) (at : ℕ) {a b : List Float} → a ≡ written d 0 s → at ≡ length s → length s + length t ≤ length d → b ≡ written a at t → b ≡ written d 0 (s ++ t)
+behind d s t at e l h f = f ∙ ap (λ (x : List Float). written x at t) e ∙ written-twice d s t 0 at (omega (arith, l)) (omega (arith, h))
+
+pub length-both : (s t : List Float) {n m : ℕ} → length s ≡ n → length t ≡ m → length (s ++ t) ≡ n + m
+length-both s t e f = length-append s t ∙ rw (e, f)
+
+take-whole : (s : List Float) {n : ℕ} → length s ≡ n → take n s ≡ s
+take-whole s e = rw e at (take-length s)
+
+-- three lists in one of 336, and four in one of 888
+module _ (a u d g : List Float) (lu : length u ≡ 288) (ld : length d ≡ 24) (lg : length g ≡ 24) where
+  pub three-written : {a₁ a₂ a₃ : List Float} → length a ≡ 336 → a₁ ≡ written a 0 u → a₂ ≡ written a₁ 288 d → a₃ ≡ written a₂ 312 g → a₃ ≡ u ++ (d ++ g)
+  three-written la e₁ e₂ e₃ =
+      let l₂ : length (u ++ d) ≡ 312 = length-both u d lu ld in
+      let l₃ : length ((u ++ d) ++ g) ≡ 336 = length-both (u ++ d) g l₂ lg in
+      behind a (u ++ d) g 312 (behind a u d 288 e₁ (sym lu) (omega (arith, lu, ld, la)) e₂) (sym l₂) (omega (arith, l₂, lg, la)) e₃
+      ∙ written-all a ((u ++ d) ++ g) (omega (arith, l₃, la))
+      ∙ append-assoc u d g
+
+  module _ (e : a ≡ u ++ (d ++ g)) where
+    pub first-of-three : take 288 a ≡ u
+    first-of-three = rw e (take-at u (d ++ g) 288 lu)
+
+    after-first : drop 288 a ≡ d ++ g
+    after-first = rw e (drop-at u (d ++ g) 288 lu)
+
+    pub second-of-three : take 24 (drop 288 a) ≡ d
+    second-of-three = rw after-first (take-at d g 24 ld)
+
+    pub third-of-three : take 24 (drop 312 a) ≡ g
+    third-of-three = let s : drop 312 a ≡ g = sym (drop-drop 24 288 a) ∙ ap (drop 24) after-first ∙ drop-at d g 24 ld in rw s (take-whole g lg)
+
+module _ (a q c d z : List Float) (lq : length q ≡ 288) (lc : length c ≡ 288) (ld : length d ≡ 24) (lz : length z ≡ 288) where
+  pub four-written : {a₁ a₂ a₃ a₄ : List Float} → length a ≡ 888 → a₁ ≡ written a 0 q → a₂ ≡ written a₁ 288 c → a₃ ≡ written a₂ 576 d → a₄ ≡ written a₃ 600 z → a₄ ≡ q ++ (c ++ (d ++ z))
+  four-written la e₁ e₂ e₃ e₄ =
+      let l₂ : length (q ++ c) ≡ 576 = length-both q c lq lc in
+      let l₃ : length ((q ++ c) ++ d) ≡ 600 = length-both (q ++ c) d l₂ ld in
+      let l₄ : length (((q ++ c) ++ d) ++ z) ≡ 888 = length-both ((q ++ c) ++ d) z l₃ lz in
+      let w₂ = behind a q c 288 e₁ (sym lq) (omega (arith, lq, lc, la)) e₂ in
+      let w₃ = behind a (q ++ c) d 576 w₂ (sym l₂) (omega (arith, l₂, ld, la)) e₃ in
+      behind a ((q ++ c) ++ d) z 600 w₃ (sym l₃) (omega (arith, l₃, lz, la)) e₄
+      ∙ written-all a (((q ++ c) ++ d) ++ z) (omega (arith, l₄, la))
+      ∙ append-assoc (q ++ c) d z
+      ∙ append-assoc q c (d ++ z)
+
+  module _ (e : a ≡ q ++ (c ++ (d ++ z))) where
+    pub first-of-four : take 288 a ≡ q
+    first-of-four = rw e (take-at q (c ++ (d ++ z)) 288 lq)
+
+    behind-first : drop 288 a ≡ c ++ (d ++ z)
+    behind-first = rw e (drop-at q (c ++ (d ++ z)) 288 lq)
+
+    pub second-of-four : take 288 (drop 288 a) ≡ c
+    second-of-four = rw behind-first (take-at c (d ++ z) 288 lc)
+
+    behind-second : drop 576 a ≡ d ++ z
+    behind-second = sym (drop-drop 288 288 a) ∙ ap (drop 288) behind-first ∙ drop-at c (d ++ z) 288 lc
+
+    pub third-of-four : take 24 (drop 576 a) ≡ d
+    third-of-four = rw behind-second (take-at d z 24 ld)
+
+    pub fourth-of-four : take 288 (drop 600 a) ≡ z
+    fourth-of-four = let s : drop 600 a ≡ z = sym (drop-drop 24 576 a) ∙ ap (drop 24) behind-second ∙ drop-at d z 24 ld in rw s (take-whole z lz)

@@ -1,0 +1,102 @@
+-- `prepared_step` meets its contract: the correction is copied and the step goes on from it, or the refusal stands.
+use mathlib.Core.Path.{_∙_}
+use lib.ListN.{take, drop}
+use Rattle.run.specs.Step.{curved}
+use native.Mathlib.Omega.{arith}
+use Rattle.run.proofs.LeaveLaws.{cut-length, written-all}
+use Rattle.run.proofs.StepLaws.{ready-on, ready-refused}
+use borrow.Author.Needs.{needs}
+use Rattle.run.proofs.step.prepared_step.Statement.{statement}
+use Rattle.run.proofs.step.prepared_step.Tie as tie
+
+enum-known-prepared : tie.Need-enum-known-prepared
+enum-known-prepared c = search needs
+
+sub-place : tie.Need-sub-place
+sub-place c = search needs
+
+part-place-start : tie.Need-part-place-start
+part-place-start c = search needs
+
+part-place-end : tie.Need-part-place-end
+part-place-end c = search needs
+
+place-requires : tie.Need-place-requires
+place-requires c κs = search needs
+
+sub-free-step : tie.Need-sub-free-step
+sub-free-step c = search needs
+
+part-free-step-start : tie.Need-part-free-step-start
+part-free-step-start c = search needs
+
+part-free-step-end : tie.Need-part-free-step-end
+part-free-step-end c = search needs
+
+sub-free-step-2 : tie.Need-sub-free-step-2
+sub-free-step-2 c = search needs
+
+part-free-step-start-2 : tie.Need-part-free-step-start-2
+part-free-step-start-2 c = search needs
+
+part-free-step-end-2 : tie.Need-part-free-step-end-2
+part-free-step-end-2 c = search needs
+
+sub-free-step-3 : tie.Need-sub-free-step-3
+sub-free-step-3 c = search needs
+
+part-free-step-start-3 : tie.Need-part-free-step-start-3
+part-free-step-start-3 c = search needs
+
+part-free-step-end-3 : tie.Need-part-free-step-end-3
+part-free-step-end-3 c = search needs
+
+free-step-requires : tie.Need-free-step-requires
+free-step-requires c κs =
+    let p = c .before .before .before .before .before .before .before .before .before .before .before .before .before .before .before .before .before .before .before .pre in
+    let g = c .before .before .before .before .before .before .before .before .before .before .before .prepared .given .1 in
+    (p .0, (rw g at (p .1 .0 .independent), (rw g at (p .1 .0 .free), (p .1 .1 .0, p .1 .1 .1 .1 .1))))
+
+enum-known-prepared-2 : tie.Need-enum-known-prepared-2
+enum-known-prepared-2 c = search needs
+
+same-length : tie.Need-same-length
+same-length c = search needs
+
+same-length-2 : tie.Need-same-length-2
+same-length-2 c = search needs
+
+returns : tie.Need-returns
+returns c =
+    let s = c .before .before .before .before .before .before .before .before .before .before .before .before .before .before .before .before .before .before .before .before .before .before .before .before in
+    let p = s .pre in
+    let l = cut-length 24 576 (s .args .frame .now) (omega (arith, p .1 .1 .1 .0)) in
+    ready-on (curved (s .args .k) (s .args .h .now) (s .args .g .now)) (s .args .order .now) (s .args .frame .now) (c .before .before .before .before .before .before .before .before .before .before .before .before .before .before .before .before .prepared .given .1) (c .before .before .before .before .before .before .before .before .before .before .before .before .place .ensures ∙ written-all (s .args .kept .now) (take 24 (drop 576 (s .args .frame .now))) (omega (arith, l, p .1 .1 .1 .1 .0))) (c .before .before .before .before .free-step .ensures)
+
+returns-2 : tie.Need-returns-2
+returns-2 c = let a = c .before .before .before .before .before .before .before .before .before .args in ready-refused (curved (a .k) (a .h .now) (a .g .now)) (a .order .now) (a .frame .now) (c .before .prepared2 .given .1)
+
+pub prepared-step-spec : {M : Type 1} → statement M
+prepared-step-spec =
+    tie.close
+    (tie.spec
+    enum-known-prepared
+    sub-place
+    part-place-start
+    part-place-end
+    place-requires
+    sub-free-step
+    part-free-step-start
+    part-free-step-end
+    sub-free-step-2
+    part-free-step-start-2
+    part-free-step-end-2
+    sub-free-step-3
+    part-free-step-start-3
+    part-free-step-end-3
+    free-step-requires
+    enum-known-prepared-2
+    same-length
+    same-length-2
+    returns
+    returns-2)
