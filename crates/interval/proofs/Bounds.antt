@@ -1,16 +1,15 @@
 -- An interval by two upper bounds, -lo and hi. Both are stepped up, so the two ends are worked out alike: turning the signs turns a product and the least of four exactly, and a sum but for
--- the sign of a zero, from which the step up is the same. The step is one pattern up, with -0 made +0 first, so that only the sign and infinity are told apart.
+-- the sign of a zero, from which the step up is the same. The step is one pattern, less where the sign is set; it starts from no -0, and infinity stays.
 use mathlib.Core.Path.{_≡_, refl, sym, ap, _∙_, subst}
 use mathlib.Core.Logic.{inl, inr}
-use Prim.Native.Nat.{ℕ, zero, suc, _+_, _-_, _*_, _^_, _≤_, _<_}
+use Prim.Native.Nat.{ℕ, zero, suc, _+_, _-_, _*_, _/_, _^_, _≤_, _<_}
 use native.Mathlib.Nat.{zero-mul, mul-one, add-comm, mul-right-comm, mul-pos, zero-lt-suc, le-antisymm, le-of-eq, eq-of-mul-eq-mul-right}
 use native.Mathlib.Omega.{arith}
 use mathlib.Core.Bool.{Bool, true, false, not, cond, _&&_, Bool·beq}
-use lib.Arith.{le→nltb}
-use lib.Dec.{T, ltb, ltb→lt, nltb→le, lt→ltb, lit<, lit≤}
+use lib.Dec.{T, ltb, ltb→lt, nltb→le, lit<, lit≤}
 use lib.IntN.{ℤ, pos}
 use lib.Ieee.{Float, nan, inf, fin, binary64, low, up, down, round, sum, add, sub, mul, neg, below, lt, le, eq, fits, isNan, toBits, ofBits, nanBits}
-use lib.Ieee.Bits.{is-true, is-false, ofBits-toBits}
+use lib.Ieee.Bits.{is-true, ofBits-toBits}
 use lib.Ieee.Fits.{down-pos, up-pos, round-fits, inf-fits, add-fits, mul-fits}
 use lib.Ieee.Scale.{finite}
 use Rattle.interval.specs.declared.Scalar.{Scalar}
@@ -23,7 +22,7 @@ use Rattle.interval.proofs.Rounding.{at, at-ge, at-most}
 use Rattle.interval.proofs.Rank.{rank, rank-in}
 use Rattle.interval.proofs.Tests.{step-out}
 use Rattle.interval.proofs.NextUp.{Down, down-side}
-use Rattle.interval.proofs.Outward.{positive-fits}
+use Rattle.interval.proofs.Outward.{positive-fits, zero-bits}
 use Rattle.interval.proofs.MinMax.{least-is, greatest-is}
 use Rattle.interval.proofs.Order.{Number, greatest-any, rank-units}
 use Rattle.interval.proofs.OrderUnits.{units-le}
@@ -75,7 +74,7 @@ greatest-turned p q r s =
     ∙ ap neg (sym (least-is p q r s))
 
 -- ---- rounding what a float stands for gives it back
-round-back : (m : ℕ) (e : ℤ) (a c : ℕ) → T (fits binary64 (fin false m e)) → 0 < c → a * down e ≡ m * up e * c → round binary64 false a c ≡ fin false m e
+pub round-back : (m : ℕ) (e : ℤ) (a c : ℕ) → T (fits binary64 (fin false m e)) → 0 < c → a * down e ≡ m * up e * c → round binary64 false a c ≡ fin false m e
 unfolding at
 round-back m e a c t C h =
     let f = binary64 in
@@ -91,7 +90,7 @@ zero-fits : T (fits binary64 zero64)
 unfolding fits
 zero-fits = tt
 
-round-none : (a c : ℕ) → 0 < c → a ≡ 0 → round binary64 false a c ≡ zero64
+pub round-none : (a c : ℕ) → 0 < c → a ≡ 0 → round binary64 false a c ≡ zero64
 round-none a c C h = round-back 0 (pos 0) a c zero-fits C (mul-one a ∙ h ∙ sym (zero-mul c))
 
 -- ---- a sum with the signs turned
@@ -118,7 +117,7 @@ sum-turned false a true b c C = go (ltb a b) (ltb b a) (nltb→le a b) (nltb→l
     go false true p q = ap nextUp (round-not false (a - b) c)
     go false false p q = let h = q tt in from-none (a - b) c C (omega arith)
 
-add-turned : (a b : Float) → nextUp (add binary64 (neg a) (neg b)) ≡ nextUp (neg (add binary64 a b))
+pub add-turned : (a b : Float) → nextUp (add binary64 (neg a) (neg b)) ≡ nextUp (neg (add binary64 a b))
 unfolding add neg
 add-turned nan b = refl
 add-turned (inf s) nan = refl
@@ -248,7 +247,11 @@ unfolding add sum isNan
 plus-zero-number (inf s) h = tt
 plus-zero-number (fin s m e) h = sum-no-nan s (m * up e * 1) false (0 * 1 * down e) (down e * 1)
 
--- ---- the step up, by the pattern of x + 0
+-- ---- the step up of what is not -0, by its pattern
+-- adding 0 keeps x: it is not -0
+abbrev pub Kept : Float → Type 0
+Kept x = add binary64 x zero64 ≡ x
+
 -- the greatest finite float
 abbrev pub most64 : Float
 most64 = fin false 9007199254740991 (pos 971)
@@ -257,69 +260,59 @@ most-is : T (finite most64) × T (fits binary64 most64) × (rank binary64 most64
 unfolding rank toBits fits
 most-is = (tt, tt, refl)
 
--- the step in patterns, and 1
-abbrev pub stepOf : Float → ℕ
-stepOf x = cond (le x most64) (cond (lt x zero64) 0 2) 1
-
 finite-most : (x : Float) → T (fits binary64 x) → T (finite x) → le x most64 ≡ true
 finite-most x t h =
     let under : rank binary64 x ≤ rank binary64 most64 = omega (arith, rank-in binary64 x t h .1, most-is .2) in
     is-true (le x most64) (units-le x most64 t h (most-is .1) (most-is .0) (rank-units x most64 t h (most-is .1) (most-is .0) under))
 
-plain-not-below : (m : ℕ) (e : ℤ) → lt (fin false m e) zero64 ≡ false
-unfolding lt
-plain-not-below m e = is-false (ltb (m * up e * 1) (0 * 1 * down e)) (le→nltb (m * up e * 1) (0 * 1 * down e) (omega (arith, zero-mul (down e))))
-
-zero-not-below : (s : Bool) (e : ℤ) → lt (fin s zero e) zero64 ≡ false
-unfolding lt
-zero-not-below false e = plain-not-below zero e
-zero-not-below true e = is-false (ltb 0 (0 * up e * 1 + 0 * 1 * down e)) (le→nltb 0 (0 * up e * 1 + 0 * 1 * down e) (omega (arith, zero-mul (up e), zero-mul (down e))))
-
-negative-below : (m : ℕ) (e : ℤ) → lt (fin true (suc m) e) zero64 ≡ true
-unfolding lt
-negative-below m e = is-true (ltb 0 (suc m * up e * 1 + 0 * 1 * down e)) (lt→ltb 0 (suc m * up e * 1 + 0 * 1 * down e) (omega (arith, some m e)))
+-- the pattern b less twice its sign, and d more: d is 1, and 0, no step, of infinity
+abbrev pub stepFrom : ℕ → ℕ → ℕ
+stepFrom b d = b - 2 * (b / 9223372036854775808) + d
 
 -- of x, by the pattern b and the step d
 pub record Step (x : Float) (b d : ℕ) : Type 0 where
-  pub room : b + d < 18446744073709551616
-  pub some : 1 ≤ b + d
-  pub number : T (not (nanBits binary64 (b + d - 1)))
-  pub next : ofBits binary64 (b + d - 1) ≡ nextUp x
+  pub some : 2 * (b / 9223372036854775808) ≤ b
+  pub room : stepFrom b d < 18446744073709551616
+  pub number : T (not (nanBits binary64 (stepFrom b d)))
+  pub next : ofBits binary64 (stepFrom b d) ≡ nextUp x
 
-out : (x : Float) (b : ℕ) → b < infBits binary64 → ofBits binary64 (b + 1) ≡ nextUp x → Step x b 2
+out : (x : Float) (b : ℕ) → b < infBits binary64 → ofBits binary64 (b + 1) ≡ nextUp x → Step x b 1
 out x b h e =
-    let same : b + 2 - 1 ≡ b + 1 = omega arith in
-    record { room = omega arith; some = omega arith; number = no-nan binary64 _ (omega arith); next = ap (ofBits binary64) same ∙ e }
+    let same : stepFrom b 1 ≡ b + 1 = omega arith in
+    record { some = omega arith; room = omega arith; number = no-nan binary64 _ (omega arith); next = ap (ofBits binary64) same ∙ e }
 
-back : (x : Float) → Down x → Step x (toBits binary64 x) 0
+back : (x : Float) → Down x → Step x (toBits binary64 x) 1
 back x d =
-    let same : toBits binary64 x + 0 - 1 ≡ toBits binary64 x - 1 = omega arith in
-    record { room = omega (arith, d .room); some = omega (arith, d .some); number = subst (λ (z : ℕ). T (not (nanBits binary64 z))) (sym same) (d .number); next = ap (ofBits binary64) same ∙ d .next }
+    let same : stepFrom (toBits binary64 x) 1 ≡ toBits binary64 x - 1 = omega (arith, d .signed, d .room) in
+    record { some = omega (arith, d .signed, d .room); room = omega (arith, d .room); number = subst (λ (z : ℕ). T (not (nanBits binary64 z))) (sym same) (d .number); next = ap (ofBits binary64) same ∙ d .next }
 
--- the step d of a finite x, by its sign
-finite-step : (x : Float) (s : Bool) → T (fits binary64 x) → T (finite x) → lt x zero64 ≡ s → stepOf x ≡ cond s 0 2
-finite-step x s t h e = rw (finite-most x t h, e)
+at-infinity : Step (inf false) (toBits binary64 (inf false)) (cond (le (inf false) most64) 1 0)
+unfolding toBits ofBits nanBits le lt eq nextUp
+at-infinity = record { some = lit≤ tt; room = lit< tt; number = tt; next = refl }
 
-at-infinity : Step (inf false) (toBits binary64 (add binary64 (inf false) zero64)) (stepOf (inf false))
-unfolding add toBits ofBits nanBits le lt eq nextUp
-at-infinity = record { room = lit< tt; some = lit≤ tt; number = tt; next = refl }
-
-at-minus-infinity : Step (inf true) (toBits binary64 (add binary64 (inf true) zero64)) (stepOf (inf true))
-unfolding add le lt eq
+at-minus-infinity : Step (inf true) (toBits binary64 (inf true)) (cond (le (inf true) most64) 1 0)
+unfolding le lt eq
 at-minus-infinity = back (inf true) (down-side (inf true) (inf-fits binary64 true) (inl refl))
 
-from-zero : (s : Bool) (e : ℤ) → ofBits binary64 (toBits binary64 zero64 + 1) ≡ nextUp (fin s zero e)
-unfolding toBits nextUp
-from-zero s e = refl
+from-zero : (e : ℤ) → T (fits binary64 (fin false zero e)) → ofBits binary64 (toBits binary64 (fin false zero e) + 1) ≡ nextUp (fin false zero e)
+unfolding nextUp
+from-zero e t = ap (λ (b : ℕ). ofBits binary64 (b + 1)) (zero-bits binary64 e t)
 
-pub step : (x : Float) → T (fits binary64 x) → T (not (isNan x)) → Step x (toBits binary64 (add binary64 x zero64)) (stepOf x)
+pub minus-zero-not-kept : (e : ℤ) → Kept (fin true zero e) → ⊥
+minus-zero-not-kept e k = subst (λ (x : Float). T (plain x)) (sym (zero-plus-zero true e) ∙ k) tt
+  where
+    plain : Float → Bool
+    plain nan = false
+    plain (inf s) = false
+    plain (fin s m e) = not s
+
+pub step : (x : Float) → T (fits binary64 x) → T (not (isNan x)) → Kept x → Step x (toBits binary64 x) (cond (le x most64) 1 0)
 unfolding isNan
-step (inf false) t h = at-infinity
-step (inf true) t h = at-minus-infinity
-step (fin s zero e) t h =
-    rw (zero-plus-zero s e, finite-step (fin s zero e) false t tt (zero-not-below s e)) (out (fin s zero e) (toBits binary64 zero64) (bits-under binary64 0 (pos 0) zero-fits) (from-zero s e))
-step (fin false (suc m) e) t h =
+step (inf false) t h k = at-infinity
+step (inf true) t h k = at-minus-infinity
+step (fin true zero e) t h k = absurd (minus-zero-not-kept e k)
+step (fin false zero e) t h k = rw (finite-most (fin false zero e) t tt) (out (fin false zero e) (toBits binary64 (fin false zero e)) (bits-under binary64 0 e t) (from-zero e t))
+step (fin false (suc m) e) t h k =
     let r = step-out (fin false (suc m) e) t (m, e, refl) in
-    rw (plus-zero false m e t, finite-step (fin false (suc m) e) false t tt (plain-not-below (suc m) e)) (out (fin false (suc m) e) (toBits binary64 (fin false (suc m) e)) (r .0) (r .1))
-step (fin true (suc m) e) t h =
-    rw (plus-zero true m e t, finite-step (fin true (suc m) e) true t tt (negative-below m e)) (back (fin true (suc m) e) (down-side (fin true (suc m) e) t (inr (m, e, refl))))
+    rw (finite-most (fin false (suc m) e) t tt) (out (fin false (suc m) e) (toBits binary64 (fin false (suc m) e)) (r .0) (r .1))
+step (fin true (suc m) e) t h k = rw (finite-most (fin true (suc m) e) t tt) (back (fin true (suc m) e) (down-side (fin true (suc m) e) t (inr (m, e, refl))))

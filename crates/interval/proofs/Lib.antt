@@ -26,4 +26,5 @@ pub mod OrderUnits
 pub mod Bounded
 pub mod Scaling
 pub mod Bounds
+pub mod PlusZero
 pub mod Middle

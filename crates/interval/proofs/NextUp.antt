@@ -139,7 +139,7 @@ with-sign x (inl q) = subst (λ (y : Float). toBits binary64 y ≡ 9223372036854
 with-sign x (inr w) = subst (λ (y : Float). toBits binary64 y ≡ 9223372036854775808 + toBits binary64 (neg y)) (sym (w .2)) (bits-neg (suc (w .0)) (w .1))
 
 pub record Down (x : Float) : Type 0 where
-  pub some : 1 ≤ toBits binary64 x
+  pub signed : 9223372036854775808 < toBits binary64 x
   pub room : toBits binary64 x ≤ 9223372036854775808 + infBits binary64
   pub number : T (not (nanBits binary64 (toBits binary64 x - 1)))
   pub next : ofBits binary64 (toBits binary64 x - 1) ≡ nextUp x
@@ -151,7 +151,7 @@ down-side x t w =
     let near : n ≤ infBits binary64 = omega (arith, i .1) in
     let e : toBits binary64 x - 1 ≡ 9223372036854775808 + n = omega (arith, with-sign x w, i .0) in
     record {
-      some = omega (arith, with-sign x w);
+      signed = omega (arith, with-sign x w, i .0);
       room = omega (arith, with-sign x w, i .1);
       number = subst (λ (z : ℕ). T (not (nanBits binary64 z))) (sym e) (no-nan-below n near);
       next = ap (ofBits binary64) e ∙ ofBits-neg n near ∙ i .2;
@@ -168,4 +168,4 @@ stepped x t a = go (le (fin false 0 (pos 0)) x) refl
   where
     go : (s : Bool) → le (fin false 0 (pos 0)) x ≡ s → Stepped x s
     go true e = let r = up-side x t a e in record { some = λ f. absurd (true≢false f); number = no-nan binary64 _ (omega (arith, r .0)); next = r .1 }
-    go false e = let r = down-side x t (below-zero x a e) in record { some = λ f. r .some; number = r .number; next = r .next }
+    go false e = let r = down-side x t (below-zero x a e) in record { some = λ f. omega (arith, r .signed); number = r .number; next = r .next }

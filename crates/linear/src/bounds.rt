@@ -2,8 +2,8 @@
 ghost use mathlib.Core.Path.{_≡_};
 ghost use mathlib.Core.Bool.{not, cond};
 ghost use lib.Dec.{T};
-ghost use lib.Ieee.{isNan};
-ghost use Rattle.interval.specs.Scalar.{addOf, subOf, mulOf};
+ghost use lib.Ieee.{binary64, add, isNan};
+ghost use Rattle.interval.specs.Scalar.{zero64, addOf, subOf, mulOf};
 ghost use Rattle.interval.specs.Step.{nextUp};
 ghost use Rattle.linear.specs.Bounds.{boundsOf, scalarOf, isProper, Bounding};
 use interval::Scalar;
@@ -18,24 +18,23 @@ pub struct Bounds {
 // The greatest finite float.
 const MOST: f64 = 1.7976931348623157e308;
 
-// One more than the step in patterns to the next number up, by the sign.
-fn step_by_sign(negative: bool) -> u64
-    ensures { λ r. ⌜ r ≡ cond «negative» 0 2 ⌝ }
+// 1 where it holds, else 0.
+fn one_if(holds: bool) -> u64
+    ensures { λ r. ⌜ r ≡ cond holds 1 0 ⌝ }
 {
-    if negative {
-        return 0;
+    if holds {
+        return 1;
     }
-    2
+    0
 }
 
-// d of a finite number, and 1, no step, of infinity.
-fn step_by_size(finite: bool, d: u64) -> u64
-    ensures { λ r. ⌜ r ≡ cond «finite» d 1 ⌝ }
+// The next float up from a number that is not -0: one pattern less for a negative number, one more for another, and infinity stays.
+fn step_on(x: f64) -> f64
+    requires { ⌜ T (not (isNan x)) × (add binary64 x zero64 ≡ x) ⌝ }
+    ensures { λ r. ⌜ r ≡ nextUp x ⌝ }
 {
-    if finite {
-        return d;
-    }
-    1
+    let b = f64::to_bits(x);
+    f64::from_bits(b - 2 * (b / 9223372036854775808) + one_if(x <= MOST))
 }
 
 // The next float up from a number.
@@ -43,8 +42,7 @@ fn step_up(x: f64) -> f64
     requires { ⌜ T (not (isNan x)) ⌝ }
     ensures { λ r. ⌜ r ≡ nextUp x ⌝ }
 {
-    let d = step_by_size(x <= MOST, step_by_sign(x < 0.0));
-    f64::from_bits(f64::to_bits(x + 0.0) + d - 1)
+    step_on(x + 0.0)
 }
 
 // The bounds of x y.
