@@ -27,4 +27,5 @@ pub mod Bounded
 pub mod Scaling
 pub mod Bounds
 pub mod PlusZero
+pub mod Points
 pub mod Middle

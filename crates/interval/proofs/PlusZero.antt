@@ -8,7 +8,7 @@ use mathlib.Core.Bool.{Bool, true, false, not, cond, _&&_, false≢true}
 use lib.Dec.{T, ltb, ltb→lt, lit<}
 use lib.IntN.{ℤ, pos}
 use lib.Pow.{pow-pos}
-use lib.Ieee.{Float, nan, inf, fin, binary64, low, up, down, round, sum, add, neg, fits, toBits, ofBits}
+use lib.Ieee.{Float, nan, inf, fin, binary64, low, up, down, round, sum, add, neg, lt, fits, toBits, ofBits}
 use lib.Ieee.Bits.{ofBits-toBits}
 use lib.Ieee.Fits.{down-pos, round-fits, neg-fits}
 use Rattle.interval.specs.Pattern.{magnitude}
@@ -50,6 +50,13 @@ next-plus-zero nan t = ap nextUp kept-nan
 next-plus-zero (inf s) t = ap nextUp (kept-inf s)
 next-plus-zero (fin s zero e) t = ap nextUp (zero-plus-zero s e)
 next-plus-zero (fin s (suc m) e) t = ap nextUp (plus-zero s m e t)
+
+pub above-plus-zero : (x : Float) → T (fits binary64 x) → lt (inf true) (add binary64 x zero64) ≡ lt (inf true) x
+unfolding lt
+above-plus-zero nan t = ap (lt (inf true)) kept-nan
+above-plus-zero (inf s) t = ap (lt (inf true)) (kept-inf s)
+above-plus-zero (fin s zero e) t = ap (lt (inf true)) (zero-plus-zero s e)
+above-plus-zero (fin s (suc m) e) t = ap (lt (inf true)) (plus-zero s m e t)
 
 turned-plus-zero : (x : Float) → T (fits binary64 (neg x)) → nextUp (neg (add binary64 (neg x) zero64)) ≡ nextUp x
 unfolding nextUp neg

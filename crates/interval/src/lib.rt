@@ -12,6 +12,7 @@ mod root;
 mod sets;
 mod step;
 
+pub use float::greater_of;
 pub use float::greatest_of;
 pub use float::lesser_of;
 pub use step::next_down;

@@ -1,19 +1,23 @@
 -- Two numbers stepped up are the bounds of a sum, a difference or a product, and proper: a step up never gives minus infinity, and the sum of two numbers above it is a number.
-use mathlib.Core.Path.{_≡_, sym, ap, _∙_}
-use mathlib.Core.Bool.{Bool, true, false, _&&_}
+use mathlib.Core.Path.{_≡_, refl, sym, ap, _∙_, subst}
+use mathlib.Core.Bool.{Bool, true, false, not, _&&_}
 use lib.Dec.{T}
-use lib.Ieee.{Float, inf, binary64, add, sub, mul, div, neg, lt, le, fits}
+use lib.Ieee.{Float, inf, binary64, add, sub, mul, div, neg, lt, le, fits, isNan}
+use lib.Ieee.Fits.{add-fits, neg-fits}
 use Rattle.interval.specs.declared.Scalar.{Scalar}
 use Rattle.interval.specs.Float.{lesser, greatest}
-use Rattle.interval.specs.Scalar.{zero64, two64, zeroS, degenerate, couldBeEqual, addOf, subOf, mulOf}
+use Rattle.interval.specs.Scalar.{zero64, two64, zeroS, degenerate, couldBeEqual, addOf, subOf, mulOf, isSharp}
 use Rattle.interval.specs.Step.{nextUp}
 use Rattle.interval.proofs.Given.{yes}
 use Rattle.interval.proofs.MinMax.{lt-second}
 use Rattle.interval.proofs.Order.{Number}
 use Rattle.interval.proofs.Middle.{zero-among, ends-sum}
-use Rattle.interval.proofs.Bounds.{neg-neg, add-below, sub-below, sub-above, mul-below, mul-below-second, products-number, sum-number, up-above}
+use Rattle.interval.proofs.Outward.{up-fits, down-fits}
+use Rattle.interval.proofs.PlusZero.{plus-zero-kept, above-plus-zero, next-sum, sum-kept}
+use Rattle.interval.proofs.Bounds.{Kept, neg-neg, add-below, sub-below, sub-above, mul-below, mul-below-second, products-number, sum-number, up-above}
+use Rattle.linear.proofs.Sums.{holds}
 use Rattle.linear.specs.declared.bounds.Bounds.{Bounds}
-use Rattle.linear.specs.Bounds.{boundsOf, scalarOf, isProper, Bounding}
+use Rattle.linear.specs.Bounds.{boundsOf, scalarOf, isProper, unsigned, Bounding}
 use Rattle.linear.specs.Choose.{chooseOf}
 
 both : {a b : Bool} → a ≡ true → b ≡ true → T (a && b)
@@ -39,8 +43,11 @@ module _ (b : Bounds) (p : T (isProper b)) where
 pub bounds-back : {x : Scalar} {b : Bounds} → b ≡ boundsOf x → scalarOf b ≡ x
 bounds-back {x} e = ap scalarOf e ∙ (λ i. record { lo = neg-neg (x .lo) i; hi = x .hi })
 
+pub start-bounds : (b : Bounds) → T (isProper b) → Bounding (scalarOf b) b
+start-bounds b p = record { value = λ i. record { below = sym (neg-neg (b .below)) i; above = b .above }; proper = p }
+
 pub proper-bounds : (x : Scalar) {b : Bounds} → b ≡ boundsOf x → T (isProper (boundsOf x)) → Bounding (scalarOf b) b
-proper-bounds x {b} e p = record { value = λ i. record { below = sym (neg-neg (b .below)) i; above = b .above }; proper = rw e p }
+proper-bounds x {b} e p = start-bounds b (rw e p)
 
 pub bounding : {x y : Scalar} {r : Bounds} → x ≡ y → Bounding x r → Bounding y r
 bounding e b = rw (← e) b
@@ -103,6 +110,47 @@ module _ (z : Bounds) (s : Scalar) {p : Bounds} (proper : T (isProper z)) (b : B
       stepped (subOf (scalarOf z) s) (add binary64 (z .below) (p .above)) (add binary64 (z .above) (p .below)) difference-below difference-above eu ev
       (ap (λ (q : Bounds). nextUp (add binary64 (z .below) (q .above))) (b .value) ∙ ap (λ (w : Float). nextUp (add binary64 w (s .hi))) (sym (neg-neg (z .below))) ∙ sym (sub-below (scalarOf z) s))
       (ap (λ (q : Bounds). nextUp (add binary64 (z .above) (q .below))) (b .value) ∙ sym (sub-above (scalarOf z) s))
+
+-- ---- z + x y and z - x y for points x and y, where p is the bounds of x y with -0 made +0
+-- a + b, where b is q with -0 made +0: a number that is not -0, and steps up as a + q does
+abbrev Steady : Float → Float → Float → Type 0
+Steady a q b = (T (not (isNan (add binary64 a b))) × Kept (add binary64 a b)) × (nextUp (add binary64 a b) ≡ nextUp (add binary64 a q))
+
+steady : (a q b : Float) → lt (inf true) a ≡ true → T (fits binary64 a) → lt (inf true) q ≡ true → T (fits binary64 q) → b ≡ add binary64 q zero64 → Steady a q b
+steady a q b ha ta hq tq e =
+    let w = add binary64 q zero64 in
+    subst (Steady a q) (sym e) ((sum-number a w ha (above-plus-zero q tq ∙ hq) .1, sum-kept a w ta (add-fits binary64 q zero64) (plus-zero-kept q tq)), next-sum a q ta tq)
+
+product-bounding : (x y : Scalar) → Bounding (mulOf x y) (boundsOf (mulOf x y))
+product-bounding x y = let b = product-bounds x y refl refl refl refl in record { value = refl; proper = subst (λ (r : Bounds). T (isProper r)) (b .value) (b .proper) }
+
+module _ (z : Bounds) (x y : Scalar) {p : Bounds} (proper : T (isProper z)) (tb : T (fits binary64 (z .below))) (ta : T (fits binary64 (z .above))) (e : p ≡ unsigned (boundsOf (mulOf x y))) where
+  to-below : (a : Float) → lt (inf true) a ≡ true → T (fits binary64 a) → Steady a (neg (mulOf x y .lo)) (p .below)
+  to-below a h t = steady a (neg (mulOf x y .lo)) (p .below) h t (below-proper (boundsOf (mulOf x y)) (product-bounding x y .proper)) (neg-fits binary64 (mulOf x y .lo) (down-fits _)) (ap (λ (b : Bounds). b .below) e)
+
+  to-above : (a : Float) → lt (inf true) a ≡ true → T (fits binary64 a) → Steady a (mulOf x y .hi) (p .above)
+  to-above a h t = steady a (mulOf x y .hi) (p .above) h t (above-proper (boundsOf (mulOf x y)) (product-bounding x y .proper)) (up-fits _) (ap (λ (b : Bounds). b .above) e)
+
+  pub point-sum-below : Steady (z .below) (neg (mulOf x y .lo)) (p .below)
+  point-sum-below = to-below (z .below) (below-proper z proper) tb
+
+  pub point-sum-above : Steady (z .above) (mulOf x y .hi) (p .above)
+  point-sum-above = to-above (z .above) (above-proper z proper) ta
+
+  pub point-sum-bounds : {u v : Float} → u ≡ nextUp (add binary64 (z .below) (p .below)) → v ≡ nextUp (add binary64 (z .above) (p .above)) → Bounding (addOf (scalarOf z) (mulOf x y)) (record { below = u; above = v })
+  point-sum-bounds eu ev = sum-bounds z (mulOf x y) proper (product-bounding x y) (eu ∙ point-sum-below .1) (ev ∙ point-sum-above .1)
+
+  pub point-difference-below : Steady (z .below) (mulOf x y .hi) (p .above)
+  point-difference-below = to-above (z .below) (below-proper z proper) tb
+
+  pub point-difference-above : Steady (z .above) (neg (mulOf x y .lo)) (p .below)
+  point-difference-above = to-below (z .above) (above-proper z proper) ta
+
+  pub point-difference-bounds : {u v : Float} → u ≡ nextUp (add binary64 (z .below) (p .above)) → v ≡ nextUp (add binary64 (z .above) (p .below)) → Bounding (subOf (scalarOf z) (mulOf x y)) (record { below = u; above = v })
+  point-difference-bounds eu ev = difference-bounds z (mulOf x y) proper (product-bounding x y) (eu ∙ point-difference-below .1) (ev ∙ point-difference-above .1)
+
+pub both-sharp : (x y : Scalar) (b : Bool) → b ≡ (isSharp x && isSharp y) → not b ≡ false → T (isSharp x) × T (isSharp y)
+both-sharp x y b eb e = let h = yes (sym eb ∙ holds b e) in (yes (and-first (isSharp x) (isSharp y) h), yes (and-second (isSharp x) (isSharp y) h))
 
 -- ---- the number chosen, by the bounds
 module _ (b : Bounds) (proper : T (isProper b)) (tb : T (fits binary64 (b .below))) (ta : T (fits binary64 (b .above))) {l : Float} (el : l ≡ lesser (b .below) (b .above)) where

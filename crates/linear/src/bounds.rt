@@ -3,10 +3,11 @@ ghost use mathlib.Core.Path.{_≡_};
 ghost use mathlib.Core.Bool.{not, cond};
 ghost use lib.Dec.{T};
 ghost use lib.Ieee.{binary64, add, isNan};
-ghost use Rattle.interval.specs.Scalar.{zero64, addOf, subOf, mulOf};
+ghost use Rattle.interval.specs.Scalar.{zero64, addOf, subOf, mulOf, isSharp};
 ghost use Rattle.interval.specs.Step.{nextUp};
-ghost use Rattle.linear.specs.Bounds.{boundsOf, scalarOf, isProper, Bounding};
+ghost use Rattle.linear.specs.Bounds.{boundsOf, scalarOf, isProper, unsigned, Bounding};
 use interval::Scalar;
+use interval::greater_of;
 use interval::greatest_of;
 
 // -lo and hi.
@@ -105,6 +106,42 @@ pub fn minus_product(z: Bounds, x: Scalar, y: Scalar) -> Bounds
     Bounds {
         below: step_up(z.below + p.above),
         above: step_up(z.above + p.below),
+    }
+}
+
+// The bounds of x y for points x and y, with -0 made +0: one product in place of four.
+fn point_product(x: Scalar, y: Scalar) -> Bounds
+    requires { ⌜ T (isSharp x) × T (isSharp y) ⌝ }
+    ensures { λ r. ⌜ r ≡ unsigned (boundsOf (mulOf x y)) ⌝ }
+{
+    let p = x.lo * y.lo;
+    Bounds {
+        below: step_up(greater_of(-1.0 / 0.0, -p)) + 0.0,
+        above: step_up(greater_of(-1.0 / 0.0, p)) + 0.0,
+    }
+}
+
+// The bounds of z + x y for points x and y.
+pub fn plus_points(z: Bounds, x: Scalar, y: Scalar) -> Bounds
+    requires { ⌜ T (isProper z) × T (isSharp x) × T (isSharp y) ⌝ }
+    ensures { λ r. ⌜ Bounding (addOf (scalarOf z) (mulOf x y)) r ⌝ }
+{
+    let p = point_product(x, y);
+    Bounds {
+        below: step_on(z.below + p.below),
+        above: step_on(z.above + p.above),
+    }
+}
+
+// The bounds of z - x y for points x and y.
+pub fn minus_points(z: Bounds, x: Scalar, y: Scalar) -> Bounds
+    requires { ⌜ T (isProper z) × T (isSharp x) × T (isSharp y) ⌝ }
+    ensures { λ r. ⌜ Bounding (subOf (scalarOf z) (mulOf x y)) r ⌝ }
+{
+    let p = point_product(x, y);
+    Bounds {
+        below: step_on(z.below + p.above),
+        above: step_on(z.above + p.below),
     }
 }
 

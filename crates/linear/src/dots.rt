@@ -1,20 +1,24 @@
-// Sums of products. A sum whose places are all inside its slices is worked out with no test of a place, by the two upper bounds of an interval; the tests before it and the
-// walk that is cut off at the slice's end give the same for every start, base, step and count.
-ghost use mathlib.Core.Bool.{true};
+// Sums of products. A sum whose places are all inside its slices is worked out with no test of a place, by the two upper bounds of an interval, and with one
+// product for each term as long as both factors are points; the tests before it and the walk that is cut off at the slice's end give the same for every start, base, step and count.
+ghost use mathlib.Core.Bool.{true, _&&_};
 ghost use mathlib.Core.Path.{_≡_};
 ghost use lib.Dec.{T};
 ghost use lib.ListN.{length};
+ghost use Rattle.interval.specs.Scalar.{isSharp};
 ghost use Rattle.linear.specs.Answers.{resultOf};
-ghost use Rattle.linear.specs.Bounds.{boundsOf, isProper};
+ghost use Rattle.linear.specs.Bounds.{boundsOf, scalarOf, isProper, Bounding};
 ghost use Rattle.linear.specs.Calls.{dotReply};
-ghost use Rattle.linear.specs.Dot.{plusTo, dotTo, minusTo};
+ghost use Rattle.linear.specs.Dot.{plusTo, dotTo, minusTo, pointsFrom};
 ghost use Rattle.linear.specs.Flat.{at, along, Inside};
 use crate::answers::Answer;
 use crate::answers::LinearError;
+use crate::bounds::Bounds;
 use crate::bounds::bounds_of;
 use crate::bounds::is_proper;
 use crate::bounds::minus_fresh;
+use crate::bounds::minus_points;
 use crate::bounds::minus_product;
+use crate::bounds::plus_points;
 use crate::bounds::plus_product;
 use crate::bounds::scalar_of;
 use crate::flat::ahead;
@@ -22,6 +26,18 @@ use crate::flat::at;
 use crate::flat::at_inside;
 use crate::flat::both_inside;
 use interval::Scalar;
+
+// The bounds of the first terms of a sum, and how many they are.
+struct Begun {
+    sum: Bounds,
+    done: usize,
+}
+
+fn are_points(x: Scalar, y: Scalar) -> bool
+    ensures { λ r. ⌜ r ≡ (isSharp x && isSharp y) ⌝ }
+{
+    x.is_sharp() && y.is_sharp()
+}
 
 // Whether k places of two runs are found to be inside, and the bounds of z are proper.
 fn is_plain(
@@ -42,6 +58,32 @@ fn is_plain(
     false
 }
 
+// The terms of plus_dot up to the first whose factors are not both points.
+fn plus_points_inside(
+    a: &[f64],
+    a0: usize,
+    sa: usize,
+    b: &[f64],
+    b0: usize,
+    sb: usize,
+    z: Bounds,
+    k: usize,
+) -> Begun
+    requires { ⌜ Inside a0 sa k (length (now a)) × Inside b0 sb k (length (now b)) × T (isProper z) ⌝ }
+    ensures { λ r. ⌜ (r .done ≡ pointsFrom (along (now (a .entry)) a0 sa) (along (now (b .entry)) b0 sb) 0 k) × Bounding (plusTo (along (now (a .entry)) a0 sa) (along (now (b .entry)) b0 sb) (scalarOf z) (r .done)) (r .sum) ⌝ }
+{
+    let mut sum = z;
+    for t in 0..k {
+        let x = at_inside(a, a0 + t * sa);
+        let y = at_inside(b, b0 + t * sb);
+        if !are_points(x, y) {
+            return Begun { sum, done: t };
+        }
+        sum = plus_points(sum, x, y);
+    }
+    Begun { sum, done: k }
+}
+
 // plus_dot where every place is inside and the bounds of z are proper.
 fn plus_inside(
     a: &[f64],
@@ -56,8 +98,10 @@ fn plus_inside(
     requires { ⌜ Inside a0 sa k (length (now a)) × Inside b0 sb k (length (now b)) × T (isProper (boundsOf z)) ⌝ }
     ensures { λ r. ⌜ r ≡ plusTo (along (now (a .entry)) a0 sa) (along (now (b .entry)) b0 sb) z k ⌝ }
 {
-    let mut sum = bounds_of(z);
-    for t in 0..k {
+    let begun = plus_points_inside(a, a0, sa, b, b0, sb, bounds_of(z), k);
+    let mut sum = begun.sum;
+    let done = begun.done;
+    for t in done..k {
         sum = plus_product(sum, at_inside(a, a0 + t * sa), at_inside(b, b0 + t * sb));
     }
     scalar_of(sum)
@@ -106,6 +150,32 @@ pub fn plus_dot(
     plus_cut(a, a0, sa, b, b0, sb, z, k)
 }
 
+// The terms of minus_dot up to the first whose factors are not both points.
+fn minus_points_inside(
+    a: &[f64],
+    a0: usize,
+    sa: usize,
+    b: &[f64],
+    b0: usize,
+    sb: usize,
+    z: Bounds,
+    k: usize,
+) -> Begun
+    requires { ⌜ Inside a0 sa k (length (now a)) × Inside b0 sb k (length (now b)) × T (isProper z) ⌝ }
+    ensures { λ r. ⌜ (r .done ≡ pointsFrom (along (now (a .entry)) a0 sa) (along (now (b .entry)) b0 sb) 0 k) × Bounding (minusTo (along (now (a .entry)) a0 sa) (along (now (b .entry)) b0 sb) (scalarOf z) (r .done)) (r .sum) ⌝ }
+{
+    let mut sum = z;
+    for t in 0..k {
+        let x = at_inside(a, a0 + t * sa);
+        let y = at_inside(b, b0 + t * sb);
+        if !are_points(x, y) {
+            return Begun { sum, done: t };
+        }
+        sum = minus_points(sum, x, y);
+    }
+    Begun { sum, done: k }
+}
+
 // minus_dot where every place is inside and the bounds of z are proper.
 fn minus_inside(
     a: &[f64],
@@ -120,8 +190,10 @@ fn minus_inside(
     requires { ⌜ Inside a0 sa k (length (now a)) × Inside b0 sb k (length (now b)) × T (isProper (boundsOf z)) ⌝ }
     ensures { λ r. ⌜ r ≡ minusTo (along (now (a .entry)) a0 sa) (along (now (b .entry)) b0 sb) z k ⌝ }
 {
-    let mut sum = bounds_of(z);
-    for t in 0..k {
+    let begun = minus_points_inside(a, a0, sa, b, b0, sb, bounds_of(z), k);
+    let mut sum = begun.sum;
+    let done = begun.done;
+    for t in done..k {
         sum = minus_product(sum, at_inside(a, a0 + t * sa), at_inside(b, b0 + t * sb));
     }
     scalar_of(sum)

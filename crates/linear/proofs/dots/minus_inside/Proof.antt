@@ -1,50 +1,53 @@
--- `minus_inside` meets its contract: the bounds are those of the difference so far, and proper, and each place is inside.
+-- `minus_inside` meets its contract: from where the points end the bounds are those of the difference so far, and proper, and each place is inside.
 use mathlib.Core.Path.{refl, _∙_}
 use Prim.Native.Nat.{_≤_, _-_}
 use native.Mathlib.Nat.{le-antisymm}
 use native.Mathlib.Omega.{arith}
 use borrow.Author.Needs.{needs}
-use Rattle.linear.specs.Bounds.{scalarOf, Bounding}
+use Rattle.interval.specs.declared.Scalar.{Scalar}
+use Rattle.linear.specs.Bounds.{Bounding}
 use Rattle.linear.specs.Flat.{along}
 use Rattle.linear.specs.Dot.{minusTo}
-use Rattle.linear.proofs.Sums.{minusTo-more}
+use Rattle.linear.proofs.Sums.{minusTo-more, points-within}
 use Rattle.linear.proofs.BoundLaws.{bounds-back, proper-bounds, bounding}
 use Rattle.linear.proofs.dots.minus_inside.Statement.{statement}
 use Rattle.linear.proofs.dots.minus_inside.Tie as tie
 
 abbrev Inv-loop : tie.InvT-loop
-Inv-loop a a0 sa b b0 sb k sum₀ t₀ sum t = (t ≤ k) × Bounding (minusTo (along a a0 sa) (along b b0 sb) (scalarOf sum₀) t) sum
+Inv-loop a a0 sa b b0 sb k sum₀ done t₀ sum t = (t ≤ k) × ((z : Scalar) → Bounding (minusTo (along a a0 sa) (along b b0 sb) z done) sum₀ → Bounding (minusTo (along a a0 sa) (along b b0 sb) z t) sum)
 
 abbrev μ-loop : tie.MeasureT-loop
-μ-loop a a0 sa b b0 sb k sum₀ t₀ sum t = k - t
+μ-loop a a0 sa b b0 sb k sum₀ done t₀ sum t = k - t
 
 bounds-of-requires : tie.Need-bounds-of-requires Inv-loop μ-loop
 bounds-of-requires c κs = search needs
 
+minus-points-inside-requires : tie.Need-minus-points-inside-requires Inv-loop μ-loop
+minus-points-inside-requires c κs = let k = c .before .before .before in (k .pre .0, k .pre .1, proper-bounds (k .args .z) (c .bounds-of .ensures) (k .pre .2) .proper)
+
 loop-holds : tie.Need-loop-holds Inv-loop μ-loop
-unfolding minusTo
-loop-holds c = (search needs, proper-bounds (c .before .before .before .args .z) (c .bounds-of .ensures) (c .before .before .before .pre .2))
+loop-holds c = (points-within _ _ _ (c .before .minus-points-inside .ensures .0), λ z h. h)
 
 mul-at-inside : tie.Need-mul-at-inside Inv-loop μ-loop
-mul-at-inside c = omega (arith, c .before .before .before .before .before .pre .0 (c .before .loop .t) (c .loop-test .taken))
+mul-at-inside c = omega (arith, c .before .before .before .before .before .before .before .pre .0 (c .before .loop .t) (c .loop-test .taken))
 
 add-at-inside : tie.Need-add-at-inside Inv-loop μ-loop
-add-at-inside c = omega (arith, c .before .before .before .before .before .pre .0 (c .before .loop .t) (c .loop-test .taken))
+add-at-inside c = omega (arith, c .before .before .before .before .before .before .before .pre .0 (c .before .loop .t) (c .loop-test .taken))
 
 at-inside-requires : tie.Need-at-inside-requires Inv-loop μ-loop
-at-inside-requires c κs = c .before .before .before .before .before .pre .0 (c .before .loop .t) (c .loop-test .taken)
+at-inside-requires c κs = c .before .before .before .before .before .before .before .pre .0 (c .before .loop .t) (c .loop-test .taken)
 
 mul-at-inside-2 : tie.Need-mul-at-inside-2 Inv-loop μ-loop
-mul-at-inside-2 c = omega (arith, c .before .before .before .before .before .before .pre .1 (c .before .before .loop .t) (c .before .loop-test .taken))
+mul-at-inside-2 c = omega (arith, c .before .before .before .before .before .before .before .before .pre .1 (c .before .before .loop .t) (c .before .loop-test .taken))
 
 add-at-inside-2 : tie.Need-add-at-inside-2 Inv-loop μ-loop
-add-at-inside-2 c = omega (arith, c .before .before .before .before .before .before .pre .1 (c .before .before .loop .t) (c .before .loop-test .taken))
+add-at-inside-2 c = omega (arith, c .before .before .before .before .before .before .before .before .pre .1 (c .before .before .loop .t) (c .before .loop-test .taken))
 
 at-inside-requires-2 : tie.Need-at-inside-requires-2 Inv-loop μ-loop
-at-inside-requires-2 c κs = c .before .before .before .before .before .before .pre .1 (c .before .before .loop .t) (c .before .loop-test .taken)
+at-inside-requires-2 c κs = c .before .before .before .before .before .before .before .before .pre .1 (c .before .before .loop .t) (c .before .loop-test .taken)
 
 minus-product-requires : tie.Need-minus-product-requires Inv-loop μ-loop
-minus-product-requires c κs = c .before .before .before .loop .inv .1 .proper
+minus-product-requires c κs = c .before .before .before .loop .inv .1 _ (c .before .before .before .before .before .minus-points-inside .ensures .1) .proper
 
 add-t : tie.Need-add-t Inv-loop μ-loop
 add-t c = search needs
@@ -56,7 +59,7 @@ loop-again : tie.Need-loop-again Inv-loop μ-loop
 unfolding along
 loop-again c =
     let l = c .before .before .before .before .loop in
-    (search needs, bounding (minusTo-more _ _ _ (l .t) (bounds-back (l .inv .1 .value)) (c .before .before .at-inside .ensures) (c .before .at-inside2 .ensures) refl refl) (c .minus-product .ensures))
+    (search needs, λ z h. bounding (minusTo-more _ _ z (l .t) (bounds-back (l .inv .1 z h .value)) (c .before .before .at-inside .ensures) (c .before .at-inside2 .ensures) refl refl) (c .minus-product .ensures))
 
 scalar-of-requires : tie.Need-scalar-of-requires Inv-loop μ-loop
 scalar-of-requires c κs = search needs
@@ -64,7 +67,8 @@ scalar-of-requires c κs = search needs
 returns : tie.Need-returns Inv-loop μ-loop
 returns c =
     let l = c .before .before .loop in
-    rw (le-antisymm (l .inv .0) (c .before .loop-test .left), bounds-back (c .before .before .before .bounds-of .ensures)) at (c .scalar-of .ensures ∙ bounds-back (l .inv .1 .value))
+    let b = l .inv .1 _ (c .before .before .before .before .minus-points-inside .ensures .1) in
+    rw (le-antisymm (l .inv .0) (c .before .loop-test .left), bounds-back (c .before .before .before .before .before .bounds-of .ensures)) at (c .scalar-of .ensures ∙ bounds-back (b .value))
 
 pub minus-inside-spec : {M : Type 1} → statement M
 minus-inside-spec =
@@ -73,6 +77,7 @@ minus-inside-spec =
     Inv-loop
     μ-loop
     bounds-of-requires
+    minus-points-inside-requires
     loop-holds
     mul-at-inside
     add-at-inside
