@@ -1,6 +1,7 @@
 // The length of a list.
 ghost use mathlib.Core.Path.{_≡_};
 ghost use Rattle.interval.specs.Result as scalar;
+ghost use Rattle.interval.specs.Scalar.{mulOf};
 ghost use Rattle.linear.specs.Answers.{resultOf};
 ghost use Rattle.linear.specs.Calls.{normReply};
 ghost use Rattle.linear.specs.Flat.{at};
@@ -23,6 +24,19 @@ fn largest(v: &[f64], n: usize) -> Scalar
     m
 }
 
+// The least float above 0.
+const LEAST: f64 = 5e-324;
+
+// q q. A zero over g is [-2^-1074, 2^-1074], and so is its square, which needs no product of subnormal numbers.
+fn square(q: Scalar) -> Scalar
+    ensures { λ r. ⌜ r ≡ mulOf q q ⌝ }
+{
+    if q.hi == LEAST && q.lo == -LEAST {
+        return q;
+    }
+    q.mul(q)
+}
+
 // The sum of the squares of the first n, each over g.
 fn scaled_squares(v: &[f64], g: Scalar, n: usize) -> ScalarResult
     ensures { λ r. ⌜ scalar.resultOf r ≡ scaledSquares (at (now (v .entry))) g n ⌝ }
@@ -31,7 +45,7 @@ fn scaled_squares(v: &[f64], g: Scalar, n: usize) -> ScalarResult
     for i in 0..n {
         match at(v, i).div(g) {
             ScalarResult::Value(q) => {
-                sum = sum.add(q.mul(q));
+                sum = sum.add(square(q));
             }
             ScalarResult::Refused(e) => {
                 return ScalarResult::Refused(e);

@@ -42,8 +42,8 @@ div-requires c κs = search needs
 enum-known-q : tie.Need-enum-known-q Inv-loop μ-loop
 enum-known-q c = search needs
 
-mul-requires : tie.Need-mul-requires Inv-loop μ-loop
-mul-requires c κs = search needs
+square-requires : tie.Need-square-requires Inv-loop μ-loop
+square-requires c κs = search needs
 
 add-requires : tie.Need-add-requires Inv-loop μ-loop
 add-requires c κs = search needs
@@ -72,7 +72,7 @@ unfolding step bind
 loop-again c =
     let x = c .before .before .before .before .before .before in
     let l = x .before .before .loop in
-    let e = sym (c .add .ensures .value ∙ ap (addOf (l .sum)) (c .before .mul .ensures .value)) in
+    let e = sym (c .add .ensures .value ∙ ap (addOf (l .sum)) (c .before .square .ensures)) in
     (search needs, turn _ _ (l .i) (l .inv .1) ∙ rw (← x .at .ensures, ← c .before .before .before .before .before .div .ensures .value, c .before .before .before .q .given .1) (ap ok e))
 
 returns-2 : tie.Need-returns-2 Inv-loop μ-loop
@@ -91,7 +91,7 @@ scaled-squares-spec =
     at-requires
     div-requires
     enum-known-q
-    mul-requires
+    square-requires
     add-requires
     enum-known-e
     returns
