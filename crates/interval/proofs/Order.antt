@@ -29,10 +29,10 @@ magnitude-none b c C h = elim (eq-zero-or-pos b) [
 
 -- ---- the sizes of two values, over a common denominator, are in the order of their patterns
 module _ (m : ℕ) (e : ℤ) (n : ℕ) (d : ℤ) (tx : T (fits binary64 (fin false m e))) (ty : T (fits binary64 (fin false n d))) where
-  left : m * up e * down d * 2 ^ low binary64 ≡ magnitude binary64 (toBits binary64 (fin false m e)) * (down e * down d)
+  pub left : m * up e * down d * 2 ^ low binary64 ≡ magnitude binary64 (toBits binary64 (fin false m e)) * (down e * down d)
   left = mul-right-comm (m * up e) (down d) (2 ^ low binary64) ∙ ap (λ (z : ℕ). z * down d) (bits-val binary64 m e tx .1) ∙ mul-assoc (magnitude binary64 (toBits binary64 (fin false m e))) (down e) (down d)
 
-  right : n * up d * down e * 2 ^ low binary64 ≡ magnitude binary64 (toBits binary64 (fin false n d)) * (down e * down d)
+  pub right : n * up d * down e * 2 ^ low binary64 ≡ magnitude binary64 (toBits binary64 (fin false n d)) * (down e * down d)
   right = mul-right-comm (n * up d) (down e) (2 ^ low binary64) ∙ ap (λ (z : ℕ). z * down e) (bits-val binary64 n d ty .1) ∙ mul-assoc (magnitude binary64 (toBits binary64 (fin false n d))) (down d) (down e) ∙ ap (λ (z : ℕ). magnitude binary64 (toBits binary64 (fin false n d)) * z) (mul-comm (down d) (down e))
 
   pub size-le : m * up e * down d ≤ n * up d * down e → toBits binary64 (fin false m e) ≤ toBits binary64 (fin false n d)

@@ -2,9 +2,9 @@
 use mathlib.Core.Path.{_≡_, refl, sym, ap, _∙_, subst}
 use mathlib.Core.Logic.{inl, inr}
 use Prim.Native.Nat.{ℕ, zero, suc, _+_, _-_, _*_, _^_, _≤_, _<_}
-use native.Mathlib.Nat.{zero-mul, one-mul, mul-pos, mul-assoc, mul-comm, mul-right-comm, add-mul, suc-mul, mul-le-mul-right, lt-irrefl, le-trans, le-of-eq}
+use native.Mathlib.Nat.{zero-mul, one-mul, mul-pos, add-mul, suc-mul, mul-le-mul-right, lt-irrefl, le-trans, le-of-eq}
 use native.Mathlib.Omega.{arith}
-use mathlib.Core.Bool.{Bool, true, false, not, cond, _&&_, false≢true}
+use mathlib.Core.Bool.{Bool, true, false, cond, _&&_, false≢true}
 use lib.Dec.{T, ltb, ltb→lt, lit<}
 use lib.IntN.{ℤ, pos}
 use lib.Pow.{pow-pos}
@@ -14,10 +14,10 @@ use lib.Ieee.Fits.{down-pos, round-fits, neg-fits}
 use Rattle.interval.specs.Pattern.{magnitude}
 use Rattle.interval.specs.Scalar.{zero64}
 use Rattle.interval.specs.Step.{nextUp}
-use Rattle.interval.proofs.Patterns.{bits-val}
 use Rattle.interval.proofs.Rounding.{NonNegative, round-nonneg, at, at-ge, le-or-lt}
 use Rattle.interval.proofs.Rank.{neg-round}
 use Rattle.interval.proofs.Outward.{positive-fits, zero-bits}
+use Rattle.interval.proofs.Order.{left, right}
 use Rattle.interval.proofs.Enclosure.Add.{plain-fits}
 use Rattle.interval.proofs.Bounds.{Kept, neg-neg, add-turned, plus-zero, zero-plus-zero, minus-zero-not-kept, some}
 
@@ -33,11 +33,19 @@ kept-nan : Kept nan
 unfolding add
 kept-nan = refl
 
-pub kept-plain : (m : ℕ) (e : ℤ) → T (fits binary64 (fin false m e)) → Kept (fin false m e)
+kept-plain : (m : ℕ) (e : ℤ) → T (fits binary64 (fin false m e)) → Kept (fin false m e)
 kept-plain zero e t = zero-plus-zero false e ∙ sym (zero-is e t)
 kept-plain (suc m) e t = plus-zero false m e t
 
 -- ---- x + 0
+-- what holds of every float and itself, and of -0 and +0, holds of x and x + 0
+plus-zero-any : (A : Float → Float → Type 0) → ((x : Float) → A x x) → ((e : ℤ) → T (fits binary64 (fin true zero e)) → A (fin true zero e) zero64) → (x : Float) → T (fits binary64 x) → A x (add binary64 x zero64)
+plus-zero-any A r z nan t = subst (A nan) (sym kept-nan) (r nan)
+plus-zero-any A r z (inf s) t = subst (A (inf s)) (sym (kept-inf s)) (r (inf s))
+plus-zero-any A r z (fin true zero e) t = subst (A (fin true zero e)) (sym (zero-plus-zero true e)) (z e t)
+plus-zero-any A r z (fin false zero e) t = subst (A (fin false zero e)) (sym (kept-plain zero e t)) (r (fin false zero e))
+plus-zero-any A r z (fin s (suc m) e) t = subst (A (fin s (suc m) e)) (sym (plus-zero s m e t)) (r (fin s (suc m) e))
+
 pub plus-zero-kept : (x : Float) → T (fits binary64 x) → Kept (add binary64 x zero64)
 plus-zero-kept nan t = subst Kept (sym kept-nan) kept-nan
 plus-zero-kept (inf s) t = subst Kept (sym (kept-inf s)) (kept-inf s)
@@ -46,39 +54,27 @@ plus-zero-kept (fin s (suc m) e) t = let k = plus-zero s m e t in subst Kept (sy
 
 pub next-plus-zero : (x : Float) → T (fits binary64 x) → nextUp (add binary64 x zero64) ≡ nextUp x
 unfolding nextUp
-next-plus-zero nan t = ap nextUp kept-nan
-next-plus-zero (inf s) t = ap nextUp (kept-inf s)
-next-plus-zero (fin s zero e) t = ap nextUp (zero-plus-zero s e)
-next-plus-zero (fin s (suc m) e) t = ap nextUp (plus-zero s m e t)
+next-plus-zero = plus-zero-any (λ x y. nextUp y ≡ nextUp x) (λ x. refl) (λ e t. refl)
 
 pub above-plus-zero : (x : Float) → T (fits binary64 x) → lt (inf true) (add binary64 x zero64) ≡ lt (inf true) x
 unfolding lt
-above-plus-zero nan t = ap (lt (inf true)) kept-nan
-above-plus-zero (inf s) t = ap (lt (inf true)) (kept-inf s)
-above-plus-zero (fin s zero e) t = ap (lt (inf true)) (zero-plus-zero s e)
-above-plus-zero (fin s (suc m) e) t = ap (lt (inf true)) (plus-zero s m e t)
+above-plus-zero = plus-zero-any (λ x y. lt (inf true) y ≡ lt (inf true) x) (λ x. refl) (λ e t. refl)
 
-turned-plus-zero : (x : Float) → T (fits binary64 (neg x)) → nextUp (neg (add binary64 (neg x) zero64)) ≡ nextUp x
+turned-plus-zero : (x : Float) → T (fits binary64 x) → nextUp (neg (add binary64 x zero64)) ≡ nextUp (neg x)
 unfolding nextUp neg
-turned-plus-zero nan t = ap (λ (z : Float). nextUp (neg z)) kept-nan
-turned-plus-zero (inf true) t = ap (λ (z : Float). nextUp (neg z)) (kept-inf false)
-turned-plus-zero (inf false) t = ap (λ (z : Float). nextUp (neg z)) (kept-inf true)
-turned-plus-zero (fin s zero e) t = ap (λ (z : Float). nextUp (neg z)) (zero-plus-zero (not s) e)
-turned-plus-zero (fin true (suc m) e) t = ap (λ (z : Float). nextUp (neg z)) (plus-zero false m e t)
-turned-plus-zero (fin false (suc m) e) t = ap (λ (z : Float). nextUp (neg z)) (plus-zero true m e t)
+turned-plus-zero = plus-zero-any (λ x y. nextUp (neg y) ≡ nextUp (neg x)) (λ x. refl) (λ e t. refl)
 
--- ---- a sum, where -0 among the terms is made +0
+-- a sum steps up to the same float with -0 made +0 in the second term
 pub next-sum : (a b : Float) → T (fits binary64 a) → T (fits binary64 b) → nextUp (add binary64 a (add binary64 b zero64)) ≡ nextUp (add binary64 a b)
-next-sum a nan t u = ap (λ (z : Float). nextUp (add binary64 a z)) kept-nan
-next-sum a (inf s) t u = ap (λ (z : Float). nextUp (add binary64 a z)) (kept-inf s)
-next-sum a (fin s (suc m) e) t u = ap (λ (z : Float). nextUp (add binary64 a z)) (plus-zero s m e u)
-next-sum a (fin false zero e) t u = ap (λ (z : Float). nextUp (add binary64 a z)) (kept-plain zero e u)
-next-sum a (fin true zero e) t u =
-    ap (λ (z : Float). nextUp (add binary64 a z)) (zero-plus-zero true e) ∙ next-plus-zero a t
-    ∙ sym (ap (λ (z : Float). nextUp (add binary64 z (fin true zero e))) (sym (neg-neg a)) ∙ turned ∙ ap (λ (z : Float). nextUp (neg (add binary64 (neg a) z))) (zero-is e (positive-fits zero e u)) ∙ turned-plus-zero a (neg-fits binary64 a t))
+next-sum a b t = plus-zero-any (λ x y. nextUp (add binary64 a y) ≡ nextUp (add binary64 a x)) (λ x. refl) minus-zero b
   where
-    turned : nextUp (add binary64 (neg (neg a)) (fin true zero e)) ≡ nextUp (neg (add binary64 (neg a) (fin false zero e)))
-    turned = unfold neg in add-turned (neg a) (fin false zero e)
+    minus-zero : (e : ℤ) → T (fits binary64 (fin true zero e)) → nextUp (add binary64 a zero64) ≡ nextUp (add binary64 a (fin true zero e))
+    minus-zero e u =
+        next-plus-zero a t ∙ ap nextUp (sym (neg-neg a)) ∙ sym (turned-plus-zero (neg a) (neg-fits binary64 a t))
+        ∙ ap (λ (z : Float). nextUp (neg (add binary64 (neg a) z))) (sym (zero-is e (positive-fits zero e u)))
+        ∙ sym (add-turned (neg a) (fin false zero e))
+        ∙ ap (λ (z : Float). nextUp (add binary64 z (neg (fin false zero e)))) (neg-neg a)
+        ∙ ap (λ (z : Float). nextUp (add binary64 a z)) (unfold neg in refl)
 
 -- ---- a sum is -0 only where both terms are
 nonneg-kept : (v : Float) → T (fits binary64 v) → NonNegative v → Kept v
@@ -107,8 +103,8 @@ round-some a c C h =
     (negative-kept (round binary64 false a c) (round-fits binary64 false a c) (round-nonneg binary64 a c) (at-ge binary64 a c 1 C (lit< tt) (le-trans (le-of-eq one) h)))
 
 -- two whole numbers of units u and v over the denominator c differ by a unit or more
-gap : (a b u v l c : ℕ) → 0 < c → a * l ≡ u * c → b * l ≡ v * c → a < b → 0 < l → c ≤ (b - a) * l
-gap a b u v l c C p q h L =
+gap : (a b u v l c : ℕ) → a * l ≡ u * c → b * l ≡ v * c → a < b → 0 < l → c ≤ (b - a) * l
+gap a b u v l c p q h L =
     let split : (b - a) * l + a * l ≡ b * l = sym (add-mul (b - a) a l) ∙ ap (λ (z : ℕ). z * l) (omega arith) in
     let more : a * l + l ≤ b * l = le-trans (le-of-eq (omega (arith, suc-mul a l))) (mul-le-mul-right l h) in
     elim (le-or-lt v u) [
@@ -116,30 +112,23 @@ gap a b u v l c C p q h L =
       | inr k ↦ omega (arith, suc-mul u c, mul-le-mul-right c k)
     ]
 
--- what a float stands for, over the denominators of two
-over : (m : ℕ) (e d : ℤ) → T (fits binary64 (fin false m e)) → m * up e * down d * 2 ^ low binary64 ≡ magnitude binary64 (toBits binary64 (fin false m e)) * (down e * down d)
-over m e d t = mul-right-comm (m * up e) (down d) (2 ^ low binary64) ∙ ap (λ (z : ℕ). z * down d) (bits-val binary64 m e t .1) ∙ mul-assoc (magnitude binary64 (toBits binary64 (fin false m e))) (down e) (down d)
-
-over-second : (m : ℕ) (e d : ℤ) → T (fits binary64 (fin false m e)) → m * up e * down d * 2 ^ low binary64 ≡ magnitude binary64 (toBits binary64 (fin false m e)) * (down d * down e)
-over-second m e d t = over m e d t ∙ ap (λ (z : ℕ). magnitude binary64 (toBits binary64 (fin false m e)) * z) (mul-comm (down e) (down d))
-
 -- the second term is not -0
 signs-kept : (s : Bool) (a : ℕ) (t : Bool) (b u v c : ℕ) → 0 < c → a * 2 ^ low binary64 ≡ u * c → b * 2 ^ low binary64 ≡ v * c → (t ≡ true → 0 < b) → Kept (sum binary64 s a t b c)
 unfolding sum
 signs-kept false a false b u v c C p q k = round-plain (a + b) c
 signs-kept true a true b u v c C p q k =
     let l = 2 ^ low binary64 in
-    round-some (a + b) c C (le-trans (gap 0 b 0 v l c C (zero-mul l ∙ sym (zero-mul c)) q (k refl) (pow-pos (low binary64))) (mul-le-mul-right l (omega arith)))
+    round-some (a + b) c C (le-trans (gap 0 b 0 v l c (zero-mul l ∙ sym (zero-mul c)) q (k refl) (pow-pos (low binary64))) (mul-le-mul-right l (omega arith)))
 signs-kept false a true b u v c C p q k = go (ltb a b) (ltb→lt a b)
   where
     go : (x : Bool) → (T x → a < b) → Kept (cond x (round binary64 true (b - a) c) (round binary64 false (a - b) c))
-    go true h = round-some (b - a) c C (gap a b u v (2 ^ low binary64) c C p q (h tt) (pow-pos (low binary64)))
+    go true h = round-some (b - a) c C (gap a b u v (2 ^ low binary64) c p q (h tt) (pow-pos (low binary64)))
     go false h = round-plain (a - b) c
 signs-kept true a false b u v c C p q k = go (ltb a b) (ltb b a) (ltb→lt b a)
   where
     go : (x y : Bool) → (T y → b < a) → Kept (cond x (round binary64 false (b - a) c) (round binary64 (true && y) (a - b) c))
     go true y h = round-plain (b - a) c
-    go false true h = round-some (a - b) c C (gap b a v u (2 ^ low binary64) c C q p (h tt) (pow-pos (low binary64)))
+    go false true h = round-some (a - b) c C (gap b a v u (2 ^ low binary64) c q p (h tt) (pow-pos (low binary64)))
     go false false h = round-plain (a - b) c
 
 pub sum-kept : (a b : Float) → T (fits binary64 a) → T (fits binary64 b) → Kept b → Kept (add binary64 a b)
@@ -154,7 +143,7 @@ sum-kept (inf s) (fin r n d) t u k = kept-inf s
 sum-kept (fin s m e) nan t u k = kept-nan
 sum-kept (fin s m e) (inf r) t u k = kept-inf r
 sum-kept (fin s m e) (fin r n d) t u k =
-    signs-kept s (m * up e * down d) r (n * up d * down e) _ _ (down e * down d) (mul-pos (down-pos e) (down-pos d)) (over m e d (plain-fits s m e t)) (over-second n d e (plain-fits r n d u)) (above r n k)
+    signs-kept s (m * up e * down d) r (n * up d * down e) _ _ (down e * down d) (mul-pos (down-pos e) (down-pos d)) (left m e n d (plain-fits s m e t) (plain-fits r n d u)) (right m e n d (plain-fits s m e t) (plain-fits r n d u)) (above r n k)
   where
     above : (r : Bool) (n : ℕ) → Kept (fin r n d) → r ≡ true → 0 < n * up d * down e
     above true zero k h = absurd (minus-zero-not-kept d k)
