@@ -22,14 +22,6 @@ take-whole s e = rw e at (take-length s)
 
 -- three lists in one of 336, and four in one of 888
 module _ (a u d g : List Float) (lu : length u ≡ 288) (ld : length d ≡ 24) (lg : length g ≡ 24) where
-  pub three-written : {a₁ a₂ a₃ : List Float} → length a ≡ 336 → a₁ ≡ written a 0 u → a₂ ≡ written a₁ 288 d → a₃ ≡ written a₂ 312 g → a₃ ≡ u ++ (d ++ g)
-  three-written la e₁ e₂ e₃ =
-      let l₂ : length (u ++ d) ≡ 312 = length-both u d lu ld in
-      let l₃ : length ((u ++ d) ++ g) ≡ 336 = length-both (u ++ d) g l₂ lg in
-      behind a (u ++ d) g 312 (behind a u d 288 e₁ (sym lu) (omega (arith, lu, ld, la)) e₂) (sym l₂) (omega (arith, l₂, lg, la)) e₃
-      ∙ written-all a ((u ++ d) ++ g) (omega (arith, l₃, la))
-      ∙ append-assoc u d g
-
   module _ (e : a ≡ u ++ (d ++ g)) where
     pub first-of-three : take 288 a ≡ u
     first-of-three = rw e (take-at u (d ++ g) 288 lu)

@@ -33,6 +33,7 @@ pub mod ProposalLaws
 pub mod SearchLaws
 pub mod AreaSlots
 pub mod Frames
+pub mod Parts
 pub mod PieceLaws
 pub mod ReadLaws
 pub mod FollowLaws

@@ -2,26 +2,27 @@
 use Prim.Native.Nat.{ℕ, zero, suc, _+_, _*_, _<_, _≤_}
 use mathlib.Core.Bool.{Bool, true, false}
 use mathlib.Core.Logic.{_≢_}
-use mathlib.Core.Path.{_≡_, refl}
-use mathlib.Core.List.{List, [], _∷_, _++_}
+use mathlib.Core.Path.{_≡_, refl, sym, ap, _∙_}
+use mathlib.Core.List.{List, [], _∷_, _++_, append-assoc}
 use native.Mathlib.Numerals.{add-one}
 use native.Mathlib.Omega.{arith}
 use borrow.Author.Tests.{eq-eqb, ne-eqb}
 use lib.Dec.{eqb}
 use lib.Ieee.{Float}
-use lib.ListN.{length, getD, set, replicate}
+use lib.ListN.{length, getD, set, take, drop, replicate, replicate-append-replicate}
 use Rattle.interval.specs.declared.Scalar.{Scalar}
-use Rattle.interval.specs.Scalar.{pick, addOf, mulOf}
+use Rattle.interval.specs.Scalar.{zero64, pick, addOf, mulOf}
 use Rattle.linear.specs.Choose.{chooseOf}
 use Rattle.linear.specs.Dot.{plusTo}
 use Rattle.linear.specs.Flat.{at, along, zeros}
 use Rattle.run.specs.Curvature.{curvatureAt}
-use Rattle.run.specs.Model.{Kept, keepNext, keptTo, variable, squeezedOf, scalingAt, dampedAt, dampedOf, gradientOf, problemOf, problemIn, undampedAt, undampedOf, scalingsOf, dampedEntry, dampedBy, dampedCurve, gradientIn}
+use Rattle.run.specs.Model.{Kept, keepNext, keptTo, variable, squeezedOf, scalingAt, dampedAt, dampedOf, gradientOf, problemOf, problemIn, undampedAt, undampedOf, scalingsOf, dampedEntry, dampedBy, dampedCurve, gradientIn, gradientAt}
 use Rattle.run.specs.Rows.{Rows, rowsIn, constraintSet, sumSet, constraintsOf, evaluationOf, valueAt}
 use Rattle.run.specs.Scratch.{vector, matrix, column, fillTo, fillRows, chosenOf}
 use Rattle.run.specs.declared.rows.RowSet.{RowSet}
-use Rattle.run.proofs.Frames.{first-of-three, second-of-three, third-of-three}
-use Rattle.run.proofs.ScratchLaws.{length-fillTo, at-fill-in, length-fillRows, fill-rows-ext, at-fill-rows}
+use Rattle.run.proofs.Frames.{length-both, first-of-three, second-of-three, third-of-three}
+use Rattle.run.proofs.Parts.{fill-front, fill-behind, rows-front, at-part}
+use Rattle.run.proofs.ScratchLaws.{length-fillTo, at-fill-in, at-take, length-fillRows, fill-rows-ext, at-fill-rows}
 
 pub keep-turn : (moving : List Bool) (i : ℕ) {k k′ : Kept} → k ≡ keptTo moving i → k′ ≡ keepNext (getD moving i false) k i → k′ ≡ keptTo moving (i + 1)
 unfolding keptTo
@@ -101,6 +102,36 @@ either false v d mu = refl
 entry-damped : (jr : List Float) (s : ℕ) (jc : List Float) (m : ℕ) (mu b : Scalar) (i j : ℕ) → dampedEntry (undampedAt jr s b i j) (scalingAt jr s jc m i) mu i j ≡ dampedAt jr s jc m mu b i j
 unfolding dampedEntry undampedAt dampedAt
 entry-damped jr s jc m mu b i j = either (eqb i j) (plusTo (column jr i) (column jr j) b s) (scalingAt jr s jc m i) mu
+
+-- a curve that is filled part by part
+filled-is : (u : ℕ → ℕ → Scalar) (d g : ℕ → Scalar) (k : ℕ) → k ≤ 12 → fillTo (fillTo (fillRows (zeros 336) u k k) 144 d k) 156 g k ≡ fillRows matrix u k k ++ (fillTo vector 0 d k ++ fillTo vector 0 g k)
+filled-is u d g k h =
+    let lu : length (fillRows matrix u k k) ≡ 288 = length-fillRows matrix u k k in
+    let ld : length (fillTo vector 0 d k) ≡ 24 = length-fillTo vector 0 d k in
+    let lv : length vector ≡ 24 = refl in
+    let lm : length matrix ≡ 288 = refl in
+    let lz : length (zeros 48) ≡ 48 = refl in
+    let z : zeros 336 ≡ matrix ++ zeros 48 = sym (replicate-append-replicate 288 48 zero64) in
+    let y : zeros 48 ≡ vector ++ vector = sym (replicate-append-replicate 24 24 zero64) in
+    let e₁ : fillRows (zeros 336) u k k ≡ fillRows matrix u k k ++ zeros 48 = ap (λ (x : List Float). fillRows x u k k) z ∙ rows-front matrix (zeros 48) u k k h (omega (arith, lm, h)) in
+    let e₂ : fillTo (zeros 48) 0 d k ≡ fillTo vector 0 d k ++ vector = ap (λ (x : List Float). fillTo x 0 d k) y ∙ fill-front vector vector 0 d k (omega (arith, lv, h)) in
+    let e₃ : fillTo (fillRows (zeros 336) u k k) 144 d k ≡ (fillRows matrix u k k ++ fillTo vector 0 d k) ++ vector = ap (λ (x : List Float). fillTo x 144 d k) e₁ ∙ fill-behind (fillRows matrix u k k) (zeros 48) 144 d k lu (omega (arith, lz, h)) ∙ ap (λ (x : List Float). fillRows matrix u k k ++ x) e₂ ∙ sym (append-assoc (fillRows matrix u k k) (fillTo vector 0 d k) vector) in
+    ap (λ (x : List Float). fillTo x 156 g k) e₃
+    ∙ fill-behind (fillRows matrix u k k ++ fillTo vector 0 d k) vector 156 g k (length-both (fillRows matrix u k k) (fillTo vector 0 d k) lu ld) (omega (arith, lv, h))
+    ∙ append-assoc (fillRows matrix u k k) (fillTo vector 0 d k) (fillTo vector 0 g k)
+
+pub curve-filled : (n : ℕ) (k : Kept) (jr : List Float) (s : ℕ) (jc : List Float) (m : ℕ) (b : List Float) (e : Rows) {c₁ c₂ c₃ : List Float}
+    → k .count ≤ 12 → c₁ ≡ fillRows (zeros 336) (λ i j. undampedAt jr s (curvatureAt n b (variable k i) (variable k j)) i j) (k .count) (k .count) → c₂ ≡ fillTo c₁ 144 (scalingAt jr s jc m) (k .count) → c₃ ≡ fillTo c₂ 156 (gradientAt k e) (k .count)
+    → c₃ ≡ undampedOf n k jr s b ++ (scalingsOf (k .count) jr s jc m ++ gradientOf k e)
+unfolding undampedOf scalingsOf gradientOf
+curve-filled n k jr s jc m b e h e₁ e₂ e₃ = e₃ ∙ ap (λ (x : List Float). fillTo x 156 (gradientAt k e) (k .count)) (e₂ ∙ ap (λ (x : List Float). fillTo x 144 (scalingAt jr s jc m) (k .count)) e₁) ∙ filled-is _ (scalingAt jr s jc m) (gradientAt k e) (k .count) h
+
+-- H, read from a curve
+pub damped-read : (k : ℕ) (curve : List Float) (mu : Scalar) → k ≤ 12 → length curve ≡ 336 → fillRows matrix (λ i j. dampedEntry (at curve (12 * i + j)) (at curve (144 + i)) mu i j) k k ≡ dampedCurve k curve mu
+unfolding dampedBy
+damped-read k curve mu h l =
+    fill-rows-ext matrix (λ i j. dampedEntry (at curve (12 * i + j)) (at curve (144 + i)) mu i j) (λ i j. dampedEntry (at (take 288 curve) (12 * i + j)) (at (take 24 (drop 288 curve)) i) mu i j) k k
+    (λ i j hi hj. rw (at-take curve 144 (12 * i + j) (omega arith) (omega (arith, l)), at-part curve 144 12 i (omega arith) (omega (arith, l))))
 
 module _ (n : ℕ) (k : Kept) (jr : List Float) (s : ℕ) (jc : List Float) (m : ℕ) (b : List Float) where
   -- what is filled before it is damped

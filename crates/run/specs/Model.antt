@@ -92,6 +92,10 @@ undampedOf n k jr s b = fillRows matrix (λ i j. undampedAt jr s (curvatureAt n 
 unfoldable pub scalingsOf : ℕ → List Float → ℕ → List Float → ℕ → List Float
 scalingsOf k jr s jc m = fillTo vector 0 (scalingAt jr s jc m) k
 
+-- an entry of the gradient
+abbrev pub gradientAt : Kept → Rows → ℕ → Scalar
+gradientAt k e p = chooseOf (dotTo (slopesBy e (variable k p)) (at (chosenOf (zeros 48) (e .list) (e .values) (e .count))) (e .count))
+
 -- H's entry, from the entry v that is not damped and D's entry d, and H from all of them
 unfoldable pub dampedEntry : Scalar → Scalar → Scalar → ℕ → ℕ → Scalar
 dampedEntry v d mu i j = pick (eqb i j) (chooseOf (addOf v (mulOf mu d))) v

@@ -7,10 +7,9 @@ ghost use Rattle.linear.specs.Choose.{chooseOf};
 ghost use Rattle.linear.specs.Dot.{dotTo};
 ghost use Rattle.linear.specs.Flat.{at, zeros};
 ghost use Rattle.run.specs.Curvature.{curvatureAt};
-ghost use Rattle.run.specs.Model.{keptBy, keepNext, keptTo, squeezedOf, scalingAt, gradientOf, problemOf, problemIn, undampedAt, undampedOf, scalingsOf, dampedEntry, dampedBy, dampedCurve, gradientIn};
+ghost use Rattle.run.specs.Model.{keptBy, keepNext, keptTo, squeezedOf, scalingAt, gradientOf, problemOf, problemIn, undampedAt, undampedOf, scalingsOf, dampedEntry, dampedCurve, gradientIn, gradientAt};
 ghost use Rattle.run.specs.Rows.{Small, rowsIn, constraintsOf, evaluationOf, valueAt, slopeAt, slopesBy};
 ghost use Rattle.run.specs.Scratch.{matrix, fillTo, fillRows, chosenOf};
-use crate::area::place;
 use crate::row_view::slope_of;
 use crate::rows::RowSet;
 use crate::rows::chosen_values;
@@ -26,12 +25,10 @@ use linear::clear;
 use linear::plus_dot;
 use linear::put;
 
-// Where each part of a curve begins, behind the curvature that is not damped.
-pub const SCALINGS: usize = 288;
+// The first scalar of D and of the gradient in a curve, behind the curvature that is not damped.
+const SCALINGS: usize = 144;
 
-pub const GRADIENT: usize = 312;
-
-pub const CURVE: usize = 336;
+const GRADIENT: usize = 156;
 
 // ---- the variables that move
 
@@ -99,14 +96,13 @@ fn scaling(jr: &[f64], s: usize, jc: &[f64], m: usize, i: usize) -> Scalar
     plus_dot(jc, i, 12, jc, i, 12, d, m)
 }
 
-// D, over the kept variables.
-fn scalings(k: usize, jr: &[f64], s: usize, jc: &[f64], m: usize, d: &mut [f64])
-    requires { ⌜ (k ≤ 12) × (length (now d) ≡ 24) ⌝ }
-    ensures { λ _. ⌜ now (d .exit) ≡ scalingsOf k (now (jr .entry)) s (now (jc .entry)) m ⌝ }
+// D, over the kept variables, at its place in a curve.
+fn scalings(k: usize, jr: &[f64], s: usize, jc: &[f64], m: usize, curve: &mut [f64])
+    requires { ⌜ k ≤ 12 ⌝ }
+    ensures { λ _. ⌜ now (curve .exit) ≡ fillTo (now (curve .entry)) 144 (scalingAt (now (jr .entry)) s (now (jc .entry)) m) k ⌝ }
 {
-    clear(d);
     for i in 0..k {
-        put(d, i, scaling(jr, s, jc, m, i));
+        put(curve, SCALINGS + i, scaling(jr, s, jc, m, i));
     }
 }
 
@@ -142,14 +138,14 @@ fn undamped_row(
     }
 }
 
-// J_rᵀ J_r + B over the kept variables.
-fn undamped(n: usize, index: &[usize], k: usize, jr: &[f64], s: usize, b: &[f64], h: &mut [f64])
-    requires { ⌜ (k ≤ 12) × ((length (now index) ≡ 12) × (length (now h) ≡ 288)) ⌝ }
-    ensures { λ _. ⌜ now (h .exit) ≡ undampedOf n (keptBy k (now (index .entry))) (now (jr .entry)) s (now (b .entry)) ⌝ }
+// J_rᵀ J_r + B over the kept variables, at the start of a curve that is clear behind it.
+fn undamped(n: usize, index: &[usize], k: usize, jr: &[f64], s: usize, b: &[f64], curve: &mut [f64])
+    requires { ⌜ (k ≤ 12) × ((length (now index) ≡ 12) × (length (now curve) ≡ 336)) ⌝ }
+    ensures { λ _. ⌜ now (curve .exit) ≡ fillRows (zeros 336) (λ i j. undampedAt (now (jr .entry)) s (curvatureAt n (now (b .entry)) (getD (now (index .entry)) i 0) (getD (now (index .entry)) j 0)) i j) k k ⌝ }
 {
-    clear(h);
+    clear(curve);
     for i in 0..k {
-        undamped_row(n, index, k, jr, s, b, h, i);
+        undamped_row(n, index, k, jr, s, b, curve, i);
     }
 }
 
@@ -166,39 +162,43 @@ fn damped_at(v: Scalar, d: Scalar, mu: Scalar, i: usize, j: usize) -> Scalar
 }
 
 // Row i of H.
-fn damped_row(k: usize, v: &[f64], d: &[f64], mu: Scalar, h: &mut [f64], i: usize)
+fn damped_row(k: usize, curve: &[f64], mu: Scalar, h: &mut [f64], i: usize)
     requires { ⌜ (k ≤ 12) × (i < k) ⌝ }
-    ensures { λ _. ⌜ now (h .exit) ≡ fillTo (now (h .entry)) (12 * i) (λ j. dampedEntry (at (now (v .entry)) (12 * i + j)) (at (now (d .entry)) i) mu i j) k ⌝ }
+    ensures { λ _. ⌜ now (h .exit) ≡ fillTo (now (h .entry)) (12 * i) (λ j. dampedEntry (at (now (curve .entry)) (12 * i + j)) (at (now (curve .entry)) (144 + i)) mu i j) k ⌝ }
 {
-    let scale = at(d, i);
+    let scale = at(curve, SCALINGS + i);
     for j in 0..k {
-        put(h, 12 * i + j, damped_at(at(v, 12 * i + j), scale, mu, i, j));
+        let p = 12 * i + j;
+        put(h, p, damped_at(at(curve, p), scale, mu, i, j));
     }
 }
 
-// H = J_rᵀ J_r + B + mu D, from J_rᵀ J_r + B and D.
-pub fn damped(k: usize, v: &[f64], d: &[f64], mu: Scalar, h: &mut [f64])
-    requires { ⌜ (k ≤ 12) × (length (now h) ≡ 288) ⌝ }
-    ensures { λ _. ⌜ now (h .exit) ≡ dampedBy k (now (v .entry)) (now (d .entry)) mu ⌝ }
+// H = J_rᵀ J_r + B + mu D, from a curve.
+pub fn damped(k: usize, curve: &[f64], mu: Scalar, h: &mut [f64])
+    requires { ⌜ (k ≤ 12) × ((length (now curve) ≡ 336) × (length (now h) ≡ 288)) ⌝ }
+    ensures { λ _. ⌜ now (h .exit) ≡ dampedCurve k (now (curve .entry)) mu ⌝ }
 {
     clear(h);
     for i in 0..k {
-        damped_row(k, v, d, mu, h, i);
+        damped_row(k, curve, mu, h, i);
     }
 }
 
 // ---- the gradient
 
-// The sum's gradient J_rᵀ r over the kept variables, chosen.
-pub fn gradient(xs: &[f64], e: RowSet, index: &[usize], k: usize, g: &mut [f64])
-    requires { ⌜ Small e × ((k ≤ 12) × ((length (now index) ≡ 12) × (((p : ℕ) → getD (now index) p 0 < 65536) × (length (now g) ≡ 24)))) ⌝ }
-    ensures { λ _. ⌜ now (g .exit) ≡ gradientOf (keptBy k (now (index .entry))) (rowsIn (now (xs .entry)) e) ⌝ }
+// The sum's gradient J_rᵀ r over the kept variables, chosen, at its place in a curve.
+fn gradient(xs: &[f64], e: RowSet, index: &[usize], k: usize, curve: &mut [f64])
+    requires { ⌜ Small e × ((k ≤ 12) × ((length (now index) ≡ 12) × ((p : ℕ) → getD (now index) p 0 < 65536))) ⌝ }
+    ensures { λ _. ⌜ now (curve .exit) ≡ fillTo (now (curve .entry)) 156 (gradientAt (keptBy k (now (index .entry))) (rowsIn (now (xs .entry)) e)) k ⌝ }
 {
     let mut r = [0.0; 48];
     chosen_values(xs, e, &mut r);
-    clear(g);
     for p in 0..k {
-        put(g, p, choose(transposed_at(xs, e, &r, index[p])));
+        put(
+            curve,
+            GRADIENT + p,
+            choose(transposed_at(xs, e, &r, index[p])),
+        );
     }
 }
 
@@ -211,16 +211,6 @@ fn slopes(xs: &[f64], e: RowSet, index: &[usize], k: usize, wide: &mut [f64], na
 {
     squeeze(xs, e, index, k, wide);
     chosen(wide, 0, 12 * e.count, narrow);
-}
-
-// A curve from its parts, one behind the other.
-fn join(h: &[f64], d: &[f64], g: &[f64], curve: &mut [f64])
-    requires { ⌜ (length (now h) ≡ 288) × ((length (now d) ≡ 24) × ((length (now g) ≡ 24) × (length (now curve) ≡ 336))) ⌝ }
-    ensures { λ _. ⌜ now (curve .exit) ≡ now (h .entry) ++ (now (d .entry) ++ now (g .entry)) ⌝ }
-{
-    place(curve, 0, h);
-    place(curve, SCALINGS, d);
-    place(curve, GRADIENT, g);
 }
 
 // The curve: J_rᵀ J_r + B, D and the gradient, from the slopes chosen.
@@ -239,14 +229,9 @@ fn fill_curve(
     requires { ⌜ Small e × ((k ≤ 12) × ((length (now index) ≡ 12) × (((p : ℕ) → getD (now index) p 0 < 65536) × (length (now curve) ≡ 336)))) ⌝ }
     ensures { λ _. ⌜ now (curve .exit) ≡ undampedOf n (keptBy k (now (index .entry))) (now (jr .entry)) (e .count) (now (b .entry)) ++ (scalingsOf k (now (jr .entry)) (e .count) (now (jc .entry)) m ++ gradientOf (keptBy k (now (index .entry))) (rowsIn (now (xs .entry)) e)) ⌝ }
 {
-    let s = e.count;
-    let mut h = [0.0; 288];
-    let mut d = [0.0; 24];
-    let mut g = [0.0; 24];
-    undamped(n, index, k, jr, s, b, &mut h);
-    scalings(k, jr, s, jc, m, &mut d);
-    gradient(xs, e, index, k, &mut g);
-    join(&h, &d, &g, curve);
+    undamped(n, index, k, jr, e.count, b, curve);
+    scalings(k, jr, e.count, jc, m, curve);
+    gradient(xs, e, index, k, curve);
 }
 
 // The problem over the k kept variables, from an answer's rows, before it is damped: the constraints' slopes, into clear slices, the same chosen, and the curve.

@@ -21,9 +21,6 @@ use crate::directions::free_directions;
 use crate::free::Along;
 use crate::free::free_part;
 use crate::free::pull;
-use crate::model::CURVE;
-use crate::model::GRADIENT;
-use crate::model::SCALINGS;
 use crate::model::damped;
 use crate::model::keep;
 use crate::model::problem;
@@ -47,6 +44,11 @@ pub enum Prepared {
     Ready(usize, usize),
     Refused(LinearError),
 }
+
+// Where the gradient of a curve begins, and where it ends.
+const GRADIENT: usize = 312;
+
+const CURVE: usize = 336;
 
 // Where each part of a frame begins, behind the basis.
 const COEFFICIENTS: usize = 288;
@@ -276,13 +278,7 @@ fn kept_step(
     ensures { λ x. ⌜ endOf x (now (kept .exit)) (now (lambda .exit)) ≡ dampedStep k prepared (now (order .entry)) (now (curve .entry)) (now (frame .entry)) mu ⌝ }
 {
     let mut h = [0.0; 288];
-    damped(
-        k,
-        &curve[0..SCALINGS],
-        &curve[SCALINGS..GRADIENT],
-        mu,
-        &mut h,
-    );
+    damped(k, curve, mu, &mut h);
     if all_finite(&h, 144) {
         return prepared_step(
             k,

@@ -1,28 +1,29 @@
 -- `damped` meets its contract: the rows are filled from a clear matrix, one more in each turn.
 use borrow.Author.Needs.{needs}
 use mathlib.Core.Path.{_≡_, _∙_}
-use Prim.Native.Nat.{_+_, _*_, _≤_, _-_}
+use Prim.Native.Nat.{_≤_, _-_, _+_, _*_}
 use native.Mathlib.Nat.{le-antisymm}
 use lib.ListN.{length}
 use Rattle.linear.specs.Flat.{at}
-use Rattle.run.specs.Model.{dampedEntry, dampedBy}
+use Rattle.run.specs.Model.{dampedEntry}
 use Rattle.run.specs.Scratch.{matrix, fillRows}
+use Rattle.run.proofs.ModelLaws.{damped-read}
 use Rattle.run.proofs.ScratchLaws.{fill-rows-turn}
 use Rattle.run.proofs.model.damped.Statement.{statement}
 use Rattle.run.proofs.model.damped.Tie as tie
 
 abbrev Inv-loop : tie.InvT-loop
-Inv-loop k v d mu h₀ i₀ h i = (i ≤ k) × (length h ≡ length h₀) × (h ≡ fillRows matrix (λ t j. dampedEntry (at v (12 * t + j)) (at d t) mu t j) k i)
+Inv-loop k curve mu h₀ i₀ h i = (i ≤ k) × (length h ≡ length h₀) × (h ≡ fillRows matrix (λ t j. dampedEntry (at curve (12 * t + j)) (at curve (144 + t)) mu t j) k i)
 
 abbrev μ-loop : tie.MeasureT-loop
-μ-loop k v d mu h₀ i₀ h i = k - i
+μ-loop k curve mu h₀ i₀ h i = k - i
 
 clear-requires : tie.Need-clear-requires Inv-loop μ-loop
 clear-requires c κs = search needs
 
 loop-holds : tie.Need-loop-holds Inv-loop μ-loop
 unfolding fillRows
-loop-holds c = (search needs, search needs, rw (c .before .before .before .before .before .before .before .pre .1) at (c .before .before .clear .ensures))
+loop-holds c = (search needs, search needs, rw (c .before .before .before .before .before .before .pre .1 .1) at (c .before .before .clear .ensures))
 
 damped-row-requires : tie.Need-damped-row-requires Inv-loop μ-loop
 damped-row-requires c κs = search needs
@@ -40,8 +41,7 @@ same-length : tie.Need-same-length Inv-loop μ-loop
 same-length c = search needs
 
 returns : tie.Need-returns Inv-loop μ-loop
-unfolding dampedBy
-returns c = rw (le-antisymm (c .before .loop .inv .0) (c .loop-test .left)) at (c .before .loop .inv .2)
+returns c = let s = c .before .before .before .before .before .before .before .before in rw (le-antisymm (c .before .loop .inv .0) (c .loop-test .left)) at (c .before .loop .inv .2) ∙ damped-read (s .args .k) (s .args .curve .now) (s .args .mu) (s .pre .0) (s .pre .1 .0)
 
 pub damped-spec : {M : Type 1} → statement M
 damped-spec =

@@ -1,22 +1,25 @@
+use borrow.Author.Needs.{needs}
+use Rattle.run.proofs.model.damped_row.Statement.{statement}
+use Rattle.run.proofs.model.damped_row.Tie as tie
 -- `damped_row` meets its contract: one place more is filled in each turn.
+use borrow.Author.Needs.{needs}
 use mathlib.Core.Path.{_≡_, _∙_}
-use Prim.Native.Nat.{_+_, _*_, _≤_, _-_}
+use Prim.Native.Nat.{_≤_, _-_, _+_, _*_}
 use native.Mathlib.Nat.{le-antisymm}
 use lib.ListN.{length}
-use Rattle.interval.specs.declared.Scalar.{Scalar}
 use Rattle.linear.specs.Flat.{at}
 use Rattle.run.specs.Model.{dampedEntry}
 use Rattle.run.specs.Scratch.{fillTo}
 use Rattle.run.proofs.ScratchLaws.{fill-turn}
-use borrow.Author.Needs.{needs}
-use Rattle.run.proofs.model.damped_row.Statement.{statement}
-use Rattle.run.proofs.model.damped_row.Tie as tie
 
 abbrev Inv-loop : tie.InvT-loop
-Inv-loop k v d mu h₀ i scale j₀ h j = (j ≤ k) × (length h ≡ length h₀) × (h ≡ fillTo h₀ (12 * i) (λ t. dampedEntry (at v (12 * i + t)) (at d i) mu i t) j)
+Inv-loop k curve mu h₀ i scale j₀ h j = (j ≤ k) × (length h ≡ length h₀) × (h ≡ fillTo h₀ (12 * i) (λ t. dampedEntry (at curve (12 * i + t)) (at curve (144 + i)) mu i t) j)
 
 abbrev μ-loop : tie.MeasureT-loop
-μ-loop k v d mu h₀ i scale j₀ h j = k - j
+μ-loop k curve mu h₀ i scale j₀ h j = k - j
+
+add-at : tie.Need-add-at Inv-loop μ-loop
+add-at c = search needs
 
 at-requires : tie.Need-at-requires Inv-loop μ-loop
 at-requires c κs = search needs
@@ -25,17 +28,11 @@ loop-holds : tie.Need-loop-holds Inv-loop μ-loop
 unfolding fillTo
 loop-holds c = search needs
 
-mul-put : tie.Need-mul-put Inv-loop μ-loop
-mul-put c = search needs
+mul-p : tie.Need-mul-p Inv-loop μ-loop
+mul-p c = search needs
 
-add-put : tie.Need-add-put Inv-loop μ-loop
-add-put c = search needs
-
-mul-at : tie.Need-mul-at Inv-loop μ-loop
-mul-at c = search needs
-
-add-at : tie.Need-add-at Inv-loop μ-loop
-add-at c = search needs
+add-p : tie.Need-add-p Inv-loop μ-loop
+add-p c = search needs
 
 at-requires-2 : tie.Need-at-requires-2 Inv-loop μ-loop
 at-requires-2 c κs = search needs
@@ -54,9 +51,9 @@ loop-less c = search needs
 
 loop-again : tie.Need-loop-again Inv-loop μ-loop
 loop-again c =
-    let a = c .before .before .before .before .before .before .before .before .before .before .before .before .args in
+    let a = c .before .before .before .before .before .before .before .before .before .before .before .args in
     let l = c .before .before .before .before .before .before .before .loop in
-    (search needs, search needs, c .before .before .put .ensures ∙ fill-turn (a .h .now) (12 * a .i) (λ j. dampedEntry (at (a .v .now) (12 * a .i + j)) (at (a .d .now) (a .i)) (a .mu) (a .i) j) (l .j) (l .inv .2) (rw (c .before .before .before .before .at2 .ensures, c .before .before .before .before .before .before .before .before .at .ensures) at (c .before .before .before .damped-at .ensures)))
+    (search needs, search needs, c .before .before .put .ensures ∙ fill-turn (a .h .now) (12 * a .i) (λ j. dampedEntry (at (a .curve .now) (12 * a .i + j)) (at (a .curve .now) (144 + a .i)) (a .mu) (a .i) j) (l .j) (l .inv .2) (rw (c .before .before .before .before .at2 .ensures, c .before .before .before .before .before .before .before .before .at .ensures) at (c .before .before .before .damped-at .ensures)))
 
 same-length : tie.Need-same-length Inv-loop μ-loop
 same-length c = search needs
@@ -70,12 +67,11 @@ damped-row-spec =
     (tie.spec
     Inv-loop
     μ-loop
+    add-at
     at-requires
     loop-holds
-    mul-put
-    add-put
-    mul-at
-    add-at
+    mul-p
+    add-p
     at-requires-2
     damped-at-requires
     put-requires

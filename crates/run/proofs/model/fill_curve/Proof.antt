@@ -1,58 +1,35 @@
--- `fill_curve` meets its contract: each part is filled into an array, then they are joined.
-use mathlib.Core.Path.{refl, _∙_}
+-- `fill_curve` meets its contract: each part is filled at its place, from a clear curve.
+use Rattle.run.specs.Model.{keptBy}
+use Rattle.run.specs.Rows.{rowsIn}
+use Rattle.run.proofs.ModelLaws.{curve-filled}
 use borrow.Author.Needs.{needs}
 use Rattle.run.proofs.model.fill_curve.Statement.{statement}
 use Rattle.run.proofs.model.fill_curve.Tie as tie
 
-slice-aggregate-undamped : tie.Need-slice-aggregate-undamped
-slice-aggregate-undamped c = search needs
-
 undamped-requires : tie.Need-undamped-requires
-undamped-requires c κs = let p = c .before .before .before .before .before .before .before .pre in (p .1 .0, (p .1 .1 .0, refl))
-
-slice-aggregate-scalings : tie.Need-slice-aggregate-scalings
-slice-aggregate-scalings c = search needs
+undamped-requires c κs = let p = c .before .before .before .before .before .before .before .pre in (p .1 .0, (p .1 .1 .0, p .1 .1 .1 .1))
 
 scalings-requires : tie.Need-scalings-requires
-scalings-requires c κs = (c .before .before .before .before .before .before .before .before .before .before .pre .1 .0, refl)
-
-slice-aggregate-gradient : tie.Need-slice-aggregate-gradient
-slice-aggregate-gradient c = search needs
+scalings-requires c κs = c .before .before .before .before .before .before .before .before .before .before .before .pre .1 .0
 
 gradient-requires : tie.Need-gradient-requires
-gradient-requires c κs = let p = c .before .before .before .before .before .before .before .before .before .before .before .before .before .pre in (p .0, (p .1 .0, (p .1 .1 .0, (p .1 .1 .1 .0, refl))))
-
-slice-aggregate-join : tie.Need-slice-aggregate-join
-slice-aggregate-join c = search needs
-
-slice-aggregate-join-2 : tie.Need-slice-aggregate-join-2
-slice-aggregate-join-2 c = search needs
-
-slice-aggregate-join-3 : tie.Need-slice-aggregate-join-3
-slice-aggregate-join-3 c = search needs
-
-join-requires : tie.Need-join-requires
-join-requires c κs = (c .before .before .before .before .before .before .before .before .before .before .before .undamped .kept .1 .1 .1 .1 .1 .1 .0, (c .before .before .before .before .before .before .before .before .scalings .kept .1 .1 .1 .1 .1 .0, (c .before .before .before .before .before .gradient .kept .1 .1 .1 .1 .0, c .before .before .before .before .before .before .before .before .before .before .before .before .before .before .before .before .before .before .before .pre .1 .1 .1 .1)))
+gradient-requires c κs = let p = c .before .before .before .before .before .before .before .before .before .before .before .before .before .before .before .pre in (p .0, (p .1 .0, (p .1 .1 .0, p .1 .1 .1 .0)))
 
 same-length : tie.Need-same-length
 same-length c = search needs
 
 returns : tie.Need-returns
-returns c = c .before .before .join .ensures ∙ rw (c .before .before .before .before .before .before .before .before .before .before .before .before .before .before .undamped .ensures, c .before .before .before .before .before .before .before .before .before .before .before .scalings .ensures, c .before .before .before .before .before .before .before .before .gradient .ensures)
+returns c =
+    let s = c .before .before .before .before .before .before .before .before .before .before .before .before .before .before .before .before .before .before in
+    let a = s .args in
+    curve-filled (a .n) (keptBy (a .k) (a .index .now)) (a .jr .now) (a .e .count) (a .jc .now) (a .m) (a .b .now) (rowsIn (a .xs .now) (a .e)) (s .pre .1 .0) (c .before .before .before .before .before .before .before .before .before .before .undamped .ensures) (c .before .before .before .before .before .before .scalings .ensures) (c .before .before .gradient .ensures)
 
 pub fill-curve-spec : {M : Type 1} → statement M
 fill-curve-spec =
     tie.close
     (tie.spec
-    slice-aggregate-undamped
     undamped-requires
-    slice-aggregate-scalings
     scalings-requires
-    slice-aggregate-gradient
     gradient-requires
-    slice-aggregate-join
-    slice-aggregate-join-2
-    slice-aggregate-join-3
-    join-requires
     same-length
     returns)

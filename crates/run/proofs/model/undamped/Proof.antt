@@ -1,21 +1,22 @@
--- `undamped` meets its contract: the rows are filled from a clear matrix, one more in each turn.
+-- `undamped` meets its contract: the rows are filled from a clear curve, one more in each turn.
 use borrow.Author.Needs.{needs}
 use mathlib.Core.Path.{_≡_, _∙_}
 use Prim.Native.Nat.{_≤_, _-_}
 use native.Mathlib.Nat.{le-antisymm}
 use lib.ListN.{length, getD}
+use Rattle.linear.specs.Flat.{zeros}
 use Rattle.run.specs.Curvature.{curvatureAt}
-use Rattle.run.specs.Model.{undampedAt, undampedOf}
-use Rattle.run.specs.Scratch.{matrix, fillRows}
+use Rattle.run.specs.Model.{undampedAt}
+use Rattle.run.specs.Scratch.{fillRows}
 use Rattle.run.proofs.ScratchLaws.{fill-rows-turn}
 use Rattle.run.proofs.model.undamped.Statement.{statement}
 use Rattle.run.proofs.model.undamped.Tie as tie
 
 abbrev Inv-loop : tie.InvT-loop
-Inv-loop n index k jr s b h₀ i₀ h i = (i ≤ k) × (length h ≡ length h₀) × (h ≡ fillRows matrix (λ t j. undampedAt jr s (curvatureAt n b (getD index t 0) (getD index j 0)) t j) k i)
+Inv-loop n index k jr s b curve₀ i₀ curve i = (i ≤ k) × (length curve ≡ length curve₀) × (curve ≡ fillRows (zeros 336) (λ t j. undampedAt jr s (curvatureAt n b (getD index t 0) (getD index j 0)) t j) k i)
 
 abbrev μ-loop : tie.MeasureT-loop
-μ-loop n index k jr s b h₀ i₀ h i = k - i
+μ-loop n index k jr s b curve₀ i₀ curve i = k - i
 
 clear-requires : tie.Need-clear-requires Inv-loop μ-loop
 clear-requires c κs = search needs
@@ -40,7 +41,6 @@ same-length : tie.Need-same-length Inv-loop μ-loop
 same-length c = search needs
 
 returns : tie.Need-returns Inv-loop μ-loop
-unfolding undampedOf
 returns c = rw (le-antisymm (c .before .loop .inv .0) (c .loop-test .left)) at (c .before .loop .inv .2)
 
 pub undamped-spec : {M : Type 1} → statement M

@@ -5,29 +5,11 @@ use borrow.Author.Needs.{needs}
 use Rattle.run.proofs.step.kept_step.Statement.{statement}
 use Rattle.run.proofs.step.kept_step.Tie as tie
 
-sub-damped : tie.Need-sub-damped
-sub-damped c = search needs
-
-part-damped-start : tie.Need-part-damped-start
-part-damped-start c = search needs
-
-part-damped-end : tie.Need-part-damped-end
-part-damped-end c = search needs
-
-sub-damped-2 : tie.Need-sub-damped-2
-sub-damped-2 c = search needs
-
-part-damped-start-2 : tie.Need-part-damped-start-2
-part-damped-start-2 c = search needs
-
-part-damped-end-2 : tie.Need-part-damped-end-2
-part-damped-end-2 c = search needs
-
 slice-aggregate-damped : tie.Need-slice-aggregate-damped
 slice-aggregate-damped c = search needs
 
 damped-requires : tie.Need-damped-requires
-damped-requires c κs = (c .before .before .before .before .before .before .before .before .pre .0, refl)
+damped-requires c κs = let p = c .before .before .before .before .before .before .pre in (p .0, (p .1 .0 .curve-length, refl))
 
 slice-aggregate-all-finite : tie.Need-slice-aggregate-all-finite
 slice-aggregate-all-finite c = search needs
@@ -49,7 +31,7 @@ part-prepared-step-end c = search needs
 
 prepared-step-requires : tie.Need-prepared-step-requires
 prepared-step-requires c κs =
-    let p = c .before .before .before .before .before .before .before .before .before .before .before .before .before .before .before .before .before .pre in
+    let p = c .before .before .before .before .before .before .before .before .before .before .before .before .before .before .before .pre in
     (p .0, (p .1 .0 .few, (p .1 .0 .order-length, (p .1 .0 .frame-length, (p .1 .1 .0, p .1 .1 .1)))))
 
 same-length : tie.Need-same-length
@@ -68,12 +50,6 @@ pub kept-step-spec : {M : Type 1} → statement M
 kept-step-spec =
     tie.close
     (tie.spec
-    sub-damped
-    part-damped-start
-    part-damped-end
-    sub-damped-2
-    part-damped-start-2
-    part-damped-end-2
     slice-aggregate-damped
     damped-requires
     slice-aggregate-all-finite
