@@ -3,15 +3,15 @@ use Prim.Native.Nat.{ℕ, zero, suc, _+_, _*_, _-_, _/_, _%_, _<_, _≤_}
 use mathlib.Core.Bool.{Bool, true, false}
 use mathlib.Core.Path.{_≡_, refl, sym, ap, _∙_}
 use mathlib.Core.List.{List, []}
-use native.Mathlib.Nat.{mod-lt, div-lt-iff-lt-mul}
+use native.Mathlib.Nat.{mod-lt, div-lt-iff-lt-mul, lt-suc-self}
 use native.Mathlib.Numerals.{add-one}
 use native.Mathlib.Omega.{arith}
 use lib.Ieee.{Float}
-use lib.ListN.{length, take, set, replicate, length-replicate, replicate-append-replicate}
+use lib.ListN.{length, take, drop, set, replicate, length-drop, length-replicate, replicate-append-replicate}
 use lib.Seq.{take-at}
 use Rattle.interval.specs.declared.Scalar.{Scalar}
 use Rattle.interval.specs.Result.{Res, ok, refused}
-use Rattle.interval.specs.Scalar.{zeroS, pick, sharpen, definitelyGreater}
+use Rattle.interval.specs.Scalar.{zeroS, pick, divOf, sharpen, definitelyGreater}
 use Rattle.interval.proofs.Results.{ok-inj}
 use Rattle.linear.specs.Answers.{numberOf, resultOf, doneOf}
 use Rattle.linear.specs.Choose.{chooseOf}
@@ -25,13 +25,14 @@ use Rattle.linear.specs.declared.answers.Answer.the-variants as answer
 use Rattle.linear.specs.declared.answers.Done.{Done}
 use Rattle.linear.specs.declared.answers.Done.the-variants as done
 use Rattle.linear.specs.declared.answers.LinearError.{LinearError}
-use Rattle.linear.proofs.Agree.{normOf-ext, minusTo-ext}
+use Rattle.linear.proofs.Agree.{normOf-ext, minusTo-ext, dotTo-ext}
 use Rattle.linear.proofs.Folds.{bind-value}
 use Rattle.linear.proofs.Reflections.{rows-positive}
 use Rattle.linear.proofs.Sums.{along-start}
 use Rattle.run.specs.Model.{Problem}
 use Rattle.run.specs.Basis.{Basis, Taken, noRows, packed, coefficientsIn, outsideAt, partOut, partsOut, gramRow, extended, withDependent, rowStep, basisOf, correctionOf, multiplierStep, multipliersOf, basisBy, takenBy, problemBy}
-use Rattle.run.specs.Scratch.{vector, row, column, entry, fillTo, minusScaled, unitAt}
+use Rattle.run.specs.Scratch.{vector, row, column, entry, fillTo, minusScaled, unitAt, spreadTo}
+use Rattle.run.proofs.Parts.{at-behind, along-behind, along-take}
 use Rattle.run.proofs.ScratchLaws.{at-take}
 
 pub part-turn : (k r : ℕ) (q : List Float) (z : Taken) (j : ℕ) {s t : Taken} → s ≡ partsOut k r q z j → t ≡ partOut k r q s j → t ≡ partsOut k r q z (j + 1)
@@ -190,3 +191,44 @@ correction-reads P b = refl
 pub multipliers-reads : (k : ℕ) (b : Basis) (pull : List Float) → multipliersOf k (basisBy (b .rank) (b .q) [] (b .coefficients) [] (b .order)) pull ≡ multipliersOf k b pull
 unfolding multipliersOf multiplierStep
 multipliers-reads k b pull = refl
+
+-- ---- the coefficients behind Q
+
+-- one multiplier, from what each call gives
+pub multiplier-is : (k r : ℕ) (q pull byRow : List Float) (u : ℕ) {z s d : Scalar} {y : Res Scalar} {x : Res (List Float)}
+    → let t = r - 1 - u in
+    z ≡ dotTo (row q t) (along pull 0 1) k → s ≡ minusTo (along q (144 + 13 * t + 12) 12) (along byRow (t + 1) 1) z u → d ≡ at q (144 + 13 * t) → y ≡ divOf s d → x ≡ bind y (λ v. ok (put byRow t (chooseOf v)))
+    → x ≡ multiplierStep k (basisBy r q [] (drop 288 q) [] []) pull byRow u
+unfolding multiplierStep
+multiplier-is k r q pull byRow u {z = z} ez es ed ey ex =
+    let t = r - 1 - u in
+    let a : along (drop 288 q) (12 * (t + 1) + t) 12 ≡ along q (144 + 13 * t + 12) 12 = along-behind q 144 (12 * (t + 1) + t) 12 (omega arith) in
+    let e : at (drop 288 q) (12 * t + t) ≡ at q (144 + 13 * t) = at-behind q 144 (12 * t + t) ∙ ap (at q) (omega arith) in
+    let w : z ≡ dotTo (row q t) (at pull) k = rw along-start at ez in
+    rw (a, e, ← w, ← es, ← ed, ← ey) ex
+
+bind-each : {A B : Type 0} (x : Res A) (f g : A → Res B) → ((a : A) → f a ≡ g a) → bind x f ≡ bind x g
+unfolding bind
+bind-each (ok a) f g h = h a
+bind-each (refused e) f g h = refl
+
+fold-each : {A : Type 0} (f g : A → ℕ → Res A) (z : A) (n : ℕ) → ((s : A) (i : ℕ) → i < n → f s i ≡ g s i) → foldR f z n ≡ foldR g z n
+unfolding foldR
+fold-each f g z zero h = refl
+fold-each f g z (suc n) h = ap (λ x. bind x (λ s. f s n)) (fold-each f g z n (λ s i l. h s i (omega arith))) ∙ bind-each (foldR g z n) (λ s. f s n) (λ s. g s n) (λ s. h s n (lt-suc-self n))
+
+module _ (k r : ℕ) (frame pull : List Float) (hk : k ≤ 12) (hr : r ≤ 12) (l : 576 ≤ length frame) where
+  multiplier-part : (byRow : List Float) (u : ℕ) → u < r
+      → multiplierStep k (basisBy r frame [] (drop 288 frame) [] []) pull byRow u ≡ multiplierStep k (basisBy r (take 288 frame) [] (take 288 (drop 288 frame)) [] []) pull byRow u
+  unfolding multiplierStep
+  multiplier-part byRow u h =
+      let t = r - 1 - u in
+      let ld : 2 * 144 ≤ length (drop 288 frame) = omega (arith, length-drop 288 frame, l) in
+      let d : dotTo (row frame t) (at pull) k ≡ dotTo (row (take 288 frame) t) (at pull) k = sym (dotTo-ext _ _ _ _ k (along-take frame 144 (12 * t) 1 k (omega arith) (λ j hj. omega arith)) (λ j _. refl)) in
+      let m : (z : Scalar) → minusTo (along (drop 288 frame) (12 * (t + 1) + t) 12) (along byRow (t + 1) 1) z u ≡ minusTo (along (take 288 (drop 288 frame)) (12 * (t + 1) + t) 12) (along byRow (t + 1) 1) z u = λ z. sym (minusTo-ext _ _ _ _ z u (along-take (drop 288 frame) 144 (12 * (t + 1) + t) 12 u ld (λ j hj. omega arith)) (λ j _. refl)) in
+      let e : at (drop 288 frame) (12 * t + t) ≡ at (take 288 (drop 288 frame)) (12 * t + t) = sym (at-take (drop 288 frame) 144 (12 * t + t) (omega arith) ld) in
+      rw (d, m, e)
+
+  pub multipliers-part : (order : List ℕ) → multipliersOf k (basisBy r frame [] (drop 288 frame) [] order) pull ≡ multipliersOf k (basisBy r (take 288 frame) [] (take 288 (drop 288 frame)) [] order) pull
+  unfolding multipliersOf multiplierStep
+  multipliers-part order = ap (λ x. bind x (λ byRow. ok (spreadTo order byRow r))) (fold-each (multiplierStep k (basisBy r frame [] (drop 288 frame) [] []) pull) (multiplierStep k (basisBy r (take 288 frame) [] (take 288 (drop 288 frame)) [] []) pull) vector r multiplier-part)

@@ -1,18 +1,20 @@
 -- Scalars of a list that stands in another: storing one in the first or in the second of two lists, and reading one of a part.
 use Prim.Native.Nat.{ℕ, zero, suc, _+_, _*_, _<_, _≤_}
-use mathlib.Core.Path.{_≡_, refl, ap, _∙_}
+use mathlib.Core.Bool.{Bool, true, false}
+use mathlib.Core.Path.{_≡_, refl, sym, ap, _∙_}
 use mathlib.Core.List.{List, [], _∷_, _++_}
 use native.Mathlib.Nat.{zero-add, suc-add}
 use native.Mathlib.Omega.{arith}
-use borrow.Author.Tests.{lt-ltb}
+use borrow.Author.Tests.{ltb-true, ltb-false, lt-ltb, le-ltb}
 use lib.Ieee.{Float, nan}
 use lib.ListN.{length, set, take, drop, length-append, length-set, length-take, length-drop}
 use lib.Seq.{set-append-left, getD-take, getD-drop}
 use Rattle.interval.specs.declared.Scalar.{Scalar}
-use Rattle.linear.specs.Flat.{at, put}
-use Rattle.linear.proofs.FlatLaws.{at-inside, put-inside}
+use Rattle.linear.specs.Flat.{inside, at, along, put}
+use Rattle.linear.proofs.FlatLaws.{at-inside, at-outside, put-inside}
 use Rattle.run.specs.Scratch.{fillTo, fillRows}
-use Rattle.run.proofs.ScratchLaws.{length-fillTo, length-fillRows}
+use Rattle.linear.proofs.Agree.{Agree}
+use Rattle.run.proofs.ScratchLaws.{length-fillTo, at-take, length-fillRows}
 
 set-behind : (xs ys : List Float) (i : ℕ) (a : Float) → set (xs ++ ys) (length xs + i) a ≡ xs ++ set ys i a
 set-behind [] ys i a = ap (λ (k : ℕ). set ys k a) (zero-add i)
@@ -63,3 +65,28 @@ at-part xs n m i h l =
     let e₀ : 2 * (n + i) ≡ 2 * n + 2 * i = omega arith in
     let e₁ : 2 * (n + i) + 1 ≡ 2 * n + (2 * i + 1) = omega arith in
     rw (at-inside (take (2 * m) (drop (2 * n) xs)) i (lt-ltb _ _ k), at-inside xs (n + i) (lt-ltb _ _ k′), getD-take (2 * m) (drop (2 * n) xs) (2 * i) nan h₀, getD-take (2 * m) (drop (2 * n) xs) (2 * i + 1) nan h₁, getD-drop (2 * n) xs (2 * i) nan, getD-drop (2 * n) xs (2 * i + 1) nan, e₁, e₀)
+
+-- one scalar behind the first n, wherever the list ends
+behind-each : (xs : List Float) (n i : ℕ) (b : Bool) → inside xs (n + i) ≡ b → at (drop (2 * n) xs) i ≡ at xs (n + i)
+behind-each xs n i true h =
+    let l = ltb-true (2 * (n + i) + 1) (length xs) h in
+    let k : 2 * i + 1 < length (drop (2 * n) xs) = omega (arith, length-drop (2 * n) xs, l) in
+    let e₀ : 2 * (n + i) ≡ 2 * n + 2 * i = omega arith in
+    let e₁ : 2 * (n + i) + 1 ≡ 2 * n + (2 * i + 1) = omega arith in
+    rw (at-inside (drop (2 * n) xs) i (lt-ltb _ _ k), at-inside xs (n + i) h, getD-drop (2 * n) xs (2 * i) nan, getD-drop (2 * n) xs (2 * i + 1) nan, e₁, e₀)
+behind-each xs n i false h =
+    let l = ltb-false (2 * (n + i) + 1) (length xs) h in
+    let k : length (drop (2 * n) xs) ≤ 2 * i + 1 = omega (arith, length-drop (2 * n) xs, l) in
+    at-outside (drop (2 * n) xs) i (le-ltb _ _ k) ∙ sym (at-outside xs (n + i) h)
+
+pub at-behind : (xs : List Float) (n i : ℕ) → at (drop (2 * n) xs) i ≡ at xs (n + i)
+at-behind xs n i = behind-each xs n i (inside xs (n + i)) refl
+
+pub along-behind : (xs : List Float) (n base step : ℕ) {from : ℕ} → from ≡ n + base → along (drop (2 * n) xs) base step ≡ along xs from step
+unfolding along
+along-behind xs n base step {from} h = let e : (j : ℕ) → at (drop (2 * n) xs) (base + j * step) ≡ at xs (from + j * step) = λ j. at-behind xs n (base + j * step) ∙ ap (at xs) (omega (arith, h)) in λ i j. e j i
+
+-- rows and columns of the first part of a list
+pub along-take : (xs : List Float) (m base step k : ℕ) → 2 * m ≤ length xs → ((j : ℕ) → j < k → base + j * step < m) → Agree (along (take (2 * m) xs) base step) (along xs base step) k
+unfolding along
+along-take xs m base step k l h j hj = at-take xs m (base + j * step) (h j hj) l

@@ -4,7 +4,7 @@ ghost use mathlib.Core.List.{List, []};
 ghost use mathlib.Core.Path.{_≡_};
 ghost use Prim.Native.Nat.{ℕ, _+_, _*_, _/_, _%_, _<_, _≤_};
 ghost use lib.Ieee.{Float};
-ghost use lib.ListN.{length, set, take, replicate};
+ghost use lib.ListN.{length, set, take, drop, replicate};
 ghost use Rattle.interval.specs.Result as scalar;
 ghost use Rattle.interval.specs.Scalar.{zeroS, negOf, sqrtOf};
 ghost use Rattle.interval.specs.declared.Scalar as value;
@@ -43,6 +43,9 @@ pub enum Rank {
     Of(usize),
     Refused(LinearError),
 }
+
+// The first coefficient behind Q.
+const COEFFICIENTS: usize = 144;
 
 // Stores a value, or hands its refusal on.
 pub fn store(xs: &mut [f64], i: usize, q: ScalarResult) -> Done
@@ -416,38 +419,24 @@ fn store_chosen(xs: &mut [f64], i: usize, q: ScalarResult) -> Done
     }
 }
 
-// The multiplier of vector r - 1 - u, from those behind it.
-fn multiplier(
-    k: usize,
-    r: usize,
-    q: &[f64],
-    coefficients: &[f64],
-    pull: &[f64],
-    by_row: &mut [f64],
-    u: usize,
-) -> Done
+// The multiplier of vector r - 1 - u, from those behind it; the coefficients stand behind Q.
+fn multiplier(k: usize, r: usize, q: &[f64], pull: &[f64], by_row: &mut [f64], u: usize) -> Done
     requires { ⌜ (r ≤ 12) × (u < r) ⌝ }
-    ensures { λ d. ⌜ doneOf d (now («by_row» .exit)) ≡ multiplierStep k (basisBy r (now (q .entry)) [] (now (coefficients .entry)) [] []) (now (pull .entry)) (now («by_row» .entry)) u ⌝ }
+    ensures { λ d. ⌜ doneOf d (now («by_row» .exit)) ≡ multiplierStep k (basisBy r (now (q .entry)) [] (drop 288 (now (q .entry))) [] []) (now (pull .entry)) (now («by_row» .entry)) u ⌝ }
 {
     let t = r - 1 - u;
+    let c = COEFFICIENTS + 13 * t;
     let z = plus_dot(q, 12 * t, 1, pull, 0, 1, Scalar::ZERO, k);
-    let s = minus_dot(coefficients, 12 * (t + 1) + t, 12, by_row, t + 1, 1, z, u);
-    store_chosen(by_row, t, s.div(at(coefficients, 12 * t + t)))
+    let s = minus_dot(q, c + 12, 12, by_row, t + 1, 1, z, u);
+    store_chosen(by_row, t, s.div(at(q, c)))
 }
 
-fn multipliers_by_row(
-    k: usize,
-    r: usize,
-    q: &[f64],
-    coefficients: &[f64],
-    pull: &[f64],
-    by_row: &mut [f64],
-) -> Done
+fn multipliers_by_row(k: usize, r: usize, q: &[f64], pull: &[f64], by_row: &mut [f64]) -> Done
     requires { ⌜ r ≤ 12 ⌝ }
-    ensures { λ d. ⌜ doneOf d (now («by_row» .exit)) ≡ foldR (multiplierStep k (basisBy r (now (q .entry)) [] (now (coefficients .entry)) [] []) (now (pull .entry))) (now («by_row» .entry)) r ⌝ }
+    ensures { λ d. ⌜ doneOf d (now («by_row» .exit)) ≡ foldR (multiplierStep k (basisBy r (now (q .entry)) [] (drop 288 (now (q .entry))) [] []) (now (pull .entry))) (now («by_row» .entry)) r ⌝ }
 {
     for u in 0..r {
-        match multiplier(k, r, q, coefficients, pull, by_row, u) {
+        match multiplier(k, r, q, pull, by_row, u) {
             Done::Finished => {}
             Done::Refused(e) => {
                 return Done::Refused(e);
@@ -457,21 +446,20 @@ fn multipliers_by_row(
     Done::Finished
 }
 
-// The constraints' multipliers, against a pull.
+// The constraints' multipliers, against a pull; the coefficients stand behind Q.
 pub fn multipliers(
     k: usize,
     r: usize,
     q: &[f64],
-    coefficients: &[f64],
     order: &[usize],
     pull: &[f64],
     lambda: &mut [f64],
 ) -> Done
     requires { ⌜ (r ≤ 12) × ((length (now order) ≡ 24) × (length (now lambda) ≡ 24)) ⌝ }
-    ensures { λ d. ⌜ doneOf d (now (lambda .exit)) ≡ multipliersOf k (basisBy r (now (q .entry)) [] (now (coefficients .entry)) [] (now (order .entry))) (now (pull .entry)) ⌝ }
+    ensures { λ d. ⌜ doneOf d (now (lambda .exit)) ≡ multipliersOf k (basisBy r (now (q .entry)) [] (drop 288 (now (q .entry))) [] (now (order .entry))) (now (pull .entry)) ⌝ }
 {
     let mut by_row = [0.0; 24];
-    match multipliers_by_row(k, r, q, coefficients, pull, &mut by_row) {
+    match multipliers_by_row(k, r, q, pull, &mut by_row) {
         Done::Finished => {
             spread(order, &by_row, r, lambda);
             Done::Finished

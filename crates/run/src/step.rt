@@ -4,7 +4,7 @@ ghost use mathlib.Core.List.{List, [], _++_};
 ghost use mathlib.Core.Path.{_≡_};
 ghost use Prim.Native.Nat.{_≤_};
 ghost use lib.Ieee.{Float};
-ghost use lib.ListN.{length, replicate};
+ghost use lib.ListN.{length, take, drop, replicate};
 ghost use Rattle.linear.specs.Answers.{doneOf};
 ghost use Rattle.run.specs.Basis.{basisBy};
 ghost use Rattle.run.specs.Model.{problemIn};
@@ -88,21 +88,19 @@ fn free_step(
     count: usize,
     h: &[f64],
     g: &[f64],
-    q: &[f64],
-    coefficients: &[f64],
     order: &[usize],
-    z: &[f64],
+    frame: &[f64],
     delta: &mut [f64],
     lambda: &mut [f64],
 ) -> StepEnd
-    requires { ⌜ (k ≤ 12) × ((r ≤ 12) × ((count ≤ 12) × ((length (now order) ≡ 24) × (length (now lambda) ≡ 24)))) ⌝ }
-    ensures { λ e. ⌜ endOf e (now (delta .exit)) (now (lambda .exit)) ≡ freeStep (curved k (now (h .entry)) (now (g .entry))) (basisFor r (now (q .entry)) (now (coefficients .entry)) (now (order .entry))) (now (delta .entry)) (spanned count (now (z .entry))) ⌝ }
+    requires { ⌜ (k ≤ 12) × ((r ≤ 12) × ((count ≤ 12) × ((length (now order) ≡ 24) × ((length (now frame) ≡ 888) × (length (now lambda) ≡ 24))))) ⌝ }
+    ensures { λ e. ⌜ endOf e (now (delta .exit)) (now (lambda .exit)) ≡ freeStep (curved k (now (h .entry)) (now (g .entry))) (basisFor r (take 288 (now (frame .entry))) (take 288 (drop 288 (now (frame .entry)))) (now (order .entry))) (now (delta .entry)) (spanned count (take 288 (drop 600 (now (frame .entry))))) ⌝ }
 {
     let mut p = [0.0; 24];
-    match free_part(k, count, h, g, z, delta) {
+    match free_part(k, count, h, g, &frame[DIRECTIONS..FRAME], delta) {
         Along::Found => {
             if finite_pull(k, h, g, delta, &mut p) {
-                return multiplied(multipliers(k, r, q, coefficients, order, &p, lambda), r);
+                return multiplied(multipliers(k, r, frame, order, &p, lambda), r);
             }
             StepEnd::NotPositive
         }
@@ -245,19 +243,7 @@ fn prepared_step(
     match prepared {
         Prepared::Ready(r, count) => {
             place(kept, 0, &frame[CORRECTION..DIRECTIONS]);
-            free_step(
-                k,
-                r,
-                count,
-                h,
-                g,
-                &frame[0..COEFFICIENTS],
-                &frame[COEFFICIENTS..CORRECTION],
-                order,
-                &frame[DIRECTIONS..FRAME],
-                kept,
-                lambda,
-            )
+            free_step(k, r, count, h, g, order, frame, kept, lambda)
         }
         Prepared::Refused(e) => StepEnd::Refused(e),
     }

@@ -1,7 +1,6 @@
 -- `multiplier` meets its contract: the definition's steps, from what each call gives.
 use lib.Ieee.{ofBits}
-use Rattle.linear.proofs.Sums.{along-start}
-use Rattle.run.specs.Basis.{multiplierStep}
+use Rattle.run.proofs.BasisLaws.{multiplier-is}
 use borrow.Author.Needs.{needs}
 use Rattle.run.proofs.basis.multiplier.Statement.{statement}
 use Rattle.run.proofs.basis.multiplier.Tie as tie
@@ -12,6 +11,12 @@ sub-t c = search needs
 sub-t-2 : tie.Need-sub-t-2
 sub-t-2 c = search needs
 
+mul-c : tie.Need-mul-c
+mul-c c = search needs
+
+add-c : tie.Need-add-c
+add-c c = search needs
+
 mul-plus-dot : tie.Need-mul-plus-dot
 mul-plus-dot c = search needs
 
@@ -21,23 +26,11 @@ plus-dot-requires c κs = tt
 add-minus-dot : tie.Need-add-minus-dot
 add-minus-dot c = search needs
 
-mul-minus-dot : tie.Need-mul-minus-dot
-mul-minus-dot c = search needs
-
 add-minus-dot-2 : tie.Need-add-minus-dot-2
 add-minus-dot-2 c = search needs
 
-add-minus-dot-3 : tie.Need-add-minus-dot-3
-add-minus-dot-3 c = search needs
-
 minus-dot-requires : tie.Need-minus-dot-requires
 minus-dot-requires c κs = tt
-
-mul-at : tie.Need-mul-at
-mul-at c = search needs
-
-add-at : tie.Need-add-at
-add-at c = search needs
 
 at-requires : tie.Need-at-requires
 at-requires c κs = search needs
@@ -52,10 +45,10 @@ same-length : tie.Need-same-length
 same-length c = search needs
 
 returns : tie.Need-returns
-unfolding multiplierStep ofBits
+unfolding ofBits
 returns c =
-    let z = rw along-start at (c .before .before .before .before .before .before .before .before .plus-dot .ensures) in
-    rw (← z, ← c .before .before .before .before .before .before .minus-dot .ensures, ← c .before .before .before .before .at .ensures, ← c .before .before .before .div .ensures .value) (c .before .before .store-chosen .ensures)
+    let a = c .before .before .before .before .before .before .before .before .before .before .before .before .args in
+    multiplier-is (a .k) (a .r) (a .q .now) (a .pull .now) (a .by-row .now) (a .u) (c .before .before .before .before .before .before .before .before .plus-dot .ensures) (c .before .before .before .before .before .before .minus-dot .ensures) (c .before .before .before .before .at .ensures) (c .before .before .before .div .ensures .value) (c .before .before .store-chosen .ensures)
 
 pub multiplier-spec : {M : Type 1} → statement M
 multiplier-spec =
@@ -63,15 +56,13 @@ multiplier-spec =
     (tie.spec
     sub-t
     sub-t-2
+    mul-c
+    add-c
     mul-plus-dot
     plus-dot-requires
     add-minus-dot
-    mul-minus-dot
     add-minus-dot-2
-    add-minus-dot-3
     minus-dot-requires
-    mul-at
-    add-at
     at-requires
     div-requires
     store-chosen-requires

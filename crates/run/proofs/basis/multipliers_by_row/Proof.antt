@@ -4,7 +4,7 @@ use mathlib.Core.Path.{_≡_, sym}
 use mathlib.Core.List.{[]}
 use Prim.Native.Nat.{_≤_, _-_}
 use native.Mathlib.Nat.{le-antisymm}
-use lib.ListN.{length}
+use lib.ListN.{length, drop}
 use Rattle.interval.specs.Result.{ok}
 use Rattle.linear.specs.Results.{foldR}
 use Rattle.linear.proofs.Turns.{went-on, broke-off}
@@ -13,10 +13,10 @@ use Rattle.run.proofs.basis.multipliers_by_row.Statement.{statement}
 use Rattle.run.proofs.basis.multipliers_by_row.Tie as tie
 
 abbrev Inv-loop : tie.InvT-loop
-Inv-loop k r q coefficients pull by-row₀ u₀ by-row u = (u ≤ r) × (length by-row ≡ length by-row₀) × (foldR (multiplierStep k (basisBy r q [] coefficients [] []) pull) by-row₀ u ≡ ok by-row)
+Inv-loop k r q pull by-row₀ u₀ by-row u = (u ≤ r) × (length by-row ≡ length by-row₀) × (foldR (multiplierStep k (basisBy r q [] (drop 288 q) [] []) pull) by-row₀ u ≡ ok by-row)
 
 abbrev μ-loop : tie.MeasureT-loop
-μ-loop k r q coefficients pull by-row₀ u₀ by-row u = r - u
+μ-loop k r q pull by-row₀ u₀ by-row u = r - u
 
 loop-holds : tie.Need-loop-holds Inv-loop μ-loop
 unfolding foldR

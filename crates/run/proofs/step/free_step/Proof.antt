@@ -1,11 +1,21 @@
 -- `free_step` meets its contract: the weights along the directions decide, then whether the step and what pulls against it are finite; the multipliers end it.
 use mathlib.Core.Path.{_∙_}
+use native.Mathlib.Omega.{arith}
 use Rattle.linear.specs.Results.{bind}
-use Rattle.run.proofs.BasisLaws.{multipliers-reads}
+use Rattle.run.proofs.BasisLaws.{multipliers-reads, multipliers-part}
 use Rattle.run.proofs.StepLaws.{free-step, stepped-not, stepped-on}
 use borrow.Author.Needs.{needs}
 use Rattle.run.proofs.step.free_step.Statement.{statement}
 use Rattle.run.proofs.step.free_step.Tie as tie
+
+sub-free-part : tie.Need-sub-free-part
+sub-free-part c = search needs
+
+part-free-part-start : tie.Need-part-free-part-start
+part-free-part-start c = search needs
+
+part-free-part-end : tie.Need-part-free-part-end
+part-free-part-end c = search needs
 
 free-part-requires : tie.Need-free-part-requires
 free-part-requires c κs = search needs
@@ -37,9 +47,11 @@ same-length-2 c = search needs
 returns : tie.Need-returns
 unfolding bind
 returns c =
+    let s = c .before .before .before .before .before .before .before .before .before .before .before .before .before .before .before .before .before .before .before .before .before .before .before .before in
+    let p = s .pre in
     let e = c .before .before .before .before .before .before .before .before .finite-pull .ensures in
-    c .multiplied .ensures _ _ ∙ stepped-on _ _ _ (e .0) (e .1) (c .before .before .before .before .before .before .if1 .taken) (c .before .before .before .multipliers .ensures ∙ multipliers-reads _ _ _)
-    ∙ free-step _ _ _ _ (rw (c .before .before .before .before .before .before .before .before .before .before .before .enum-told .given .1) at (c .before .before .before .before .before .before .before .before .before .before .before .before .before .before .before .free-part .ensures))
+    let m = c .before .before .before .multipliers .ensures ∙ multipliers-part (s .args .k) (s .args .r) (s .args .frame .now) _ (p .0) (p .1 .0) (omega (arith, p .1 .1 .1 .1 .0)) (s .args .order .now) ∙ multipliers-reads _ _ _ in
+    c .multiplied .ensures _ _ ∙ stepped-on _ _ _ (e .0) (e .1) (c .before .before .before .before .before .before .if1 .taken) m ∙ free-step _ _ _ _ (rw (c .before .before .before .before .before .before .before .before .before .before .before .enum-told .given .1) at (c .before .before .before .before .before .before .before .before .before .before .before .before .before .before .before .free-part .ensures))
 
 enum-told-2 : tie.Need-enum-told-2
 enum-told-2 c = search needs
@@ -74,6 +86,9 @@ pub free-step-spec : {M : Type 1} → statement M
 free-step-spec =
     tie.close
     (tie.spec
+    sub-free-part
+    part-free-part-start
+    part-free-part-end
     free-part-requires
     enum-told
     slice-aggregate-finite-pull

@@ -24,38 +24,11 @@ part-place-end c = search needs
 place-requires : tie.Need-place-requires
 place-requires c κs = search needs
 
-sub-free-step : tie.Need-sub-free-step
-sub-free-step c = search needs
-
-part-free-step-start : tie.Need-part-free-step-start
-part-free-step-start c = search needs
-
-part-free-step-end : tie.Need-part-free-step-end
-part-free-step-end c = search needs
-
-sub-free-step-2 : tie.Need-sub-free-step-2
-sub-free-step-2 c = search needs
-
-part-free-step-start-2 : tie.Need-part-free-step-start-2
-part-free-step-start-2 c = search needs
-
-part-free-step-end-2 : tie.Need-part-free-step-end-2
-part-free-step-end-2 c = search needs
-
-sub-free-step-3 : tie.Need-sub-free-step-3
-sub-free-step-3 c = search needs
-
-part-free-step-start-3 : tie.Need-part-free-step-start-3
-part-free-step-start-3 c = search needs
-
-part-free-step-end-3 : tie.Need-part-free-step-end-3
-part-free-step-end-3 c = search needs
-
 free-step-requires : tie.Need-free-step-requires
 free-step-requires c κs =
-    let p = c .before .before .before .before .before .before .before .before .before .before .before .before .before .before .before .before .before .before .before .pre in
-    let g = c .before .before .before .before .before .before .before .before .before .before .before .prepared .given .1 in
-    (p .0, (rw g at (p .1 .0 .independent), (rw g at (p .1 .0 .free), (p .1 .1 .0, p .1 .1 .1 .1 .1))))
+    let p = c .before .before .before .before .before .before .before .before .before .before .before .before .before .before .before .before .pre in
+    let g = c .before .before .before .before .before .before .before .before .prepared .given .1 in
+    (p .0, (rw g at (p .1 .0 .independent), (rw g at (p .1 .0 .free), (p .1 .1 .0, (p .1 .1 .1 .0, p .1 .1 .1 .1 .1)))))
 
 enum-known-prepared-2 : tie.Need-enum-known-prepared-2
 enum-known-prepared-2 c = search needs
@@ -68,10 +41,10 @@ same-length-2 c = search needs
 
 returns : tie.Need-returns
 returns c =
-    let s = c .before .before .before .before .before .before .before .before .before .before .before .before .before .before .before .before .before .before .before .before .before .before .before .before in
+    let s = c .before .before .before .before .before .before .before .before .before .before .before .before .before .before .before .before .before .before .before .before .before in
     let p = s .pre in
     let l = cut-length 24 576 (s .args .frame .now) (omega (arith, p .1 .1 .1 .0)) in
-    ready-on (curved (s .args .k) (s .args .h .now) (s .args .g .now)) (s .args .order .now) (s .args .frame .now) (c .before .before .before .before .before .before .before .before .before .before .before .before .before .before .before .before .prepared .given .1) (c .before .before .before .before .before .before .before .before .before .before .before .before .place .ensures ∙ written-all (s .args .kept .now) (take 24 (drop 576 (s .args .frame .now))) (omega (arith, l, p .1 .1 .1 .1 .0))) (c .before .before .before .before .free-step .ensures)
+    ready-on (curved (s .args .k) (s .args .h .now) (s .args .g .now)) (s .args .order .now) (s .args .frame .now) (c .before .before .before .before .before .before .before .before .before .before .before .before .before .prepared .given .1) (c .before .before .before .before .before .before .before .before .before .place .ensures ∙ written-all (s .args .kept .now) (take 24 (drop 576 (s .args .frame .now))) (omega (arith, l, p .1 .1 .1 .1 .0))) (c .before .before .before .before .free-step .ensures)
 
 returns-2 : tie.Need-returns-2
 returns-2 c = let a = c .before .before .before .before .before .before .before .before .before .args in ready-refused (curved (a .k) (a .h .now) (a .g .now)) (a .order .now) (a .frame .now) (c .before .prepared2 .given .1)
@@ -85,15 +58,6 @@ prepared-step-spec =
     part-place-start
     part-place-end
     place-requires
-    sub-free-step
-    part-free-step-start
-    part-free-step-end
-    sub-free-step-2
-    part-free-step-start-2
-    part-free-step-end-2
-    sub-free-step-3
-    part-free-step-start-3
-    part-free-step-end-3
     free-step-requires
     enum-known-prepared-2
     same-length
