@@ -1,11 +1,11 @@
 -- Lists that stand one behind the other in one: how they are written, and what is read of each.
 use mathlib.Core.Path.{_≡_, sym, ap, _∙_}
 use mathlib.Core.List.{List, _++_, append-assoc}
-use Prim.Native.Nat.{ℕ, _+_, _≤_}
+use Prim.Native.Nat.{ℕ, _+_, _-_, _≤_}
 use native.Mathlib.Omega.{arith}
 use lib.Ieee.{Float}
-use lib.ListN.{length, take, drop, length-append}
-use lib.Seq.{take-length, take-at, drop-at, drop-drop}
+use lib.ListN.{length, take, drop, length-append, length-drop}
+use lib.Seq.{take-length, length-take-le, take-at, drop-at, drop-drop}
 use Rattle.run.specs.Area.{written}
 use Rattle.run.proofs.AreaSlots.{written-twice}
 use Rattle.run.proofs.LeaveLaws.{written-all}
@@ -19,6 +19,13 @@ length-both s t e f = length-append s t ∙ rw (e, f)
 
 take-whole : (s : List Float) {n : ℕ} → length s ≡ n → take n s ≡ s
 take-whole s e = rw e at (take-length s)
+
+-- a part that is lent and comes back leaves the length
+pub length-lent : (a s : List Float) (base count : ℕ) → length s ≡ count → base + count ≤ length a → length (take base a ++ (s ++ drop count (drop base a))) ≡ length a
+length-lent a s base count e h =
+    let l : length (take base a) ≡ base = length-take-le base a (omega arith) in
+    let m : length (drop count (drop base a)) ≡ length a - base - count = length-drop count (drop base a) ∙ ap (λ (n : ℕ). n - count) (length-drop base a) in
+    length-append (take base a) (s ++ drop count (drop base a)) ∙ omega (arith, l, m, e, h, length-append s (drop count (drop base a)))
 
 -- three lists in one of 336, and four in one of 888
 module _ (a u d g : List Float) (lu : length u ≡ 288) (ld : length d ≡ 24) (lg : length g ≡ 24) where

@@ -1,6 +1,6 @@
 // The step over the kept variables and over all: what is tested of it, and how it ends.
 ghost use mathlib.Core.Bool.{_&&_};
-ghost use mathlib.Core.List.{List, [], _++_};
+ghost use mathlib.Core.List.{List, []};
 ghost use mathlib.Core.Path.{_≡_};
 ghost use Prim.Native.Nat.{_≤_};
 ghost use lib.Ieee.{Float};
@@ -10,7 +10,7 @@ ghost use Rattle.run.specs.Basis.{basisBy};
 ghost use Rattle.run.specs.Model.{problemIn};
 ghost use Rattle.run.specs.Rows.{rowsIn, evaluationOf, valueAt};
 ghost use Rattle.run.specs.Scratch.{allFinite};
-ghost use Rattle.run.specs.Step.{pullOf, freeStep, curved, spanned, endOf, withMultipliers, basisFor, basedStep, keptStep, stepOf, Few, readyStep, framedStep, dampedStep, preparedStep, Framed, PreparedFor};
+ghost use Rattle.run.specs.Step.{pullOf, freeStep, curved, spanned, endOf, withMultipliers, basisFor, basedStep, keptStep, stepOf, Few, framedStep, dampedStep, preparedStep, Framed, PreparedFor};
 use crate::area::place;
 use crate::basis::Rank;
 use crate::basis::basis;
@@ -111,7 +111,7 @@ fn free_step(
 
 // ---- what no damping changes
 
-// The correction and the free directions, from the basis on.
+// A frame, from the basis on: Q, the coefficients, the correction and the free directions, one behind the other.
 fn prepare_free(
     k: usize,
     m: usize,
@@ -122,31 +122,32 @@ fn prepare_free(
     order: &[usize],
     xs: &[f64],
     c: RowSet,
-    delta: &mut [f64],
-    z: &mut [f64],
+    frame: &mut [f64],
 ) -> Prepared
-    requires { ⌜ (k ≤ 12) × ((m ≤ 12) × ((r ≤ 12) × ((length (now order) ≡ 24) × ((length (now delta) ≡ 24) × (length (now z) ≡ 288))))) ⌝ }
-    ensures { λ x. ⌜ ((h g : List Float) → readyStep x (curved k h g) (now (q .entry)) (now (coefficients .entry)) (now (order .entry)) (now (delta .exit)) (now (z .exit)) ≡ basedStep (problemIn k m (valueAt (rowsIn (now (xs .entry)) c)) [] [] h g) (basisBy r (now (q .entry)) [] (now (coefficients .entry)) (now (dependent .entry)) (now (order .entry)))) × Few x ⌝ }
+    requires { ⌜ (k ≤ 12) × ((m ≤ 12) × ((r ≤ 12) × ((length (now q) ≡ 288) × ((length (now coefficients) ≡ 288) × ((length (now order) ≡ 24) × (length (now frame) ≡ 888)))))) ⌝ }
+    ensures { λ x. ⌜ ((h g : List Float) → framedStep x (curved k h g) (now (order .entry)) (now (frame .exit)) ≡ basedStep (problemIn k m (valueAt (rowsIn (now (xs .entry)) c)) [] [] h g) (basisBy r (now (q .entry)) [] (now (coefficients .entry)) (now (dependent .entry)) (now (order .entry)))) × Few x ⌝ }
 {
     let mut left = [0.0; 288];
-    match correction(k, m, r, q, coefficients, dependent, order, xs, c, delta) {
-        Done::Finished => match free_directions(k, r, q, z, &mut left) {
+    place(frame, 0, q);
+    place(frame, COEFFICIENTS, coefficients);
+    match correction(
+        k,
+        m,
+        r,
+        q,
+        coefficients,
+        dependent,
+        order,
+        xs,
+        c,
+        &mut frame[CORRECTION..DIRECTIONS],
+    ) {
+        Done::Finished => match free_directions(k, r, q, &mut frame[DIRECTIONS..FRAME], &mut left) {
             Found::Of(count) => Prepared::Ready(r, count),
             Found::Refused(e) => Prepared::Refused(e),
         },
         Done::Refused(e) => Prepared::Refused(e),
     }
-}
-
-// Q, the coefficients, the correction and the free directions, one behind the other.
-fn pack(q: &[f64], coefficients: &[f64], delta: &[f64], z: &[f64], frame: &mut [f64])
-    requires { ⌜ (length (now q) ≡ 288) × ((length (now coefficients) ≡ 288) × ((length (now delta) ≡ 24) × ((length (now z) ≡ 288) × (length (now frame) ≡ 888)))) ⌝ }
-    ensures { λ _. ⌜ now (frame .exit) ≡ now (q .entry) ++ (now (coefficients .entry) ++ (now (delta .entry) ++ now (z .entry))) ⌝ }
-{
-    place(frame, 0, q);
-    place(frame, COEFFICIENTS, coefficients);
-    place(frame, CORRECTION, delta);
-    place(frame, DIRECTIONS, z);
 }
 
 // The basis, and what follows from it, for the constraint values in xs.
@@ -167,8 +168,6 @@ fn prepare_kept(
     let mut gram = [0.0; 288];
     let mut coefficients = [0.0; 288];
     let mut dependent = [0.0; 288];
-    let mut delta = [0.0; 24];
-    let mut z = [0.0; 288];
     match basis(
         k,
         m,
@@ -180,23 +179,7 @@ fn prepare_kept(
         &mut dependent,
         order,
     ) {
-        Rank::Of(r) => {
-            let end = prepare_free(
-                k,
-                m,
-                r,
-                &q,
-                &coefficients,
-                &dependent,
-                order,
-                xs,
-                c,
-                &mut delta,
-                &mut z,
-            );
-            pack(&q, &coefficients, &delta, &z, frame);
-            end
-        }
+        Rank::Of(r) => { prepare_free(k, m, r, &q, &coefficients, &dependent, order, xs, c, frame) }
         Rank::Refused(e) => Prepared::Refused(e),
     }
 }

@@ -1,12 +1,11 @@
--- `prepare_kept` meets its contract: the basis, from clear arrays, what follows from it, and the frame.
-use mathlib.Core.Path.{refl, ap, _∙_}
+-- `prepare_kept` meets its contract: the basis, from clear arrays, and the frame that follows from it.
+use mathlib.Core.Path.{ap, _∙_}
 use native.Mathlib.Omega.{arith}
 use lib.Ieee.{ofBits}
 use lib.ListN.{length}
 use Rattle.run.specs.Basis.{basisBy}
 use Rattle.run.specs.Scratch.{matrix}
-use Rattle.run.specs.Step.{curved}
-use Rattle.run.proofs.StepLaws.{rank-bound, kept-on, kept-refused, framed-is}
+use Rattle.run.proofs.StepLaws.{rank-bound, kept-on, kept-refused}
 use borrow.Author.Needs.{needs}
 use Rattle.run.proofs.step.prepare_kept.Statement.{statement}
 use Rattle.run.proofs.step.prepare_kept.Tie as tie
@@ -41,35 +40,11 @@ slice-aggregate-prepare-free-2 c = search needs
 slice-aggregate-prepare-free-3 : tie.Need-slice-aggregate-prepare-free-3
 slice-aggregate-prepare-free-3 c = search needs
 
-slice-aggregate-prepare-free-4 : tie.Need-slice-aggregate-prepare-free-4
-slice-aggregate-prepare-free-4 c = search needs
-
-slice-aggregate-prepare-free-5 : tie.Need-slice-aggregate-prepare-free-5
-slice-aggregate-prepare-free-5 c = search needs
-
 prepare-free-requires : tie.Need-prepare-free-requires
 prepare-free-requires c κs =
-    let p = c .before .before .before .before .before .before .before .before .before .before .before .before .before .before .before .before .before .before .before .before .before .before .before .before .before .before .pre in
-    let b = c .before .before .before .before .before .before .before .before .before .before .before .before .before .before .before .basis in
-    (p .0, (p .1 .0, (omega (arith, rw (c .before .before .before .before .before .before .before .r .given .1) at (rank-bound _ _ _ _ _ _ (b .result) (b .ensures)), p .1 .0), (b .kept .1 .1 .1 .1 .1 .1 .1 .1 .0 ∙ ap length (p .1 .1 .0), (refl, refl)))))
-
-slice-aggregate-pack : tie.Need-slice-aggregate-pack
-slice-aggregate-pack c = search needs
-
-slice-aggregate-pack-2 : tie.Need-slice-aggregate-pack-2
-slice-aggregate-pack-2 c = search needs
-
-slice-aggregate-pack-3 : tie.Need-slice-aggregate-pack-3
-slice-aggregate-pack-3 c = search needs
-
-slice-aggregate-pack-4 : tie.Need-slice-aggregate-pack-4
-slice-aggregate-pack-4 c = search needs
-
-pack-requires : tie.Need-pack-requires
-pack-requires c κs =
-    let b = c .before .before .before .before .before .before .before .before .before .before .before .before .before .before .before .before .before .before .before .before .before .before .before .basis in
-    let f = c .before .before .before .before .before .before .before .prepare-free in
-    (b .kept .1 .1 .1 .1 .0, (b .kept .1 .1 .1 .1 .1 .1 .0, (f .kept .1 .1 .1 .1 .1 .1 .1 .1 .1 .0, (f .kept .1 .1 .1 .1 .1 .1 .1 .1 .1 .1 .0, c .before .before .before .before .before .before .before .before .before .before .before .before .before .before .before .before .before .before .before .before .before .before .before .before .before .before .before .before .before .before .before .before .before .before .pre .1 .1 .1))))
+    let p = c .before .before .before .before .before .before .before .before .before .before .before .before .before .before .before .before .before .before .before .before .before .before .before .before .before .pre in
+    let b = c .before .before .before .before .before .before .before .before .before .before .before .before .before .before .basis in
+    (p .0, (p .1 .0, (omega (arith, rw (c .before .before .before .before .before .before .r .given .1) at (rank-bound _ _ _ _ _ _ (b .result) (b .ensures)), p .1 .0), (b .kept .1 .1 .1 .1 .0, (b .kept .1 .1 .1 .1 .1 .1 .0, (b .kept .1 .1 .1 .1 .1 .1 .1 .1 .0 ∙ ap length (p .1 .1 .0), p .1 .1 .1))))))
 
 enum-known-e : tie.Need-enum-known-e
 enum-known-e c = search needs
@@ -82,14 +57,9 @@ same-length-2 c = search needs
 
 returns : tie.Need-returns
 returns c =
-    let b = c .before .before .before .before .before .before .before .before .before .before .before .before .before .before .before .before .before .before .before .before .before .before .before .before .before .before .basis in
-    let f = c .before .before .before .before .before .before .before .before .before .before .prepare-free in
-    let k = c .before .before .before .before .before .before .before .before .before .before .before .before .before .before .before .before .before .before .before .before .before .before .before .before .before .before .before .before .before .before .before .before .before .before .before .before .before .args .k in
-    let frame = c .before .before .pack .last .1 .1 .1 .1 .0 in (
-      (λ h g. framed-is (f .result) (curved k h g) (b .last .1 .1 .1 .1 .1 .1 .1 .1 .0) frame (b .last .1 .1 .1 .1 .0) (b .last .1 .1 .1 .1 .1 .1 .0) (f .last .1 .1 .1 .1 .1 .1 .1 .1 .1 .0) (f .last .1 .1 .1 .1 .1 .1 .1 .1 .1 .1 .0) (b .kept .1 .1 .1 .1 .0) (b .kept .1 .1 .1 .1 .1 .1 .0) (f .kept .1 .1 .1 .1 .1 .1 .1 .1 .1 .0) (f .kept .1 .1 .1 .1 .1 .1 .1 .1 .1 .1 .0) (c .before .before .pack .ensures)
-          ∙ kept-on _ _ _ _ _ _ (b .result) (b .ensures) (c .before .before .before .before .before .before .before .before .before .before .before .before .before .before .before .before .before .before .r .given .1) (f .ensures .0 h g)),
-      f .ensures .1,
-    )
+    let b = c .before .before .before .before .before .before .before .before .before .before .before .before .before .before .before .before .before .basis in
+    let f = c .before .before .prepare-free in
+    ((λ h g. kept-on _ _ _ _ _ _ (b .result) (b .ensures) (c .before .before .before .before .before .before .before .before .before .r .given .1) (f .ensures .0 h g)), f .ensures .1)
 
 same-length-3 : tie.Need-same-length-3
 same-length-3 c = search needs
@@ -112,14 +82,7 @@ prepare-kept-spec =
     slice-aggregate-prepare-free
     slice-aggregate-prepare-free-2
     slice-aggregate-prepare-free-3
-    slice-aggregate-prepare-free-4
-    slice-aggregate-prepare-free-5
     prepare-free-requires
-    slice-aggregate-pack
-    slice-aggregate-pack-2
-    slice-aggregate-pack-3
-    slice-aggregate-pack-4
-    pack-requires
     enum-known-e
     same-length
     same-length-2
