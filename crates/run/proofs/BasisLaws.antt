@@ -11,12 +11,13 @@ use lib.ListN.{length, take, drop, set, replicate, length-drop, length-replicate
 use lib.Seq.{take-at}
 use Rattle.interval.specs.declared.Scalar.{Scalar}
 use Rattle.interval.specs.Result.{Res, ok, refused}
-use Rattle.interval.specs.Scalar.{zeroS, pick, divOf, sharpen, definitelyGreater}
+use Rattle.interval.specs.Scalar.{zeroS, pick, negOf, divOf, sharpen, definitelyGreater}
 use Rattle.interval.proofs.Results.{ok-inj}
 use Rattle.linear.specs.Answers.{numberOf, resultOf, doneOf}
-use Rattle.linear.specs.Choose.{chooseOf}
+use Rattle.linear.specs.Choose.{chooseOf, sharpOf}
 use Rattle.linear.specs.Dot.{dotTo, minusTo}
 use Rattle.linear.specs.Flat.{at, along, put, listTo}
+use Rattle.linear.specs.Householder.{leastSquaresOf}
 use Rattle.linear.specs.Norm.{normOf}
 use Rattle.linear.specs.Results.{bind, foldR}
 use Rattle.linear.specs.Substitution.{solveOf}
@@ -26,12 +27,14 @@ use Rattle.linear.specs.declared.answers.Done.{Done}
 use Rattle.linear.specs.declared.answers.Done.the-variants as done
 use Rattle.linear.specs.declared.answers.LinearError.{LinearError}
 use Rattle.linear.proofs.Agree.{normOf-ext, minusTo-ext, dotTo-ext}
-use Rattle.linear.proofs.Folds.{bind-value}
+use Rattle.linear.proofs.Folds.{turn, ends, bind-value}
 use Rattle.linear.proofs.Reflections.{rows-positive}
 use Rattle.linear.proofs.Sums.{along-start}
 use Rattle.run.specs.Model.{Problem}
-use Rattle.run.specs.Basis.{Basis, Taken, noRows, packed, coefficientsIn, outsideAt, partOut, partsOut, gramRow, extended, withDependent, rowStep, basisOf, correctionOf, multiplierStep, multipliersOf, basisBy, takenBy, problemBy}
-use Rattle.run.specs.Scratch.{vector, row, column, entry, fillTo, minusScaled, unitAt, spreadTo}
+use Rattle.run.specs.Basis.{Basis, Taken, noRows, packed, coefficientsIn, outsideAt, partOut, partsOut, gramRow, extended, withDependent, rowStep, basisOf, orderAt, coefficientAt, correctionOf, multiplierStep, multipliersOf, basisBy, takenBy, problemBy, rankedOf}
+use Rattle.run.specs.declared.basis.Rank.{Rank}
+use Rattle.run.specs.declared.basis.Rank.the-variants as rank
+use Rattle.run.specs.Scratch.{vector, row, column, entry, fillTo, minusScaled, unitAt, combinedTo, spreadTo}
 use Rattle.run.proofs.Parts.{at-behind, along-behind, along-take}
 use Rattle.run.proofs.ScratchLaws.{at-take}
 
@@ -183,6 +186,39 @@ row-reads P b i = refl
 pub basis-reads : (P : Problem) → basisOf (problemBy (P .k) (P .m) (λ _. zeroS) (P .wide) (P .jc)) ≡ basisOf P
 unfolding basisOf rowStep coefficientsIn extended
 basis-reads P = refl
+
+-- one row more, or its refusal, from what the call gives
+module _ (P : Problem) (b : Basis) (i : ℕ) (q gram c w : List Float) (o : List ℕ) (x : Rank)
+    (passed : foldR (rowStep P) noRows i ≡ ok b) (step : rankedOf x q gram c w o ≡ rowStep (rowProblem (P .k) (P .wide) (P .jc)) b i) where
+  step-is : rankedOf x q gram c w o ≡ rowStep P b i
+  step-is = step ∙ row-reads P b i
+
+  pub rank-next : {s : ℕ} → x ≡ rank.Of s → s ≤ b .rank + 1
+  rank-next e = rank-more P b i (sym (rw e at step-is))
+
+  pub rows-next : {s : ℕ} → x ≡ rank.Of s → foldR (rowStep P) noRows (i + 1) ≡ ok (basisBy s q gram c w o)
+  rows-next e = turn (rowStep P) noRows i passed ∙ sym (rw e at step-is)
+
+  pub rows-refused : {r : LinearError} → i < P .m → x ≡ rank.Refused r → refused (numberOf r) ≡ basisOf P
+  unfolding basisOf
+  rows-refused h e = sym (ends (rowStep P) noRows h passed (sym (rw e at step-is)))
+
+-- the correction, or its refusal, from what each call gives
+module _ (k m r : ℕ) (c : ℕ → Scalar) (q coefficients dependent : List Float) (order : List ℕ) {rows rhs : List Float} (y : List Float) (d : Done)
+    (erows : rows ≡ listTo (λ p. coefficientAt (basisBy r [] [] coefficients dependent []) (p / r) (p % r)) (m * r))
+    (erhs : rhs ≡ listTo (λ t. negOf (chooseOf (c (orderAt (basisBy r [] [] [] [] order) t)))) m)
+    (ey : doneOf d y ≡ leastSquaresOf m r rows rhs) where
+  solved-is : correctionOf (problemBy k m c [] []) (basisBy r q [] coefficients dependent order) ≡ bind (doneOf d y) (λ y. ok (combinedTo k (sharpOf y r) q vector r))
+  unfolding correctionOf
+  solved-is = rw (ey, erows, erhs)
+
+  pub correction-on : {delta : List Float} → d ≡ done.Finished → delta ≡ combinedTo k (sharpOf y r) q vector r → ok delta ≡ correctionOf (problemBy k m c [] []) (basisBy r q [] coefficients dependent order)
+  unfolding bind
+  correction-on ed e = ap ok e ∙ sym (rw ed at solved-is)
+
+  pub correction-refused : {e : LinearError} → d ≡ done.Refused e → refused (numberOf e) ≡ correctionOf (problemBy k m c [] []) (basisBy r q [] coefficients dependent order)
+  unfolding bind
+  correction-refused ed = sym (rw ed at solved-is)
 
 pub correction-reads : (P : Problem) (b : Basis) → correctionOf (problemBy (P .k) (P .m) (P .c) [] []) (basisBy (b .rank) (b .q) [] (b .coefficients) (b .dependent) (b .order)) ≡ correctionOf P b
 unfolding correctionOf

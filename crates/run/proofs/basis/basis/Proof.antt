@@ -1,6 +1,6 @@
 -- `basis` meets its contract: the invariant is the fold at the rows passed, not refused.
 use borrow.Author.Needs.{needs}
-use mathlib.Core.Path.{_≡_, sym, ap, _∙_}
+use mathlib.Core.Path.{_≡_, refl, sym, ap, _∙_}
 use Prim.Native.Nat.{_≤_, _-_}
 use native.Mathlib.Nat.{le-antisymm}
 use native.Mathlib.Omega.{arith}
@@ -8,9 +8,8 @@ use lib.ListN.{length}
 use Rattle.interval.specs.Result.{ok}
 use Rattle.interval.specs.Scalar.{zeroS}
 use Rattle.linear.specs.Results.{foldR}
-use Rattle.linear.proofs.Folds.{turn, ends}
 use Rattle.run.specs.Basis.{Basis, noRows, rowStep, basisOf, basisBy, problemBy}
-use Rattle.run.proofs.BasisLaws.{rank-more, row-reads}
+use Rattle.run.proofs.BasisLaws.{rank-next, rows-next, rows-refused}
 use Rattle.run.proofs.basis.basis.Statement.{statement}
 use Rattle.run.proofs.basis.basis.Tie as tie
 
@@ -22,7 +21,7 @@ abbrev μ-loop : tie.MeasureT-loop
 
 loop-holds : tie.Need-loop-holds Inv-loop μ-loop
 unfolding foldR
-loop-holds c = (search needs, search needs, search needs, search needs, search needs, search needs, search needs, ap ok (sym (c .before .before .before .before .before .before .before .pre .1 .1)))
+loop-holds c = (omega arith, omega arith, refl, refl, refl, refl, refl, ap ok (sym (c .before .before .before .before .before .before .before .pre .1 .1)))
 
 next-row-requires : tie.Need-next-row-requires Inv-loop μ-loop
 next-row-requires c κs =
@@ -38,28 +37,26 @@ enum-known-e : tie.Need-enum-known-e Inv-loop μ-loop
 enum-known-e c = search needs
 
 same-length : tie.Need-same-length Inv-loop μ-loop
-same-length c = search needs
+same-length c = c .before .before .before .before .before .before .before .before .before .before .before .before .before .next-row .kept .1 .1 .1 .1 .1 .0 ∙ c .before .before .before .before .before .before .before .before .before .before .before .before .before .before .before .before .before .before .before .before .loop .inv .2
 
 same-length-2 : tie.Need-same-length-2 Inv-loop μ-loop
-same-length-2 c = search needs
+same-length-2 c = c .before .before .before .before .before .before .before .before .before .before .before .before .before .next-row .kept .1 .1 .1 .1 .1 .1 .0 ∙ c .before .before .before .before .before .before .before .before .before .before .before .before .before .before .before .before .before .before .before .before .loop .inv .3
 
 same-length-3 : tie.Need-same-length-3 Inv-loop μ-loop
-same-length-3 c = search needs
+same-length-3 c = c .before .before .before .before .before .before .before .before .before .before .before .before .before .next-row .kept .1 .1 .1 .1 .1 .1 .1 .0 ∙ c .before .before .before .before .before .before .before .before .before .before .before .before .before .before .before .before .before .before .before .before .loop .inv .4
 
 same-length-4 : tie.Need-same-length-4 Inv-loop μ-loop
-same-length-4 c = search needs
+same-length-4 c = c .before .before .before .before .before .before .before .before .before .before .before .before .before .next-row .kept .1 .1 .1 .1 .1 .1 .1 .1 .0 ∙ c .before .before .before .before .before .before .before .before .before .before .before .before .before .before .before .before .before .before .before .before .loop .inv .5
 
 same-length-5 : tie.Need-same-length-5 Inv-loop μ-loop
-same-length-5 c = search needs
+same-length-5 c = c .before .before .before .before .before .before .before .before .before .before .before .before .before .next-row .kept .1 .1 .1 .1 .1 .1 .1 .1 .1 .0 ∙ c .before .before .before .before .before .before .before .before .before .before .before .before .before .before .before .before .before .before .before .before .loop .inv .6
 
 returns : tie.Need-returns Inv-loop μ-loop
-unfolding basisOf
 returns c =
     let a = c .before .before .before .before .before .before .before .before .before .before .before .before .before .before .before .before .before .before .before .before .before .before .before .before .before .before .before .before .args in
     let l = c .before .before .before .before .before .before .before .before .before .before .before .before .before .before .before .before .before .before .before .before .loop in
-    let P = problemBy (a .k) (a .m) (λ _. zeroS) (a .wide .now) (a .jc .now) in
-    let e = rw (c .before .e .given .1) at (c .before .before .before .before .before .before .before .before .before .before .before .before .before .next-row .ensures) ∙ row-reads P (basisBy (l .r) (l .q) (l .gram) (l .coefficients) (l .dependent) (l .order)) (l .i) in
-    sym (ends (rowStep P) noRows (c .before .before .before .before .before .before .before .before .before .before .before .before .before .before .before .before .before .before .before .loop-test .taken) (l .inv .7) (sym e))
+    let n = c .before .before .before .before .before .before .before .before .before .before .before .before .before .next-row in
+    rows-refused (problemBy (a .k) (a .m) (λ _. zeroS) (a .wide .now) (a .jc .now)) (basisBy (l .r) (l .q) (l .gram) (l .coefficients) (l .dependent) (l .order)) (l .i) (n .last .1 .1 .1 .1 .1 .0) (n .last .1 .1 .1 .1 .1 .1 .0) (n .last .1 .1 .1 .1 .1 .1 .1 .0) (n .last .1 .1 .1 .1 .1 .1 .1 .1 .0) (n .last .1 .1 .1 .1 .1 .1 .1 .1 .1 .0) (n .result) (l .inv .7) (n .ensures) (c .before .before .before .before .before .before .before .before .before .before .before .before .before .before .before .before .before .before .before .loop-test .taken) (c .before .e .given .1)
 
 add-i : tie.Need-add-i Inv-loop μ-loop
 add-i c = search needs
@@ -71,25 +68,30 @@ loop-again : tie.Need-loop-again Inv-loop μ-loop
 loop-again c =
     let a = c .before .before .before .before .before .before .before .before .before .before .before .before .before .before .before .before .before .before .before .before .before .before .before .before .before .before .before .before .args in
     let l = c .before .before .before .before .before .before .before .before .before .before .before .before .before .before .before .before .before .before .before .before .loop in
+    let n = c .before .before .before .before .before .before .before .before .before .before .before .before .before .next-row in
     let P = problemBy (a .k) (a .m) (λ _. zeroS) (a .wide .now) (a .jc .now) in
     let b = basisBy (l .r) (l .q) (l .gram) (l .coefficients) (l .dependent) (l .order) in
-    let e = rw (c .before .s .given .1) at (c .before .before .before .before .before .before .before .before .before .before .before .before .before .next-row .ensures) ∙ row-reads P b (l .i) in
-    (search needs, omega (arith, rank-more P b (l .i) (sym e), l .inv .1), search needs, search needs, search needs, search needs, search needs, turn (rowStep P) noRows (l .i) (l .inv .7) ∙ sym e)
+    let q = n .last .1 .1 .1 .1 .1 .0 in
+    let gram = n .last .1 .1 .1 .1 .1 .1 .0 in
+    let coefficients = n .last .1 .1 .1 .1 .1 .1 .1 .0 in
+    let dependent = n .last .1 .1 .1 .1 .1 .1 .1 .1 .0 in
+    let order = n .last .1 .1 .1 .1 .1 .1 .1 .1 .1 .0 in
+    (search needs, omega (arith, rank-next P b (l .i) q gram coefficients dependent order (n .result) (l .inv .7) (n .ensures) (c .before .s .given .1), l .inv .1), n .kept .1 .1 .1 .1 .1 .0 ∙ l .inv .2, n .kept .1 .1 .1 .1 .1 .1 .0 ∙ l .inv .3, n .kept .1 .1 .1 .1 .1 .1 .1 .0 ∙ l .inv .4, n .kept .1 .1 .1 .1 .1 .1 .1 .1 .0 ∙ l .inv .5, n .kept .1 .1 .1 .1 .1 .1 .1 .1 .1 .0 ∙ l .inv .6, rows-next P b (l .i) q gram coefficients dependent order (n .result) (l .inv .7) (n .ensures) (c .before .s .given .1))
 
 same-length-6 : tie.Need-same-length-6 Inv-loop μ-loop
-same-length-6 c = search needs
+same-length-6 c = c .before .loop .inv .2
 
 same-length-7 : tie.Need-same-length-7 Inv-loop μ-loop
-same-length-7 c = search needs
+same-length-7 c = c .before .loop .inv .3
 
 same-length-8 : tie.Need-same-length-8 Inv-loop μ-loop
-same-length-8 c = search needs
+same-length-8 c = c .before .loop .inv .4
 
 same-length-9 : tie.Need-same-length-9 Inv-loop μ-loop
-same-length-9 c = search needs
+same-length-9 c = c .before .loop .inv .5
 
 same-length-10 : tie.Need-same-length-10 Inv-loop μ-loop
-same-length-10 c = search needs
+same-length-10 c = c .before .loop .inv .6
 
 returns-2 : tie.Need-returns-2 Inv-loop μ-loop
 unfolding basisOf

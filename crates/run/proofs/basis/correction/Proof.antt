@@ -3,11 +3,15 @@ use mathlib.Core.Path.{_≡_, sym, ap, _∙_}
 use Prim.Native.Nat.{_*_, _≤_}
 use native.Mathlib.Omega.{arith}
 use lib.Seq.{length-take-le}
-use Rattle.interval.specs.Result.{ok}
+use lib.Ieee.{Float}
+use mathlib.Core.List.{List}
 use Rattle.linear.specs.Answers.{doneOf}
+use Rattle.linear.specs.Choose.{sharpOf}
+use Rattle.linear.specs.Flat.{zeros}
 use Rattle.linear.specs.Householder.{leastSquaresOf}
-use Rattle.linear.proofs.Folds.{bind-ok, bind-refused}
-use Rattle.run.specs.Basis.{correctionOf}
+use Rattle.run.specs.Rows.{rowsIn, valueAt}
+use Rattle.run.specs.Scratch.{vector, combinedTo}
+use Rattle.run.proofs.BasisLaws.{correction-on, correction-refused}
 use Rattle.run.proofs.LinearCalls.{least-squares-result, sharp-written}
 use Rattle.run.proofs.Prefixes.{front-room, front-kept}
 use Rattle.run.proofs.RowLaws.{few}
@@ -126,25 +130,25 @@ same-length : tie.Need-same-length
 same-length c = search needs
 
 returns : tie.Need-returns
-unfolding correctionOf
 returns c =
-    let s = (c .before .before .before .before .before .before .before .before .before .before .before .before .before .before .before .before .before .before .before .before .before .before .before .before .before .before .before .before .before .before .before .before) in
+    let s = c .before .before .before .before .before .before .before .before .before .before .before .before .before .before .before .before .before .before .before .before .before .before .before .before .before .before .before .before .before .before .before .before in
     let a = s .args in
     let p = s .pre in
-    let e = rw (c .before .before .before .before .before .before .before .before .before .before .before .before .before .enum-told .given .1) at (solved (c .before .before .before .before .before .before .before .before .before .before .before .before .before .before .before .before)) in
-    let y = c .before .before .before .before .before .before .before .before .before .before .before .before .before .before .before .before .least-squares .last .1 .1 .1 .1 .0 in
-    let ly = c .before .before .before .before .before .before .before .before .before .before .before .before .before .before .before .before .least-squares .kept .1 .1 .1 .1 .0 in
-    let v = c .before .before .before .before .before .before .before .before .before .before .sharp .last .1 .1 .0 in
-    let w = sharp-written (c .before .before .before .before .before .before .before .before .before .before .sharp .result) (a .r) y _ v (omega (arith, p .1 .1 .0)) (ly ∙ length-take-le _ _ (short s)) (length-take-le _ _ (short s)) (rw (front-kept _ y _ (short s) ly) at (c .before .before .before .before .before .before .before .before .before .before .sharp .ensures)) in
-    let z = rw (p .1 .1 .1 .1) at (c .before .before .before .before .before .before .before .clear .ensures) in
-    let d = rw (front-kept _ v _ (short s) (c .before .before .before .before .before .before .before .before .before .before .sharp .kept .1 .1 .0), w, z) at (c .before .before .combine .ensures) in
-    rw (← c .before .before .before .before .before .before .before .before .before .before .before .before .before .before .before .before .before .before .before .before .before .before .before .before .coefficient-rows .ensures, ← c .before .before .before .before .before .before .before .before .before .before .before .before .before .before .before .before .before .before .before .before .before .sides .ensures) (ap ok d ∙ sym (bind-ok _ (sym e)))
+    let k = c .before .before .before .before .before .before .before .before .before .before .before .before .before .before .before .before in
+    let h = c .before .before .before .before .before .before .before .before .before .before .sharp in
+    let y = k .least-squares .last .1 .1 .1 .1 .0 in
+    let ly = k .least-squares .kept .1 .1 .1 .1 .0 in
+    let v = h .last .1 .1 .0 in
+    let w : v ≡ sharpOf y (a .r) = sharp-written (h .result) (a .r) y _ v (omega (arith, p .1 .1 .0)) (ly ∙ length-take-le _ _ (short s)) (length-take-le _ _ (short s)) (rw (front-kept _ y _ (short s) ly) at (h .ensures)) in
+    let z : c .before .before .before .before .before .before .before .clear .last .0 ≡ vector = c .before .before .before .before .before .before .before .clear .ensures ∙ ap zeros (p .1 .1 .1 .1) in
+    let d = c .before .before .combine .ensures ∙ ap (λ (x : List Float). combinedTo (a .k) x (a .q .now) (c .before .before .before .before .before .before .before .clear .last .0) (a .r)) (front-kept _ v _ (short s) (h .kept .1 .1 .0) ∙ w) ∙ ap (λ (x : List Float). combinedTo (a .k) (sharpOf y (a .r)) (a .q .now) x (a .r)) z in
+    correction-on (a .k) (a .m) (a .r) (valueAt (rowsIn (a .xs .now) (a .e))) (a .q .now) (a .coefficients .now) (a .dependent .now) (a .order .now) y (k .least-squares .result) (c .before .before .before .before .before .before .before .before .before .before .before .before .before .before .before .before .before .before .before .before .before .before .before .before .coefficient-rows .ensures) (c .before .before .before .before .before .before .before .before .before .before .before .before .before .before .before .before .before .before .before .before .before .sides .ensures) (solved k) (c .before .before .before .before .before .before .before .before .before .before .before .before .before .enum-told .given .1) d
 
 returns-2 : tie.Need-returns-2
-unfolding correctionOf
 returns-2 c =
-    let e = rw (c .before .refusal .given .1) at (solved (c .before .before .before .before)) in
-    rw (← c .before .before .before .before .before .before .before .before .before .before .before .before .coefficient-rows .ensures, ← c .before .before .before .before .before .before .before .before .before .sides .ensures) (sym (bind-refused _ (sym e)))
+    let a = c .before .before .before .before .before .before .before .before .before .before .before .before .before .before .before .before .before .before .before .before .args in
+    let k = c .before .before .before .before in
+    correction-refused (a .k) (a .m) (a .r) (valueAt (rowsIn (a .xs .now) (a .e))) (a .q .now) (a .coefficients .now) (a .dependent .now) (a .order .now) (k .least-squares .last .1 .1 .1 .1 .0) (k .least-squares .result) (c .before .before .before .before .before .before .before .before .before .before .before .before .coefficient-rows .ensures) (c .before .before .before .before .before .before .before .before .before .sides .ensures) (solved k) (c .before .refusal .given .1)
 
 pub correction-spec : {M : Type 1} → statement M
 correction-spec =
