@@ -217,11 +217,17 @@ fn add_row(
             unit(&v, 0, length, k, q, 12 * r);
             put(coefficients, 12 * r + r, length);
             match gram_row(k, r, q, gram) {
-                Done::Finished => Rank::Of(r + 1),
-                Done::Refused(e) => Rank::Refused(e),
+                Done::Finished => {
+                    return Rank::Of(r + 1);
+                }
+                Done::Refused(e) => {
+                    return Rank::Refused(e);
+                }
             }
         }
-        Answer::Refused(e) => Rank::Refused(e),
+        Answer::Refused(e) => {
+            return Rank::Refused(e);
+        }
     }
 }
 
@@ -283,9 +289,11 @@ fn next_row(
             let d = i - r;
             order[12 + d] = i;
             chosen_at(r, &a, dependent, 12 * d);
-            Rank::Of(r)
+            return Rank::Of(r);
         }
-        Answer::Refused(e) => Rank::Refused(e),
+        Answer::Refused(e) => {
+            return Rank::Refused(e);
+        }
     }
 }
 
@@ -398,9 +406,11 @@ pub fn correction(
             linear::sharp(r, &y[..w], &mut weights[..w]);
             clear(delta);
             combine(k, &weights[..w], q, delta, r);
-            Done::Finished
+            return Done::Finished;
         }
-        Done::Refused(refusal) => Done::Refused(refusal),
+        Done::Refused(refusal) => {
+            return Done::Refused(refusal);
+        }
     }
 }
 

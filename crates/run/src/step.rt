@@ -102,10 +102,14 @@ fn free_step(
             if finite_pull(k, h, g, delta, &mut p) {
                 return multiplied(multipliers(k, r, frame, order, &p, lambda), r);
             }
-            StepEnd::NotPositive
+            return StepEnd::NotPositive;
         }
-        Along::NotPositive => StepEnd::NotPositive,
-        Along::Refused(e) => StepEnd::Refused(e),
+        Along::NotPositive => {
+            return StepEnd::NotPositive;
+        }
+        Along::Refused(e) => {
+            return StepEnd::Refused(e);
+        }
     }
 }
 
@@ -143,10 +147,16 @@ fn prepare_free(
         &mut frame[CORRECTION..DIRECTIONS],
     ) {
         Done::Finished => match free_directions(k, r, q, &mut frame[DIRECTIONS..FRAME], &mut left) {
-            Found::Of(count) => Prepared::Ready(r, count),
-            Found::Refused(e) => Prepared::Refused(e),
+            Found::Of(count) => {
+                return Prepared::Ready(r, count);
+            }
+            Found::Refused(e) => {
+                return Prepared::Refused(e);
+            }
         },
-        Done::Refused(e) => Prepared::Refused(e),
+        Done::Refused(e) => {
+            return Prepared::Refused(e);
+        }
     }
 }
 
@@ -179,8 +189,12 @@ fn prepare_kept(
         &mut dependent,
         order,
     ) {
-        Rank::Of(r) => { prepare_free(k, m, r, &q, &coefficients, &dependent, order, xs, c, frame) }
-        Rank::Refused(e) => Prepared::Refused(e),
+        Rank::Of(r) => {
+            return prepare_free(k, m, r, &q, &coefficients, &dependent, order, xs, c, frame);
+        }
+        Rank::Refused(e) => {
+            return Prepared::Refused(e);
+        }
     }
 }
 

@@ -65,14 +65,8 @@ gram-row-requires c κs = omega (arith, (c .before .before .before .before .befo
 enum-told : tie.Need-enum-told
 enum-told c = search needs
 
-add-t44 : tie.Need-add-t44
-add-t44 c = omega (arith, (c .before .before .before .before .before .before .before .before .before .before .before .before .before .before .before .before .before .before .before .before .before .before .before .before .before .before .before .before .before .before .before .before .before .before .before .before .before) .pre .1 .0, (c .before .before .before .before .before .before .before .before .before .before .before .before .before .before .before .before .before .before .before .before .before .before .before .before .before .before .before .before .before .before .before .before .before .before .before .before .before) .pre .1 .1 .0)
-
-enum-known-e : tie.Need-enum-known-e
-enum-known-e c = search needs
-
-enum-known-e-2 : tie.Need-enum-known-e-2
-enum-known-e-2 c = search needs
+add-t42 : tie.Need-add-t42
+add-t42 c = omega (arith, (c .before .before .before .before .before .before .before .before .before .before .before .before .before .before .before .before .before .before .before .before .before .before .before .before .before .before .before .before .before .before .before .before .before .before .before .before .before) .pre .1 .0, (c .before .before .before .before .before .before .before .before .before .before .before .before .before .before .before .before .before .before .before .before .before .before .before .before .before .before .before .before .before .before .before .before .before .before .before .before .before) .pre .1 .1 .0)
 
 same-length : tie.Need-same-length
 same-length c = search needs
@@ -95,6 +89,9 @@ returns c =
     let g = c .before .before .before .before .gram-row in
     λ w. rw (c .enum-told .given .1) at (new-added (a .k) (a .r) (a .i) (a .jc .now) (a .q .now) (a .gram .now) (a .coefficients .now) w (a .order .now) (c .before .before .before .before .before .before .before .before .before .before .before .before .before .before .before .before .before .before .before .before .before .before .before .before .before .before .before .before .before .before .row-of .last .1 .1 .1 .0) (p .last .1 .1 .1 .0) (p .last .1 .1 .1 .1 .0) (k .result) (c .before .before .before .before .before .before .before .before .before .before .before .before .before .before .before .before .before .before .before .before .before .before .before .before .before .before .before .before .before .before .row-of .ensures) (p .ensures) (k .ensures) (g .last .1 .1 .1 .0) (g .result) (c .before .before .before .before .before .before .before .before .before .before .before .before .before .before .before .before .before .before .l .given .1) (c .before .before .before .before .before .before .before .before .before .before .before .before .before .before .before .before .sharpen .ensures) (c .before .before .before .before .before .before .before .before .before .before .before .before .before .unit .ensures) (c .before .before .before .before .before .before .before .before .before .put .ensures) (g .ensures))
 
+enum-known-e : tie.Need-enum-known-e
+enum-known-e c = search needs
+
 same-length-5 : tie.Need-same-length-5
 same-length-5 c = search needs
 
@@ -115,6 +112,9 @@ returns-2 c =
     let k = c .before .before .before .before .before .before .before .before .before .before .before .before .before .before .before .before .before .before .before .before .before .norm-of in
     let g = c .before .before .before .before .before .gram-row in
     λ w. rw (c .before .e .given .1) at (new-added (a .k) (a .r) (a .i) (a .jc .now) (a .q .now) (a .gram .now) (a .coefficients .now) w (a .order .now) (c .before .before .before .before .before .before .before .before .before .before .before .before .before .before .before .before .before .before .before .before .before .before .before .before .before .before .before .before .before .before .before .row-of .last .1 .1 .1 .0) (p .last .1 .1 .1 .0) (p .last .1 .1 .1 .1 .0) (k .result) (c .before .before .before .before .before .before .before .before .before .before .before .before .before .before .before .before .before .before .before .before .before .before .before .before .before .before .before .before .before .before .before .row-of .ensures) (p .ensures) (k .ensures) (g .last .1 .1 .1 .0) (g .result) (c .before .before .before .before .before .before .before .before .before .before .before .before .before .before .before .before .before .before .before .l .given .1) (c .before .before .before .before .before .before .before .before .before .before .before .before .before .before .before .before .before .sharpen .ensures) (c .before .before .before .before .before .before .before .before .before .before .before .before .before .before .unit .ensures) (c .before .before .before .before .before .before .before .before .before .before .put .ensures) (g .ensures))
+
+enum-known-e-2 : tie.Need-enum-known-e-2
+enum-known-e-2 c = search needs
 
 same-length-9 : tie.Need-same-length-9
 same-length-9 c = search needs
@@ -155,19 +155,19 @@ add-row-spec =
     put-requires
     gram-row-requires
     enum-told
-    add-t44
-    enum-known-e
-    enum-known-e-2
+    add-t42
     same-length
     same-length-2
     same-length-3
     same-length-4
     returns
+    enum-known-e
     same-length-5
     same-length-6
     same-length-7
     same-length-8
     returns-2
+    enum-known-e-2
     same-length-9
     same-length-10
     same-length-11

@@ -123,9 +123,6 @@ slice-aggregate-combine c = sym (length-take-le _ _ (front-room _ (c .before .be
 combine-requires : tie.Need-combine-requires
 combine-requires c κs = let p = (c .before .before .before .before .before .before .before .before .before .before .before .before .before .before .before .before .before .before .before .before .before .before .before .before .before .before .before .before .before) .pre in (omega (arith, p .0), omega (arith, p .1 .1 .0))
 
-enum-known-refusal : tie.Need-enum-known-refusal
-enum-known-refusal c = search needs
-
 same-length : tie.Need-same-length
 same-length c = search needs
 
@@ -143,6 +140,9 @@ returns c =
     let z : c .before .before .before .before .before .before .before .clear .last .0 ≡ vector = c .before .before .before .before .before .before .before .clear .ensures ∙ ap zeros (p .1 .1 .1 .1) in
     let d = c .before .before .combine .ensures ∙ ap (λ (x : List Float). combinedTo (a .k) x (a .q .now) (c .before .before .before .before .before .before .before .clear .last .0) (a .r)) (front-kept _ v _ (short s) (h .kept .1 .1 .0) ∙ w) ∙ ap (λ (x : List Float). combinedTo (a .k) (sharpOf y (a .r)) (a .q .now) x (a .r)) z in
     correction-on (a .k) (a .m) (a .r) (valueAt (rowsIn (a .xs .now) (a .e))) (a .q .now) (a .coefficients .now) (a .dependent .now) (a .order .now) y (k .least-squares .result) (c .before .before .before .before .before .before .before .before .before .before .before .before .before .before .before .before .before .before .before .before .before .before .before .before .coefficient-rows .ensures) (c .before .before .before .before .before .before .before .before .before .before .before .before .before .before .before .before .before .before .before .before .before .sides .ensures) (solved k) (c .before .before .before .before .before .before .before .before .before .before .before .before .before .enum-told .given .1) d
+
+enum-known-refusal : tie.Need-enum-known-refusal
+enum-known-refusal c = search needs
 
 returns-2 : tie.Need-returns-2
 returns-2 c =
@@ -181,7 +181,7 @@ correction-spec =
     array-share-prefix-weights
     slice-aggregate-combine
     combine-requires
-    enum-known-refusal
     same-length
     returns
+    enum-known-refusal
     returns-2)

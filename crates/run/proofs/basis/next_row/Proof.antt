@@ -70,9 +70,6 @@ mul-chosen-at c = search needs
 chosen-at-requires : tie.Need-chosen-at-requires
 chosen-at-requires c κs = search needs
 
-enum-known-e : tie.Need-enum-known-e
-enum-known-e c = search needs
-
 same-length-5 : tie.Need-same-length-5
 same-length-5 c = search needs
 
@@ -96,6 +93,9 @@ returns-2 c =
     let l : length x ≡ 24 = k .kept .1 .1 .1 .1 .1 .1 .0 in
     let e = c .before .before .chosen-at .ensures ∙ fill-ext (a .dependent .now) (12 * d) (λ j. chooseOf (at x j)) (λ j. chooseOf (at (take (2 * a .r) x) j)) (a .r) (λ j h. ap chooseOf (sym (at-take x (a .r) j h (omega (arith, l, s .pre .1 .0, s .pre .1 .1 .0))))) in
     ap (λ z. ok (basisBy (a .r) (a .q .now) (a .gram .now) (a .coefficients .now) z (set (a .order .now) (12 + d) (a .i)))) e ∙ row-dependent (a .k) (a .r) (a .i) (a .wide .now) (a .jc .now) (a .q .now) (a .gram .now) (a .coefficients .now) (a .dependent .now) (a .order .now) (k .result) (take (2 * a .r) x) (k .ensures) (c .before .before .before .before .before .before .before .before .l .given .1) (c .before .before .before .before .before .before .definitely-greater .ensures) (c .before .before .before .before .before .if1 .left)
+
+enum-known-e : tie.Need-enum-known-e
+enum-known-e c = search needs
 
 same-length-9 : tie.Need-same-length-9
 same-length-9 c = search needs
@@ -130,12 +130,12 @@ next-row-spec =
     slice-aggregate-chosen-at
     mul-chosen-at
     chosen-at-requires
-    enum-known-e
     same-length-5
     same-length-6
     same-length-7
     same-length-8
     returns-2
+    enum-known-e
     same-length-9
     same-length-10
     returns-3)

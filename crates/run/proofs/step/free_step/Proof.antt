@@ -53,12 +53,6 @@ returns c =
     let m = c .before .before .before .multipliers .ensures ∙ multipliers-part (s .args .k) (s .args .r) (s .args .frame .now) _ (p .0) (p .1 .0) (omega (arith, p .1 .1 .1 .1 .0)) (s .args .order .now) ∙ multipliers-reads _ _ _ in
     c .multiplied .ensures _ _ ∙ stepped-on _ _ _ (e .0) (e .1) (c .before .before .before .before .before .before .if1 .taken) m ∙ free-step _ _ _ _ (rw (c .before .before .before .before .before .before .before .before .before .before .before .enum-told .given .1) at (c .before .before .before .before .before .before .before .before .before .before .before .before .before .before .before .free-part .ensures))
 
-enum-told-2 : tie.Need-enum-told-2
-enum-told-2 c = search needs
-
-enum-known-e : tie.Need-enum-known-e
-enum-known-e c = search needs
-
 same-length-3 : tie.Need-same-length-3
 same-length-3 c = search needs
 
@@ -68,12 +62,18 @@ returns-2 c =
     let e = c .before .before .finite-pull .ensures in
     stepped-not _ _ _ (e .0) (e .1) (c .if1 .left) ∙ free-step _ _ _ _ (rw (c .before .before .before .before .before .enum-told .given .1) at (c .before .before .before .before .before .before .before .before .before .free-part .ensures))
 
+enum-told-2 : tie.Need-enum-told-2
+enum-told-2 c = search needs
+
 same-length-4 : tie.Need-same-length-4
 same-length-4 c = search needs
 
 returns-3 : tie.Need-returns-3
 unfolding bind
 returns-3 c = free-step _ _ _ _ (rw (c .enum-told2 .given .1) at (c .before .before .before .before .free-part .ensures))
+
+enum-known-e : tie.Need-enum-known-e
+enum-known-e c = search needs
 
 same-length-5 : tie.Need-same-length-5
 same-length-5 c = search needs
@@ -99,11 +99,11 @@ free-step-spec =
     same-length
     same-length-2
     returns
-    enum-told-2
-    enum-known-e
     same-length-3
     returns-2
+    enum-told-2
     same-length-4
     returns-3
+    enum-known-e
     same-length-5
     returns-4)

@@ -64,12 +64,6 @@ free-directions-requires c κs = search needs
 enum-known-count : tie.Need-enum-known-count
 enum-known-count c = search needs
 
-enum-known-e : tie.Need-enum-known-e
-enum-known-e c = search needs
-
-enum-known-e-2 : tie.Need-enum-known-e-2
-enum-known-e-2 c = search needs
-
 same-length : tie.Need-same-length
 same-length c = search needs
 
@@ -91,12 +85,18 @@ returns c =
       record { independent = p .1 .1 .0; free = omega (arith, directions-few _ _ _ d, p .0) },
     )
 
+enum-known-e : tie.Need-enum-known-e
+enum-known-e c = search needs
+
 same-length-2 : tie.Need-same-length-2
 same-length-2 c = search needs
 
 returns-2 : tie.Need-returns-2
 returns-2 c =
     ((λ h g. based-on _ _ (rw (c .before .before .before .before .before .before .before .before .before .enum-told .given .1) at (c .before .before .before .before .before .before .before .before .before .before .before .before .before .correction .ensures) ∙ correction-reads _ _) (corrected-refused _ _ _ (rw (c .before .e .given .1) at (c .before .before .before .before .before .before .free-directions .ensures)))), record { independent = omega arith; free = omega arith })
+
+enum-known-e-2 : tie.Need-enum-known-e-2
+enum-known-e-2 c = search needs
 
 same-length-3 : tie.Need-same-length-3
 same-length-3 c = search needs
@@ -121,11 +121,11 @@ prepare-free-spec =
     slice-aggregate-free-directions
     free-directions-requires
     enum-known-count
-    enum-known-e
-    enum-known-e-2
     same-length
     returns
+    enum-known-e
     same-length-2
     returns-2
+    enum-known-e-2
     same-length-3
     returns-3)

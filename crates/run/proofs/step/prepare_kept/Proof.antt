@@ -46,9 +46,6 @@ prepare-free-requires c κs =
     let b = c .before .before .before .before .before .before .before .before .before .before .before .before .before .before .basis in
     (p .0, (p .1 .0, (omega (arith, rw (c .before .before .before .before .before .before .r .given .1) at (rank-bound _ _ _ _ _ _ (b .result) (b .ensures)), p .1 .0), (b .kept .1 .1 .1 .1 .0, (b .kept .1 .1 .1 .1 .1 .1 .0, (b .kept .1 .1 .1 .1 .1 .1 .1 .1 .0 ∙ ap length (p .1 .1 .0), p .1 .1 .1))))))
 
-enum-known-e : tie.Need-enum-known-e
-enum-known-e c = search needs
-
 same-length : tie.Need-same-length
 same-length c = search needs
 
@@ -60,6 +57,9 @@ returns c =
     let b = c .before .before .before .before .before .before .before .before .before .before .before .before .before .before .before .before .before .basis in
     let f = c .before .before .prepare-free in
     ((λ h g. kept-on _ _ _ _ _ _ (b .result) (b .ensures) (c .before .before .before .before .before .before .before .before .before .r .given .1) (f .ensures .0 h g)), f .ensures .1)
+
+enum-known-e : tie.Need-enum-known-e
+enum-known-e c = search needs
 
 same-length-3 : tie.Need-same-length-3
 same-length-3 c = search needs
@@ -83,9 +83,9 @@ prepare-kept-spec =
     slice-aggregate-prepare-free-2
     slice-aggregate-prepare-free-3
     prepare-free-requires
-    enum-known-e
     same-length
     same-length-2
     returns
+    enum-known-e
     same-length-3
     returns-2)
