@@ -3,7 +3,7 @@ use mathlib.Core.Path.{_≡_, _∙_}
 use native.Mathlib.Omega.{arith}
 use lib.Ieee.{ofBits}
 use lib.ListN.{length}
-use Rattle.run.proofs.BasisLaws.{new-refused, new-added}
+use Rattle.run.proofs.BasisLaws.{new-refused, new-finished, new-stopped}
 use borrow.Author.Needs.{needs}
 use Rattle.run.proofs.basis.add_row.Statement.{statement}
 use Rattle.run.proofs.basis.add_row.Tie as tie
@@ -87,7 +87,7 @@ returns c =
     let p = c .before .before .before .before .before .before .before .before .before .before .before .before .before .before .before .before .before .before .before .before .before .before .before .before .before .parts-out in
     let k = c .before .before .before .before .before .before .before .before .before .before .before .before .before .before .before .before .before .before .before .before .norm-of in
     let g = c .before .before .before .before .gram-row in
-    λ w. rw (c .enum-told .given .1) at (new-added (a .k) (a .r) (a .i) (a .jc .now) (a .q .now) (a .gram .now) (a .coefficients .now) w (a .order .now) (c .before .before .before .before .before .before .before .before .before .before .before .before .before .before .before .before .before .before .before .before .before .before .before .before .before .before .before .before .before .before .row-of .last .1 .1 .1 .0) (p .last .1 .1 .1 .0) (p .last .1 .1 .1 .1 .0) (k .result) (c .before .before .before .before .before .before .before .before .before .before .before .before .before .before .before .before .before .before .before .before .before .before .before .before .before .before .before .before .before .before .row-of .ensures) (p .ensures) (k .ensures) (g .last .1 .1 .1 .0) (g .result) (c .before .before .before .before .before .before .before .before .before .before .before .before .before .before .before .before .before .before .l .given .1) (c .before .before .before .before .before .before .before .before .before .before .before .before .before .before .before .before .sharpen .ensures) (c .before .before .before .before .before .before .before .before .before .before .before .before .before .unit .ensures) (c .before .before .before .before .before .before .before .before .before .put .ensures) (g .ensures))
+    λ w. new-finished (a .k) (a .r) (a .i) (a .jc .now) (a .q .now) (a .gram .now) (a .coefficients .now) w (a .order .now) (c .before .before .before .before .before .before .before .before .before .before .before .before .before .before .before .before .before .before .before .before .before .before .before .before .before .before .before .before .before .before .row-of .last .1 .1 .1 .0) (p .last .1 .1 .1 .0) (p .last .1 .1 .1 .1 .0) (k .result) (c .before .before .before .before .before .before .before .before .before .before .before .before .before .before .before .before .before .before .before .before .before .before .before .before .before .before .before .before .before .before .row-of .ensures) (p .ensures) (k .ensures) (g .last .1 .1 .1 .0) (g .result) (c .before .before .before .before .before .before .before .before .before .before .before .before .before .before .before .before .before .before .l .given .1) (c .before .before .before .before .before .before .before .before .before .before .before .before .before .before .before .before .sharpen .ensures) (c .before .before .before .before .before .before .before .before .before .before .before .before .before .unit .ensures) (c .before .before .before .before .before .before .before .before .before .put .ensures) (g .ensures) (c .enum-told .given .1)
 
 enum-known-e : tie.Need-enum-known-e
 enum-known-e c = search needs
@@ -111,7 +111,7 @@ returns-2 c =
     let p = c .before .before .before .before .before .before .before .before .before .before .before .before .before .before .before .before .before .before .before .before .before .before .before .before .before .before .parts-out in
     let k = c .before .before .before .before .before .before .before .before .before .before .before .before .before .before .before .before .before .before .before .before .before .norm-of in
     let g = c .before .before .before .before .before .gram-row in
-    λ w. rw (c .before .e .given .1) at (new-added (a .k) (a .r) (a .i) (a .jc .now) (a .q .now) (a .gram .now) (a .coefficients .now) w (a .order .now) (c .before .before .before .before .before .before .before .before .before .before .before .before .before .before .before .before .before .before .before .before .before .before .before .before .before .before .before .before .before .before .before .row-of .last .1 .1 .1 .0) (p .last .1 .1 .1 .0) (p .last .1 .1 .1 .1 .0) (k .result) (c .before .before .before .before .before .before .before .before .before .before .before .before .before .before .before .before .before .before .before .before .before .before .before .before .before .before .before .before .before .before .before .row-of .ensures) (p .ensures) (k .ensures) (g .last .1 .1 .1 .0) (g .result) (c .before .before .before .before .before .before .before .before .before .before .before .before .before .before .before .before .before .before .before .l .given .1) (c .before .before .before .before .before .before .before .before .before .before .before .before .before .before .before .before .before .sharpen .ensures) (c .before .before .before .before .before .before .before .before .before .before .before .before .before .before .unit .ensures) (c .before .before .before .before .before .before .before .before .before .before .put .ensures) (g .ensures))
+    λ w. new-stopped (a .k) (a .r) (a .i) (a .jc .now) (a .q .now) (a .gram .now) (a .coefficients .now) w (a .order .now) (c .before .before .before .before .before .before .before .before .before .before .before .before .before .before .before .before .before .before .before .before .before .before .before .before .before .before .before .before .before .before .before .row-of .last .1 .1 .1 .0) (p .last .1 .1 .1 .0) (p .last .1 .1 .1 .1 .0) (k .result) (c .before .before .before .before .before .before .before .before .before .before .before .before .before .before .before .before .before .before .before .before .before .before .before .before .before .before .before .before .before .before .before .row-of .ensures) (p .ensures) (k .ensures) (g .last .1 .1 .1 .0) (g .result) (c .before .before .before .before .before .before .before .before .before .before .before .before .before .before .before .before .before .before .before .l .given .1) (c .before .before .before .before .before .before .before .before .before .before .before .before .before .before .before .before .before .sharpen .ensures) (c .before .before .before .before .before .before .before .before .before .before .before .before .before .before .unit .ensures) (c .before .before .before .before .before .before .before .before .before .before .put .ensures) (g .ensures) (c .before .e .given .1)
 
 enum-known-e-2 : tie.Need-enum-known-e-2
 enum-known-e-2 c = search needs
