@@ -3,11 +3,14 @@ use Prim.Native.Nat.{ℕ, _+_, _*_, _<_, _≤_}
 use mathlib.Core.Bool.{Bool, true, false}
 use mathlib.Core.Logic.{⊎-elim}
 use mathlib.Core.Path.{_≡_, refl, ap, _∙_}
-use mathlib.Core.List.{List}
+use mathlib.Core.List.{List, [], _∷_}
 use native.Mathlib.Nat.{le-refl, mul-le-mul, not-suc-le-zero, eq-or-lt-of-le}
 use native.Mathlib.Omega.{arith}
 use borrow.Author.Tests.{leb-true, eqb-true}
+use denote.Enum.Declared.{tagOf}
+use types.Run.{OneOf}
 use lib.Dec.{leb, eqb}
+use lib.Ieee.{Float}
 use lib.ListN.{length, getD, set}
 use lib.Seq.{getD-set-same, getD-set-other, ext-getD}
 use Rattle.interval.specs.Result.{Res, ok, refused}
@@ -15,7 +18,11 @@ use Rattle.interval.proofs.Results.{refused-ok}
 use Rattle.linear.specs.Replies.{checkedValue}
 use Rattle.linear.specs.Results.{bind}
 use Rattle.run.specs.Rows.{rowNumbers}
-use Rattle.run.specs.Pieces.{sizedOf, wantsOf}
+use Rattle.run.specs.Pieces.{sizedOf, wantsOf, stepReplied, stepReplyOf}
+use Rattle.run.specs.Step.{endOf}
+use Rattle.run.specs.declared.step.StepEnd.{StepEnd}
+use Rattle.run.specs.declared.step.StepEnd.the-variants as s
+use Rattle.run.proofs.step.StepEnd.{the-type}
 
 -- the scalars of an answer
 pub answer-small : {n m s : ℕ} → n ≤ 12 → m ≤ 12 → s ≤ 24 → (m + s) * (n + 1) ≤ 468
@@ -56,6 +63,19 @@ pub wants-ok : (count wanted : ℕ) (r : Res (Unit {0})) → wantsOf r count wan
 unfolding wantsOf bind
 wants-ok count wanted (ok _) e = (refl, eqb-true _ _ (checked-ok (eqb count wanted) 2 (ok tt) e .0))
 wants-ok count wanted (refused k) e = absurd (refused-ok e)
+
+-- of the rows and two counts
+pub fits-ok : {n m s count a wa b wb : ℕ} → wantsOf (wantsOf (sizedOf n m s count) a wa) b wb ≡ ok tt → Sized n m s count × ((a ≡ wa) × (b ≡ wb))
+fits-ok e =
+    let p = wants-ok _ _ _ e in
+    let q = wants-ok _ _ _ (p .0) in
+    (sized-ok (q .0), (q .1, p .1))
+
+-- an end that is not the first variant: no step, so both slices are as cleared
+pub not-found : (end : StepEnd) (delta lambda x y : List Float) → OneOf (1 ∷ (2 ∷ [])) (tagOf the-type end) → stepReplied end x y ≡ stepReplyOf x y (endOf end delta lambda)
+not-found (s.Found r) delta lambda x y k = absurd (⊎-elim (λ e. omega (arith, e)) (λ e. omega (arith, e)) k)
+not-found s.NotPositive delta lambda x y k = refl
+not-found (s.Refused e) delta lambda x y k = refl
 
 -- a loop that copies marks
 abbrev pub Copied : List Bool → ℕ → List Bool → Type 0

@@ -74,6 +74,22 @@ fn wants(before: Done, count: usize, wanted: usize) -> Done
     }
 }
 
+// The counts and the rows, then two further counts.
+fn fits(
+    n: usize,
+    m: usize,
+    s: usize,
+    xs: &[f64],
+    a: usize,
+    wanted_a: usize,
+    b: usize,
+    wanted_b: usize,
+) -> Done
+    ensures { λ r. ⌜ doneOf r tt ≡ wantsOf (wantsOf (sizedOf n m s (length (now (xs .entry)))) a «wanted_a») b «wanted_b» ⌝ }
+{
+    wants(wants(sized(n, m, s, xs.len()), a, wanted_a), b, wanted_b)
+}
+
 fn reach(n: usize, d: usize) -> usize
     ensures { λ r. ⌜ r ≡ reachOf n d ⌝ }
 {
@@ -87,11 +103,13 @@ fn reach(n: usize, d: usize) -> usize
 pub fn squared(n: usize, m: usize, s: usize, xs: &[f64], delta: &[f64], d: usize) -> Answer
     ensures { λ r. ⌜ resultOf r ≡ squaredReply n m s (now (xs .entry)) (now (delta .entry)) d ⌝ }
 {
-    let fit = wants(sized(n, m, s, xs.len()), delta.len(), 24);
-    match wants(fit, d, reach(n, d)) {
-        Done::Finished => Answer::Value(rows::squared(xs, rows::sum(n, m, s), delta, d)),
-        Done::Refused(e) => Answer::Refused(e),
+    match fits(n, m, s, xs, delta.len(), 24, d, reach(n, d)) {
+        Done::Refused(e) => {
+            return Answer::Refused(e);
+        }
+        Done::Finished => {}
     }
+    Answer::Value(rows::squared(xs, rows::sum(n, m, s), delta, d))
 }
 
 // The violation that a step leads to, to first order.
@@ -99,9 +117,12 @@ pub fn predicted(n: usize, m: usize, s: usize, xs: &[f64], delta: &[f64]) -> Ans
     ensures { λ r. ⌜ resultOf r ≡ predictedReply n m s (now (xs .entry)) (now (delta .entry)) ⌝ }
 {
     match wants(sized(n, m, s, xs.len()), delta.len(), 24) {
-        Done::Finished => rows::predicted(xs, n, m, delta),
-        Done::Refused(e) => Answer::Refused(e),
+        Done::Refused(e) => {
+            return Answer::Refused(e);
+        }
+        Done::Finished => {}
     }
+    rows::predicted(xs, n, m, delta)
 }
 
 fn transposed_into(n: usize, m: usize, s: usize, xs: &[f64], w: &[f64], out: &mut [f64])
@@ -118,13 +139,12 @@ fn transposed_into(n: usize, m: usize, s: usize, xs: &[f64], w: &[f64], out: &mu
 pub fn transposed(n: usize, m: usize, s: usize, xs: &[f64], w: &[f64], out: &mut [f64]) -> Done
     ensures { λ r. ⌜ replied r (now (out .exit)) ≡ transposedReply n m s (now (xs .entry)) (now (w .entry)) (now (out .entry)) ⌝ }
 {
-    match wants(wants(sized(n, m, s, xs.len()), w.len(), 48), out.len(), 24) {
-        Done::Finished => {
-            transposed_into(n, m, s, xs, w, out);
-            Done::Finished
-        }
-        Done::Refused(e) => Done::Refused(e),
-    }
+    let fit = fits(n, m, s, xs, w.len(), 48, out.len(), 24);
+    let Done::Finished = fit else {
+        return fit;
+    };
+    transposed_into(n, m, s, xs, w, out);
+    fit
 }
 
 fn copy(from: &[bool], to: &mut [bool])
@@ -140,14 +160,13 @@ fn copy(from: &[bool], to: &mut [bool])
 pub fn moving(n: usize, m: usize, s: usize, xs: &[f64], marks: &mut [bool]) -> Done
     ensures { λ r. ⌜ replied r (now (marks .exit)) ≡ movingReply n m s (now (xs .entry)) (now (marks .entry)) ⌝ }
 {
-    match wants(sized(n, m, s, xs.len()), marks.len(), 12) {
-        Done::Finished => {
-            let found = rows::moving(xs, n, m, s);
-            copy(&found, marks);
-            Done::Finished
-        }
-        Done::Refused(e) => Done::Refused(e),
-    }
+    let fit = wants(sized(n, m, s, xs.len()), marks.len(), 12);
+    let Done::Finished = fit else {
+        return fit;
+    };
+    let found = rows::moving(xs, n, m, s);
+    copy(&found, marks);
+    fit
 }
 
 // How a step fares, from the rows xs with violation theta to the rows `next`, against the first pairs of the filter: at most 200 pairs, of 800 numbers.
@@ -168,11 +187,14 @@ pub fn judge(
     if count > 200 {
         return Judgement::Refused(LinearError::TooMany);
     }
-    let fit = wants(sized(n, m, s, xs.len()), next.len(), xs.len());
-    match wants(wants(fit, filter.len(), 800), step.len(), 24) {
-        Done::Finished => judged::judge(n, m, s, xs, next, theta, filter, count, last, step),
-        Done::Refused(e) => Judgement::Refused(e),
+    let fit = fits(n, m, s, xs, next.len(), xs.len(), filter.len(), 800);
+    match wants(fit, step.len(), 24) {
+        Done::Refused(e) => {
+            return Judgement::Refused(e);
+        }
+        Done::Finished => {}
     }
+    judged::judge(n, m, s, xs, next, theta, filter, count, last, step)
 }
 
 // Whether the model expects the step to lower the sum or the violation, from f and theta: 288 numbers of curvature.
@@ -188,37 +210,24 @@ pub fn expects(
 ) -> Expected
     ensures { λ r. ⌜ expectedResult r ≡ expectsReply n m s (now (xs .entry)) (now (b .entry)) f theta (now (delta .entry)) ⌝ }
 {
-    match wants(
-        wants(sized(n, m, s, xs.len()), b.len(), 288),
-        delta.len(),
-        24,
-    ) {
-        Done::Finished => proposal::expects(n, m, s, xs, b, f, theta, delta),
-        Done::Refused(e) => Expected::Refused(e),
+    match fits(n, m, s, xs, b.len(), 288, delta.len(), 24) {
+        Done::Refused(e) => {
+            return Expected::Refused(e);
+        }
+        Done::Finished => {}
     }
+    proposal::expects(n, m, s, xs, b, f, theta, delta)
 }
 
 // Clears what was written of a piece that was refused.
 fn cleared(d: Done, x: &mut [f64]) -> Done
     ensures { λ r. ⌜ replied r (now (x .exit)) ≡ replyOf (zeros (length (now (x .entry)))) (doneOf d (now (x .entry))) ⌝ }
 {
-    match d {
-        Done::Finished => Done::Finished,
-        Done::Refused(e) => {
-            clear(x);
-            Done::Refused(e)
-        }
-    }
-}
-
-fn along_sized(n: usize, m: usize, xs: &[f64], v: &[f64], out: &mut [f64]) -> Done
-    requires { ⌜ (n ≤ 12) × ((m ≤ 12) × (length (now v) ≡ 24)) ⌝ }
-    ensures { λ r. ⌜ replied r (now (out .exit)) ≡ checked (eqb (length (now (out .entry))) (2 * n)) 2 (now (out .entry)) (replyOf (zeros (2 * n)) (alongOf (constraintsOf n m (now (xs .entry))) (now (v .entry)))) ⌝ }
-{
-    if out.len() != 2 * n {
-        return Done::Refused(LinearError::WrongLength);
-    }
-    cleared(curvature::along_constraints(n, m, xs, v, out), out)
+    let Done::Refused(_) = d else {
+        return d;
+    };
+    clear(x);
+    d
 }
 
 // `cut`, of at most 12 variables.
@@ -260,24 +269,25 @@ pub fn cut(n: usize, radius: Scalar, delta: &mut [f64]) -> Done
 pub fn along(n: usize, m: usize, s: usize, xs: &[f64], v: &[f64], out: &mut [f64]) -> Done
     ensures { λ r. ⌜ replied r (now (out .exit)) ≡ alongReply n m s (now (xs .entry)) (now (v .entry)) (now (out .entry)) ⌝ }
 {
-    match wants(sized(n, m, s, xs.len()), v.len(), 24) {
-        Done::Finished => along_sized(n, m, xs, v, out),
-        Done::Refused(e) => Done::Refused(e),
+    let fit = wants(sized(n, m, s, xs.len()), v.len(), 24);
+    let Done::Finished = fit else {
+        return fit;
+    };
+    if out.len() != 2 * n {
+        return Done::Refused(LinearError::WrongLength);
     }
+    cleared(curvature::along_constraints(n, m, xs, v, out), out)
 }
 
 // The shortest move that meets the linearized constraints, among the variables that move: 12 marks, 24 numbers in d.
 pub fn shift(n: usize, m: usize, s: usize, xs: &[f64], moving: &[bool], d: &mut [f64]) -> Done
     ensures { λ r. ⌜ replied r (now (d .exit)) ≡ shiftReply n m s (now (xs .entry)) (now (moving .entry)) (now (d .entry)) ⌝ }
 {
-    match wants(
-        wants(sized(n, m, s, xs.len()), moving.len(), 12),
-        d.len(),
-        24,
-    ) {
-        Done::Finished => cleared(correction::shift(n, m, xs, moving, d), d),
-        Done::Refused(e) => Done::Refused(e),
-    }
+    let fit = fits(n, m, s, xs, moving.len(), 12, d.len(), 24);
+    let Done::Finished = fit else {
+        return fit;
+    };
+    cleared(correction::shift(n, m, xs, moving, d), d)
 }
 
 // The curvature b, updated from the step between two points with their rows: 288 numbers in b, 24 in step and lambda.
@@ -293,37 +303,15 @@ pub fn update_curvature(
 ) -> Done
     ensures { λ r. ⌜ replied r (now (b .exit)) ≡ updateReply n m s (now (b .entry)) (now (step .entry)) (now (xs .entry)) (now (next .entry)) (now (lambda .entry)) ⌝ }
 {
-    let fit = wants(sized(n, m, s, xs.len()), next.len(), xs.len());
-    match wants(
-        wants(wants(fit, b.len(), 288), step.len(), 24),
-        lambda.len(),
-        24,
-    ) {
-        Done::Finished => cleared(
-            curvature::update_curvature(n, m, s, b, step, xs, next, lambda),
-            b,
-        ),
-        Done::Refused(e) => Done::Refused(e),
-    }
-}
-
-// Clears both slices where there is no step.
-fn step_cleared(end: StepEnd, delta: &mut [f64], lambda: &mut [f64]) -> StepEnd
-    ensures { λ r. ⌜ stepReplied r (now (delta .exit)) (now (lambda .exit)) ≡ stepReplyOf (zeros (length (now (delta .entry)))) (zeros (length (now (lambda .entry)))) (endOf end (now (delta .entry)) (now (lambda .entry))) ⌝ }
-{
-    match end {
-        StepEnd::Found(r) => StepEnd::Found(r),
-        StepEnd::NotPositive => {
-            clear(delta);
-            clear(lambda);
-            StepEnd::NotPositive
-        }
-        StepEnd::Refused(e) => {
-            clear(delta);
-            clear(lambda);
-            StepEnd::Refused(e)
-        }
-    }
+    let rows = fits(n, m, s, xs, next.len(), xs.len(), b.len(), 288);
+    let fit = wants(wants(rows, step.len(), 24), lambda.len(), 24);
+    let Done::Finished = fit else {
+        return fit;
+    };
+    cleared(
+        curvature::update_curvature(n, m, s, b, step, xs, next, lambda),
+        b,
+    )
 }
 
 // The step of the problem linearized at the rows, with curvature b and damping mu, and its multipliers: 288 numbers in b, 12 marks, 24 numbers in delta and lambda, which are +0 where there is none.
@@ -340,19 +328,20 @@ pub fn step_at(
 ) -> StepEnd
     ensures { λ r. ⌜ stepReplied r (now (delta .exit)) (now (lambda .exit)) ≡ stepReply n m s (now (xs .entry)) (now (b .entry)) (now (moving .entry)) mu (now (delta .entry)) (now (lambda .entry)) ⌝ }
 {
-    let fit = wants(
-        wants(sized(n, m, s, xs.len()), b.len(), 288),
-        moving.len(),
-        12,
-    );
-    match wants(wants(fit, delta.len(), 24), lambda.len(), 24) {
-        Done::Finished => step_cleared(
-            step::step(n, m, s, xs, b, moving, mu, delta, lambda),
-            delta,
-            lambda,
-        ),
-        Done::Refused(e) => StepEnd::Refused(e),
+    let rows = fits(n, m, s, xs, b.len(), 288, moving.len(), 12);
+    match wants(wants(rows, delta.len(), 24), lambda.len(), 24) {
+        Done::Refused(e) => {
+            return StepEnd::Refused(e);
+        }
+        Done::Finished => {}
     }
+    let end = step::step(n, m, s, xs, b, moving, mu, delta, lambda);
+    if let StepEnd::Found(_) = end {
+        return end;
+    }
+    clear(delta);
+    clear(lambda);
+    end
 }
 
 // Whether any of the curvature's first n rows of n was learned: 288 numbers.

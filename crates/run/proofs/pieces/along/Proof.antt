@@ -1,5 +1,9 @@
 -- `along` meets its contract: where the checks passed the counts and lengths fit.
-use mathlib.Core.Path.{sym, ap, _∙_}
+use Prim.Native.Nat.{_*_}
+use mathlib.Core.Path.{_≡_, sym, ap, _∙_}
+use native.Mathlib.Omega.{arith}
+use borrow.Author.Tests.{eq-eqb, ne-eqb}
+use lib.ListN.{length}
 use Rattle.linear.specs.Answers.{doneOf}
 use Rattle.run.specs.Pieces.{alongReply}
 use Rattle.run.proofs.PieceLaws.{sized-ok, wants-ok}
@@ -16,25 +20,40 @@ wants-requires c κs = search needs
 enum-told : tie.Need-enum-told
 enum-told c = search needs
 
-along-sized-requires : tie.Need-along-sized-requires
-along-sized-requires c κs =
-    let p = wants-ok _ _ _ (sym (c .before .before .before .wants .ensures) ∙ ap (λ d. doneOf d tt) (c .before .enum-told .given .1)) in
-    let z = sized-ok (sym (c .before .before .before .before .sized .ensures) ∙ p .0) in
-    (z .few-variables, (z .few-constraints, p .1))
+enum-told-2 : tie.Need-enum-told-2
+enum-told-2 c = search needs
 
-enum-known-e : tie.Need-enum-known-e
-enum-known-e c = search needs
+returns : tie.Need-returns
+unfolding alongReply
+returns c = rw (← c .before .before .before .sized .ensures, ← c .before .before .wants .ensures, c .enum-told2 .given .1)
+
+mul-if1 : tie.Need-mul-if1
+mul-if1 c =
+    let p = wants-ok _ _ _ (sym (c .before .before .wants .ensures) ∙ ap (λ d. doneOf d tt) (c .enum-told .given .1)) in
+    omega (arith, sized-ok (sym (c .before .before .before .sized .ensures) ∙ p .0) .few-variables)
+
+returns-2 : tie.Need-returns-2
+unfolding alongReply
+returns-2 c = rw (← c .before .before .before .before .sized .ensures, ← c .before .before .before .wants .ensures, c .before .enum-told .given .1, ne-eqb _ _ (c .if1 .taken))
+
+along-constraints-requires : tie.Need-along-constraints-requires
+along-constraints-requires c κs =
+    let p = wants-ok _ _ _ (sym (c .before .before .before .before .wants .ensures) ∙ ap (λ d. doneOf d tt) (c .before .before .enum-told .given .1)) in
+    let z = sized-ok (sym (c .before .before .before .before .before .sized .ensures) ∙ p .0) in
+    (z .few-variables, (z .few-constraints, (omega (arith, z .few-variables, p .1), c .before .if1 .left)))
+
+cleared-requires : tie.Need-cleared-requires
+cleared-requires c κs = search needs
 
 same-length : tie.Need-same-length
 same-length c = search needs
 
-returns : tie.Need-returns
+returns-3 : tie.Need-returns-3
 unfolding alongReply
-returns c = rw (← c .before .before .before .before .before .before .before .sized .ensures, ← c .before .before .before .before .before .before .wants .ensures, c .before .before .before .before .enum-told .given .1) (c .before .before .along-sized .ensures)
-
-returns-2 : tie.Need-returns-2
-unfolding alongReply
-returns-2 c = rw (← c .before .before .before .before .sized .ensures, ← c .before .before .before .wants .ensures, c .before .e .given .1)
+returns-3 c =
+    let k = c .before .before .before .before .before .before .along-constraints in
+    let size : length (k .last .1 .1 .1 .1 .0) ≡ 2 * c .before .before .before .before .before .before .before .before .before .before .before .before .before .before .before .before .args .n = omega (arith, k .kept, c .before .before .before .before .before .before .before .before .if1 .left) in
+    rw (← c .before .before .before .before .before .before .before .before .before .before .before .before .sized .ensures, ← c .before .before .before .before .before .before .before .before .before .before .before .wants .ensures, c .before .before .before .before .before .before .before .before .before .enum-told .given .1, eq-eqb _ _ (c .before .before .before .before .before .before .before .before .if1 .left), ← k .ensures) (rw size at (c .before .before .cleared .ensures))
 
 pub along-spec : {M : Type 1} → statement M
-along-spec = tie.close (tie.spec sized-requires wants-requires enum-told along-sized-requires enum-known-e same-length returns returns-2)
+along-spec = tie.close (tie.spec sized-requires wants-requires enum-told enum-told-2 returns mul-if1 returns-2 along-constraints-requires cleared-requires same-length returns-3)

@@ -16,6 +16,13 @@ wants-requires c κs = search needs
 enum-told : tie.Need-enum-told
 enum-told c = search needs
 
+enum-told-2 : tie.Need-enum-told-2
+enum-told-2 c = search needs
+
+returns : tie.Need-returns
+unfolding movingReply
+returns c = rw (← c .before .before .before .sized .ensures, ← c .before .before .wants .ensures, c .enum-told2 .given .1)
+
 moving-requires : tie.Need-moving-requires
 moving-requires c κs =
     let p = wants-ok _ _ _ (sym (c .before .before .wants .ensures) ∙ ap (λ d. doneOf d tt) (c .enum-told .given .1)) in
@@ -30,31 +37,12 @@ copy-requires c κs =
     let p = wants-ok _ _ _ (sym (c .before .before .before .before .before .wants .ensures) ∙ ap (λ d. doneOf d tt) (c .before .before .before .enum-told .given .1)) in
     (search needs, p .1)
 
-enum-known-e : tie.Need-enum-known-e
-enum-known-e c = search needs
-
 same-length : tie.Need-same-length
 same-length c = search needs
 
-returns : tie.Need-returns
-unfolding movingReply
-returns c = rw (← c .before .before .before .before .before .before .before .before .before .sized .ensures, ← c .before .before .before .before .before .before .before .before .wants .ensures, c .before .before .before .before .before .before .enum-told .given .1, c .before .before .copy .ensures, c .before .before .before .before .before .moving .ensures)
-
 returns-2 : tie.Need-returns-2
 unfolding movingReply
-returns-2 c = rw (← c .before .before .before .before .sized .ensures, ← c .before .before .before .wants .ensures, c .before .e .given .1)
+returns-2 c = rw (← c .before .before .before .before .before .before .before .before .before .sized .ensures, ← c .before .before .before .before .before .before .before .before .wants .ensures, c .before .before .before .before .before .before .enum-told .given .1, c .before .before .copy .ensures, c .before .before .before .before .before .moving .ensures)
 
 pub moving-spec : {M : Type 1} → statement M
-moving-spec =
-    tie.close
-    (tie.spec
-    sized-requires
-    wants-requires
-    enum-told
-    moving-requires
-    slice-aggregate-copy
-    copy-requires
-    enum-known-e
-    same-length
-    returns
-    returns-2)
+moving-spec = tie.close (tie.spec sized-requires wants-requires enum-told enum-told-2 returns moving-requires slice-aggregate-copy copy-requires same-length returns-2)

@@ -13,6 +13,13 @@ sized-requires c κs = search needs
 wants-requires : tie.Need-wants-requires
 wants-requires c κs = search needs
 
+enum-known-e : tie.Need-enum-known-e
+enum-known-e c = search needs
+
+returns : tie.Need-returns
+unfolding predictedReply
+returns c = rw (← c .before .before .before .before .sized .ensures, ← c .before .before .before .wants .ensures, c .before .e .given .1)
+
 enum-told : tie.Need-enum-told
 enum-told c = search needs
 
@@ -22,29 +29,9 @@ predicted-requires c κs =
     let z = sized-ok (sym (c .before .before .before .sized .ensures) ∙ p .0) in
     (z .few-variables, z .few-constraints)
 
-enum-known-e : tie.Need-enum-known-e
-enum-known-e c = search needs
-
-returns : tie.Need-returns
-unfolding predictedReply
-returns c =
-    let k = c .before .before .before in
-    rw (← k .before .sized .ensures, ← k .wants .ensures, c .before .enum-told .given .1) (c .predicted .ensures)
-
 returns-2 : tie.Need-returns-2
 unfolding predictedReply
-returns-2 c =
-    let k = c .before .before .before in
-    rw (← k .before .sized .ensures, ← k .wants .ensures, c .before .e .given .1)
+returns-2 c = rw (← c .before .before .before .before .sized .ensures, ← c .before .before .before .wants .ensures, c .before .enum-told .given .1) (c .predicted .ensures)
 
 pub predicted-spec : {M : Type 1} → statement M
-predicted-spec =
-    tie.close
-    (tie.spec
-    sized-requires
-    wants-requires
-    enum-told
-    predicted-requires
-    enum-known-e
-    returns
-    returns-2)
+predicted-spec = tie.close (tie.spec sized-requires wants-requires enum-known-e returns enum-told predicted-requires returns-2)
