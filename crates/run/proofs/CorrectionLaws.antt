@@ -2,22 +2,24 @@
 use Prim.Native.Nat.{ℕ, _*_, _/_, _%_, _≤_}
 use mathlib.Core.Bool.{Bool, true, false}
 use mathlib.Core.List.{List}
-use mathlib.Core.Path.{_≡_, refl, _∙_}
+use mathlib.Core.Path.{_≡_, refl, ap, _∙_}
 use native.Mathlib.Omega.{arith}
 use lib.Ieee.{Float}
 use lib.ListN.{length, getD, length-replicate}
 use Rattle.interval.specs.declared.Scalar.{Scalar}
 use Rattle.interval.specs.Result.{Res, ok}
-use Rattle.interval.specs.Scalar.{zeroS, zero64, pick}
+use Rattle.interval.specs.Scalar.{zeroS, zero64, pick, sharpen}
 use Rattle.linear.specs.Answers.{doneOf}
 use Rattle.linear.specs.Calls.{minusSolvedReply}
 use Rattle.linear.specs.Choose.{chooseOf}
-use Rattle.linear.specs.Flat.{zeros, listTo}
+use Rattle.linear.specs.Flat.{at, zeros, listTo}
 use Rattle.linear.specs.Replies.{replied}
+use Rattle.linear.specs.Results.{bind}
 use Rattle.linear.specs.Solved.{minusSolvedOf}
 use Rattle.linear.specs.declared.answers.Done.{Done}
+use Rattle.linear.specs.declared.answers.Done.the-variants as done
 use Rattle.linear.proofs.Lists.{length-listTo}
-use Rattle.run.specs.Scratch.{chosenOf, allFinite}
+use Rattle.run.specs.Scratch.{vector, fillTo, chosenOf, allFinite}
 use Rattle.run.specs.Rows.{constraintsOf, valueAt, slopeAt}
 use Rattle.run.specs.Proposal.{movedOf, sameOf}
 use Rattle.run.specs.Correction.{movingSlope, Shift, to, stay}
@@ -41,6 +43,13 @@ shift-solved n m moving xs jc c₀ c clear out r x hn hm lo lc ej ec ez e =
     let kc : length c ≡ 2 * m = rw w (length-listTo _ m) in
     let kz : length clear ≡ 2 * n = rw ez (length-replicate (2 * n) zero64) in
     rw (ej, w, ez) at (minus-solved-result r m n jc c clear out x (omega arith) (omega arith) kj kc kz lo e)
+
+-- what was solved for, sharpened, or its refusal
+pub shift-ends : (n : ℕ) (r : Done) (x : List Float) {d : List Float} {s : Res (List Float)}
+    → doneOf r x ≡ s → d ≡ fillTo vector 0 (λ i. sharpen (at x i)) n → doneOf r d ≡ bind s (λ y. ok (fillTo vector 0 (λ i. sharpen (at y i)) n))
+unfolding bind
+shift-ends n done.Finished x e ed = rw (← e) (ap ok ed)
+shift-ends n (done.Refused k) x e ed = rw (← e)
 
 -- where a shift d takes the landed point
 module _ (n : ℕ) (landed d : List Float) {t : Bool} (et : t ≡ allFinite d 12) where

@@ -19,6 +19,8 @@ use Rattle.linear.specs.Replies.{replied}
 use Rattle.linear.specs.Results.{bind}
 use Rattle.linear.specs.Solved.{minusSolvedOf}
 use Rattle.linear.specs.declared.answers.Done.{Done}
+use Rattle.linear.specs.declared.answers.Done.the-variants as done
+use Rattle.linear.specs.declared.answers.LinearError.{LinearError}
 use Rattle.linear.proofs.Lists.{length-listTo}
 use Rattle.run.specs.Scratch.{vector, fillTo, chosenOf}
 use Rattle.run.specs.Rows.{Rows, Evaluation, constraintsOf}
@@ -43,6 +45,11 @@ module _ (n m : ℕ) (xs v jc rhs out : List Float) (hn : n ≤ 12) (hm : m ≤ 
       let kj : length jc ≡ 2 * (m * n) = rw wj (length-listTo _ (m * n)) in
       let kr : length rhs ≡ 2 * m = rw wr (length-listTo _ m) in
       minus-solved-result r m n jc rhs (take (2 * n) v) out x (omega arith) (omega arith) kj kr (length-take-le _ _ hv) lo e ∙ along-lists wj wr
+
+-- a refusal handed on, whatever the slices hold
+pub handed-on : {r : Done} {k : LinearError} (x y : List Float) {s : Res (List Float)} (f : List Float → Res (List Float)) → r ≡ done.Refused k → doneOf r x ≡ s → doneOf r y ≡ bind s f
+unfolding bind
+handed-on x y f h e = rw (← e, h)
 
 pub turned-is : (n : ℕ) (e e′ : Evaluation) (lambda : List Float) {r₀ r y : List Float}
     → r₀ ≡ zeros 48 → r ≡ chosenOf r₀ (e′ .sum .list) (e′ .sum .values) (e′ .sum .count) → y ≡ fillTo vector 0 (turnedAt e e′ lambda r) n

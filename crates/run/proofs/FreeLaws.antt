@@ -1,8 +1,12 @@
 -- The step along what is left free: how the weights come out of a factor, and how the step comes out of the weights.
 use Prim.Native.Nat.{ℕ, _*_, _/_, _%_}
 use mathlib.Core.Bool.{Bool, true, false}
-use mathlib.Core.Path.{_≡_, _∙_}
-use mathlib.Core.List.{List}
+use mathlib.Core.Path.{_≡_, refl, _∙_}
+use mathlib.Core.List.{List, [], _∷_}
+use mathlib.Core.Logic.{⊎-elim}
+use native.Mathlib.Omega.{arith}
+use denote.Enum.Declared.{tagOf}
+use types.Run.{OneOf}
 use lib.Ieee.{Float}
 use lib.ListN.{getD, length}
 use Rattle.interval.specs.declared.Scalar.{Scalar}
@@ -15,7 +19,12 @@ use Rattle.linear.specs.Choose.{chooseOf, sharpOf}
 use Rattle.linear.specs.Cholesky.{Factor}
 use Rattle.linear.specs.Substitution.{solveOf}
 use Rattle.run.specs.Scratch.{vector, matrix, row, fillRows, anyTo}
-use Rattle.run.specs.Step.{forceOf, reducedOf, againstOf, Weights, weights, none, weightsOf, curved, spanned, solvedWith, addedTo, freePart}
+use Rattle.run.specs.Model.{Problem}
+use Rattle.run.specs.Directions.{Directions}
+use Rattle.run.specs.Step.{forceOf, reducedOf, againstOf, Weights, weights, none, weightsOf, curved, spanned, alongOf, solvedWith, addedTo, freePart}
+use Rattle.run.specs.declared.free.Along.{Along}
+use Rattle.run.specs.declared.free.Along.the-variants as a
+use Rattle.run.proofs.free.Along.{the-type}
 
 -- a negation, chosen
 pub negated : {v s n c : Scalar} → s ≡ v → n ≡ negOf s → c ≡ chooseOf n → c ≡ chooseOf (negOf v)
@@ -60,3 +69,10 @@ module _ (k count : ℕ) (h z : List Float) where
       → bind x (λ w. ok (addedTo (curved k h g) delta (spanned count z) w)) ≡ freePart (curved k h g) delta (spanned count z)
   unfolding freePart reducedOf againstOf
   parted g delta ef ex = rw (ex, ef)
+
+-- an end that is not the first variant: no weights, so no part along Z, whatever the slice holds
+pub unparted : (end : Along) (w delta : List Float) (P : Problem) (d : Directions) → OneOf (1 ∷ (2 ∷ [])) (tagOf the-type end) → alongOf end delta ≡ bind (alongOf end w) (λ u. ok (addedTo P delta d u))
+unfolding bind
+unparted a.Found w delta P d k = absurd (⊎-elim (λ e. omega (arith, e)) (λ e. omega (arith, e)) k)
+unparted a.NotPositive w delta P d k = refl
+unparted (a.Refused e) w delta P d k = refl

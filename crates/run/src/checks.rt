@@ -199,18 +199,16 @@ pub fn check(st: State, area: usize) -> Checked
 pub fn check_rows(st: State, area: usize, rows: &[f64]) -> Checked
     ensures { λ r. ⌜ r ≡ checkRowsOf st area (now (rows .entry)) ⌝ }
 {
-    let z = st.sizes;
-    match check(st, area) {
-        Checked::Refuse(k) => Checked::Refuse(k),
-        Checked::Accept(kind) => {
-            let count = (z.m + z.s) * (z.n + 1);
-            if rows.len() != 2 * count {
-                return Checked::Refuse(2);
-            }
-            if !all_in_domain(rows, count) {
-                return Checked::Refuse(3);
-            }
-            Checked::Accept(kind)
-        }
+    let first = check(st, area);
+    let Checked::Accept(_) = first else {
+        return first;
+    };
+    let count = (st.sizes.m + st.sizes.s) * (st.sizes.n + 1);
+    if rows.len() != 2 * count {
+        return Checked::Refuse(2);
     }
+    if !all_in_domain(rows, count) {
+        return Checked::Refuse(3);
+    }
+    first
 }

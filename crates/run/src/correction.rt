@@ -82,13 +82,9 @@ pub fn shift(n: usize, m: usize, xs: &[f64], moving: &[bool], d: &mut [f64]) -> 
     let mut out = [0.0; 24];
     moving_slopes(n, m, xs, moving, &mut jc[..q]);
     chosen_values(xs, constraints(n, m), &mut c[..k]);
-    match minus_solved(m, n, &jc[..q], &c[..k], &zero[..w], &mut out[..w]) {
-        Done::Finished => {
-            sharpened(n, &out[..w], d);
-            Done::Finished
-        }
-        Done::Refused(e) => Done::Refused(e),
-    }
+    let end = minus_solved(m, n, &jc[..q], &c[..k], &zero[..w], &mut out[..w]);
+    sharpened(n, &out[..w], d);
+    end
 }
 
 // Where the shift takes the landed point, with its rows xs: `next` has the point where it is another.
@@ -105,18 +101,20 @@ pub fn shift_from(
 {
     let mut d = [0.0; 24];
     match shift(n, m, xs, moving, &mut d) {
-        Done::Finished => {
-            if all_finite(&d, 12) {
-                moved(n, landed, &d, next);
-                if same(n, next, landed) {
-                    return Shifted::Stay;
-                }
-                return Shifted::To;
-            }
-            Shifted::Stay
+        Done::Refused(e) => {
+            return Shifted::Refused(e);
         }
-        Done::Refused(e) => Shifted::Refused(e),
+        Done::Finished => {}
     }
+    let by: &[f64] = &d;
+    if !all_finite(by, 12) {
+        return Shifted::Stay;
+    }
+    moved(n, landed, by, next);
+    if same(n, next, landed) {
+        return Shifted::Stay;
+    }
+    Shifted::To
 }
 
 // The step with a shift added, sharp.

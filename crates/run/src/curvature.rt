@@ -25,7 +25,6 @@ use linear::Done;
 use linear::LinearError;
 use linear::at;
 use linear::choose;
-use linear::clear;
 use linear::minus_solved;
 use linear::plus_dot;
 use linear::put;
@@ -115,18 +114,17 @@ fn turns(
     r: &[f64],
     y: &mut [f64],
 )
-    requires { ⌜ (n ≤ 12) × ((m ≤ 12) × ((s ≤ 24) × (length (now y) ≡ 24))) ⌝ }
+    requires { ⌜ (n ≤ 12) × ((m ≤ 12) × ((s ≤ 24) × (now y ≡ vector))) ⌝ }
     ensures { λ _. ⌜ now (y .exit) ≡ fillTo vector 0 (turnedAt (evaluationOf n m s (now (xs .entry))) (evaluationOf n m s (now (next .entry))) (now (lambda .entry)) (now (r .entry))) n ⌝ }
 {
-    clear(y);
     for j in 0..n {
         put(y, j, turned_at(n, m, s, xs, next, lambda, r, j));
     }
 }
 
-// By how much the gradient of the Lagrangian turned between two points with their rows, beyond what the sum's slopes explain.
-pub fn turned(n: usize, m: usize, s: usize, xs: &[f64], next: &[f64], lambda: &[f64], y: &mut [f64])
-    requires { ⌜ (n ≤ 12) × ((m ≤ 12) × ((s ≤ 24) × (length (now y) ≡ 24))) ⌝ }
+// By how much the gradient of the Lagrangian turned between two points with their rows, beyond what the sum's slopes explain, into a clear vector.
+fn turned(n: usize, m: usize, s: usize, xs: &[f64], next: &[f64], lambda: &[f64], y: &mut [f64])
+    requires { ⌜ (n ≤ 12) × ((m ≤ 12) × ((s ≤ 24) × (now y ≡ vector))) ⌝ }
     ensures { λ _. ⌜ now (y .exit) ≡ turnedOf n (evaluationOf n m s (now (xs .entry))) (evaluationOf n m s (now (next .entry))) (now (lambda .entry)) ⌝ }
 {
     let mut r = [0.0; 48];
@@ -176,10 +174,9 @@ pub fn rank_one(n: usize, b: &mut [f64], v: &[f64], vs: Scalar) -> Done
 
 // The first n of y less those of bs, chosen, into a clear vector.
 fn less_chosen(n: usize, y: &[f64], bs: &[f64], v: &mut [f64])
-    requires { ⌜ length (now v) ≡ 24 ⌝ }
+    requires { ⌜ now v ≡ vector ⌝ }
     ensures { λ _. ⌜ now (v .exit) ≡ fillTo vector 0 (λ i. chooseOf (subOf (at (now (y .entry)) i) (at (now (bs .entry)) i))) n ⌝ }
 {
-    clear(v);
     for i in 0..n {
         let x = at(y, i);
         put(v, i, choose(x.sub(at(bs, i))));
@@ -193,9 +190,10 @@ pub fn corrected_by(n: usize, b: &mut [f64], y: &[f64], bs: &[f64], s: &[f64]) -
 {
     let mut v = [0.0; 24];
     less_chosen(n, y, bs, &mut v);
-    let vs = choose(dot_of(&v, s, n));
+    let less: &[f64] = &v;
+    let vs = choose(dot_of(less, s, n));
     if vs.definitely_not_equal(Scalar::ZERO) {
-        return rank_one(n, b, &v, vs);
+        return rank_one(n, b, less, vs);
     }
     Done::Finished
 }
@@ -209,14 +207,16 @@ pub fn updated(n: usize, m: usize, xs: &[f64], b: &mut [f64], y: &[f64], s: &[f6
     let mut bs = [0.0; 24];
     let mut y_along = [0.0; 24];
     products(n, n, b, s, &mut bs);
-    let d = dot_of(y, s, n).sub(dot_of(&bs, s, n));
-    if d.definitely_not_equal(Scalar::ZERO) {
-        return match along_constraints(n, m, xs, y, &mut y_along[..w]) {
-            Done::Finished => corrected_by(n, b, &y_along[..w], &bs, s),
-            Done::Refused(e) => Done::Refused(e),
-        };
+    let bent: &[f64] = &bs;
+    let d = dot_of(y, s, n).sub(dot_of(bent, s, n));
+    if !d.definitely_not_equal(Scalar::ZERO) {
+        return Done::Finished;
     }
-    Done::Finished
+    let end = along_constraints(n, m, xs, y, &mut y_along[..w]);
+    let Done::Finished = end else {
+        return end;
+    };
+    corrected_by(n, b, &y_along[..w], bent, s)
 }
 
 // The curvature b, updated from the step between two points with their rows.
@@ -236,11 +236,10 @@ pub fn update_curvature(
     let w = 2 * n;
     let mut y = [0.0; 24];
     let mut s_along = [0.0; 24];
-    match along_constraints(n, m, xs, step, &mut s_along[..w]) {
-        Done::Finished => {
-            turned(n, m, s, xs, next, lambda, &mut y);
-            updated(n, m, xs, b, &y, &s_along[..w])
-        }
-        Done::Refused(e) => Done::Refused(e),
-    }
+    let end = along_constraints(n, m, xs, step, &mut s_along[..w]);
+    let Done::Finished = end else {
+        return end;
+    };
+    turned(n, m, s, xs, next, lambda, &mut y);
+    updated(n, m, xs, b, &y, &s_along[..w])
 }

@@ -44,12 +44,11 @@ fn slope_at(k: usize, h: &[f64], g: &[f64], v: &[f64], i: usize) -> Scalar
     at(g, i).add(bent_at(k, h, v, 0, i))
 }
 
-// g + H v, chosen.
-pub fn force(k: usize, h: &[f64], g: &[f64], v: &[f64], out: &mut [f64])
-    requires { ⌜ (k ≤ 12) × (length (now out) ≡ 24) ⌝ }
+// g + H v, chosen, into a clear vector.
+fn force(k: usize, h: &[f64], g: &[f64], v: &[f64], out: &mut [f64])
+    requires { ⌜ (k ≤ 12) × (now out ≡ vector) ⌝ }
     ensures { λ _. ⌜ now (out .exit) ≡ forceOf (curved k (now (h .entry)) (now (g .entry))) (now (v .entry)) ⌝ }
 {
-    clear(out);
     for i in 0..k {
         put(out, i, choose(slope_at(k, h, g, v, i)));
     }
@@ -76,12 +75,11 @@ fn bent_row(k: usize, h: &[f64], z: &[f64], t: usize, hz: &mut [f64])
     }
 }
 
-// H times each direction.
+// H times each direction, into a clear matrix.
 fn bent_rows(k: usize, count: usize, h: &[f64], z: &[f64], hz: &mut [f64])
-    requires { ⌜ (k ≤ 12) × ((count ≤ 12) × (length (now hz) ≡ 288)) ⌝ }
+    requires { ⌜ (k ≤ 12) × ((count ≤ 12) × (now hz ≡ matrix)) ⌝ }
     ensures { λ _. ⌜ now (hz .exit) ≡ fillRows matrix (λ t i. chooseOf (dotTo (row (now (h .entry)) i) (row (now (z .entry)) t) k)) k count ⌝ }
 {
-    clear(hz);
     for t in 0..count {
         bent_row(k, h, z, t, hz);
     }
@@ -122,10 +120,10 @@ fn any(marks: &[bool]) -> bool
     false
 }
 
-// The weights for a reduced matrix, where no pivot of its factor is left out.
-fn weights_for(t: usize, a: &[f64], rhs: &[f64], w: &mut [f64]) -> Along
-    requires { ⌜ (t ≤ 12) × ((length (now a) ≡ 2 * (t * t)) × ((length (now rhs) ≡ 2 * t) × (length (now w) ≡ 2 * t))) ⌝ }
-    ensures { λ r. ⌜ alongOf r (now (w .exit)) ≡ solvedWith t (now (a .entry)) (now (rhs .entry)) ⌝ }
+// The weights for a reduced matrix, where no pivot of its factor is left out, in place of the right-hand side.
+fn weights_for(t: usize, a: &[f64], w: &mut [f64]) -> Along
+    requires { ⌜ (t ≤ 12) × ((length (now a) ≡ 2 * (t * t)) × (length (now w) ≡ 2 * t)) ⌝ }
+    ensures { λ r. ⌜ alongOf r (now (w .exit)) ≡ solvedWith t (now (a .entry)) (now (w .entry)) ⌝ }
 {
     let q = 2 * t;
     let e = 2 * (t * t);
@@ -133,20 +131,23 @@ fn weights_for(t: usize, a: &[f64], rhs: &[f64], w: &mut [f64]) -> Along
     let mut l = [0.0; 288];
     let mut left_out = [false; 12];
     match linear::cholesky(t, a, &mut l[..e], &mut left_out[..t]) {
-        Done::Finished => {
-            if any(&left_out[..t]) {
-                return Along::NotPositive;
-            }
-            match linear::solve_cholesky(t, &l[..e], &left_out[..t], rhs, &mut x[..q]) {
-                Done::Finished => {
-                    linear::sharp(t, &x[..q], w);
-                    Along::Found
-                }
-                Done::Refused(e) => Along::Refused(e),
-            }
+        Done::Refused(e) => {
+            return Along::Refused(e);
         }
-        Done::Refused(e) => Along::Refused(e),
+        Done::Finished => {}
     }
+    let marks = &left_out[..t];
+    if any(marks) {
+        return Along::NotPositive;
+    }
+    match linear::solve_cholesky(t, &l[..e], marks, w, &mut x[..q]) {
+        Done::Refused(e) => {
+            return Along::Refused(e);
+        }
+        Done::Finished => {}
+    }
+    linear::sharp(t, &x[..q], w);
+    Along::Found
 }
 
 // The weights along Z against a force.
@@ -154,15 +155,13 @@ fn weigh(k: usize, count: usize, h: &[f64], z: &[f64], force: &[f64], w: &mut [f
     requires { ⌜ (k ≤ 12) × ((count ≤ 12) × (length (now w) ≡ 2 * count)) ⌝ }
     ensures { λ r. ⌜ alongOf r (now (w .exit)) ≡ solvedWith count (reducedOf (curved k (now (h .entry)) vector) (spanned count (now (z .entry)))) (againstOf (curved k (now (h .entry)) vector) (spanned count (now (z .entry))) (now (force .entry))) ⌝ }
 {
-    let q = 2 * count;
     let e = 2 * (count * count);
     let mut hz = [0.0; 288];
     let mut a = [0.0; 288];
-    let mut rhs = [0.0; 24];
     bent_rows(k, count, h, z, &mut hz);
     reduced(k, count, z, &hz, &mut a[..e]);
-    against(k, count, z, force, &mut rhs[..q]);
-    weights_for(count, &a[..e], &rhs[..q], w)
+    against(k, count, z, force, w);
+    weights_for(count, &a[..e], w)
 }
 
 // delta with the step along Z that is least for the model there; none where the damped curvature is not positive along Z.
@@ -181,12 +180,10 @@ pub fn free_part(
     let mut f = [0.0; 24];
     let mut w = [0.0; 24];
     force(k, h, g, delta, &mut f);
-    match weigh(k, count, h, z, &f, &mut w[..q]) {
-        Along::Found => {
-            combine(k, &w[..q], z, delta, count);
-            Along::Found
-        }
-        Along::NotPositive => Along::NotPositive,
-        Along::Refused(e) => Along::Refused(e),
-    }
+    let end = weigh(k, count, h, z, &f, &mut w[..q]);
+    let Along::Found = end else {
+        return end;
+    };
+    combine(k, &w[..q], z, delta, count);
+    end
 }

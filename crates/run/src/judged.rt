@@ -144,22 +144,28 @@ pub fn judge(
     ensures { λ r. ⌜ judgementOf r ≡ judgeOf n (evaluationOf n m s (now (at .entry))) (evaluationOf n m s (now (next .entry))) theta (now (filter .entry)) count last (now (step .entry)) ⌝ }
 {
     match norm_of(step, n) {
+        Answer::Refused(e) => {
+            return Judgement::Refused(e);
+        }
         Answer::Value(length) => match rows::violation(next, n, m) {
-            Answer::Value(t) => Judgement::Of(judged_at(
-                n,
-                m,
-                s,
-                at,
-                next,
-                theta,
-                t,
-                filter,
-                count,
-                last,
-                length,
-            )),
-            Answer::Refused(e) => Judgement::Refused(e),
+            Answer::Refused(e) => {
+                return Judgement::Refused(e);
+            }
+            Answer::Value(t) => {
+                return Judgement::Of(judged_at(
+                    n,
+                    m,
+                    s,
+                    at,
+                    next,
+                    theta,
+                    t,
+                    filter,
+                    count,
+                    last,
+                    length,
+                ));
+            }
         },
-        Answer::Refused(e) => Judgement::Refused(e),
     }
 }

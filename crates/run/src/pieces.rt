@@ -1,19 +1,16 @@
 // The pieces of a run as calls of their own. They are total: 1 where a count is above its limit, then 2 where a slice has the wrong length, with nothing written; and 5 or 6 in the Rust's order of
 // operations, with what is written all +0. Rows have 2 (m + s) (n + 1) numbers, points and steps 24.
 ghost use mathlib.Core.Path.{_≡_};
-ghost use Prim.Native.Nat.{_*_, _≤_};
+ghost use Prim.Native.Nat.{_≤_};
 ghost use lib.ListN.{length};
 ghost use Rattle.linear.specs.Answers.{resultOf, doneOf};
 ghost use Rattle.linear.specs.Flat.{zeros};
-ghost use Rattle.linear.specs.Replies.{replied, replyOf, checked};
-ghost use lib.Dec.{eqb};
-ghost use Rattle.run.specs.Curvature.{alongOf};
+ghost use Rattle.linear.specs.Replies.{replied, replyOf};
 ghost use Rattle.run.specs.Proposal.{expectedResult, cutWithin};
 ghost use Rattle.run.specs.Judgement.{judgementOf};
-ghost use Rattle.run.specs.Pieces.{sizedOf, wantsOf, reachOf, squaredReply, predictedReply, transposedReply, movingReply, judgeReply, expectsReply, cutReply, alongReply, shiftReply, updateReply, learnedReply, learningOf, stepReplied, stepReplyOf, stepReply};
-ghost use Rattle.run.specs.Rows.{sumOf, constraintsOf, transposedAt};
+ghost use Rattle.run.specs.Pieces.{sizedOf, wantsOf, reachOf, squaredReply, predictedReply, transposedReply, movingReply, judgeReply, expectsReply, cutReply, alongReply, shiftReply, updateReply, learnedReply, learningOf, stepReplied, stepReply};
+ghost use Rattle.run.specs.Rows.{sumOf, transposedAt};
 ghost use Rattle.run.specs.Scratch.{vector, fillTo};
-ghost use Rattle.run.specs.Step.{endOf};
 use crate::correction;
 use crate::curvature;
 use crate::judged;

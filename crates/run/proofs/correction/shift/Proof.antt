@@ -1,14 +1,12 @@
 -- `shift` meets its contract: the parts of the arrays have the lengths asked, the solve is the definition's, and what it gives is sharpened.
-use mathlib.Core.Path.{sym, ap, _∙_}
+use mathlib.Core.Path.{sym}
 use Prim.Native.Nat.{_*_, _≤_}
 use native.Mathlib.Omega.{arith}
 use lib.Ieee.{ofBits}
 use lib.Seq.{length-take-le}
-use Rattle.interval.specs.Result.{ok}
-use Rattle.linear.proofs.Folds.{bind-ok, bind-refused}
 use Rattle.run.specs.Correction.{shiftOf}
 use Rattle.run.proofs.BasisLaws.{take-replicate}
-use Rattle.run.proofs.CorrectionLaws.{shift-solved}
+use Rattle.run.proofs.CorrectionLaws.{shift-solved, shift-ends}
 use Rattle.run.proofs.Prefixes.{front-room, front-kept}
 use Rattle.run.proofs.RowLaws.{few}
 use borrow.Author.Needs.{needs}
@@ -43,7 +41,7 @@ slice-aggregate-moving-slopes : tie.Need-slice-aggregate-moving-slopes
 slice-aggregate-moving-slopes c = sym (length-take-le _ _ (room (c .before .before .before .before)))
 
 moving-slopes-requires : tie.Need-moving-slopes-requires
-moving-slopes-requires c κs = let s = (c .before .before .before .before) in let p = s .pre in (p .0, (p .1 .0, (p .1 .1 .0, length-take-le _ _ (room s))))
+moving-slopes-requires c κs = let s = c .before .before .before .before in let p = s .pre in (p .0, (p .1 .0, (p .1 .1 .0, length-take-le _ _ (room s))))
 
 constraints-requires : tie.Need-constraints-requires
 constraints-requires c κs = search needs
@@ -84,20 +82,14 @@ slice-aggregate-minus-solved-4 c = sym (length-take-le _ _ (short (c .before .be
 minus-solved-requires : tie.Need-minus-solved-requires
 minus-solved-requires c κs = tt
 
-enum-told : tie.Need-enum-told
-enum-told c = search needs
-
 array-share-prefix-out : tie.Need-array-share-prefix-out
-array-share-prefix-out c = front-room _ (c .before .before .before .minus-solved .last .1 .1 .1 .1 .1 .0) _ (short (c .before .before .before .before .before .before .before .before .before .before .before .before .before .before .before .before .before .before)) (c .before .before .before .minus-solved .kept .1 .1 .1 .1 .1 .0)
+array-share-prefix-out c = front-room _ (c .before .minus-solved .last .1 .1 .1 .1 .1 .0) _ (short (c .before .before .before .before .before .before .before .before .before .before .before .before .before .before .before .before)) (c .before .minus-solved .kept .1 .1 .1 .1 .1 .0)
 
 slice-aggregate-sharpened : tie.Need-slice-aggregate-sharpened
-slice-aggregate-sharpened c = sym (length-take-le _ _ (front-room _ (c .before .before .before .before .minus-solved .last .1 .1 .1 .1 .1 .0) _ (short (c .before .before .before .before .before .before .before .before .before .before .before .before .before .before .before .before .before .before .before)) (c .before .before .before .before .minus-solved .kept .1 .1 .1 .1 .1 .0)))
+slice-aggregate-sharpened c = sym (length-take-le _ _ (front-room _ (c .before .before .minus-solved .last .1 .1 .1 .1 .1 .0) _ (short (c .before .before .before .before .before .before .before .before .before .before .before .before .before .before .before .before .before)) (c .before .before .minus-solved .kept .1 .1 .1 .1 .1 .0)))
 
 sharpened-requires : tie.Need-sharpened-requires
-sharpened-requires c κs = c .before .before .before .before .before .before .before .before .before .before .before .before .before .before .before .before .before .before .before .before .pre .1 .1 .1
-
-enum-known-e : tie.Need-enum-known-e
-enum-known-e c = search needs
+sharpened-requires c κs = c .before .before .before .before .before .before .before .before .before .before .before .before .before .before .before .before .before .before .pre .1 .1 .1
 
 same-length : tie.Need-same-length
 same-length c = search needs
@@ -105,27 +97,14 @@ same-length c = search needs
 returns : tie.Need-returns
 unfolding shiftOf ofBits
 returns c =
-    let s = (c .before .before .before .before .before .before .before .before .before .before .before .before .before .before .before .before .before .before .before .before .before .before .before) in
+    let s = c .before .before .before .before .before .before .before .before .before .before .before .before .before .before .before .before .before .before .before .before .before in
     let a = s .args in
     let p = s .pre in
-    let fj = front-kept _ (c .before .before .before .before .before .before .before .before .before .before .before .before .before .before .before .before .before .before .moving-slopes .last .1 .1 .1 .1 .0) _ (room s) (c .before .before .before .before .before .before .before .before .before .before .before .before .before .before .before .before .before .before .moving-slopes .kept .1 .1 .1 .1 .0) in
-    let fc = front-kept _ (c .before .before .before .before .before .before .before .before .before .before .before .before .before .before .chosen-values .last .1 .1 .0) _ (high s) (c .before .before .before .before .before .before .before .before .before .before .before .before .before .before .chosen-values .kept .1 .1 .0) in
-    let fo = front-kept _ (c .before .before .before .before .before .before .before .before .minus-solved .last .1 .1 .1 .1 .1 .0) _ (short s) (c .before .before .before .before .before .before .before .before .minus-solved .kept .1 .1 .1 .1 .1 .0) in
-    let x = shift-solved (a .n) (a .m) (a .moving .now) (a .xs .now) _ _ _ _ _ (c .before .before .before .before .before .before .before .before .minus-solved .result) _ (p .0) (p .1 .0) (length-take-le _ _ (short s)) (length-take-le _ _ (high s)) (c .before .before .before .before .before .before .before .before .before .before .before .before .before .before .before .before .before .before .moving-slopes .ensures) (rw (c .before .before .before .before .before .before .before .before .before .before .before .before .before .before .before .before .constraints .ensures) at (c .before .before .before .before .before .before .before .before .before .before .before .before .before .before .chosen-values .ensures)) (take-replicate _ _ _ (short s)) (rw (fj, fc) at (c .before .before .before .before .before .before .before .before .minus-solved .ensures)) in
-    let f = rw (c .before .before .before .before .before .enum-told .given .1) at x in
-    ap ok (rw fo at (c .before .before .sharpened .ensures)) ∙ sym (bind-ok _ (sym f))
-
-returns-2 : tie.Need-returns-2
-unfolding shiftOf ofBits
-returns-2 c =
-    let s = (c .before .before .before .before .before .before .before .before .before .before .before .before .before .before .before .before .before .before .before) in
-    let a = s .args in
-    let p = s .pre in
-    let fj = front-kept _ (c .before .before .before .before .before .before .before .before .before .before .before .before .before .before .moving-slopes .last .1 .1 .1 .1 .0) _ (room s) (c .before .before .before .before .before .before .before .before .before .before .before .before .before .before .moving-slopes .kept .1 .1 .1 .1 .0) in
-    let fc = front-kept _ (c .before .before .before .before .before .before .before .before .before .before .chosen-values .last .1 .1 .0) _ (high s) (c .before .before .before .before .before .before .before .before .before .before .chosen-values .kept .1 .1 .0) in
-    let x = shift-solved (a .n) (a .m) (a .moving .now) (a .xs .now) _ _ _ _ _ (c .before .before .before .before .minus-solved .result) (c .before .before .before .before .minus-solved .last .1 .1 .1 .1 .1 .0) (p .0) (p .1 .0) (length-take-le _ _ (short s)) (length-take-le _ _ (high s)) (c .before .before .before .before .before .before .before .before .before .before .before .before .before .before .moving-slopes .ensures) (rw (c .before .before .before .before .before .before .before .before .before .before .before .before .constraints .ensures) at (c .before .before .before .before .before .before .before .before .before .before .chosen-values .ensures)) (take-replicate _ _ _ (short s)) (rw (fj, fc) at (c .before .before .before .before .minus-solved .ensures)) in
-    let f = rw (c .before .e .given .1) at x in
-    sym (bind-refused _ (sym f))
+    let fj = front-kept _ (c .before .before .before .before .before .before .before .before .before .before .before .before .before .before .before .before .moving-slopes .last .1 .1 .1 .1 .0) _ (room s) (c .before .before .before .before .before .before .before .before .before .before .before .before .before .before .before .before .moving-slopes .kept .1 .1 .1 .1 .0) in
+    let fc = front-kept _ (c .before .before .before .before .before .before .before .before .before .before .before .before .chosen-values .last .1 .1 .0) _ (high s) (c .before .before .before .before .before .before .before .before .before .before .before .before .chosen-values .kept .1 .1 .0) in
+    let fo = front-kept _ (c .before .before .before .before .before .before .minus-solved .last .1 .1 .1 .1 .1 .0) _ (short s) (c .before .before .before .before .before .before .minus-solved .kept .1 .1 .1 .1 .1 .0) in
+    let x = shift-solved (a .n) (a .m) (a .moving .now) (a .xs .now) _ _ _ _ _ (c .before .before .before .before .before .before .minus-solved .result) _ (p .0) (p .1 .0) (length-take-le _ _ (short s)) (length-take-le _ _ (high s)) (c .before .before .before .before .before .before .before .before .before .before .before .before .before .before .before .before .moving-slopes .ensures) (rw (c .before .before .before .before .before .before .before .before .before .before .before .before .before .before .constraints .ensures) at (c .before .before .before .before .before .before .before .before .before .before .before .before .chosen-values .ensures)) (take-replicate _ _ _ (short s)) (rw (fj, fc) at (c .before .before .before .before .before .before .minus-solved .ensures)) in
+    shift-ends (a .n) (c .before .before .before .before .before .before .minus-solved .result) _ x (rw fo at (c .before .before .sharpened .ensures))
 
 pub shift-spec : {M : Type 1} → statement M
 shift-spec =
@@ -151,11 +130,8 @@ shift-spec =
     array-borrow-prefix-out
     slice-aggregate-minus-solved-4
     minus-solved-requires
-    enum-told
     array-share-prefix-out
     slice-aggregate-sharpened
     sharpened-requires
-    enum-known-e
     same-length
-    returns
-    returns-2)
+    returns)

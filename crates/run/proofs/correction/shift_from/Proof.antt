@@ -1,5 +1,6 @@
 -- `shift_from` meets its contract: each test decides one of the definition's, or the shift is refused.
 use mathlib.Core.Path.{refl, sym, _∙_}
+use borrow.Author.Tests.{not-true, not-false}
 use Rattle.linear.proofs.Folds.{bind-ok, bind-refused}
 use Rattle.run.specs.Correction.{shiftFrom}
 use Rattle.run.proofs.CorrectionLaws.{changes-nothing, goes, not-finite}
@@ -11,19 +12,30 @@ slice-aggregate-shift : tie.Need-slice-aggregate-shift
 slice-aggregate-shift c = search needs
 
 shift-requires : tie.Need-shift-requires
-shift-requires c κs = let p = (c .before .before .before .before .before) .pre in (p .0, (p .1 .0, (p .1 .1 .0, refl)))
+shift-requires c κs = let p = c .before .before .before .before .before .pre in (p .0, (p .1 .0, (p .1 .1 .0, refl)))
+
+enum-known-e : tie.Need-enum-known-e
+enum-known-e c = search needs
+
+returns : tie.Need-returns
+unfolding shiftFrom
+returns c = sym (bind-refused _ (sym (rw (c .before .e .given .1) at (c .before .before .before .before .shift .ensures))))
 
 enum-told : tie.Need-enum-told
 enum-told c = search needs
 
-slice-aggregate-all-finite : tie.Need-slice-aggregate-all-finite
-slice-aggregate-all-finite c = search needs
+slice-aggregate-by : tie.Need-slice-aggregate-by
+slice-aggregate-by c = search needs
 
 all-finite-requires : tie.Need-all-finite-requires
 all-finite-requires c κs = search needs
 
-slice-aggregate-moved : tie.Need-slice-aggregate-moved
-slice-aggregate-moved c = search needs
+returns-2 : tie.Need-returns-2
+unfolding shiftFrom
+returns-2 c =
+    let a = c .before .before .before .before .before .before .before .before .before .before .before .before .args in
+    let f = rw (c .before .before .before .enum-told .given .1) at (c .before .before .before .before .before .before .shift .ensures) in
+    not-finite (a .n) (a .landed .now) (c .before .before .before .before .before .before .shift .last .1 .1 .1 .1 .0) (c .before .all-finite .ensures) (not-true _ (c .if1 .taken)) ∙ sym (bind-ok _ (sym f))
 
 moved-requires : tie.Need-moved-requires
 moved-requires c κs = search needs
@@ -34,41 +46,22 @@ same-requires c κs = search needs
 same-length : tie.Need-same-length
 same-length c = search needs
 
-returns : tie.Need-returns
+returns-3 : tie.Need-returns-3
 unfolding shiftFrom
-returns c =
-    let a = (c .before .before .before .before .before .before .before .before .before .before .before .before .before .before .before .before .before .before .before .before) .args in
-    let d = c .before .before .before .before .before .before .before .before .before .before .before .before .before .before .shift .last .1 .1 .1 .1 .0 in
-    let f = rw (c .before .before .before .before .before .before .before .before .before .before .before .enum-told .given .1) at (c .before .before .before .before .before .before .before .before .before .before .before .before .before .before .shift .ensures) in
-    changes-nothing (a .n) (a .landed .now) d (c .before .before .before .before .before .before .before .before .before .all-finite .ensures) (c .before .before .before .before .before .moved .ensures) (c .before .same .ensures) (c .before .before .before .before .before .before .before .before .if1 .taken) (c .if2 .taken) ∙ sym (bind-ok _ (sym f))
+returns-3 c =
+    let a = c .before .before .before .before .before .before .before .before .before .before .before .before .before .before .before .before .before .before .before .args in
+    let f = rw (c .before .before .before .before .before .before .before .before .before .before .enum-told .given .1) at (c .before .before .before .before .before .before .before .before .before .before .before .before .before .shift .ensures) in
+    changes-nothing (a .n) (a .landed .now) (c .before .before .before .before .before .before .before .before .before .before .before .before .before .shift .last .1 .1 .1 .1 .0) (c .before .before .before .before .before .before .before .before .all-finite .ensures) (c .before .before .before .before .before .moved .ensures) (c .before .same .ensures) (not-false _ (c .before .before .before .before .before .before .before .if1 .left)) (c .if2 .taken) ∙ sym (bind-ok _ (sym f))
 
 same-length-2 : tie.Need-same-length-2
 same-length-2 c = search needs
 
-returns-2 : tie.Need-returns-2
-unfolding shiftFrom
-returns-2 c =
-    let a = (c .before .before .before .before .before .before .before .before .before .before .before .before .before .before .before .before .before .before .before .before) .args in
-    let d = c .before .before .before .before .before .before .before .before .before .before .before .before .before .before .shift .last .1 .1 .1 .1 .0 in
-    let f = rw (c .before .before .before .before .before .before .before .before .before .before .before .enum-told .given .1) at (c .before .before .before .before .before .before .before .before .before .before .before .before .before .before .shift .ensures) in
-    goes (a .n) (a .landed .now) d (c .before .before .before .before .before .before .before .before .before .all-finite .ensures) (c .before .before .before .before .before .moved .ensures) (c .before .same .ensures) (c .before .before .before .before .before .before .before .before .if1 .taken) (c .if2 .left) ∙ sym (bind-ok _ (sym f))
-
-enum-known-e : tie.Need-enum-known-e
-enum-known-e c = search needs
-
-returns-3 : tie.Need-returns-3
-unfolding shiftFrom
-returns-3 c =
-    let a = (c .before .before .before .before .before .before .before .before .before .before .before .before) .args in
-    let d = c .before .before .before .before .before .before .shift .last .1 .1 .1 .1 .0 in
-    let f = rw (c .before .before .before .enum-told .given .1) at (c .before .before .before .before .before .before .shift .ensures) in
-    not-finite (a .n) (a .landed .now) d (c .before .all-finite .ensures) (c .if1 .left) ∙ sym (bind-ok _ (sym f))
-
 returns-4 : tie.Need-returns-4
 unfolding shiftFrom
 returns-4 c =
-    let f = rw (c .before .e .given .1) at (c .before .before .before .before .shift .ensures) in
-    sym (bind-refused _ (sym f))
+    let a = c .before .before .before .before .before .before .before .before .before .before .before .before .before .before .before .before .before .before .before .args in
+    let f = rw (c .before .before .before .before .before .before .before .before .before .before .enum-told .given .1) at (c .before .before .before .before .before .before .before .before .before .before .before .before .before .shift .ensures) in
+    goes (a .n) (a .landed .now) (c .before .before .before .before .before .before .before .before .before .before .before .before .before .shift .last .1 .1 .1 .1 .0) (c .before .before .before .before .before .before .before .before .all-finite .ensures) (c .before .before .before .before .before .moved .ensures) (c .before .same .ensures) (not-false _ (c .before .before .before .before .before .before .before .if1 .left)) (c .if2 .left) ∙ sym (bind-ok _ (sym f))
 
 pub shift-from-spec : {M : Type 1} → statement M
 shift-from-spec =
@@ -76,16 +69,15 @@ shift-from-spec =
     (tie.spec
     slice-aggregate-shift
     shift-requires
+    enum-known-e
+    returns
     enum-told
-    slice-aggregate-all-finite
+    slice-aggregate-by
     all-finite-requires
-    slice-aggregate-moved
+    returns-2
     moved-requires
     same-requires
     same-length
-    returns
-    same-length-2
-    returns-2
-    enum-known-e
     returns-3
+    same-length-2
     returns-4)

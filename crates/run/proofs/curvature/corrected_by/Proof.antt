@@ -10,10 +10,11 @@ slice-aggregate-less-chosen : tie.Need-slice-aggregate-less-chosen
 slice-aggregate-less-chosen c = search needs
 
 less-chosen-requires : tie.Need-less-chosen-requires
+unfolding ofBits
 less-chosen-requires c κs = refl
 
-slice-aggregate-dot-of : tie.Need-slice-aggregate-dot-of
-slice-aggregate-dot-of c = search needs
+slice-aggregate-less : tie.Need-slice-aggregate-less
+slice-aggregate-less c = search needs
 
 dot-of-requires : tie.Need-dot-of-requires
 dot-of-requires c κs = search needs
@@ -24,9 +25,6 @@ choose-requires c κs = search needs
 definitely-not-equal-requires : tie.Need-definitely-not-equal-requires
 definitely-not-equal-requires c κs = search needs
 
-slice-aggregate-rank-one : tie.Need-slice-aggregate-rank-one
-slice-aggregate-rank-one c = search needs
-
 rank-one-requires : tie.Need-rank-one-requires
 rank-one-requires c κs = search needs
 
@@ -35,7 +33,7 @@ same-length c = search needs
 
 returns : tie.Need-returns
 unfolding ofBits
-returns c = let a = c .before .before .before .before .before .before .before .before .before .before .before .before .before .before .before .before .before .args in corrected (a .n) (a .b .now) (a .y .now) (a .bs .now) (a .s .now) (c .before .before .before .before .before .before .before .before .before .before .before .less-chosen .ensures) (c .before .before .before .before .before .before .before .before .dot-of .ensures) (c .before .before .before .before .before .before .before .choose .ensures) (c .before .before .before .before .before .before .definitely-not-equal .ensures) (c .before .before .before .before .before .if1 .taken) (c .before .before .rank-one .ensures)
+returns c = let a = c .before .before .before .before .before .before .before .before .before .before .before .before .before .before .before .before .args in corrected (a .n) (a .b .now) (a .y .now) (a .bs .now) (a .s .now) (c .before .before .before .before .before .before .before .before .before .before .less-chosen .ensures) (c .before .before .before .before .before .before .before .dot-of .ensures) (c .before .before .before .before .before .before .choose .ensures) (c .before .before .before .before .before .definitely-not-equal .ensures) (c .before .before .before .before .if1 .taken) (c .before .before .rank-one .ensures)
 
 returns-2 : tie.Need-returns-2
 unfolding ofBits
@@ -47,11 +45,10 @@ corrected-by-spec =
     (tie.spec
     slice-aggregate-less-chosen
     less-chosen-requires
-    slice-aggregate-dot-of
+    slice-aggregate-less
     dot-of-requires
     choose-requires
     definitely-not-equal-requires
-    slice-aggregate-rank-one
     rank-one-requires
     same-length
     returns

@@ -3,7 +3,6 @@ use mathlib.Core.List.{List}
 use mathlib.Core.Path.{_≡_, sym, _∙_}
 use Prim.Native.Nat.{ℕ, _≤_, _-_}
 use native.Mathlib.Nat.{le-antisymm}
-use borrow.Author.Needs.{needs}
 use lib.Ieee.{Float}
 use lib.ListN.{length}
 use Rattle.interval.specs.declared.Scalar.{Scalar}
@@ -12,6 +11,7 @@ use Rattle.linear.specs.Choose.{chooseOf}
 use Rattle.linear.specs.Flat.{at}
 use Rattle.run.specs.Scratch.{vector, fillTo}
 use Rattle.run.proofs.ScratchLaws.{fill-none, fill-first}
+use borrow.Author.Needs.{needs}
 use Rattle.run.proofs.curvature.less_chosen.Statement.{statement}
 use Rattle.run.proofs.curvature.less_chosen.Tie as tie
 
@@ -22,16 +22,13 @@ value : (y bs : List Float) (i : ℕ) {a b d v : Scalar} → a ≡ at y i → b 
 value y bs i ea eb ed ev = rw (ev, ed, ea, eb)
 
 abbrev Inv-loop : tie.InvT-loop
-Inv-loop n y bs v₀ i₀ v i = (i ≤ n) × (length v ≡ 24) × (v ≡ fillTo vector 0 (by y bs) i)
+Inv-loop n y bs v₀ i₀ v i = (i ≤ n) × (length v ≡ length v₀) × (v ≡ fillTo vector 0 (by y bs) i)
 
 abbrev μ-loop : tie.MeasureT-loop
 μ-loop n y bs v₀ i₀ v i = n - i
 
-clear-requires : tie.Need-clear-requires Inv-loop μ-loop
-clear-requires c κs = search needs
-
 loop-holds : tie.Need-loop-holds Inv-loop μ-loop
-loop-holds c = (search needs, search needs, rw (c .before .before .before .before .before .before .before .pre) at (c .before .before .clear .ensures) ∙ sym (fill-none _ _))
+loop-holds c = (search needs, search needs, c .before .before .before .pre ∙ sym (fill-none _ _))
 
 at-requires : tie.Need-at-requires Inv-loop μ-loop
 at-requires c κs = search needs
@@ -55,7 +52,10 @@ loop-less : tie.Need-loop-less Inv-loop μ-loop
 loop-less c = search needs
 
 loop-again : tie.Need-loop-again Inv-loop μ-loop
-loop-again c = let a = c .before .before .before .before .before .before .before .before .before .before .before .before .before .before .before .before .before .args in (search needs, search needs, c .before .before .put .ensures ∙ fill-first vector (by (a .y .now) (a .bs .now)) (c .before .before .before .before .before .before .before .before .before .loop .i) (c .before .before .before .before .before .before .before .before .before .loop .inv .2) (value (a .y .now) (a .bs .now) (c .before .before .before .before .before .before .before .before .before .loop .i) (c .before .before .before .before .before .before .before .at .ensures) (c .before .before .before .before .before .at2 .ensures) (c .before .before .before .before .sub .ensures .value) (c .before .before .before .choose .ensures)))
+loop-again c =
+    let a = c .before .before .before .before .before .before .before .before .before .before .before .before .before .args in
+    let l = c .before .before .before .before .before .before .before .before .before .loop in
+    (search needs, search needs, c .before .before .put .ensures ∙ fill-first vector (by (a .y .now) (a .bs .now)) (l .i) (l .inv .2) (value (a .y .now) (a .bs .now) (l .i) (c .before .before .before .before .before .before .before .at .ensures) (c .before .before .before .before .before .at2 .ensures) (c .before .before .before .before .sub .ensures .value) (c .before .before .before .choose .ensures)))
 
 same-length : tie.Need-same-length Inv-loop μ-loop
 same-length c = search needs
@@ -69,7 +69,6 @@ less-chosen-spec =
     (tie.spec
     Inv-loop
     μ-loop
-    clear-requires
     loop-holds
     at-requires
     at-requires-2

@@ -3,29 +3,26 @@ use mathlib.Core.Path.{_≡_, sym, _∙_}
 use Prim.Native.Nat.{_≤_, _-_}
 use native.Mathlib.Nat.{le-antisymm}
 use native.Mathlib.Omega.{arith}
-use borrow.Author.Needs.{needs}
 use lib.ListN.{length}
 use Rattle.run.specs.Scratch.{vector, fillTo}
 use Rattle.run.specs.Rows.{evaluationOf}
 use Rattle.run.specs.Curvature.{turnedAt}
 use Rattle.run.proofs.ScratchLaws.{fill-none, fill-first}
+use borrow.Author.Needs.{needs}
 use Rattle.run.proofs.curvature.turns.Statement.{statement}
 use Rattle.run.proofs.curvature.turns.Tie as tie
 
 abbrev Inv-loop : tie.InvT-loop
-Inv-loop n m s xs next lambda r y₀ j₀ y j = (j ≤ n) × (length y ≡ 24) × (y ≡ fillTo vector 0 (turnedAt (evaluationOf n m s xs) (evaluationOf n m s next) lambda r) j)
+Inv-loop n m s xs next lambda r y₀ j₀ y j = (j ≤ n) × (length y ≡ length y₀) × (y ≡ fillTo vector 0 (turnedAt (evaluationOf n m s xs) (evaluationOf n m s next) lambda r) j)
 
 abbrev μ-loop : tie.MeasureT-loop
 μ-loop n m s xs next lambda r y₀ j₀ y j = n - j
 
-clear-requires : tie.Need-clear-requires Inv-loop μ-loop
-clear-requires c κs = search needs
-
 loop-holds : tie.Need-loop-holds Inv-loop μ-loop
-loop-holds c = (search needs, search needs, rw (c .before .before .before .before .before .before .before .before .before .pre .1 .1 .1) at (c .before .before .clear .ensures) ∙ sym (fill-none _ _))
+loop-holds c = (search needs, search needs, c .before .before .before .before .before .pre .1 .1 .1 ∙ sym (fill-none _ _))
 
 turned-at-requires : tie.Need-turned-at-requires Inv-loop μ-loop
-turned-at-requires c κs = let p = c .before .before .before .before .before .before .before .before .before .before .before .before .pre in (p .0, (p .1 .0, (p .1 .1 .0, omega arith)))
+turned-at-requires c κs = let p = c .before .before .before .before .before .before .before .before .pre in (p .0, (p .1 .0, (p .1 .1 .0, omega arith)))
 
 put-requires : tie.Need-put-requires Inv-loop μ-loop
 put-requires c κs = search needs
@@ -37,7 +34,10 @@ loop-less : tie.Need-loop-less Inv-loop μ-loop
 loop-less c = search needs
 
 loop-again : tie.Need-loop-again Inv-loop μ-loop
-loop-again c = let a = c .before .before .before .before .before .before .before .before .before .before .before .before .before .before .before .before .args in (search needs, search needs, c .before .before .put .ensures ∙ fill-first vector (turnedAt (evaluationOf (a .n) (a .m) (a .s) (a .xs .now)) (evaluationOf (a .n) (a .m) (a .s) (a .next .now)) (a .lambda .now) (a .r .now)) (c .before .before .before .before .before .before .loop .j) (c .before .before .before .before .before .before .loop .inv .2) (c .before .before .before .turned-at .ensures))
+loop-again c =
+    let a = c .before .before .before .before .before .before .before .before .before .before .before .before .args in
+    let l = c .before .before .before .before .before .before .loop in
+    (search needs, search needs, c .before .before .put .ensures ∙ fill-first vector (turnedAt (evaluationOf (a .n) (a .m) (a .s) (a .xs .now)) (evaluationOf (a .n) (a .m) (a .s) (a .next .now)) (a .lambda .now) (a .r .now)) (l .j) (l .inv .2) (c .before .before .before .turned-at .ensures))
 
 same-length : tie.Need-same-length Inv-loop μ-loop
 same-length c = search needs
@@ -46,17 +46,4 @@ returns : tie.Need-returns Inv-loop μ-loop
 returns c = rw (le-antisymm (c .before .loop .inv .0) (c .loop-test .left)) at (c .before .loop .inv .2)
 
 pub turns-spec : {M : Type 1} → statement M
-turns-spec =
-    tie.close
-    (tie.spec
-    Inv-loop
-    μ-loop
-    clear-requires
-    loop-holds
-    turned-at-requires
-    put-requires
-    add-j
-    loop-less
-    loop-again
-    same-length
-    returns)
+turns-spec = tie.close (tie.spec Inv-loop μ-loop loop-holds turned-at-requires put-requires add-j loop-less loop-again same-length returns)

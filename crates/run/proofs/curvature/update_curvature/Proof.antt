@@ -1,10 +1,12 @@
 -- `update_curvature` meets its contract: the update from the step along the constraints, or the refusal.
-use mathlib.Core.Path.{sym, _∙_}
+use mathlib.Core.Path.{refl, sym, _∙_}
 use Prim.Native.Nat.{_*_, _≤_}
 use native.Mathlib.Omega.{arith}
+use lib.Ieee.{ofBits}
 use lib.Seq.{length-take-le}
-use Rattle.linear.proofs.Folds.{bind-ok, bind-refused}
+use Rattle.linear.proofs.Folds.{bind-ok}
 use Rattle.run.specs.Curvature.{updateCurvature}
+use Rattle.run.proofs.CurvatureLaws.{handed-on}
 use Rattle.run.proofs.Prefixes.{front-room, front-kept}
 use borrow.Author.Needs.{needs}
 use Rattle.run.proofs.curvature.update_curvature.Statement.{statement}
@@ -23,16 +25,24 @@ slice-aggregate-along-constraints : tie.Need-slice-aggregate-along-constraints
 slice-aggregate-along-constraints c = sym (length-take-le _ _ (short (c .before .before .before .before .before .before)))
 
 along-constraints-requires : tie.Need-along-constraints-requires
-along-constraints-requires c κs = let s = (c .before .before .before .before .before .before) in let p = s .pre in (p .0, (p .1 .0, (omega (arith, p .0, p .1 .1 .1), length-take-le _ _ (short s))))
+along-constraints-requires c κs = let s = c .before .before .before .before .before .before in let p = s .pre in (p .0, (p .1 .0, (omega (arith, p .0, p .1 .1 .1), length-take-le _ _ (short s))))
 
 enum-told : tie.Need-enum-told
 enum-told c = search needs
+
+enum-told-2 : tie.Need-enum-told-2
+enum-told-2 c = search needs
+
+returns : tie.Need-returns
+unfolding updateCurvature
+returns c = handed-on _ _ _ (c .enum-told2 .given .1) (c .before .before .before .along-constraints .ensures)
 
 slice-aggregate-turned : tie.Need-slice-aggregate-turned
 slice-aggregate-turned c = search needs
 
 turned-requires : tie.Need-turned-requires
-turned-requires c κs = search needs
+unfolding ofBits
+turned-requires c κs = let p = c .before .before .before .before .before .before .before .before .before .before .before .pre in (p .0, (p .1 .0, (p .1 .1 .0, refl)))
 
 slice-aggregate-updated : tie.Need-slice-aggregate-updated
 slice-aggregate-updated c = search needs
@@ -46,24 +56,15 @@ slice-aggregate-updated-2 c = sym (length-take-le _ _ (front-room _ (c .before .
 updated-requires : tie.Need-updated-requires
 updated-requires c κs = search needs
 
-enum-known-e : tie.Need-enum-known-e
-enum-known-e c = search needs
-
 same-length : tie.Need-same-length
 same-length c = search needs
-
-returns : tie.Need-returns
-unfolding updateCurvature
-returns c =
-    let f = rw (c .before .before .before .before .before .before .before .before .before .enum-told .given .1) at (c .before .before .before .before .before .before .before .before .before .before .before .before .along-constraints .ensures) in
-    let g = rw (front-kept _ (c .before .before .before .before .before .before .before .before .before .before .before .before .along-constraints .last .1 .1 .1 .1 .0) _ (short (c .before .before .before .before .before .before .before .before .before .before .before .before .before .before .before .before .before .before .before)) (c .before .before .before .before .before .before .before .before .before .before .before .before .along-constraints .kept .1 .1 .1 .1 .0), c .before .before .before .before .before .before .before .turned .ensures) at (c .before .before .updated .ensures) in
-    g ∙ sym (bind-ok _ (sym f))
 
 returns-2 : tie.Need-returns-2
 unfolding updateCurvature
 returns-2 c =
-    let f = rw (c .before .e .given .1) at (c .before .before .before .before .along-constraints .ensures) in
-    sym (bind-refused _ (sym f))
+    let f = rw (c .before .before .before .before .before .before .before .before .before .enum-told .given .1) at (c .before .before .before .before .before .before .before .before .before .before .before .before .along-constraints .ensures) in
+    let g = rw (front-kept _ (c .before .before .before .before .before .before .before .before .before .before .before .before .along-constraints .last .1 .1 .1 .1 .0) _ (short (c .before .before .before .before .before .before .before .before .before .before .before .before .before .before .before .before .before .before .before)) (c .before .before .before .before .before .before .before .before .before .before .before .before .along-constraints .kept .1 .1 .1 .1 .0), c .before .before .before .before .before .before .before .turned .ensures) at (c .before .before .updated .ensures) in
+    g ∙ sym (bind-ok _ (sym f))
 
 pub update-curvature-spec : {M : Type 1} → statement M
 update-curvature-spec =
@@ -74,13 +75,13 @@ update-curvature-spec =
     slice-aggregate-along-constraints
     along-constraints-requires
     enum-told
+    enum-told-2
+    returns
     slice-aggregate-turned
     turned-requires
     slice-aggregate-updated
     array-share-prefix-s-along
     slice-aggregate-updated-2
     updated-requires
-    enum-known-e
     same-length
-    returns
     returns-2)

@@ -2,11 +2,12 @@
 use mathlib.Core.Path.{refl, sym, _∙_}
 use Prim.Native.Nat.{_*_, _≤_}
 use native.Mathlib.Omega.{arith}
+use borrow.Author.Tests.{not-true, not-false}
 use lib.Ieee.{ofBits}
 use lib.Seq.{length-take-le}
-use Rattle.linear.proofs.Folds.{bind-ok, bind-refused}
+use Rattle.linear.proofs.Folds.{bind-ok}
 use Rattle.run.specs.Rows.{constraintsOf}
-use Rattle.run.proofs.CurvatureLaws.{updates, leaves}
+use Rattle.run.proofs.CurvatureLaws.{handed-on, updates, leaves}
 use Rattle.run.proofs.Prefixes.{front-room, front-kept}
 use borrow.Author.Needs.{needs}
 use Rattle.run.proofs.curvature.updated.Statement.{statement}
@@ -24,11 +25,11 @@ slice-aggregate-products c = search needs
 products-requires : tie.Need-products-requires
 products-requires c κs = search needs
 
+slice-aggregate-bent : tie.Need-slice-aggregate-bent
+slice-aggregate-bent c = search needs
+
 dot-of-requires : tie.Need-dot-of-requires
 dot-of-requires c κs = search needs
-
-slice-aggregate-dot-of : tie.Need-slice-aggregate-dot-of
-slice-aggregate-dot-of c = search needs
 
 dot-of-requires-2 : tie.Need-dot-of-requires-2
 dot-of-requires-2 c κs = search needs
@@ -39,6 +40,15 @@ sub-requires c κs = search needs
 definitely-not-equal-requires : tie.Need-definitely-not-equal-requires
 definitely-not-equal-requires c κs = search needs
 
+same-length : tie.Need-same-length
+same-length c = search needs
+
+returns : tie.Need-returns
+unfolding ofBits
+returns c =
+    let a = c .before .before .before .before .before .before .before .before .before .before .before .before .before .before .args in
+    leaves (a .n) (constraintsOf (a .n) (a .m) (a .xs .now)) (a .b .now) (a .y .now) (a .s .now) refl (c .before .before .before .before .before .before .before .products .ensures) (c .before .before .before .before .dot-of .ensures) (c .before .before .before .dot-of2 .ensures) (c .before .before .sub .ensures .value) (c .before .definitely-not-equal .ensures) (not-true _ (c .if1 .taken))
+
 array-borrow-prefix-y-along : tie.Need-array-borrow-prefix-y-along
 array-borrow-prefix-y-along c = search needs
 
@@ -46,37 +56,13 @@ slice-aggregate-along-constraints : tie.Need-slice-aggregate-along-constraints
 slice-aggregate-along-constraints c = sym (length-take-le _ _ (short (c .before .before .before .before .before .before .before .before .before .before .before .before .before .before .before)))
 
 along-constraints-requires : tie.Need-along-constraints-requires
-along-constraints-requires c κs = let s = (c .before .before .before .before .before .before .before .before .before .before .before .before .before .before .before) in let p = s .pre in (p .0, (p .1 .0, (omega (arith, p .0, p .1 .1), length-take-le _ _ (short s))))
+along-constraints-requires c κs = let s = c .before .before .before .before .before .before .before .before .before .before .before .before .before .before .before in let p = s .pre in (p .0, (p .1 .0, (omega (arith, p .0, p .1 .1), length-take-le _ _ (short s))))
 
 enum-told : tie.Need-enum-told
 enum-told c = search needs
 
-array-share-prefix-y-along : tie.Need-array-share-prefix-y-along
-array-share-prefix-y-along c = front-room _ (c .before .before .before .before .along-constraints .last .1 .1 .1 .1 .0) _ (short (c .before .before .before .before .before .before .before .before .before .before .before .before .before .before .before .before .before .before .before .before)) (c .before .before .before .before .along-constraints .kept .1 .1 .1 .1 .0)
-
-slice-aggregate-corrected-by : tie.Need-slice-aggregate-corrected-by
-slice-aggregate-corrected-by c = sym (length-take-le _ _ (front-room _ (c .before .before .before .before .before .along-constraints .last .1 .1 .1 .1 .0) _ (short (c .before .before .before .before .before .before .before .before .before .before .before .before .before .before .before .before .before .before .before .before .before)) (c .before .before .before .before .before .along-constraints .kept .1 .1 .1 .1 .0)))
-
-slice-aggregate-corrected-by-2 : tie.Need-slice-aggregate-corrected-by-2
-slice-aggregate-corrected-by-2 c = search needs
-
-corrected-by-requires : tie.Need-corrected-by-requires
-corrected-by-requires c κs = (c .before .before .before .before .before .before .before .before .before .before .before .before .before .before .before .before .before .before .before .before .before .before) .pre .0
-
-enum-known-e : tie.Need-enum-known-e
-enum-known-e c = search needs
-
-same-length : tie.Need-same-length
-same-length c = search needs
-
-returns : tie.Need-returns
-unfolding ofBits
-returns c =
-    let s = (c .before .before .before .before .before .before .before .before .before .before .before .before .before .before .before .before .before .before .before .before .before .before .before .before .before) in
-    let a = s .args in
-    let f = rw (c .before .before .before .before .before .before .enum-told .given .1) at (c .before .before .before .before .before .before .before .before .before .along-constraints .ensures) in
-    let g = rw (front-kept _ (c .before .before .before .before .before .before .before .before .before .along-constraints .last .1 .1 .1 .1 .0) _ (short s) (c .before .before .before .before .before .before .before .before .before .along-constraints .kept .1 .1 .1 .1 .0)) at (c .before .before .corrected-by .ensures) in
-    updates (a .n) (constraintsOf (a .n) (a .m) (a .xs .now)) (a .b .now) (a .y .now) (a .s .now) refl (c .before .before .before .before .before .before .before .before .before .before .before .before .before .before .before .before .before .before .products .ensures) (c .before .before .before .before .before .before .before .before .before .before .before .before .before .before .before .before .dot-of .ensures) (c .before .before .before .before .before .before .before .before .before .before .before .before .before .before .dot-of2 .ensures) (c .before .before .before .before .before .before .before .before .before .before .before .before .before .sub .ensures .value) (c .before .before .before .before .before .before .before .before .before .before .before .before .definitely-not-equal .ensures) (c .before .before .before .before .before .before .before .before .before .before .before .if1 .taken) (g ∙ sym (bind-ok _ (sym f)))
+enum-told-2 : tie.Need-enum-told-2
+enum-told-2 c = search needs
 
 same-length-2 : tie.Need-same-length-2
 same-length-2 c = search needs
@@ -84,9 +70,17 @@ same-length-2 c = search needs
 returns-2 : tie.Need-returns-2
 unfolding ofBits
 returns-2 c =
-    let a = (c .before .before .before .before .before .before .before .before .before .before .before .before .before .before .before .before .before .before .before .before) .args in
-    let f = rw (c .before .e .given .1) at (c .before .before .before .before .along-constraints .ensures) in
-    updates (a .n) (constraintsOf (a .n) (a .m) (a .xs .now)) (a .b .now) (a .y .now) (a .s .now) refl (c .before .before .before .before .before .before .before .before .before .before .before .before .before .products .ensures) (c .before .before .before .before .before .before .before .before .before .before .before .dot-of .ensures) (c .before .before .before .before .before .before .before .before .before .dot-of2 .ensures) (c .before .before .before .before .before .before .before .before .sub .ensures .value) (c .before .before .before .before .before .before .before .definitely-not-equal .ensures) (c .before .before .before .before .before .before .if1 .taken) (sym (bind-refused _ (sym f)))
+    let a = c .before .before .before .before .before .before .before .before .before .before .before .before .before .before .before .before .before .before .before .args in
+    updates (a .n) (constraintsOf (a .n) (a .m) (a .xs .now)) (a .b .now) (a .y .now) (a .s .now) refl (c .before .before .before .before .before .before .before .before .before .before .before .before .products .ensures) (c .before .before .before .before .before .before .before .before .before .dot-of .ensures) (c .before .before .before .before .before .before .before .before .dot-of2 .ensures) (c .before .before .before .before .before .before .before .sub .ensures .value) (c .before .before .before .before .before .before .definitely-not-equal .ensures) (not-false _ (c .before .before .before .before .before .if1 .left)) (handed-on _ _ _ (c .enum-told2 .given .1) (c .before .before .before .along-constraints .ensures))
+
+array-share-prefix-y-along : tie.Need-array-share-prefix-y-along
+array-share-prefix-y-along c = front-room _ (c .before .before .before .before .along-constraints .last .1 .1 .1 .1 .0) _ (short (c .before .before .before .before .before .before .before .before .before .before .before .before .before .before .before .before .before .before .before .before)) (c .before .before .before .before .along-constraints .kept .1 .1 .1 .1 .0)
+
+slice-aggregate-corrected-by : tie.Need-slice-aggregate-corrected-by
+slice-aggregate-corrected-by c = sym (length-take-le _ _ (front-room _ (c .before .before .before .before .before .along-constraints .last .1 .1 .1 .1 .0) _ (short (c .before .before .before .before .before .before .before .before .before .before .before .before .before .before .before .before .before .before .before .before .before)) (c .before .before .before .before .before .along-constraints .kept .1 .1 .1 .1 .0)))
+
+corrected-by-requires : tie.Need-corrected-by-requires
+corrected-by-requires c κs = c .before .before .before .before .before .before .before .before .before .before .before .before .before .before .before .before .before .before .before .before .before .pre .0
 
 same-length-3 : tie.Need-same-length-3
 same-length-3 c = search needs
@@ -94,8 +88,11 @@ same-length-3 c = search needs
 returns-3 : tie.Need-returns-3
 unfolding ofBits
 returns-3 c =
-    let a = (c .before .before .before .before .before .before .before .before .before .before .before .before .before .before) .args in
-    leaves (a .n) (constraintsOf (a .n) (a .m) (a .xs .now)) (a .b .now) (a .y .now) (a .s .now) refl (c .before .before .before .before .before .before .before .products .ensures) (c .before .before .before .before .before .dot-of .ensures) (c .before .before .before .dot-of2 .ensures) (c .before .before .sub .ensures .value) (c .before .definitely-not-equal .ensures) (c .if1 .left)
+    let s = c .before .before .before .before .before .before .before .before .before .before .before .before .before .before .before .before .before .before .before .before .before .before .before .before in
+    let a = s .args in
+    let f = rw (c .before .before .before .before .before .enum-told .given .1) at (c .before .before .before .before .before .before .before .before .along-constraints .ensures) in
+    let g = rw (front-kept _ (c .before .before .before .before .before .before .before .before .along-constraints .last .1 .1 .1 .1 .0) _ (short s) (c .before .before .before .before .before .before .before .before .along-constraints .kept .1 .1 .1 .1 .0)) at (c .before .before .corrected-by .ensures) in
+    updates (a .n) (constraintsOf (a .n) (a .m) (a .xs .now)) (a .b .now) (a .y .now) (a .s .now) refl (c .before .before .before .before .before .before .before .before .before .before .before .before .before .before .before .before .before .products .ensures) (c .before .before .before .before .before .before .before .before .before .before .before .before .before .before .dot-of .ensures) (c .before .before .before .before .before .before .before .before .before .before .before .before .before .dot-of2 .ensures) (c .before .before .before .before .before .before .before .before .before .before .before .before .sub .ensures .value) (c .before .before .before .before .before .before .before .before .before .before .before .definitely-not-equal .ensures) (not-false _ (c .before .before .before .before .before .before .before .before .before .before .if1 .left)) (g ∙ sym (bind-ok _ (sym f)))
 
 pub updated-spec : {M : Type 1} → statement M
 updated-spec =
@@ -104,23 +101,22 @@ updated-spec =
     mul-w
     slice-aggregate-products
     products-requires
+    slice-aggregate-bent
     dot-of-requires
-    slice-aggregate-dot-of
     dot-of-requires-2
     sub-requires
     definitely-not-equal-requires
+    same-length
+    returns
     array-borrow-prefix-y-along
     slice-aggregate-along-constraints
     along-constraints-requires
     enum-told
-    array-share-prefix-y-along
-    slice-aggregate-corrected-by
-    slice-aggregate-corrected-by-2
-    corrected-by-requires
-    enum-known-e
-    same-length
-    returns
+    enum-told-2
     same-length-2
     returns-2
+    array-share-prefix-y-along
+    slice-aggregate-corrected-by
+    corrected-by-requires
     same-length-3
     returns-3)

@@ -2,12 +2,12 @@
 use mathlib.Core.Path.{_≡_, _∙_}
 use Prim.Native.Nat.{_≤_, _-_}
 use native.Mathlib.Nat.{le-antisymm}
-use borrow.Author.Needs.{needs}
 use lib.ListN.{length}
 use Rattle.linear.specs.Choose.{chooseOf}
 use Rattle.linear.specs.Dot.{dotTo}
 use Rattle.run.specs.Scratch.{matrix, row, fillRows}
 use Rattle.run.proofs.ScratchLaws.{fill-rows-turn}
+use borrow.Author.Needs.{needs}
 use Rattle.run.proofs.free.bent_rows.Statement.{statement}
 use Rattle.run.proofs.free.bent_rows.Tie as tie
 
@@ -17,12 +17,9 @@ Inv-loop k count h z hz₀ t₀ hz t = (t ≤ count) × (length hz ≡ length hz
 abbrev μ-loop : tie.MeasureT-loop
 μ-loop k count h z hz₀ t₀ hz t = count - t
 
-clear-requires : tie.Need-clear-requires Inv-loop μ-loop
-clear-requires c κs = search needs
-
 loop-holds : tie.Need-loop-holds Inv-loop μ-loop
 unfolding fillRows
-loop-holds c = (search needs, search needs, rw (c .before .before .before .before .before .before .before .pre .1 .1) at (c .before .before .clear .ensures))
+loop-holds c = (search needs, search needs, c .before .before .before .pre .1 .1)
 
 bent-row-requires : tie.Need-bent-row-requires Inv-loop μ-loop
 bent-row-requires c κs = search needs
@@ -43,16 +40,4 @@ returns : tie.Need-returns Inv-loop μ-loop
 returns c = rw (le-antisymm (c .before .loop .inv .0) (c .loop-test .left)) at (c .before .loop .inv .2)
 
 pub bent-rows-spec : {M : Type 1} → statement M
-bent-rows-spec =
-    tie.close
-    (tie.spec
-    Inv-loop
-    μ-loop
-    clear-requires
-    loop-holds
-    bent-row-requires
-    add-t
-    loop-less
-    loop-again
-    same-length
-    returns)
+bent-rows-spec = tie.close (tie.spec Inv-loop μ-loop loop-holds bent-row-requires add-t loop-less loop-again same-length returns)

@@ -1,15 +1,15 @@
 -- `force` meets its contract: the first places hold the definition's, and the rest are clear.
-use mathlib.Core.Path.{_≡_, _∙_}
+use mathlib.Core.Path.{_≡_, sym, _∙_}
 use Prim.Native.Nat.{_≤_, _-_}
 use native.Mathlib.Nat.{le-antisymm}
-use borrow.Author.Needs.{needs}
 use lib.ListN.{length}
 use Rattle.interval.specs.Scalar.{addOf}
 use Rattle.linear.specs.Choose.{chooseOf}
 use Rattle.linear.specs.Flat.{at}
 use Rattle.run.specs.Scratch.{vector, fillTo}
 use Rattle.run.specs.Step.{bentAt, curved, forceOf}
-use Rattle.run.proofs.ScratchLaws.{fill-first}
+use Rattle.run.proofs.ScratchLaws.{fill-none, fill-first}
+use borrow.Author.Needs.{needs}
 use Rattle.run.proofs.free.force.Statement.{statement}
 use Rattle.run.proofs.free.force.Tie as tie
 
@@ -19,12 +19,8 @@ Inv-loop k h g v out₀ i₀ out i = (i ≤ k) × (length out ≡ length out₀)
 abbrev μ-loop : tie.MeasureT-loop
 μ-loop k h g v out₀ i₀ out i = k - i
 
-clear-requires : tie.Need-clear-requires Inv-loop μ-loop
-clear-requires c κs = search needs
-
 loop-holds : tie.Need-loop-holds Inv-loop μ-loop
-unfolding fillTo
-loop-holds c = (search needs, search needs, rw (c .before .before .before .before .before .before .before .before .pre .1) at (c .before .before .clear .ensures))
+loop-holds c = (search needs, search needs, c .before .before .before .before .pre .1 ∙ sym (fill-none _ _))
 
 slope-at-requires : tie.Need-slope-at-requires Inv-loop μ-loop
 slope-at-requires c κs = search needs
@@ -54,18 +50,4 @@ unfolding forceOf
 returns c = rw (le-antisymm (c .before .loop .inv .0) (c .loop-test .left)) at (c .before .loop .inv .2)
 
 pub force-spec : {M : Type 1} → statement M
-force-spec =
-    tie.close
-    (tie.spec
-    Inv-loop
-    μ-loop
-    clear-requires
-    loop-holds
-    slope-at-requires
-    choose-requires
-    put-requires
-    add-i
-    loop-less
-    loop-again
-    same-length
-    returns)
+force-spec = tie.close (tie.spec Inv-loop μ-loop loop-holds slope-at-requires choose-requires put-requires add-i loop-less loop-again same-length returns)

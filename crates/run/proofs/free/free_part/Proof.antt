@@ -1,10 +1,11 @@
--- `free_part` meets its contract: the part of the array has the length asked, the weights decide, and each arm is the definition's.
-use mathlib.Core.Path.{sym}
+-- `free_part` meets its contract: the part of the array has the length asked, and the weights decide.
+use mathlib.Core.Path.{refl, sym, _∙_}
 use Prim.Native.Nat.{_*_, _≤_}
 use native.Mathlib.Omega.{arith}
+use lib.Ieee.{ofBits}
 use lib.Seq.{length-take-le}
 use Rattle.linear.specs.Results.{bind}
-use Rattle.run.proofs.FreeLaws.{parted}
+use Rattle.run.proofs.FreeLaws.{parted, unparted}
 use Rattle.run.proofs.Prefixes.{front-room, front-kept}
 use borrow.Author.Needs.{needs}
 use Rattle.run.proofs.free.free_part.Statement.{statement}
@@ -20,7 +21,8 @@ slice-aggregate-force : tie.Need-slice-aggregate-force
 slice-aggregate-force c = search needs
 
 force-requires : tie.Need-force-requires
-force-requires c κs = search needs
+unfolding ofBits
+force-requires c κs = (c .before .before .before .before .before .before .pre .0, refl)
 
 slice-aggregate-weigh : tie.Need-slice-aggregate-weigh
 slice-aggregate-weigh c = search needs
@@ -32,10 +34,16 @@ slice-aggregate-weigh-2 : tie.Need-slice-aggregate-weigh-2
 slice-aggregate-weigh-2 c = sym (length-take-le _ _ (short (c .before .before .before .before .before .before .before .before .before .before)))
 
 weigh-requires : tie.Need-weigh-requires
-weigh-requires c κs = let s = (c .before .before .before .before .before .before .before .before .before .before) in (s .pre .0, (s .pre .1, length-take-le _ _ (short s)))
+weigh-requires c κs = let s = c .before .before .before .before .before .before .before .before .before .before in (s .pre .0, (s .pre .1, length-take-le _ _ (short s)))
 
 enum-told : tie.Need-enum-told
 enum-told c = search needs
+
+same-length : tie.Need-same-length
+same-length c = search needs
+
+returns : tie.Need-returns
+returns c = unparted (c .before .before .weigh .result) _ _ _ _ (c .match .keys2) ∙ parted _ _ _ _ _ _ (c .before .before .before .before .before .before .force .ensures) (c .before .before .weigh .ensures)
 
 array-share-prefix-w : tie.Need-array-share-prefix-w
 array-share-prefix-w c = front-room _ (c .before .before .before .weigh .last .1 .1 .1 .1 .1 .0) _ (short (c .before .before .before .before .before .before .before .before .before .before .before .before .before .before)) (c .before .before .before .weigh .kept .1 .1 .1 .1 .1 .0)
@@ -46,32 +54,12 @@ slice-aggregate-combine c = sym (length-take-le _ _ (front-room _ (c .before .be
 combine-requires : tie.Need-combine-requires
 combine-requires c κs = search needs
 
-enum-told-2 : tie.Need-enum-told-2
-enum-told-2 c = search needs
-
-enum-known-e : tie.Need-enum-known-e
-enum-known-e c = search needs
-
-same-length : tie.Need-same-length
-same-length c = search needs
-
-returns : tie.Need-returns
-unfolding bind
-returns c = rw (c .before .before .combine .ensures, front-kept _ (c .before .before .before .before .before .before .before .before .weigh .last .1 .1 .1 .1 .1 .0) _ (short (c .before .before .before .before .before .before .before .before .before .before .before .before .before .before .before .before .before .before .before)) (c .before .before .before .before .before .before .before .before .weigh .kept .1 .1 .1 .1 .1 .0)) (parted _ _ _ _ _ _ (c .before .before .before .before .before .before .before .before .before .before .before .before .force .ensures) (rw (c .before .before .before .before .before .enum-told .given .1) at (c .before .before .before .before .before .before .before .before .weigh .ensures)))
-
 same-length-2 : tie.Need-same-length-2
 same-length-2 c = search needs
 
 returns-2 : tie.Need-returns-2
 unfolding bind
-returns-2 c = parted _ _ _ _ _ _ (c .before .before .before .before .before .before .before .force .ensures) (rw (c .enum-told2 .given .1) at (c .before .before .before .weigh .ensures))
-
-same-length-3 : tie.Need-same-length-3
-same-length-3 c = search needs
-
-returns-3 : tie.Need-returns-3
-unfolding bind
-returns-3 c = parted _ _ _ _ _ _ (c .before .before .before .before .before .before .before .before .force .ensures) (rw (c .before .e .given .1) at (c .before .before .before .before .weigh .ensures))
+returns-2 c = rw (c .before .before .before .before .before .enum-told .given .1, c .before .before .combine .ensures, front-kept _ (c .before .before .before .before .before .before .before .before .weigh .last .1 .1 .1 .1 .1 .0) _ (short (c .before .before .before .before .before .before .before .before .before .before .before .before .before .before .before .before .before .before .before)) (c .before .before .before .before .before .before .before .before .weigh .kept .1 .1 .1 .1 .1 .0)) (parted _ _ _ _ _ _ (c .before .before .before .before .before .before .before .before .before .before .before .before .force .ensures) (rw (c .before .before .before .before .before .enum-told .given .1) at (c .before .before .before .before .before .before .before .before .weigh .ensures)))
 
 pub free-part-spec : {M : Type 1} → statement M
 free-part-spec =
@@ -85,14 +73,10 @@ free-part-spec =
     slice-aggregate-weigh-2
     weigh-requires
     enum-told
+    same-length
+    returns
     array-share-prefix-w
     slice-aggregate-combine
     combine-requires
-    enum-told-2
-    enum-known-e
-    same-length
-    returns
     same-length-2
-    returns-2
-    same-length-3
-    returns-3)
+    returns-2)

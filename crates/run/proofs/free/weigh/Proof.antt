@@ -1,7 +1,8 @@
--- `weigh` meets its contract: the parts of the arrays have the lengths asked, and the weights are solved for from what the calls before wrote.
-use mathlib.Core.Path.{sym}
+-- `weigh` meets its contract: the part of the array has the length asked, and the weights are solved for from what the calls before wrote.
+use mathlib.Core.Path.{refl, sym, _∙_}
 use Prim.Native.Nat.{_*_, _≤_}
 use native.Mathlib.Omega.{arith}
+use lib.Ieee.{ofBits}
 use lib.Seq.{length-take-le}
 use Rattle.run.proofs.FreeLaws.{weighed}
 use Rattle.run.proofs.Prefixes.{front-room, front-kept}
@@ -13,12 +14,6 @@ use Rattle.run.proofs.free.weigh.Tie as tie
 room : (s : tie.Start) → 2 * (s .args .count * s .args .count) ≤ 288
 room s = omega (arith, few (s .pre .1 .0) (s .pre .1 .0))
 
-short : (s : tie.Start) → 2 * s .args .count ≤ 24
-short s = omega (arith, s .pre .1 .0)
-
-mul-q : tie.Need-mul-q
-mul-q c = search needs
-
 mul-e : tie.Need-mul-e
 mul-e c = omega (arith, room (c .before .before .before .before))
 
@@ -29,7 +24,8 @@ slice-aggregate-bent-rows : tie.Need-slice-aggregate-bent-rows
 slice-aggregate-bent-rows c = search needs
 
 bent-rows-requires : tie.Need-bent-rows-requires
-bent-rows-requires c κs = search needs
+unfolding ofBits
+bent-rows-requires c κs = let p = c .before .before .before .before .before .pre in (p .0, (p .1 .0, refl))
 
 slice-aggregate-reduced : tie.Need-slice-aggregate-reduced
 slice-aggregate-reduced c = search needs
@@ -41,48 +37,33 @@ slice-aggregate-reduced-2 : tie.Need-slice-aggregate-reduced-2
 slice-aggregate-reduced-2 c = sym (length-take-le _ _ (room (c .before .before .before .before .before .before .before .before .before)))
 
 reduced-requires : tie.Need-reduced-requires
-reduced-requires c κs = let s = (c .before .before .before .before .before .before .before .before .before) in (s .pre .1 .0, length-take-le _ _ (room s))
-
-array-borrow-prefix-rhs : tie.Need-array-borrow-prefix-rhs
-array-borrow-prefix-rhs c = search needs
-
-slice-aggregate-against : tie.Need-slice-aggregate-against
-slice-aggregate-against c = sym (length-take-le _ _ (short (c .before .before .before .before .before .before .before .before .before .before .before .before)))
+reduced-requires c κs = let s = c .before .before .before .before .before .before .before .before .before in (s .pre .1 .0, length-take-le _ _ (room s))
 
 against-requires : tie.Need-against-requires
-against-requires c κs = let s = (c .before .before .before .before .before .before .before .before .before .before .before .before) in (s .pre .1 .0, length-take-le _ _ (short s))
+against-requires c κs = c .before .before .before .before .before .before .before .before .before .before .before .before .pre .1
 
 array-share-prefix-a : tie.Need-array-share-prefix-a
-array-share-prefix-a c = front-room _ (c .before .before .before .before .reduced .last .1 .1 .1 .1 .0) _ (room (c .before .before .before .before .before .before .before .before .before .before .before .before .before .before)) (c .before .before .before .before .reduced .kept .1 .1 .1 .1 .0)
+array-share-prefix-a c = front-room _ (c .before .before .before .before .before .reduced .last .1 .1 .1 .1 .0) _ (room (c .before .before .before .before .before .before .before .before .before .before .before .before .before .before .before)) (c .before .before .before .before .before .reduced .kept .1 .1 .1 .1 .0)
 
 slice-aggregate-weights-for : tie.Need-slice-aggregate-weights-for
-slice-aggregate-weights-for c = sym (length-take-le _ _ (front-room _ (c .before .before .before .before .before .reduced .last .1 .1 .1 .1 .0) _ (room (c .before .before .before .before .before .before .before .before .before .before .before .before .before .before .before)) (c .before .before .before .before .before .reduced .kept .1 .1 .1 .1 .0)))
-
-array-share-prefix-rhs : tie.Need-array-share-prefix-rhs
-array-share-prefix-rhs c = front-room _ (c .before .before .against .last .1 .1 .1 .1 .0) _ (short (c .before .before .before .before .before .before .before .before .before .before .before .before .before .before .before)) (c .before .before .against .kept .1 .1 .1 .1 .0)
-
-slice-aggregate-weights-for-2 : tie.Need-slice-aggregate-weights-for-2
-slice-aggregate-weights-for-2 c = sym (length-take-le _ _ (front-room _ (c .before .before .before .against .last .1 .1 .1 .1 .0) _ (short (c .before .before .before .before .before .before .before .before .before .before .before .before .before .before .before .before)) (c .before .before .before .against .kept .1 .1 .1 .1 .0)))
+slice-aggregate-weights-for c = sym (length-take-le _ _ (front-room _ (c .before .before .before .before .before .before .reduced .last .1 .1 .1 .1 .0) _ (room (c .before .before .before .before .before .before .before .before .before .before .before .before .before .before .before .before)) (c .before .before .before .before .before .before .reduced .kept .1 .1 .1 .1 .0)))
 
 weights-for-requires : tie.Need-weights-for-requires
 weights-for-requires c κs =
-    let s = (c .before .before .before .before .before .before .before .before .before .before .before .before .before .before .before .before .before) in
+    let s = c .before .before .before .before .before .before .before .before .before .before .before .before .before .before .before .before .before in
     let p = s .pre in
-    (p .1 .0, (length-take-le _ _ (front-room _ (c .before .before .before .before .before .before .before .reduced .last .1 .1 .1 .1 .0) _ (room s) (c .before .before .before .before .before .before .before .reduced .kept .1 .1 .1 .1 .0)), (length-take-le _ _ (front-room _ (c .before .before .before .before .against .last .1 .1 .1 .1 .0) _ (short s) (c .before .before .before .before .against .kept .1 .1 .1 .1 .0)), p .1 .1)))
+    (p .1 .0, (length-take-le _ _ (front-room _ (c .before .before .before .before .before .before .before .reduced .last .1 .1 .1 .1 .0) _ (room s) (c .before .before .before .before .before .before .before .reduced .kept .1 .1 .1 .1 .0)), c .before .before .before .before .against .kept .1 .1 .1 .1 .0 ∙ p .1 .1))
 
 same-length : tie.Need-same-length
 same-length c = search needs
 
 returns : tie.Need-returns
-returns c =
-    let s = (c .before .before .before .before .before .before .before .before .before .before .before .before .before .before .before .before .before .before .before .before) in
-    weighed _ _ _ _ _ (c .before .before .before .before .before .before .before .before .before .before .before .before .before .before .bent-rows .ensures) (c .before .before .before .before .before .before .before .before .before .before .reduced .ensures) (c .before .before .before .before .before .before .before .against .ensures) (rw (front-kept _ (c .before .before .before .before .before .before .before .before .before .before .reduced .last .1 .1 .1 .1 .0) _ (room s) (c .before .before .before .before .before .before .before .before .before .before .reduced .kept .1 .1 .1 .1 .0), front-kept _ (c .before .before .before .before .before .before .before .against .last .1 .1 .1 .1 .0) _ (short s) (c .before .before .before .before .before .before .before .against .kept .1 .1 .1 .1 .0)) at (c .before .before .weights-for .ensures))
+returns c = weighed _ _ _ _ _ (c .before .before .before .before .before .before .before .before .before .before .before .before .before .before .bent-rows .ensures) (c .before .before .before .before .before .before .before .before .before .before .reduced .ensures) (c .before .before .before .before .before .before .before .against .ensures) (rw (front-kept _ (c .before .before .before .before .before .before .before .before .before .before .reduced .last .1 .1 .1 .1 .0) _ (room (c .before .before .before .before .before .before .before .before .before .before .before .before .before .before .before .before .before .before .before .before)) (c .before .before .before .before .before .before .before .before .before .before .reduced .kept .1 .1 .1 .1 .0)) at (c .before .before .weights-for .ensures))
 
 pub weigh-spec : {M : Type 1} → statement M
 weigh-spec =
     tie.close
     (tie.spec
-    mul-q
     mul-e
     mul-e-2
     slice-aggregate-bent-rows
@@ -91,13 +72,9 @@ weigh-spec =
     array-borrow-prefix-a
     slice-aggregate-reduced-2
     reduced-requires
-    array-borrow-prefix-rhs
-    slice-aggregate-against
     against-requires
     array-share-prefix-a
     slice-aggregate-weights-for
-    array-share-prefix-rhs
-    slice-aggregate-weights-for-2
     weights-for-requires
     same-length
     returns)

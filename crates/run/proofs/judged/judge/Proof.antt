@@ -11,11 +11,28 @@ use Rattle.run.proofs.judged.judge.Tie as tie
 norm-of-requires : tie.Need-norm-of-requires
 norm-of-requires c κs = search needs
 
+enum-known-e : tie.Need-enum-known-e
+enum-known-e c = search needs
+
+returns : tie.Need-returns
+unfolding judgeOf
+returns c = sym (bind-refused _ (sym (c .before .before .before .norm-of .ensures) ∙ ap resultOf (c .before .e .given .1)))
+
 enum-known-length : tie.Need-enum-known-length
 enum-known-length c = search needs
 
 violation-requires : tie.Need-violation-requires
 violation-requires c κs = search needs
+
+enum-known-e-2 : tie.Need-enum-known-e-2
+enum-known-e-2 c = search needs
+
+returns-2 : tie.Need-returns-2
+unfolding judgeOf
+returns-2 c =
+    let f = sym (c .before .before .before .before .before .before .before .norm-of .ensures) ∙ ap resultOf (c .before .before .before .before .before .length .given .1) in
+    let g = sym (c .before .before .before .violation .ensures) ∙ ap resultOf (c .before .e2 .given .1) in
+    sym (bind-ok _ f ∙ bind-refused _ g)
 
 enum-known-t : tie.Need-enum-known-t
 enum-known-t c = search needs
@@ -23,41 +40,12 @@ enum-known-t c = search needs
 judged-at-requires : tie.Need-judged-at-requires
 judged-at-requires c κs = search needs
 
-enum-known-e : tie.Need-enum-known-e
-enum-known-e c = search needs
-
-enum-known-e-2 : tie.Need-enum-known-e-2
-enum-known-e-2 c = search needs
-
-returns : tie.Need-returns
+returns-3 : tie.Need-returns-3
 unfolding judgeOf
-returns c =
+returns-3 c =
     let f = sym (c .before .before .before .before .before .before .before .before .norm-of .ensures) ∙ ap resultOf (c .before .before .before .before .before .before .length .given .1) in
     let g = sym (c .before .before .before .before .violation .ensures) ∙ ap resultOf (c .before .before .t .given .1) in
     ap ok (c .judged-at .ensures) ∙ sym (bind-ok _ f ∙ bind-ok _ g)
 
-returns-2 : tie.Need-returns-2
-unfolding judgeOf
-returns-2 c =
-    let f = sym (c .before .before .before .before .before .before .before .norm-of .ensures) ∙ ap resultOf (c .before .before .before .before .before .length .given .1) in
-    let g = sym (c .before .before .before .violation .ensures) ∙ ap resultOf (c .before .e .given .1) in
-    sym (bind-ok _ f ∙ bind-refused _ g)
-
-returns-3 : tie.Need-returns-3
-unfolding judgeOf
-returns-3 c = sym (bind-refused _ (sym (c .before .before .before .norm-of .ensures) ∙ ap resultOf (c .before .e2 .given .1)))
-
 pub judge-spec : {M : Type 1} → statement M
-judge-spec =
-    tie.close
-    (tie.spec
-    norm-of-requires
-    enum-known-length
-    violation-requires
-    enum-known-t
-    judged-at-requires
-    enum-known-e
-    enum-known-e-2
-    returns
-    returns-2
-    returns-3)
+judge-spec = tie.close (tie.spec norm-of-requires enum-known-e returns enum-known-length violation-requires enum-known-e-2 returns-2 enum-known-t judged-at-requires returns-3)
