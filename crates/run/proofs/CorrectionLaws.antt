@@ -20,9 +20,10 @@ use Rattle.linear.specs.declared.answers.Done.{Done}
 use Rattle.linear.specs.declared.answers.Done.the-variants as done
 use Rattle.linear.proofs.Lists.{length-listTo}
 use Rattle.run.specs.Scratch.{vector, fillTo, chosenOf, allFinite}
-use Rattle.run.specs.Rows.{constraintsOf, valueAt, slopeAt}
+use Rattle.run.specs.Rows.{constraintSet, constraintsOf, valueAt, slopeAt}
+use Rattle.run.specs.declared.rows.RowSet.{RowSet}
 use Rattle.run.specs.Proposal.{movedOf, sameOf}
-use Rattle.run.specs.Correction.{movingSlope, Shift, to, stay}
+use Rattle.run.specs.Correction.{movingSlope, shiftOf, Shift, to, stay}
 use Rattle.run.proofs.ScratchLaws.{fill-whole}
 use Rattle.run.proofs.LinearCalls.{minus-solved-result}
 
@@ -31,7 +32,7 @@ pub slope-is : (moving : List Bool) (xs : List Float) (n m p : ℕ) {v r : Scala
     → v ≡ slopeAt (constraintsOf n m xs) (p / n) (p % n) → r ≡ pick (getD moving (p % n) false) (chooseOf v) zeroS → r ≡ movingSlope moving (constraintsOf n m xs) (p / n) (p % n)
 slope-is moving xs n m p ev er = rw (er, ev)
 
-pub shift-solved : (n m : ℕ) (moving : List Bool) (xs jc c₀ c clear out : List Float) (r : Done) (x : List Float)
+shift-solved : (n m : ℕ) (moving : List Bool) (xs jc c₀ c clear out : List Float) (r : Done) (x : List Float)
     → n ≤ 12 → m ≤ 12 → length out ≡ 2 * n → length c₀ ≡ 2 * m
     → jc ≡ listTo (λ p. movingSlope moving (constraintsOf n m xs) (p / n) (p % n)) (m * n) → c ≡ chosenOf c₀ xs 0 m → clear ≡ zeros (2 * n)
     → replied r x ≡ minusSolvedReply m n jc c clear out
@@ -45,11 +46,22 @@ shift-solved n m moving xs jc c₀ c clear out r x hn hm lo lc ej ec ez e =
     rw (ej, w, ez) at (minus-solved-result r m n jc c clear out x (omega arith) (omega arith) kj kc kz lo e)
 
 -- what was solved for, sharpened, or its refusal
-pub shift-ends : (n : ℕ) (r : Done) (x : List Float) {d : List Float} {s : Res (List Float)}
+shift-ends : (n : ℕ) (r : Done) (x : List Float) {d : List Float} {s : Res (List Float)}
     → doneOf r x ≡ s → d ≡ fillTo vector 0 (λ i. sharpen (at x i)) n → doneOf r d ≡ bind s (λ y. ok (fillTo vector 0 (λ i. sharpen (at y i)) n))
 unfolding bind
 shift-ends n done.Finished x e ed = rw (← e) (ap ok ed)
 shift-ends n (done.Refused k) x e ed = rw (← e)
+
+-- jc′, c′ and x′ are the fronts of the arrays that were written
+pub shift-is : (n m : ℕ) (moving : List Bool) (xs c₀ out : List Float) {jc c clear jc′ c′ x′ d : List Float} {set : RowSet} (r : Done) (x : List Float)
+    → n ≤ 12 → m ≤ 12 → length out ≡ 2 * n → length c₀ ≡ 2 * m → jc′ ≡ jc → c′ ≡ c → x′ ≡ x → set ≡ constraintSet n m
+    → jc ≡ listTo (λ p. movingSlope moving (constraintsOf n m xs) (p / n) (p % n)) (m * n) → c ≡ chosenOf c₀ xs (set .values) (set .count) → clear ≡ zeros (2 * n)
+    → replied r x ≡ minusSolvedReply m n jc′ c′ clear out → d ≡ fillTo vector 0 (λ i. sharpen (at x′ i)) n
+    → doneOf r d ≡ shiftOf moving (constraintsOf n m xs)
+unfolding shiftOf
+shift-is n m moving xs c₀ out {jc} {c} {clear} r x hn hm lo lc fj fc fx es ej ec ez e ed =
+    let solved = shift-solved n m moving xs jc c₀ c clear out r x hn hm lo lc ej (rw es at ec) ez (rw (fj, fc) at e) in
+    shift-ends n r x solved (rw fx at ed)
 
 -- where a shift d takes the landed point
 module _ (n : ℕ) (landed d : List Float) {t : Bool} (et : t ≡ allFinite d 12) where

@@ -23,8 +23,9 @@ use Rattle.linear.specs.declared.answers.Done.the-variants as done
 use Rattle.linear.specs.declared.answers.LinearError.{LinearError}
 use Rattle.linear.proofs.Lists.{length-listTo}
 use Rattle.run.specs.Scratch.{vector, fillTo, chosenOf}
-use Rattle.run.specs.Rows.{Rows, Evaluation, constraintsOf}
-use Rattle.run.specs.Curvature.{alongOf, turnedAt, turnedOf, rankOneOf, bentBy, correctedBy, updatedBy}
+use Rattle.run.specs.Rows.{Rows, Evaluation, constraintSet, constraintsOf}
+use Rattle.run.specs.declared.rows.RowSet.{RowSet}
+use Rattle.run.specs.Curvature.{alongOf, turnedAt, turnedOf, rankOneOf, bentBy, correctedBy, updatedBy, updateCurvature}
 use Rattle.run.proofs.ScratchLaws.{fill-ext, fill-whole, prefix-list}
 use Rattle.run.proofs.LinearCalls.{minus-solved-result}
 
@@ -34,12 +35,16 @@ module _ (n m : ℕ) (xs v jc rhs out : List Float) (hn : n ≤ 12) (hm : m ≤ 
   unfolding alongOf
   along-lists ej er = rw (prefix-list v n hv, er, ej)
 
-  pub along-is : (jc₀ rhs₀ : List Float) (r : Done) (x : List Float)
-      → length out ≡ 2 * n → length jc₀ ≡ 2 * (m * n) → length rhs₀ ≡ 2 * m
-      → jc ≡ chosenOf jc₀ xs m (m * n) → rhs ≡ fillTo rhs₀ 0 (λ i. dotTo (along jc (i * n) 1) (at v) n) m
-      → replied r x ≡ minusSolvedReply m n jc rhs (take (2 * n) v) out
+  -- jc′ and rhs′ are the fronts of the arrays that were written
+  pub along-is : (jc₀ rhs₀ : List Float) {jc′ rhs′ : List Float} {set : RowSet} (r : Done) (x : List Float)
+      → length out ≡ 2 * n → length jc₀ ≡ 2 * (m * n) → length rhs₀ ≡ 2 * m → jc′ ≡ jc → rhs′ ≡ rhs
+      → set ≡ constraintSet n m → jc ≡ chosenOf jc₀ xs (set .slopes) (set .count * set .n) → rhs ≡ fillTo rhs₀ 0 (λ i. dotTo (along jc′ (i * n) 1) (at v) n) m
+      → replied r x ≡ minusSolvedReply m n jc′ rhs′ (take (2 * n) v) out
       → doneOf r x ≡ alongOf (constraintsOf n m xs) v
-  along-is jc₀ rhs₀ r x lo lj lr ej er e =
+  along-is jc₀ rhs₀ r x lo lj lr fj fr es ej₀ er₀ e₀ =
+      let ej : jc ≡ chosenOf jc₀ xs m (m * n) = rw es at ej₀ in
+      let er : rhs ≡ fillTo rhs₀ 0 (λ i. dotTo (along jc (i * n) 1) (at v) n) m = rw fj at er₀ in
+      let e : replied r x ≡ minusSolvedReply m n jc rhs (take (2 * n) v) out = rw (fj, fr) at e₀ in
       let wj = ej ∙ fill-whole jc₀ _ (m * n) lj in
       let wr = er ∙ fill-whole rhs₀ _ m lr in
       let kj : length jc ≡ 2 * (m * n) = rw wj (length-listTo _ (m * n)) in
@@ -50,6 +55,11 @@ module _ (n m : ℕ) (xs v jc rhs out : List Float) (hn : n ≤ 12) (hm : m ≤ 
 pub handed-on : {r : Done} {k : LinearError} (x y : List Float) {s : Res (List Float)} (f : List Float → Res (List Float)) → r ≡ done.Refused k → doneOf r x ≡ s → doneOf r y ≡ bind s f
 unfolding bind
 handed-on x y f h e = rw (← e, h)
+
+-- what follows a call that ended well; x′ is the front of the array that it wrote
+pub went-on : {r : Done} {x x′ : List Float} {s y : Res (List Float)} (f : List Float → Res (List Float)) → r ≡ done.Finished → doneOf r x ≡ s → x′ ≡ x → y ≡ f x′ → y ≡ bind s f
+unfolding bind
+went-on f h e k ey = rw (← e, h, ← k) ey
 
 pub turned-is : (n : ℕ) (e e′ : Evaluation) (lambda : List Float) {r₀ r y : List Float}
     → r₀ ≡ zeros 48 → r ≡ chosenOf r₀ (e′ .sum .list) (e′ .sum .values) (e′ .sum .count) → y ≡ fillTo vector 0 (turnedAt e e′ lambda r) n
@@ -87,3 +97,10 @@ module _ (n : ℕ) (c : Rows) (b y s : List Float) {bs₀ bs : List Float} {p q 
 
   pub leaves : t ≡ false → ok b ≡ updatedBy n c b y s
   leaves h = rw h at asked
+
+-- the whole update; x′ is the front of the array that the step's part was written to
+pub updates-by : (n : ℕ) (b step : List Float) (e e′ : Evaluation) (lambda : List Float) {r : Done} {x x′ y : List Float} {s : Res (List Float)}
+    → r ≡ done.Finished → doneOf r x ≡ alongOf (e .constraints) step → x′ ≡ x → y ≡ turnedOf n e e′ lambda → s ≡ updatedBy n (e .constraints) b y x′
+    → s ≡ updateCurvature n b step e e′ lambda
+unfolding updateCurvature
+updates-by n b step e e′ lambda h ex k ey es = went-on _ h ex k (rw (← ey) es)

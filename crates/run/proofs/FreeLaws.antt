@@ -1,5 +1,5 @@
 -- The step along what is left free: how the weights come out of a factor, and how the step comes out of the weights.
-use Prim.Native.Nat.{ℕ, _*_, _/_, _%_}
+use Prim.Native.Nat.{ℕ, _*_, _/_, _%_, _≤_}
 use mathlib.Core.Bool.{Bool, true, false}
 use mathlib.Core.Path.{_≡_, refl, _∙_}
 use mathlib.Core.List.{List, [], _∷_}
@@ -16,9 +16,16 @@ use Rattle.linear.specs.Flat.{at, listTo}
 use Rattle.linear.specs.Results.{bind}
 use Rattle.linear.specs.Dot.{dotTo}
 use Rattle.linear.specs.Choose.{chooseOf, sharpOf}
-use Rattle.linear.specs.Cholesky.{Factor}
+use Rattle.linear.specs.Cholesky.{Factor, choleskyOf}
+use Rattle.linear.specs.Answers.{doneOf, numberOf}
+use Rattle.linear.specs.Calls.{solveReply}
+use Rattle.linear.specs.Replies.{replied}
+use Rattle.linear.specs.declared.answers.Done.{Done}
+use Rattle.linear.specs.declared.answers.Done.the-variants as done
+use Rattle.linear.specs.declared.answers.LinearError.{LinearError}
 use Rattle.linear.specs.Substitution.{solveOf}
-use Rattle.run.specs.Scratch.{vector, matrix, row, fillRows, anyTo}
+use Rattle.run.specs.Scratch.{vector, matrix, row, fillRows, anyTo, combinedTo}
+use Rattle.run.proofs.LinearCalls.{solve-result}
 use Rattle.run.specs.Model.{Problem}
 use Rattle.run.specs.Directions.{Directions}
 use Rattle.run.specs.Step.{forceOf, reducedOf, againstOf, Weights, weights, none, weightsOf, curved, spanned, alongOf, solvedWith, addedTo, freePart}
@@ -35,21 +42,38 @@ pub as-weights : {x : Res (List Float)} {s : List Float} → x ≡ ok s → bind
 unfolding bind
 as-weights e = rw e
 
-module _ (t : ℕ) (f : Factor) (rhs : List Float) {marked : Bool} (size : length (f .left-out) ≡ t) (em : marked ≡ anyTo (λ i. getD (f .left-out) i false) (length (f .left-out))) where
+-- the weights from a factor that was found; left′ is the front of the array of its marks
+module _ (t : ℕ) (a rhs : List Float) (f : Factor) {r : Done} {left′ : List Bool} {marked : Bool}
+    (h : r ≡ done.Finished) (ef : doneOf r f ≡ choleskyOf t a) (size : length (f .left-out) ≡ t) (kept : left′ ≡ f .left-out) (em : marked ≡ anyTo (λ i. getD left′ i false) (length left′)) where
   marks : marked ≡ anyTo (λ i. getD (f .left-out) i false) t
-  marks = rw size at em
+  marks = rw (kept, size) at em
 
-  pub weights-none : marked ≡ true → ok none ≡ weightsOf t f rhs
-  unfolding weightsOf bind
-  weights-none e = rw (← marks, e)
+  factored : weightsOf t f rhs ≡ solvedWith t a rhs
+  unfolding solvedWith bind
+  factored = rw (← ef, h)
 
-  pub weights-solved : {x : List Float} {r : Res Weights} → marked ≡ false → ok x ≡ solveOf t (f .l) (f .left-out) rhs → r ≡ ok (weights (sharpOf x t)) → r ≡ weightsOf t f rhs
+  pub weights-none : marked ≡ true → ok none ≡ solvedWith t a rhs
   unfolding weightsOf bind
-  weights-solved e es er = rw (← marks, e, ← es) er
+  weights-none e = rw (← factored, ← marks, e)
 
-  pub weights-refused : {k : ℕ} → marked ≡ false → refused k ≡ solveOf t (f .l) (f .left-out) rhs → refused k ≡ weightsOf t f rhs
-  unfolding weightsOf bind
-  weights-refused e es = rw (← marks, e, ← es)
+  module _ {s : Done} (x : List Float) (e : marked ≡ false) (es : doneOf s x ≡ solveOf t (f .l) (f .left-out) rhs) where
+    pub weights-solved : {w : List Float} → s ≡ done.Finished → w ≡ sharpOf x t → ok (weights w) ≡ solvedWith t a rhs
+    unfolding weightsOf bind
+    weights-solved k ew = rw (← factored, ← marks, e, ← es, k, ew)
+
+    pub weights-refused : {n : LinearError} → s ≡ done.Refused n → refused (numberOf n) ≡ solvedWith t a rhs
+    unfolding weightsOf bind
+    weights-refused k = rw (← factored, ← marks, e, ← es, k)
+
+-- the weights where the factor is refused
+pub unfactored : (t : ℕ) (a rhs : List Float) {r : Done} (f : Factor) {n : LinearError} → r ≡ done.Refused n → doneOf r f ≡ choleskyOf t a → refused (numberOf n) ≡ solvedWith t a rhs
+unfolding solvedWith bind
+unfactored t a rhs f h e = rw (← e, h)
+
+-- a solve of which l′ and left′ are the fronts of the arrays that the factor was written to
+pub solve-fronts : (r : Done) (n : ℕ) (l : List Float) (left : List Bool) (b y x : List Float) {l′ : List Float} {left′ : List Bool}
+    → n ≤ 24 → length l ≡ 2 * (n * n) → length left ≡ n → length b ≡ 2 * n → length y ≡ 2 * n → l′ ≡ l → left′ ≡ left → replied r x ≡ solveReply n l′ left′ b y → doneOf r x ≡ solveOf n l left b
+solve-fronts r n l left b y x h ll lf lb ly kl kf e = solve-result r n l left b y x h ll lf lb ly (rw (kl, kf) at e)
 
 module _ (k count : ℕ) (h z : List Float) where
   -- the weights from what is written for them
@@ -61,6 +85,15 @@ module _ (k count : ℕ) (h z : List Float) where
       → r ≡ solvedWith count (reducedOf (curved k h vector) (spanned count z)) (againstOf (curved k h vector) (spanned count z) force)
   unfolding reducedOf againstOf
   weighed force eh ea eb er = er ∙ rw (ea, eh, eb)
+
+  -- the same where a′ is the front of the array that a was written to
+  pub weighed-front : (force : List Float) {hz a a′ rhs : List Float} {r : Res Weights}
+      → hz ≡ fillRows matrix (λ t i. chooseOf (dotTo (row h i) (row z t) k)) k count
+      → a ≡ listTo (λ p. chooseOf (dotTo (row z (p / count)) (row hz (p % count)) k)) (count * count)
+      → rhs ≡ listTo (λ t. chooseOf (negOf (dotTo (row z t) (at force) k))) count
+      → a′ ≡ a → r ≡ solvedWith count a′ rhs
+      → r ≡ solvedWith count (reducedOf (curved k h vector) (spanned count z)) (againstOf (curved k h vector) (spanned count z) force)
+  weighed-front force eh ea eb ka er = weighed force eh ea eb (rw ka at er)
 
   -- the step from the weights
   pub parted : (g delta : List Float) {f : List Float} {x : Res Weights}
@@ -76,3 +109,12 @@ unfolding bind
 unparted a.Found w delta P d k = absurd (⊎-elim (λ e. omega (arith, e)) (λ e. omega (arith, e)) k)
 unparted a.NotPositive w delta P d k = refl
 unparted (a.Refused e) w delta P d k = refl
+
+-- the weights, added: w′ is the front of the array that they were written to
+pub parted-with : (k count : ℕ) (h z g delta : List Float) {f w w′ delta′ : List Float} {end : Along}
+    → f ≡ forceOf (curved k h g) delta
+    → alongOf end w ≡ solvedWith count (reducedOf (curved k h vector) (spanned count z)) (againstOf (curved k h vector) (spanned count z) f)
+    → end ≡ a.Found → w′ ≡ w → delta′ ≡ combinedTo k w′ z delta count
+    → alongOf end delta′ ≡ freePart (curved k h g) delta (spanned count z)
+unfolding bind
+parted-with k count h z g delta ef ex e kw ed = rw (e, ed, kw) (parted k count h z g delta ef (rw e at ex))

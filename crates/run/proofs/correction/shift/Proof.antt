@@ -4,9 +4,8 @@ use Prim.Native.Nat.{_*_, _≤_}
 use native.Mathlib.Omega.{arith}
 use lib.Ieee.{ofBits}
 use lib.Seq.{length-take-le}
-use Rattle.run.specs.Correction.{shiftOf}
 use Rattle.run.proofs.BasisLaws.{take-replicate}
-use Rattle.run.proofs.CorrectionLaws.{shift-solved, shift-ends}
+use Rattle.run.proofs.CorrectionLaws.{shift-is}
 use Rattle.run.proofs.Prefixes.{front-room, front-kept}
 use Rattle.run.proofs.RowLaws.{few}
 use borrow.Author.Needs.{needs}
@@ -95,7 +94,7 @@ same-length : tie.Need-same-length
 same-length c = search needs
 
 returns : tie.Need-returns
-unfolding shiftOf ofBits
+unfolding ofBits
 returns c =
     let s = c .before .before .before .before .before .before .before .before .before .before .before .before .before .before .before .before .before .before .before .before .before in
     let a = s .args in
@@ -103,8 +102,7 @@ returns c =
     let fj = front-kept _ (c .before .before .before .before .before .before .before .before .before .before .before .before .before .before .before .before .moving-slopes .last .1 .1 .1 .1 .0) _ (room s) (c .before .before .before .before .before .before .before .before .before .before .before .before .before .before .before .before .moving-slopes .kept .1 .1 .1 .1 .0) in
     let fc = front-kept _ (c .before .before .before .before .before .before .before .before .before .before .before .before .chosen-values .last .1 .1 .0) _ (high s) (c .before .before .before .before .before .before .before .before .before .before .before .before .chosen-values .kept .1 .1 .0) in
     let fo = front-kept _ (c .before .before .before .before .before .before .minus-solved .last .1 .1 .1 .1 .1 .0) _ (short s) (c .before .before .before .before .before .before .minus-solved .kept .1 .1 .1 .1 .1 .0) in
-    let x = shift-solved (a .n) (a .m) (a .moving .now) (a .xs .now) _ _ _ _ _ (c .before .before .before .before .before .before .minus-solved .result) _ (p .0) (p .1 .0) (length-take-le _ _ (short s)) (length-take-le _ _ (high s)) (c .before .before .before .before .before .before .before .before .before .before .before .before .before .before .before .before .moving-slopes .ensures) (rw (c .before .before .before .before .before .before .before .before .before .before .before .before .before .before .constraints .ensures) at (c .before .before .before .before .before .before .before .before .before .before .before .before .chosen-values .ensures)) (take-replicate _ _ _ (short s)) (rw (fj, fc) at (c .before .before .before .before .before .before .minus-solved .ensures)) in
-    shift-ends (a .n) (c .before .before .before .before .before .before .minus-solved .result) _ x (rw fo at (c .before .before .sharpened .ensures))
+    shift-is (a .n) (a .m) (a .moving .now) (a .xs .now) _ _ (c .before .before .before .before .before .before .minus-solved .result) _ (p .0) (p .1 .0) (length-take-le _ _ (short s)) (length-take-le _ _ (high s)) fj fc fo (c .before .before .before .before .before .before .before .before .before .before .before .before .before .before .constraints .ensures) (c .before .before .before .before .before .before .before .before .before .before .before .before .before .before .before .before .moving-slopes .ensures) (c .before .before .before .before .before .before .before .before .before .before .before .before .chosen-values .ensures) (take-replicate _ _ _ (short s)) (c .before .before .before .before .before .before .minus-solved .ensures) (c .before .before .sharpened .ensures)
 
 pub shift-spec : {M : Type 1} → statement M
 shift-spec =

@@ -83,7 +83,7 @@ returns c =
     let p = s .pre in
     let fj = front-kept _ (c .before .before .before .before .before .before .before .before .before .before .before .before .chosen-slopes .last .1 .1 .0) _ (room s) (c .before .before .before .before .before .before .before .before .before .before .before .before .chosen-slopes .kept .1 .1 .0) in
     let fr = front-kept _ (c .before .before .before .before .before .before .before .before .products .last .1 .1 .1 .1 .0) _ (high s) (c .before .before .before .before .before .before .before .before .products .kept .1 .1 .1 .1 .0) in
-    along-is (a .n) (a .m) (a .xs .now) (a .v .now) _ _ (a .out .now) (p .0) (p .1 .0) (p .1 .1 .0) _ _ (c .before .before .minus-solved .result) _ (p .1 .1 .1) (length-take-le _ _ (room s)) (length-take-le _ _ (high s)) (rw (c .before .before .before .before .before .before .before .before .before .before .before .before .before .before .constraints .ensures) at (c .before .before .before .before .before .before .before .before .before .before .before .before .chosen-slopes .ensures)) (rw fj at (c .before .before .before .before .before .before .before .before .products .ensures)) (rw (fj, fr) at (c .before .before .minus-solved .ensures))
+    along-is (a .n) (a .m) (a .xs .now) (a .v .now) _ _ (a .out .now) (p .0) (p .1 .0) (p .1 .1 .0) _ _ (c .before .before .minus-solved .result) _ (p .1 .1 .1) (length-take-le _ _ (room s)) (length-take-le _ _ (high s)) fj fr (c .before .before .before .before .before .before .before .before .before .before .before .before .before .before .constraints .ensures) (c .before .before .before .before .before .before .before .before .before .before .before .before .chosen-slopes .ensures) (c .before .before .before .before .before .before .before .before .products .ensures) (c .before .before .minus-solved .ensures)
 
 pub along-constraints-spec : {M : Type 1} → statement M
 along-constraints-spec =

@@ -1,12 +1,12 @@
 -- `update_curvature` meets its contract: the update from the step along the constraints, or the refusal.
-use mathlib.Core.Path.{refl, sym, _∙_}
+use mathlib.Core.Path.{refl, sym}
 use Prim.Native.Nat.{_*_, _≤_}
 use native.Mathlib.Omega.{arith}
 use lib.Ieee.{ofBits}
 use lib.Seq.{length-take-le}
-use Rattle.linear.proofs.Folds.{bind-ok}
+use Rattle.run.specs.Rows.{evaluationOf}
 use Rattle.run.specs.Curvature.{updateCurvature}
-use Rattle.run.proofs.CurvatureLaws.{handed-on}
+use Rattle.run.proofs.CurvatureLaws.{handed-on, updates-by}
 use Rattle.run.proofs.Prefixes.{front-room, front-kept}
 use borrow.Author.Needs.{needs}
 use Rattle.run.proofs.curvature.update_curvature.Statement.{statement}
@@ -60,11 +60,10 @@ same-length : tie.Need-same-length
 same-length c = search needs
 
 returns-2 : tie.Need-returns-2
-unfolding updateCurvature
 returns-2 c =
-    let f = rw (c .before .before .before .before .before .before .before .before .before .enum-told .given .1) at (c .before .before .before .before .before .before .before .before .before .before .before .before .along-constraints .ensures) in
-    let g = rw (front-kept _ (c .before .before .before .before .before .before .before .before .before .before .before .before .along-constraints .last .1 .1 .1 .1 .0) _ (short (c .before .before .before .before .before .before .before .before .before .before .before .before .before .before .before .before .before .before .before)) (c .before .before .before .before .before .before .before .before .before .before .before .before .along-constraints .kept .1 .1 .1 .1 .0), c .before .before .before .before .before .before .before .turned .ensures) at (c .before .before .updated .ensures) in
-    g ∙ sym (bind-ok _ (sym f))
+    let a = c .before .before .before .before .before .before .before .before .before .before .before .before .before .before .before .before .before .before .before .args in
+    let front = front-kept _ (c .before .before .before .before .before .before .before .before .before .before .before .before .along-constraints .last .1 .1 .1 .1 .0) _ (short (c .before .before .before .before .before .before .before .before .before .before .before .before .before .before .before .before .before .before .before)) (c .before .before .before .before .before .before .before .before .before .before .before .before .along-constraints .kept .1 .1 .1 .1 .0) in
+    updates-by (a .n) (a .b .now) (a .step .now) (evaluationOf (a .n) (a .m) (a .s) (a .xs .now)) (evaluationOf (a .n) (a .m) (a .s) (a .next .now)) (a .lambda .now) (c .before .before .before .before .before .before .before .before .before .enum-told .given .1) (c .before .before .before .before .before .before .before .before .before .before .before .before .along-constraints .ensures) front (c .before .before .before .before .before .before .before .turned .ensures) (c .before .before .updated .ensures)
 
 pub update-curvature-spec : {M : Type 1} → statement M
 update-curvature-spec =

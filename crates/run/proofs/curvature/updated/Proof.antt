@@ -1,13 +1,12 @@
 -- `updated` meets its contract: the test decides whether there is an update, by what lies along the constraints, or its refusal.
-use mathlib.Core.Path.{refl, sym, _∙_}
+use mathlib.Core.Path.{refl, sym}
 use Prim.Native.Nat.{_*_, _≤_}
 use native.Mathlib.Omega.{arith}
 use borrow.Author.Tests.{not-true, not-false}
 use lib.Ieee.{ofBits}
 use lib.Seq.{length-take-le}
-use Rattle.linear.proofs.Folds.{bind-ok}
 use Rattle.run.specs.Rows.{constraintsOf}
-use Rattle.run.proofs.CurvatureLaws.{handed-on, updates, leaves}
+use Rattle.run.proofs.CurvatureLaws.{handed-on, went-on, updates, leaves}
 use Rattle.run.proofs.Prefixes.{front-room, front-kept}
 use borrow.Author.Needs.{needs}
 use Rattle.run.proofs.curvature.updated.Statement.{statement}
@@ -90,9 +89,8 @@ unfolding ofBits
 returns-3 c =
     let s = c .before .before .before .before .before .before .before .before .before .before .before .before .before .before .before .before .before .before .before .before .before .before .before .before in
     let a = s .args in
-    let f = rw (c .before .before .before .before .before .enum-told .given .1) at (c .before .before .before .before .before .before .before .before .along-constraints .ensures) in
-    let g = rw (front-kept _ (c .before .before .before .before .before .before .before .before .along-constraints .last .1 .1 .1 .1 .0) _ (short s) (c .before .before .before .before .before .before .before .before .along-constraints .kept .1 .1 .1 .1 .0)) at (c .before .before .corrected-by .ensures) in
-    updates (a .n) (constraintsOf (a .n) (a .m) (a .xs .now)) (a .b .now) (a .y .now) (a .s .now) refl (c .before .before .before .before .before .before .before .before .before .before .before .before .before .before .before .before .before .products .ensures) (c .before .before .before .before .before .before .before .before .before .before .before .before .before .before .dot-of .ensures) (c .before .before .before .before .before .before .before .before .before .before .before .before .before .dot-of2 .ensures) (c .before .before .before .before .before .before .before .before .before .before .before .before .sub .ensures .value) (c .before .before .before .before .before .before .before .before .before .before .before .definitely-not-equal .ensures) (not-false _ (c .before .before .before .before .before .before .before .before .before .before .if1 .left)) (g ∙ sym (bind-ok _ (sym f)))
+    let front = front-kept _ (c .before .before .before .before .before .before .before .before .along-constraints .last .1 .1 .1 .1 .0) _ (short s) (c .before .before .before .before .before .before .before .before .along-constraints .kept .1 .1 .1 .1 .0) in
+    updates (a .n) (constraintsOf (a .n) (a .m) (a .xs .now)) (a .b .now) (a .y .now) (a .s .now) refl (c .before .before .before .before .before .before .before .before .before .before .before .before .before .before .before .before .before .products .ensures) (c .before .before .before .before .before .before .before .before .before .before .before .before .before .before .dot-of .ensures) (c .before .before .before .before .before .before .before .before .before .before .before .before .before .dot-of2 .ensures) (c .before .before .before .before .before .before .before .before .before .before .before .before .sub .ensures .value) (c .before .before .before .before .before .before .before .before .before .before .before .definitely-not-equal .ensures) (not-false _ (c .before .before .before .before .before .before .before .before .before .before .if1 .left)) (went-on _ (c .before .before .before .before .before .enum-told .given .1) (c .before .before .before .before .before .before .before .before .along-constraints .ensures) front (c .before .before .corrected-by .ensures))
 
 pub updated-spec : {M : Type 1} → statement M
 updated-spec =

@@ -4,8 +4,7 @@ use Prim.Native.Nat.{_*_, _≤_}
 use native.Mathlib.Omega.{arith}
 use lib.Ieee.{ofBits}
 use lib.Seq.{length-take-le}
-use Rattle.linear.specs.Results.{bind}
-use Rattle.run.proofs.FreeLaws.{parted, unparted}
+use Rattle.run.proofs.FreeLaws.{parted, unparted, parted-with}
 use Rattle.run.proofs.Prefixes.{front-room, front-kept}
 use borrow.Author.Needs.{needs}
 use Rattle.run.proofs.free.free_part.Statement.{statement}
@@ -58,8 +57,7 @@ same-length-2 : tie.Need-same-length-2
 same-length-2 c = search needs
 
 returns-2 : tie.Need-returns-2
-unfolding bind
-returns-2 c = rw (c .before .before .before .before .before .enum-told .given .1, c .before .before .combine .ensures, front-kept _ (c .before .before .before .before .before .before .before .before .weigh .last .1 .1 .1 .1 .1 .0) _ (short (c .before .before .before .before .before .before .before .before .before .before .before .before .before .before .before .before .before .before .before)) (c .before .before .before .before .before .before .before .before .weigh .kept .1 .1 .1 .1 .1 .0)) (parted _ _ _ _ _ _ (c .before .before .before .before .before .before .before .before .before .before .before .before .force .ensures) (rw (c .before .before .before .before .before .enum-told .given .1) at (c .before .before .before .before .before .before .before .before .weigh .ensures)))
+returns-2 c = parted-with _ _ _ _ _ _ (c .before .before .before .before .before .before .before .before .before .before .before .before .force .ensures) (c .before .before .before .before .before .before .before .before .weigh .ensures) (c .before .before .before .before .before .enum-told .given .1) (front-kept _ (c .before .before .before .before .before .before .before .before .weigh .last .1 .1 .1 .1 .1 .0) _ (short (c .before .before .before .before .before .before .before .before .before .before .before .before .before .before .before .before .before .before .before)) (c .before .before .before .before .before .before .before .before .weigh .kept .1 .1 .1 .1 .1 .0)) (c .before .before .combine .ensures)
 
 pub free-part-spec : {M : Type 1} → statement M
 free-part-spec =

@@ -4,7 +4,7 @@ use Prim.Native.Nat.{_*_, _≤_}
 use native.Mathlib.Omega.{arith}
 use lib.Ieee.{ofBits}
 use lib.Seq.{length-take-le}
-use Rattle.run.proofs.FreeLaws.{weighed}
+use Rattle.run.proofs.FreeLaws.{weighed-front}
 use Rattle.run.proofs.Prefixes.{front-room, front-kept}
 use Rattle.run.proofs.RowLaws.{few}
 use borrow.Author.Needs.{needs}
@@ -58,7 +58,7 @@ same-length : tie.Need-same-length
 same-length c = search needs
 
 returns : tie.Need-returns
-returns c = weighed _ _ _ _ _ (c .before .before .before .before .before .before .before .before .before .before .before .before .before .before .bent-rows .ensures) (c .before .before .before .before .before .before .before .before .before .before .reduced .ensures) (c .before .before .before .before .before .before .before .against .ensures) (rw (front-kept _ (c .before .before .before .before .before .before .before .before .before .before .reduced .last .1 .1 .1 .1 .0) _ (room (c .before .before .before .before .before .before .before .before .before .before .before .before .before .before .before .before .before .before .before .before)) (c .before .before .before .before .before .before .before .before .before .before .reduced .kept .1 .1 .1 .1 .0)) at (c .before .before .weights-for .ensures))
+returns c = weighed-front _ _ _ _ _ (c .before .before .before .before .before .before .before .before .before .before .before .before .before .before .bent-rows .ensures) (c .before .before .before .before .before .before .before .before .before .before .reduced .ensures) (c .before .before .before .before .before .before .before .against .ensures) (front-kept _ (c .before .before .before .before .before .before .before .before .before .before .reduced .last .1 .1 .1 .1 .0) _ (room (c .before .before .before .before .before .before .before .before .before .before .before .before .before .before .before .before .before .before .before .before)) (c .before .before .before .before .before .before .before .before .before .before .reduced .kept .1 .1 .1 .1 .0)) (c .before .before .weights-for .ensures)
 
 pub weigh-spec : {M : Type 1} → statement M
 weigh-spec =

@@ -1,16 +1,13 @@
 -- `weights_for` meets its contract: the parts of the arrays have the lengths asked, and the factor decides, then its marks, then the solve.
-use mathlib.Core.Path.{_≡_, sym, ap, _∙_}
+use mathlib.Core.Path.{_≡_, sym, _∙_}
 use Prim.Native.Nat.{_*_, _≤_}
 use native.Mathlib.Omega.{arith}
 use lib.Seq.{length-take-le}
-use Rattle.interval.specs.Result.{ok}
 use Rattle.linear.specs.Answers.{doneOf}
 use Rattle.linear.specs.Cholesky.{factorOf, choleskyOf}
-use Rattle.linear.specs.Results.{bind}
 use Rattle.linear.specs.Substitution.{solveOf}
-use Rattle.run.specs.Step.{weights, solvedWith}
-use Rattle.run.proofs.LinearCalls.{cholesky-result, solve-result, sharp-written}
-use Rattle.run.proofs.FreeLaws.{weights-none, weights-solved, weights-refused}
+use Rattle.run.proofs.LinearCalls.{cholesky-result, sharp-written}
+use Rattle.run.proofs.FreeLaws.{weights-none, weights-solved, weights-refused, unfactored, solve-fronts}
 use Rattle.run.proofs.Prefixes.{front-room, front-kept}
 use Rattle.run.proofs.RowLaws.{few}
 use borrow.Author.Needs.{needs}
@@ -34,7 +31,7 @@ done k =
     let p = s .pre in
     let f = k .before .before .before .before .before .before .before .before .before .before .before .cholesky .last .1 .1 in
     let g = k .before .before .before .before .before .before .before .before .before .before .before .cholesky .kept .1 .1 in
-    solve-result (k .solve-cholesky .result) (s .args .t) (f .0) (f .1 .0) (s .args .w .now) _ (k .solve-cholesky .last .1 .1 .1 .1 .0) (omega (arith, p .0)) (g .0 ∙ length-take-le _ _ (room s)) (g .1 .0 ∙ length-take-le _ _ (p .0)) (p .1 .1) (length-take-le _ _ (short s)) (rw (front-kept _ (f .0) _ (room s) (g .0), front-kept _ (f .1 .0) _ (p .0) (g .1 .0)) at (k .solve-cholesky .ensures))
+    solve-fronts (k .solve-cholesky .result) (s .args .t) (f .0) (f .1 .0) (s .args .w .now) _ (k .solve-cholesky .last .1 .1 .1 .1 .0) (omega (arith, p .0)) (g .0 ∙ length-take-le _ _ (room s)) (g .1 .0 ∙ length-take-le _ _ (p .0)) (p .1 .1) (length-take-le _ _ (short s)) (front-kept _ (f .0) _ (room s) (g .0)) (front-kept _ (f .1 .0) _ (p .0) (g .1 .0)) (k .solve-cholesky .ensures)
 
 mul-q : tie.Need-mul-q
 mul-q c = search needs
@@ -64,8 +61,7 @@ enum-known-e : tie.Need-enum-known-e
 enum-known-e c = search needs
 
 returns : tie.Need-returns
-unfolding solvedWith bind
-returns c = rw (← rw (c .before .e .given .1) at (ended (c .before .before .before .before .before)))
+returns c = let a = c .before .before .before .before .before .before .before .before .before .before .args in unfactored (a .t) (a .a .now) (a .w .now) _ (c .before .e .given .1) (ended (c .before .before .before .before .before))
 
 enum-told : tie.Need-enum-told
 enum-told c = search needs
@@ -80,15 +76,14 @@ any-requires : tie.Need-any-requires
 any-requires c κs = search needs
 
 returns-2 : tie.Need-returns-2
-unfolding solvedWith bind
 returns-2 c =
     let s = c .before .before .before .before .before .before .before .before .before .before .before .before in
     let a = s .args in
     let f = c .before .before .before .before .before .before .before .cholesky .last .1 .1 in
     let g = c .before .before .before .before .before .before .before .cholesky .kept .1 .1 in
     let n = g .1 .0 ∙ length-take-le _ _ (s .pre .0) in
-    let m = rw (front-kept _ (f .1 .0) _ (s .pre .0) (g .1 .0)) at (c .before .any .ensures) in
-    rw (← rw (c .before .before .before .enum-told .given .1) at (ended (c .before .before .before .before .before .before .before))) (weights-none (a .t) (factorOf (f .0) (f .1 .0)) (a .w .now) n m (c .if1 .taken))
+    let m = front-kept _ (f .1 .0) _ (s .pre .0) (g .1 .0) in
+    weights-none (a .t) (a .a .now) (a .w .now) (factorOf (f .0) (f .1 .0)) (c .before .before .before .enum-told .given .1) (ended (c .before .before .before .before .before .before .before)) n m (c .before .any .ensures) (c .if1 .taken)
 
 array-share-prefix-l : tie.Need-array-share-prefix-l
 array-share-prefix-l c = front-room _ (c .before .before .before .before .before .before .before .cholesky .last .1 .1 .0) _ (room (c .before .before .before .before .before .before .before .before .before .before .before .before)) (c .before .before .before .before .before .before .before .cholesky .kept .1 .1 .0)
@@ -112,15 +107,14 @@ same-length : tie.Need-same-length
 same-length c = search needs
 
 returns-3 : tie.Need-returns-3
-unfolding solvedWith bind
 returns-3 c =
     let s = c .before .before .before .before .before .before .before .before .before .before .before .before .before .before .before .before .before .before .before .before in
     let a = s .args in
     let f = c .before .before .before .before .before .before .before .before .before .before .before .before .before .before .before .cholesky .last .1 .1 in
     let g = c .before .before .before .before .before .before .before .before .before .before .before .before .before .before .before .cholesky .kept .1 .1 in
     let n = g .1 .0 ∙ length-take-le _ _ (s .pre .0) in
-    let m = rw (front-kept _ (f .1 .0) _ (s .pre .0) (g .1 .0)) at (c .before .before .before .before .before .before .before .before .before .any .ensures) in
-    rw (← rw (c .before .before .before .before .before .before .before .before .before .before .before .enum-told .given .1) at (ended (c .before .before .before .before .before .before .before .before .before .before .before .before .before .before .before))) (weights-refused (a .t) (factorOf (f .0) (f .1 .0)) (a .w .now) n m (c .before .before .before .before .before .before .before .before .if1 .left) (rw (c .before .e2 .given .1) at (done (c .before .before .before .before))))
+    let m = front-kept _ (f .1 .0) _ (s .pre .0) (g .1 .0) in
+    weights-refused (a .t) (a .a .now) (a .w .now) (factorOf (f .0) (f .1 .0)) (c .before .before .before .before .before .before .before .before .before .before .before .enum-told .given .1) (ended (c .before .before .before .before .before .before .before .before .before .before .before .before .before .before .before)) n m (c .before .before .before .before .before .before .before .before .before .any .ensures) _ (c .before .before .before .before .before .before .before .before .if1 .left) (done (c .before .before .before .before)) (c .before .e2 .given .1)
 
 enum-told-2 : tie.Need-enum-told-2
 enum-told-2 c = search needs
@@ -138,18 +132,17 @@ same-length-2 : tie.Need-same-length-2
 same-length-2 c = search needs
 
 returns-4 : tie.Need-returns-4
-unfolding solvedWith bind
 returns-4 c =
     let s = c .before .before .before .before .before .before .before .before .before .before .before .before .before .before .before .before .before .before .before .before .before .before .before .before in
     let a = s .args in
     let f = c .before .before .before .before .before .before .before .before .before .before .before .before .before .before .before .before .before .before .before .cholesky .last .1 .1 in
     let g = c .before .before .before .before .before .before .before .before .before .before .before .before .before .before .before .before .before .before .before .cholesky .kept .1 .1 in
     let n = g .1 .0 ∙ length-take-le _ _ (s .pre .0) in
-    let m = rw (front-kept _ (f .1 .0) _ (s .pre .0) (g .1 .0)) at (c .before .before .before .before .before .before .before .before .before .before .before .before .before .any .ensures) in
+    let m = front-kept _ (f .1 .0) _ (s .pre .0) (g .1 .0) in
     let x = c .before .before .before .before .before .before .before .before .solve-cholesky .last .1 .1 .1 .1 .0 in
     let kx = c .before .before .before .before .before .before .before .before .solve-cholesky .kept .1 .1 .1 .1 .0 in
     let v = sharp-written (c .before .before .sharp .result) (a .t) x (a .w .now) (c .before .before .sharp .last .1 .1 .0) (omega (arith, s .pre .0)) (kx ∙ length-take-le _ _ (short s)) (s .pre .1 .1) (rw (front-kept _ x _ (short s) kx) at (c .before .before .sharp .ensures)) in
-    rw (← rw (c .before .before .before .before .before .before .before .before .before .before .before .before .before .before .before .enum-told .given .1) at (ended (c .before .before .before .before .before .before .before .before .before .before .before .before .before .before .before .before .before .before .before))) (weights-solved (a .t) (factorOf (f .0) (f .1 .0)) (a .w .now) n m (c .before .before .before .before .before .before .before .before .before .before .before .before .if1 .left) (rw (c .before .before .before .before .before .enum-told2 .given .1) at (done (c .before .before .before .before .before .before .before .before))) (ap (λ u. ok (weights u)) v))
+    weights-solved (a .t) (a .a .now) (a .w .now) (factorOf (f .0) (f .1 .0)) (c .before .before .before .before .before .before .before .before .before .before .before .before .before .before .before .enum-told .given .1) (ended (c .before .before .before .before .before .before .before .before .before .before .before .before .before .before .before .before .before .before .before)) n m (c .before .before .before .before .before .before .before .before .before .before .before .before .before .any .ensures) _ (c .before .before .before .before .before .before .before .before .before .before .before .before .if1 .left) (done (c .before .before .before .before .before .before .before .before)) (c .before .before .before .before .before .enum-told2 .given .1) v
 
 pub weights-for-spec : {M : Type 1} → statement M
 weights-for-spec =
