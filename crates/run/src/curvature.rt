@@ -103,25 +103,6 @@ fn turned_at(
     b.sub(transposed_at(xs, q, r, j))
 }
 
-// All of its entries, into a clear vector.
-fn turns(
-    n: usize,
-    m: usize,
-    s: usize,
-    xs: &[f64],
-    next: &[f64],
-    lambda: &[f64],
-    r: &[f64],
-    y: &mut [f64],
-)
-    requires { ⌜ (n ≤ 12) × ((m ≤ 12) × ((s ≤ 24) × (now y ≡ vector))) ⌝ }
-    ensures { λ _. ⌜ now (y .exit) ≡ fillTo vector 0 (turnedAt (evaluationOf n m s (now (xs .entry))) (evaluationOf n m s (now (next .entry))) (now (lambda .entry)) (now (r .entry))) n ⌝ }
-{
-    for j in 0..n {
-        put(y, j, turned_at(n, m, s, xs, next, lambda, r, j));
-    }
-}
-
 // By how much the gradient of the Lagrangian turned between two points with their rows, beyond what the sum's slopes explain, into a clear vector.
 fn turned(n: usize, m: usize, s: usize, xs: &[f64], next: &[f64], lambda: &[f64], y: &mut [f64])
     requires { ⌜ (n ≤ 12) × ((m ≤ 12) × ((s ≤ 24) × (now y ≡ vector))) ⌝ }
@@ -129,7 +110,10 @@ fn turned(n: usize, m: usize, s: usize, xs: &[f64], next: &[f64], lambda: &[f64]
 {
     let mut r = [0.0; 48];
     chosen_values(next, sum(n, m, s), &mut r);
-    turns(n, m, s, xs, next, lambda, &r, y);
+    let values: &[f64] = &r;
+    for j in 0..n {
+        put(y, j, turned_at(n, m, s, xs, next, lambda, values, j));
+    }
 }
 
 // Adds to the p-th scalar, chosen, or hands a refusal on.

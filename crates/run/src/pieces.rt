@@ -9,8 +9,6 @@ ghost use Rattle.linear.specs.Replies.{replied, replyOf};
 ghost use Rattle.run.specs.Proposal.{expectedResult, cutWithin};
 ghost use Rattle.run.specs.Judgement.{judgementOf};
 ghost use Rattle.run.specs.Pieces.{sizedOf, wantsOf, reachOf, squaredReply, predictedReply, transposedReply, movingReply, judgeReply, expectsReply, cutReply, alongReply, shiftReply, updateReply, learnedReply, learningOf, stepReplied, stepReply};
-ghost use Rattle.run.specs.Rows.{sumOf, transposedAt};
-ghost use Rattle.run.specs.Scratch.{vector, fillTo};
 use crate::correction;
 use crate::curvature;
 use crate::judged;
@@ -122,16 +120,6 @@ pub fn predicted(n: usize, m: usize, s: usize, xs: &[f64], delta: &[f64]) -> Ans
     rows::predicted(xs, n, m, delta)
 }
 
-fn transposed_into(n: usize, m: usize, s: usize, xs: &[f64], w: &[f64], out: &mut [f64])
-    requires { ⌜ (n ≤ 12) × ((m ≤ 12) × ((s ≤ 24) × (length (now out) ≡ 24))) ⌝ }
-    ensures { λ _. ⌜ now (out .exit) ≡ fillTo vector 0 (transposedAt (sumOf n m s (now (xs .entry))) (now (w .entry))) n ⌝ }
-{
-    clear(out);
-    for j in 0..n {
-        put(out, j, rows::transposed_at(xs, rows::sum(n, m, s), w, j));
-    }
-}
-
 // The slopes of the sum's rows by each variable, times their weights: 48 numbers in w, 24 in out.
 pub fn transposed(n: usize, m: usize, s: usize, xs: &[f64], w: &[f64], out: &mut [f64]) -> Done
     ensures { λ r. ⌜ replied r (now (out .exit)) ≡ transposedReply n m s (now (xs .entry)) (now (w .entry)) (now (out .entry)) ⌝ }
@@ -140,17 +128,11 @@ pub fn transposed(n: usize, m: usize, s: usize, xs: &[f64], w: &[f64], out: &mut
     let Done::Finished = fit else {
         return fit;
     };
-    transposed_into(n, m, s, xs, w, out);
-    fit
-}
-
-fn copy(from: &[bool], to: &mut [bool])
-    requires { ⌜ (length (now from) ≡ 12) × (length (now to) ≡ 12) ⌝ }
-    ensures { λ _. ⌜ now (to .exit) ≡ now (from .entry) ⌝ }
-{
-    for j in 0..12 {
-        to[j] = from[j];
+    clear(out);
+    for j in 0..n {
+        put(out, j, rows::transposed_at(xs, rows::sum(n, m, s), w, j));
     }
+    fit
 }
 
 // Marks of the variables that some residual definitely depends on: 12 marks.
@@ -162,7 +144,9 @@ pub fn moving(n: usize, m: usize, s: usize, xs: &[f64], marks: &mut [bool]) -> D
         return fit;
     };
     let found = rows::moving(xs, n, m, s);
-    copy(&found, marks);
+    for j in 0..12 {
+        marks[j] = found[j];
+    }
     fit
 }
 

@@ -28,10 +28,10 @@ mul-q-2 : tie.Need-mul-q-2
 mul-q-2 c = omega (arith, room (c .before .before .before))
 
 mul-k : tie.Need-mul-k
-mul-k c = search needs
+mul-k c = omega (arith, high (c .before .before .before))
 
 mul-w : tie.Need-mul-w
-mul-w c = search needs
+mul-w c = omega (arith, short (c .before .before .before))
 
 array-borrow-prefix-jc : tie.Need-array-borrow-prefix-jc
 array-borrow-prefix-jc c = room (c .before .before .before)
@@ -43,10 +43,10 @@ moving-slopes-requires : tie.Need-moving-slopes-requires
 moving-slopes-requires c κs = let s = c .before .before .before .before in let p = s .pre in (p .0, (p .1 .0, (p .1 .1 .0, length-take-le _ _ (room s))))
 
 constraints-requires : tie.Need-constraints-requires
-constraints-requires c κs = search needs
+constraints-requires c κs = tt
 
 array-borrow-prefix-c : tie.Need-array-borrow-prefix-c
-array-borrow-prefix-c c = search needs
+array-borrow-prefix-c c = high (c .before .before .before .before .before .before .before)
 
 slice-aggregate-chosen-values : tie.Need-slice-aggregate-chosen-values
 slice-aggregate-chosen-values c = sym (length-take-le _ _ (high (c .before .before .before .before .before .before .before .before)))
@@ -67,13 +67,13 @@ slice-aggregate-minus-solved-2 : tie.Need-slice-aggregate-minus-solved-2
 slice-aggregate-minus-solved-2 c = sym (length-take-le _ _ (front-room _ (c .before .before .before .chosen-values .last .1 .1 .0) _ (high (c .before .before .before .before .before .before .before .before .before .before .before .before)) (c .before .before .before .chosen-values .kept .1 .1 .0)))
 
 array-share-prefix-zero : tie.Need-array-share-prefix-zero
-array-share-prefix-zero c = search needs
+array-share-prefix-zero c = short (c .before .before .before .before .before .before .before .before .before .before .before .before)
 
 slice-aggregate-minus-solved-3 : tie.Need-slice-aggregate-minus-solved-3
 slice-aggregate-minus-solved-3 c = sym (length-take-le _ _ (short (c .before .before .before .before .before .before .before .before .before .before .before .before .before)))
 
 array-borrow-prefix-out : tie.Need-array-borrow-prefix-out
-array-borrow-prefix-out c = search needs
+array-borrow-prefix-out c = short (c .before .before .before .before .before .before .before .before .before .before .before .before .before)
 
 slice-aggregate-minus-solved-4 : tie.Need-slice-aggregate-minus-solved-4
 slice-aggregate-minus-solved-4 c = sym (length-take-le _ _ (short (c .before .before .before .before .before .before .before .before .before .before .before .before .before .before)))

@@ -1,36 +1,80 @@
--- `turned` meets its contract: the sum's new values, chosen, into a clear array.
-use mathlib.Core.Path.{refl}
+-- `turned` meets its contract: the sum's new values, chosen, into a clear array, and then the vector is filled so far.
+use mathlib.Core.Path.{_≡_, refl, sym, _∙_}
+use Prim.Native.Nat.{_≤_, _-_}
+use native.Mathlib.Nat.{le-antisymm}
+use native.Mathlib.Omega.{arith}
 use lib.Ieee.{ofBits}
+use lib.ListN.{length}
+use Rattle.run.specs.Scratch.{vector, fillTo}
 use Rattle.run.specs.Rows.{evaluationOf}
+use Rattle.run.specs.Curvature.{turnedAt}
 use Rattle.run.proofs.CurvatureLaws.{turned-is}
+use Rattle.run.proofs.ScratchLaws.{fill-none, fill-first}
 use borrow.Author.Needs.{needs}
 use Rattle.run.proofs.curvature.turned.Statement.{statement}
 use Rattle.run.proofs.curvature.turned.Tie as tie
 
-sum-requires : tie.Need-sum-requires
+abbrev Inv-loop : tie.InvT-loop
+Inv-loop n m s xs next lambda y₀ values j₀ y j = (j ≤ n) × (length y ≡ length y₀) × (y ≡ fillTo vector 0 (turnedAt (evaluationOf n m s xs) (evaluationOf n m s next) lambda values) j)
+
+abbrev μ-loop : tie.MeasureT-loop
+μ-loop n m s xs next lambda y₀ values j₀ y j = n - j
+
+sum-requires : tie.Need-sum-requires Inv-loop μ-loop
 sum-requires c κs = search needs
 
-slice-aggregate-chosen-values : tie.Need-slice-aggregate-chosen-values
+slice-aggregate-chosen-values : tie.Need-slice-aggregate-chosen-values Inv-loop μ-loop
 slice-aggregate-chosen-values c = search needs
 
-chosen-values-requires : tie.Need-chosen-values-requires
+chosen-values-requires : tie.Need-chosen-values-requires Inv-loop μ-loop
 chosen-values-requires c κs = tt
 
-slice-aggregate-turns : tie.Need-slice-aggregate-turns
-slice-aggregate-turns c = search needs
+slice-aggregate-values : tie.Need-slice-aggregate-values Inv-loop μ-loop
+slice-aggregate-values c = search needs
 
-turns-requires : tie.Need-turns-requires
-turns-requires c κs = search needs
+loop-holds : tie.Need-loop-holds Inv-loop μ-loop
+loop-holds c = (search needs, search needs, c .before .before .before .before .before .before .before .before .before .pre .1 .1 .1 ∙ sym (fill-none _ _))
 
-same-length : tie.Need-same-length
+turned-at-requires : tie.Need-turned-at-requires Inv-loop μ-loop
+turned-at-requires c κs = let p = c .before .before .before .before .before .before .before .before .before .before .before .before .pre in (p .0, (p .1 .0, (p .1 .1 .0, omega (arith, p .0, c .before .loop-test .taken))))
+
+put-requires : tie.Need-put-requires Inv-loop μ-loop
+put-requires c κs = search needs
+
+add-j : tie.Need-add-j Inv-loop μ-loop
+add-j c = search needs
+
+loop-less : tie.Need-loop-less Inv-loop μ-loop
+loop-less c = search needs
+
+loop-again : tie.Need-loop-again Inv-loop μ-loop
+loop-again c = let l = c .before .before .before .before .before .before .loop in (search needs, search needs, c .before .before .put .ensures ∙ fill-first _ _ (l .j) (l .inv .2) (c .before .before .before .turned-at .ensures))
+
+same-length : tie.Need-same-length Inv-loop μ-loop
 same-length c = search needs
 
-returns : tie.Need-returns
+returns : tie.Need-returns Inv-loop μ-loop
 unfolding ofBits
 returns c =
-    let a = c .before .before .before .before .before .before .before .before .before .before .before .before .before .args in
-    let r = rw (c .before .before .before .before .before .before .before .before .sum .ensures) at (c .before .before .before .before .before .before .chosen-values .ensures) in
-    turned-is (a .n) (evaluationOf (a .n) (a .m) (a .s) (a .xs .now)) (evaluationOf (a .n) (a .m) (a .s) (a .next .now)) (a .lambda .now) refl r (c .before .before .turns .ensures)
+    let a = c .before .before .before .before .before .before .before .before .before .before .before .args in
+    let r = rw (c .before .before .before .before .before .before .sum .ensures) at (c .before .before .before .before .chosen-values .ensures) in
+    turned-is (a .n) (evaluationOf (a .n) (a .m) (a .s) (a .xs .now)) (evaluationOf (a .n) (a .m) (a .s) (a .next .now)) (a .lambda .now) refl r (rw (le-antisymm (c .before .loop .inv .0) (c .loop-test .left)) at (c .before .loop .inv .2))
 
 pub turned-spec : {M : Type 1} → statement M
-turned-spec = tie.close (tie.spec sum-requires slice-aggregate-chosen-values chosen-values-requires slice-aggregate-turns turns-requires same-length returns)
+turned-spec =
+    tie.close
+    (tie.spec
+    Inv-loop
+    μ-loop
+    sum-requires
+    slice-aggregate-chosen-values
+    chosen-values-requires
+    slice-aggregate-values
+    loop-holds
+    turned-at-requires
+    put-requires
+    add-j
+    loop-less
+    loop-again
+    same-length
+    returns)

@@ -1,48 +1,93 @@
--- `moving` meets its contract: where the checks passed the counts fit.
-use mathlib.Core.Path.{sym, ap, _∙_}
+-- `moving` meets its contract: where the checks passed the counts fit, and the marks so far are those found.
+use mathlib.Core.Path.{_≡_, sym, ap, _∙_}
+use Prim.Native.Nat.{_≤_, _-_}
+use native.Mathlib.Omega.{arith}
+use lib.ListN.{length}
 use Rattle.linear.specs.Answers.{doneOf}
 use Rattle.run.specs.Pieces.{movingReply}
-use Rattle.run.proofs.PieceLaws.{sized-ok, wants-ok}
+use Rattle.run.proofs.PieceLaws.{sized-ok, wants-ok, Copied, copied-none, copied-more, copied-all}
 use borrow.Author.Needs.{needs}
 use Rattle.run.proofs.pieces.moving.Statement.{statement}
 use Rattle.run.proofs.pieces.moving.Tie as tie
 
-sized-requires : tie.Need-sized-requires
+abbrev Inv-loop : tie.InvT-loop
+Inv-loop n m s xs marks₀ fit found j₀ marks j = (j ≤ 12) × (length marks ≡ length marks₀) × Copied found j marks
+
+abbrev μ-loop : tie.MeasureT-loop
+μ-loop n m s xs marks₀ fit found j₀ marks j = 12 - j
+
+sized-requires : tie.Need-sized-requires Inv-loop μ-loop
 sized-requires c κs = search needs
 
-wants-requires : tie.Need-wants-requires
+wants-requires : tie.Need-wants-requires Inv-loop μ-loop
 wants-requires c κs = search needs
 
-enum-told : tie.Need-enum-told
+enum-told : tie.Need-enum-told Inv-loop μ-loop
 enum-told c = search needs
 
-enum-told-2 : tie.Need-enum-told-2
+enum-told-2 : tie.Need-enum-told-2 Inv-loop μ-loop
 enum-told-2 c = search needs
 
-returns : tie.Need-returns
+returns : tie.Need-returns Inv-loop μ-loop
 unfolding movingReply
 returns c = rw (← c .before .before .before .sized .ensures, ← c .before .before .wants .ensures, c .enum-told2 .given .1)
 
-moving-requires : tie.Need-moving-requires
+moving-requires : tie.Need-moving-requires Inv-loop μ-loop
 moving-requires c κs =
     let p = wants-ok _ _ _ (sym (c .before .before .wants .ensures) ∙ ap (λ d. doneOf d tt) (c .enum-told .given .1)) in
     let z = sized-ok (sym (c .before .before .before .sized .ensures) ∙ p .0) in
     (z .few-variables, (z .few-constraints, z .few-residuals))
 
-slice-aggregate-copy : tie.Need-slice-aggregate-copy
-slice-aggregate-copy c = search needs
+loop-holds : tie.Need-loop-holds Inv-loop μ-loop
+loop-holds c = (search needs, search needs, copied-none (c .moving .result) (c .before .before .before .before .before .before .before .args .marks .now))
 
-copy-requires : tie.Need-copy-requires
-copy-requires c κs =
+array-read-marks : tie.Need-array-read-marks Inv-loop μ-loop
+array-read-marks c = search needs
+
+slice-write-marks : tie.Need-slice-write-marks Inv-loop μ-loop
+slice-write-marks c =
     let p = wants-ok _ _ _ (sym (c .before .before .before .before .before .wants .ensures) ∙ ap (λ d. doneOf d tt) (c .before .before .before .enum-told .given .1)) in
-    (search needs, p .1)
+    omega (arith, p .1, c .before .loop .inv .1, c .loop-test .taken)
 
-same-length : tie.Need-same-length
+add-j : tie.Need-add-j Inv-loop μ-loop
+add-j c = search needs
+
+loop-less : tie.Need-loop-less Inv-loop μ-loop
+loop-less c = search needs
+
+loop-again : tie.Need-loop-again Inv-loop μ-loop
+loop-again c =
+    let p = wants-ok _ _ _ (sym (c .before .before .before .before .before .wants .ensures) ∙ ap (λ d. doneOf d tt) (c .before .before .before .enum-told .given .1)) in
+    (search needs, search needs, copied-more (c .before .before .moving .result) (c .before .loop .marks) (omega (arith, p .1, c .before .loop .inv .1, c .loop-test .taken)) (c .before .loop .inv .2))
+
+same-length : tie.Need-same-length Inv-loop μ-loop
 same-length c = search needs
 
-returns-2 : tie.Need-returns-2
+returns-2 : tie.Need-returns-2 Inv-loop μ-loop
 unfolding movingReply
-returns-2 c = rw (← c .before .before .before .before .before .before .before .before .before .sized .ensures, ← c .before .before .before .before .before .before .before .before .wants .ensures, c .before .before .before .before .before .before .enum-told .given .1, c .before .before .copy .ensures, c .before .before .before .before .before .moving .ensures)
+returns-2 c =
+    let p = wants-ok _ _ _ (sym (c .before .before .before .before .before .wants .ensures) ∙ ap (λ d. doneOf d tt) (c .before .before .before .enum-told .given .1)) in
+    let size : length (c .before .before .moving .result) ≡ 12 = search needs in
+    let copied = copied-all (c .before .before .moving .result) (c .before .loop .marks) (omega (arith, p .1, c .before .loop .inv .1, size)) (omega (arith, p .1, c .before .loop .inv .1, c .loop-test .left)) (c .before .loop .inv .2) in
+    rw (← c .before .before .before .before .before .before .sized .ensures, ← c .before .before .before .before .before .wants .ensures, c .before .before .before .enum-told .given .1, copied, c .before .before .moving .ensures)
 
 pub moving-spec : {M : Type 1} → statement M
-moving-spec = tie.close (tie.spec sized-requires wants-requires enum-told enum-told-2 returns moving-requires slice-aggregate-copy copy-requires same-length returns-2)
+moving-spec =
+    tie.close
+    (tie.spec
+    Inv-loop
+    μ-loop
+    sized-requires
+    wants-requires
+    enum-told
+    enum-told-2
+    returns
+    moving-requires
+    loop-holds
+    array-read-marks
+    slice-write-marks
+    add-j
+    loop-less
+    loop-again
+    same-length
+    returns-2)

@@ -1,37 +1,100 @@
--- `transposed` meets its contract: where the checks passed the counts fit.
-use mathlib.Core.Path.{sym, ap, _∙_}
+-- `transposed` meets its contract: where the checks passed the counts fit, and the places so far are filled.
+use mathlib.Core.Path.{_≡_, sym, ap, _∙_}
+use Prim.Native.Nat.{_≤_, _-_}
+use native.Mathlib.Nat.{le-antisymm}
+use native.Mathlib.Omega.{arith}
+use lib.ListN.{length}
 use Rattle.linear.specs.Answers.{doneOf}
+use Rattle.linear.specs.Flat.{zeros}
+use Rattle.run.specs.Scratch.{vector, fillTo}
+use Rattle.run.specs.Rows.{rowsIn, sumOf, transposedAt}
 use Rattle.run.specs.Pieces.{transposedReply}
+use Rattle.run.proofs.RowLaws.{sum-small}
+use Rattle.run.proofs.ScratchLaws.{fill-first}
 use Rattle.run.proofs.PieceLaws.{fits-ok}
 use borrow.Author.Needs.{needs}
 use Rattle.run.proofs.pieces.transposed.Statement.{statement}
 use Rattle.run.proofs.pieces.transposed.Tie as tie
 
-fits-requires : tie.Need-fits-requires
+abbrev Inv-loop : tie.InvT-loop
+Inv-loop n m s xs w out₀ fit j₀ out j = (j ≤ n) × (length out ≡ length out₀) × (out ≡ fillTo vector 0 (transposedAt (sumOf n m s xs) w) j)
+
+abbrev μ-loop : tie.MeasureT-loop
+μ-loop n m s xs w out₀ fit j₀ out j = n - j
+
+fits-requires : tie.Need-fits-requires Inv-loop μ-loop
 fits-requires c κs = search needs
 
-enum-told : tie.Need-enum-told
+enum-told : tie.Need-enum-told Inv-loop μ-loop
 enum-told c = search needs
 
-enum-told-2 : tie.Need-enum-told-2
+enum-told-2 : tie.Need-enum-told-2 Inv-loop μ-loop
 enum-told-2 c = search needs
 
-returns : tie.Need-returns
+returns : tie.Need-returns Inv-loop μ-loop
 unfolding transposedReply
 returns c = rw (← c .before .before .fits2 .ensures, c .enum-told2 .given .1)
 
-transposed-into-requires : tie.Need-transposed-into-requires
-transposed-into-requires c κs =
-    let p = fits-ok (sym (c .before .before .before .fits2 .ensures) ∙ ap (λ d. doneOf d tt) (c .before .enum-told .given .1)) in
-    let z = p .0 in
-    (z .few-variables, (z .few-constraints, (z .few-residuals, p .1 .1)))
+clear-requires : tie.Need-clear-requires Inv-loop μ-loop
+clear-requires c κs = search needs
 
-same-length : tie.Need-same-length
+loop-holds : tie.Need-loop-holds Inv-loop μ-loop
+unfolding fillTo
+loop-holds c =
+    let p = fits-ok (sym (c .before .before .before .before .before .before .fits2 .ensures) ∙ ap (λ d. doneOf d tt) (c .before .before .before .before .enum-told .given .1)) in
+    (search needs, search needs, c .before .before .clear .ensures ∙ ap zeros (p .1 .1))
+
+sum-requires : tie.Need-sum-requires Inv-loop μ-loop
+sum-requires c κs =
+    let z = fits-ok (sym (c .before .before .before .before .before .before .before .before .before .fits2 .ensures) ∙ ap (λ d. doneOf d tt) (c .before .before .before .before .before .before .before .enum-told .given .1)) .0 in
+    (z .few-variables, (z .few-constraints, z .few-residuals))
+
+transposed-at-requires : tie.Need-transposed-at-requires Inv-loop μ-loop
+transposed-at-requires c κs =
+    let z = fits-ok (sym (c .before .before .before .before .before .before .before .before .before .before .fits2 .ensures) ∙ ap (λ d. doneOf d tt) (c .before .before .before .before .before .before .before .before .enum-told .given .1)) .0 in
+    (rw (c .sum .ensures) (sum-small (z .few-variables) (z .few-constraints) (z .few-residuals)), omega (arith, z .few-variables, c .before .before .loop-test .taken))
+
+put-requires : tie.Need-put-requires Inv-loop μ-loop
+put-requires c κs = search needs
+
+add-j : tie.Need-add-j Inv-loop μ-loop
+add-j c = search needs
+
+loop-less : tie.Need-loop-less Inv-loop μ-loop
+loop-less c = search needs
+
+loop-again : tie.Need-loop-again Inv-loop μ-loop
+loop-again c =
+    let l = c .before .before .before .before .before .before .before .loop in
+    let a = c .before .before .before .before .before .before .before .before .before .before .before .before .before .before .before .before .before .before .args in
+    (search needs, search needs, c .before .before .put .ensures ∙ fill-first _ _ (l .j) (l .inv .2) (c .before .before .before .transposed-at .ensures ∙ ap (λ e. transposedAt (rowsIn (a .xs .now) e) (a .w .now) (l .j)) (c .before .before .before .before .sum .ensures)))
+
+same-length : tie.Need-same-length Inv-loop μ-loop
 same-length c = search needs
 
-returns-2 : tie.Need-returns-2
+returns-2 : tie.Need-returns-2 Inv-loop μ-loop
 unfolding transposedReply
-returns-2 c = rw (← c .before .before .before .before .before .before .fits2 .ensures, c .before .before .before .before .enum-told .given .1, c .before .before .transposed-into .ensures)
+returns-2 c =
+    let filled = rw (le-antisymm (c .before .loop .inv .0) (c .loop-test .left)) at (c .before .loop .inv .2) in
+    rw (← c .before .before .before .before .before .before .before .before .fits2 .ensures, c .before .before .before .before .before .before .enum-told .given .1, filled)
 
 pub transposed-spec : {M : Type 1} → statement M
-transposed-spec = tie.close (tie.spec fits-requires enum-told enum-told-2 returns transposed-into-requires same-length returns-2)
+transposed-spec =
+    tie.close
+    (tie.spec
+    Inv-loop
+    μ-loop
+    fits-requires
+    enum-told
+    enum-told-2
+    returns
+    clear-requires
+    loop-holds
+    sum-requires
+    transposed-at-requires
+    put-requires
+    add-j
+    loop-less
+    loop-again
+    same-length
+    returns-2)
