@@ -7,9 +7,9 @@ use native.Mathlib.Omega.{arith}
 use lib.Ieee.{Float}
 use lib.ListN.{length, getD, length-replicate}
 use Rattle.interval.specs.declared.Scalar.{Scalar}
-use Rattle.interval.specs.Result.{Res, ok}
+use Rattle.interval.specs.Result.{Res, ok, refused}
 use Rattle.interval.specs.Scalar.{zeroS, zero64, pick, sharpen}
-use Rattle.linear.specs.Answers.{doneOf}
+use Rattle.linear.specs.Answers.{doneOf, numberOf}
 use Rattle.linear.specs.Calls.{minusSolvedReply}
 use Rattle.linear.specs.Choose.{chooseOf}
 use Rattle.linear.specs.Flat.{at, zeros, listTo}
@@ -18,12 +18,13 @@ use Rattle.linear.specs.Results.{bind}
 use Rattle.linear.specs.Solved.{minusSolvedOf}
 use Rattle.linear.specs.declared.answers.Done.{Done}
 use Rattle.linear.specs.declared.answers.Done.the-variants as done
+use Rattle.linear.specs.declared.answers.LinearError.{LinearError}
 use Rattle.linear.proofs.Lists.{length-listTo}
 use Rattle.run.specs.Scratch.{vector, fillTo, chosenOf, allFinite}
-use Rattle.run.specs.Rows.{constraintSet, constraintsOf, valueAt, slopeAt}
+use Rattle.run.specs.Rows.{Rows, constraintSet, constraintsOf, valueAt, slopeAt}
 use Rattle.run.specs.declared.rows.RowSet.{RowSet}
 use Rattle.run.specs.Proposal.{movedOf, sameOf}
-use Rattle.run.specs.Correction.{movingSlope, shiftOf, Shift, to, stay}
+use Rattle.run.specs.Correction.{movingSlope, shiftOf, shiftFrom, to, stay}
 use Rattle.run.proofs.ScratchLaws.{fill-whole}
 use Rattle.run.proofs.LinearCalls.{minus-solved-result}
 
@@ -64,19 +65,22 @@ shift-is n m moving xs c₀ out {jc} {c} {clear} r x hn hm lo lc fj fc fx es ej 
     shift-ends n r x solved (rw fx at ed)
 
 -- where a shift d takes the landed point
-module _ (n : ℕ) (landed d : List Float) {t : Bool} (et : t ≡ allFinite d 12) where
-  abbrev ends : Res Shift
-  ends = ok (pick (allFinite d 12) (pick (sameOf n (movedOf n landed d) landed) stay (to (movedOf n landed d))) stay)
+module _ (moving : List Bool) (c : Rows) (landed d : List Float) {r : Done} where
+  pub shift-refused : {k : LinearError} → r ≡ done.Refused k → doneOf r d ≡ shiftOf moving c → refused (numberOf k) ≡ shiftFrom moving c landed
+  unfolding shiftFrom bind
+  shift-refused h es = rw (← es, h)
 
-  module _ {next : List Float} {u : Bool} (en : next ≡ movedOf n landed d) (eu : u ≡ sameOf n next landed) where
-    decided : ok (pick t (pick u stay (to next)) stay) ≡ ends
-    decided = rw (et, eu, en)
+  module _ {t : Bool} (h : r ≡ done.Finished) (es : doneOf r d ≡ shiftOf moving c) (et : t ≡ allFinite d 12) where
+    module _ {next : List Float} {u : Bool} (en : next ≡ movedOf (c .n) landed d) (eu : u ≡ sameOf (c .n) next landed) where
+      decided : ok (pick t (pick u stay (to next)) stay) ≡ shiftFrom moving c landed
+      unfolding shiftFrom bind
+      decided = rw (← es, h, et, eu, en)
 
-    pub changes-nothing : t ≡ true → u ≡ true → ok stay ≡ ends
-    changes-nothing h k = rw (h, k) at decided
+      pub changes-nothing : t ≡ true → u ≡ true → ok stay ≡ shiftFrom moving c landed
+      changes-nothing e k = rw (e, k) at decided
 
-    pub goes : t ≡ true → u ≡ false → ok (to next) ≡ ends
-    goes h k = rw (h, k) at decided
+      pub goes : t ≡ true → u ≡ false → ok (to next) ≡ shiftFrom moving c landed
+      goes e k = rw (e, k) at decided
 
-  pub not-finite : t ≡ false → ok stay ≡ ends
-  not-finite h = rw h at (decided {next = movedOf n landed d} refl refl)
+    pub not-finite : t ≡ false → ok stay ≡ shiftFrom moving c landed
+    not-finite e = rw e at (decided {next = movedOf (c .n) landed d} refl refl)

@@ -1,9 +1,8 @@
 -- `shift_from` meets its contract: each test decides one of the definition's, or the shift is refused.
-use mathlib.Core.Path.{refl, sym, _∙_}
+use mathlib.Core.Path.{refl}
 use borrow.Author.Tests.{not-true, not-false}
-use Rattle.linear.proofs.Folds.{bind-ok, bind-refused}
-use Rattle.run.specs.Correction.{shiftFrom}
-use Rattle.run.proofs.CorrectionLaws.{changes-nothing, goes, not-finite}
+use Rattle.run.specs.Rows.{constraintsOf}
+use Rattle.run.proofs.CorrectionLaws.{shift-refused, changes-nothing, goes, not-finite}
 use borrow.Author.Needs.{needs}
 use Rattle.run.proofs.correction.shift_from.Statement.{statement}
 use Rattle.run.proofs.correction.shift_from.Tie as tie
@@ -18,8 +17,7 @@ enum-known-e : tie.Need-enum-known-e
 enum-known-e c = search needs
 
 returns : tie.Need-returns
-unfolding shiftFrom
-returns c = sym (bind-refused _ (sym (rw (c .before .e .given .1) at (c .before .before .before .before .shift .ensures))))
+returns c = let a = c .before .before .before .before .before .before .before .before .before .before .args in shift-refused (a .moving .now) (constraintsOf (a .n) (a .m) (a .xs .now)) (a .landed .now) _ (c .before .e .given .1) (c .before .before .before .before .shift .ensures)
 
 enum-told : tie.Need-enum-told
 enum-told c = search needs
@@ -31,11 +29,7 @@ all-finite-requires : tie.Need-all-finite-requires
 all-finite-requires c κs = search needs
 
 returns-2 : tie.Need-returns-2
-unfolding shiftFrom
-returns-2 c =
-    let a = c .before .before .before .before .before .before .before .before .before .before .before .before .args in
-    let f = rw (c .before .before .before .enum-told .given .1) at (c .before .before .before .before .before .before .shift .ensures) in
-    not-finite (a .n) (a .landed .now) (c .before .before .before .before .before .before .shift .last .1 .1 .1 .1 .0) (c .before .all-finite .ensures) (not-true _ (c .if1 .taken)) ∙ sym (bind-ok _ (sym f))
+returns-2 c = let a = c .before .before .before .before .before .before .before .before .before .before .before .before .args in not-finite (a .moving .now) (constraintsOf (a .n) (a .m) (a .xs .now)) (a .landed .now) _ (c .before .before .before .enum-told .given .1) (c .before .before .before .before .before .before .shift .ensures) (c .before .all-finite .ensures) (not-true _ (c .if1 .taken))
 
 moved-requires : tie.Need-moved-requires
 moved-requires c κs = search needs
@@ -47,21 +41,13 @@ same-length : tie.Need-same-length
 same-length c = search needs
 
 returns-3 : tie.Need-returns-3
-unfolding shiftFrom
-returns-3 c =
-    let a = c .before .before .before .before .before .before .before .before .before .before .before .before .before .before .before .before .before .before .before .args in
-    let f = rw (c .before .before .before .before .before .before .before .before .before .before .enum-told .given .1) at (c .before .before .before .before .before .before .before .before .before .before .before .before .before .shift .ensures) in
-    changes-nothing (a .n) (a .landed .now) (c .before .before .before .before .before .before .before .before .before .before .before .before .before .shift .last .1 .1 .1 .1 .0) (c .before .before .before .before .before .before .before .before .all-finite .ensures) (c .before .before .before .before .before .moved .ensures) (c .before .same .ensures) (not-false _ (c .before .before .before .before .before .before .before .if1 .left)) (c .if2 .taken) ∙ sym (bind-ok _ (sym f))
+returns-3 c = let a = c .before .before .before .before .before .before .before .before .before .before .before .before .before .before .before .before .before .before .before .args in changes-nothing (a .moving .now) (constraintsOf (a .n) (a .m) (a .xs .now)) (a .landed .now) _ (c .before .before .before .before .before .before .before .before .before .before .enum-told .given .1) (c .before .before .before .before .before .before .before .before .before .before .before .before .before .shift .ensures) (c .before .before .before .before .before .before .before .before .all-finite .ensures) (c .before .before .before .before .before .moved .ensures) (c .before .same .ensures) (not-false _ (c .before .before .before .before .before .before .before .if1 .left)) (c .if2 .taken)
 
 same-length-2 : tie.Need-same-length-2
 same-length-2 c = search needs
 
 returns-4 : tie.Need-returns-4
-unfolding shiftFrom
-returns-4 c =
-    let a = c .before .before .before .before .before .before .before .before .before .before .before .before .before .before .before .before .before .before .before .args in
-    let f = rw (c .before .before .before .before .before .before .before .before .before .before .enum-told .given .1) at (c .before .before .before .before .before .before .before .before .before .before .before .before .before .shift .ensures) in
-    goes (a .n) (a .landed .now) (c .before .before .before .before .before .before .before .before .before .before .before .before .before .shift .last .1 .1 .1 .1 .0) (c .before .before .before .before .before .before .before .before .all-finite .ensures) (c .before .before .before .before .before .moved .ensures) (c .before .same .ensures) (not-false _ (c .before .before .before .before .before .before .before .if1 .left)) (c .if2 .left) ∙ sym (bind-ok _ (sym f))
+returns-4 c = let a = c .before .before .before .before .before .before .before .before .before .before .before .before .before .before .before .before .before .before .before .args in goes (a .moving .now) (constraintsOf (a .n) (a .m) (a .xs .now)) (a .landed .now) _ (c .before .before .before .before .before .before .before .before .before .before .enum-told .given .1) (c .before .before .before .before .before .before .before .before .before .before .before .before .before .shift .ensures) (c .before .before .before .before .before .before .before .before .all-finite .ensures) (c .before .before .before .before .before .moved .ensures) (c .before .same .ensures) (not-false _ (c .before .before .before .before .before .before .before .if1 .left)) (c .if2 .left)
 
 pub shift-from-spec : {M : Type 1} → statement M
 shift-from-spec =
