@@ -2,7 +2,7 @@
 use Prim.Native.Nat.{ℕ, _+_, _*_, _<_, _≤_}
 use mathlib.Core.Bool.{Bool, true, false}
 use mathlib.Core.Logic.{⊎-elim}
-use mathlib.Core.Path.{_≡_, refl, ap, _∙_}
+use mathlib.Core.Path.{_≡_, refl, sym, _∙_}
 use mathlib.Core.List.{List, [], _∷_}
 use native.Mathlib.Nat.{le-refl, mul-le-mul, not-suc-le-zero, eq-or-lt-of-le}
 use native.Mathlib.Omega.{arith}
@@ -15,8 +15,11 @@ use lib.ListN.{length, getD, set}
 use lib.Seq.{getD-set-same, getD-set-other, ext-getD}
 use Rattle.interval.specs.Result.{Res, ok, refused}
 use Rattle.interval.proofs.Results.{refused-ok}
+use Rattle.linear.specs.Answers.{doneOf}
 use Rattle.linear.specs.Replies.{checkedValue}
 use Rattle.linear.specs.Results.{bind}
+use Rattle.linear.specs.declared.answers.Done.{Done}
+use Rattle.linear.specs.declared.answers.Done.the-variants as done
 use Rattle.run.specs.Rows.{rowNumbers}
 use Rattle.run.specs.Pieces.{sizedOf, wantsOf, stepReplied, stepReplyOf}
 use Rattle.run.specs.Step.{endOf}
@@ -42,7 +45,7 @@ pub record Sized (n m s count : ℕ) : Type 0 where
   pub few-residuals : s ≤ 24
   pub whole : count ≡ rowNumbers n m s
 
-pub sized-ok : {n m s count : ℕ} → sizedOf n m s count ≡ ok tt → Sized n m s count
+sized-ok : {n m s count : ℕ} → sizedOf n m s count ≡ ok tt → Sized n m s count
 unfolding sizedOf
 sized-ok {n} {m} {s} {count} e =
     let a = checked-ok (leb n 12) 1 _ e in
@@ -59,17 +62,31 @@ values-inside {n} {m} {s} z e =
     omega (arith, z .whole)
 
 -- of a check after others
-pub wants-ok : (count wanted : ℕ) (r : Res (Unit {0})) → wantsOf r count wanted ≡ ok tt → (r ≡ ok tt) × (count ≡ wanted)
+wants-ok : (count wanted : ℕ) (r : Res (Unit {0})) → wantsOf r count wanted ≡ ok tt → (r ≡ ok tt) × (count ≡ wanted)
 unfolding wantsOf bind
 wants-ok count wanted (ok _) e = (refl, eqb-true _ _ (checked-ok (eqb count wanted) 2 (ok tt) e .0))
 wants-ok count wanted (refused k) e = absurd (refused-ok e)
 
 -- of the rows and two counts
-pub fits-ok : {n m s count a wa b wb : ℕ} → wantsOf (wantsOf (sizedOf n m s count) a wa) b wb ≡ ok tt → Sized n m s count × ((a ≡ wa) × (b ≡ wb))
+fits-ok : {n m s count a wa b wb : ℕ} → wantsOf (wantsOf (sizedOf n m s count) a wa) b wb ≡ ok tt → Sized n m s count × ((a ≡ wa) × (b ≡ wb))
 fits-ok e =
     let p = wants-ok _ _ _ e in
     let q = wants-ok _ _ _ (p .0) in
     (sized-ok (q .0), (q .1, p .1))
+
+-- the same of a check's answer x
+pub finished : {r : Done} → r ≡ done.Finished → doneOf r (tt {0}) ≡ ok (tt {0})
+finished e = rw e
+
+module _ {x : Res (Unit {0})} where
+  pub sized-passed : {n m s count : ℕ} → x ≡ ok tt → x ≡ sizedOf n m s count → Sized n m s count
+  sized-passed h e = sized-ok (sym e ∙ h)
+
+  pub wants-passed : (count wanted : ℕ) (before : Res (Unit {0})) → x ≡ ok tt → x ≡ wantsOf before count wanted → (before ≡ ok tt) × (count ≡ wanted)
+  wants-passed count wanted before h e = wants-ok count wanted before (sym e ∙ h)
+
+  pub fits-passed : {n m s count a wa b wb : ℕ} → x ≡ ok tt → x ≡ wantsOf (wantsOf (sizedOf n m s count) a wa) b wb → Sized n m s count × ((a ≡ wa) × (b ≡ wb))
+  fits-passed h e = fits-ok (sym e ∙ h)
 
 -- an end that is not the first variant: no step, so both slices are as cleared
 pub not-found : (end : StepEnd) (delta lambda x y : List Float) → OneOf (1 ∷ (2 ∷ [])) (tagOf the-type end) → stepReplied end x y ≡ stepReplyOf x y (endOf end delta lambda)

@@ -1,12 +1,11 @@
 -- `along` meets its contract: where the checks passed the counts and lengths fit.
 use Prim.Native.Nat.{_*_}
-use mathlib.Core.Path.{_≡_, sym, ap, _∙_}
+use mathlib.Core.Path.{_≡_}
 use native.Mathlib.Omega.{arith}
 use borrow.Author.Tests.{eq-eqb, ne-eqb}
 use lib.ListN.{length}
-use Rattle.linear.specs.Answers.{doneOf}
 use Rattle.run.specs.Pieces.{alongReply}
-use Rattle.run.proofs.PieceLaws.{sized-ok, wants-ok}
+use Rattle.run.proofs.PieceLaws.{finished, sized-passed, wants-passed}
 use borrow.Author.Needs.{needs}
 use Rattle.run.proofs.pieces.along.Statement.{statement}
 use Rattle.run.proofs.pieces.along.Tie as tie
@@ -29,8 +28,8 @@ returns c = rw (← c .before .before .before .sized .ensures, ← c .before .be
 
 mul-if1 : tie.Need-mul-if1
 mul-if1 c =
-    let p = wants-ok _ _ _ (sym (c .before .before .wants .ensures) ∙ ap (λ d. doneOf d tt) (c .enum-told .given .1)) in
-    omega (arith, sized-ok (sym (c .before .before .before .sized .ensures) ∙ p .0) .few-variables)
+    let p = wants-passed _ _ _ (finished (c .enum-told .given .1)) (c .before .before .wants .ensures) in
+    omega (arith, sized-passed (p .0) (c .before .before .before .sized .ensures) .few-variables)
 
 returns-2 : tie.Need-returns-2
 unfolding alongReply
@@ -38,8 +37,8 @@ returns-2 c = rw (← c .before .before .before .before .sized .ensures, ← c .
 
 along-constraints-requires : tie.Need-along-constraints-requires
 along-constraints-requires c κs =
-    let p = wants-ok _ _ _ (sym (c .before .before .before .before .wants .ensures) ∙ ap (λ d. doneOf d tt) (c .before .before .enum-told .given .1)) in
-    let z = sized-ok (sym (c .before .before .before .before .before .sized .ensures) ∙ p .0) in
+    let p = wants-passed _ _ _ (finished (c .before .before .enum-told .given .1)) (c .before .before .before .before .wants .ensures) in
+    let z = sized-passed (p .0) (c .before .before .before .before .before .sized .ensures) in
     (z .few-variables, (z .few-constraints, (omega (arith, z .few-variables, p .1), c .before .if1 .left)))
 
 cleared-requires : tie.Need-cleared-requires

@@ -1,8 +1,7 @@
 -- `expects` meets its contract: where the checks passed the counts and lengths fit.
-use mathlib.Core.Path.{sym, ap, _∙_}
-use Rattle.linear.specs.Answers.{doneOf}
+
 use Rattle.run.specs.Pieces.{expectsReply}
-use Rattle.run.proofs.PieceLaws.{fits-ok}
+use Rattle.run.proofs.PieceLaws.{finished, fits-passed}
 use borrow.Author.Needs.{needs}
 use Rattle.run.proofs.pieces.expects.Statement.{statement}
 use Rattle.run.proofs.pieces.expects.Tie as tie
@@ -22,7 +21,7 @@ enum-told c = search needs
 
 expects-requires : tie.Need-expects-requires
 expects-requires c κs =
-    let z = fits-ok (sym (c .before .before .fits2 .ensures) ∙ ap (λ d. doneOf d tt) (c .enum-told .given .1)) .0 in
+    let z = fits-passed (finished (c .enum-told .given .1)) (c .before .before .fits2 .ensures) .0 in
     (z .few-variables, (z .few-constraints, z .few-residuals))
 
 returns-2 : tie.Need-returns-2

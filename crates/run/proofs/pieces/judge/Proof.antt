@@ -1,10 +1,8 @@
 -- `judge` meets its contract: where the checks passed the counts and lengths fit.
-use mathlib.Core.Path.{sym, ap, _∙_}
 use native.Mathlib.Omega.{arith}
 use borrow.Author.Tests.{le-leb, lt-leb}
-use Rattle.linear.specs.Answers.{doneOf}
 use Rattle.run.specs.Pieces.{judgeReply}
-use Rattle.run.proofs.PieceLaws.{fits-ok, wants-ok, values-inside}
+use Rattle.run.proofs.PieceLaws.{finished, fits-passed, wants-passed, values-inside}
 use borrow.Author.Needs.{needs}
 use Rattle.run.proofs.pieces.judge.Statement.{statement}
 use Rattle.run.proofs.pieces.judge.Tie as tie
@@ -31,8 +29,8 @@ enum-told c = search needs
 
 judge-requires : tie.Need-judge-requires
 judge-requires c κs =
-    let p = wants-ok _ _ _ (sym (c .before .before .wants .ensures) ∙ ap (λ d. doneOf d tt) (c .enum-told .given .1)) in
-    let q = fits-ok (sym (c .before .before .before .fits2 .ensures) ∙ p .0) in
+    let p = wants-passed _ _ _ (finished (c .enum-told .given .1)) (c .before .before .wants .ensures) in
+    let q = fits-passed (p .0) (c .before .before .before .fits2 .ensures) in
     let z = q .0 in
     (z .few-variables, (z .few-constraints, (z .few-residuals, (values-inside z (q .1 .0), (omega (arith, c .before .before .before .before .if1 .left), p .1)))))
 

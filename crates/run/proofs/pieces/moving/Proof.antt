@@ -1,11 +1,10 @@
 -- `moving` meets its contract: where the checks passed the counts fit, and the marks so far are those found.
-use mathlib.Core.Path.{_≡_, sym, ap, _∙_}
+use mathlib.Core.Path.{_≡_}
 use Prim.Native.Nat.{_≤_, _-_}
 use native.Mathlib.Omega.{arith}
 use lib.ListN.{length}
-use Rattle.linear.specs.Answers.{doneOf}
 use Rattle.run.specs.Pieces.{movingReply}
-use Rattle.run.proofs.PieceLaws.{sized-ok, wants-ok, Copied, copied-none, copied-more, copied-all}
+use Rattle.run.proofs.PieceLaws.{finished, sized-passed, wants-passed, Copied, copied-none, copied-more, copied-all}
 use borrow.Author.Needs.{needs}
 use Rattle.run.proofs.pieces.moving.Statement.{statement}
 use Rattle.run.proofs.pieces.moving.Tie as tie
@@ -34,8 +33,8 @@ returns c = rw (← c .before .before .before .sized .ensures, ← c .before .be
 
 moving-requires : tie.Need-moving-requires Inv-loop μ-loop
 moving-requires c κs =
-    let p = wants-ok _ _ _ (sym (c .before .before .wants .ensures) ∙ ap (λ d. doneOf d tt) (c .enum-told .given .1)) in
-    let z = sized-ok (sym (c .before .before .before .sized .ensures) ∙ p .0) in
+    let p = wants-passed _ _ _ (finished (c .enum-told .given .1)) (c .before .before .wants .ensures) in
+    let z = sized-passed (p .0) (c .before .before .before .sized .ensures) in
     (z .few-variables, (z .few-constraints, z .few-residuals))
 
 loop-holds : tie.Need-loop-holds Inv-loop μ-loop
@@ -46,7 +45,7 @@ array-read-marks c = search needs
 
 slice-write-marks : tie.Need-slice-write-marks Inv-loop μ-loop
 slice-write-marks c =
-    let p = wants-ok _ _ _ (sym (c .before .before .before .before .before .wants .ensures) ∙ ap (λ d. doneOf d tt) (c .before .before .before .enum-told .given .1)) in
+    let p = wants-passed _ _ _ (finished (c .before .before .before .enum-told .given .1)) (c .before .before .before .before .before .wants .ensures) in
     omega (arith, p .1, c .before .loop .inv .1, c .loop-test .taken)
 
 add-j : tie.Need-add-j Inv-loop μ-loop
@@ -57,7 +56,7 @@ loop-less c = search needs
 
 loop-again : tie.Need-loop-again Inv-loop μ-loop
 loop-again c =
-    let p = wants-ok _ _ _ (sym (c .before .before .before .before .before .wants .ensures) ∙ ap (λ d. doneOf d tt) (c .before .before .before .enum-told .given .1)) in
+    let p = wants-passed _ _ _ (finished (c .before .before .before .enum-told .given .1)) (c .before .before .before .before .before .wants .ensures) in
     (search needs, search needs, copied-more (c .before .before .moving .result) (c .before .loop .marks) (omega (arith, p .1, c .before .loop .inv .1, c .loop-test .taken)) (c .before .loop .inv .2))
 
 same-length : tie.Need-same-length Inv-loop μ-loop
@@ -66,7 +65,7 @@ same-length c = search needs
 returns-2 : tie.Need-returns-2 Inv-loop μ-loop
 unfolding movingReply
 returns-2 c =
-    let p = wants-ok _ _ _ (sym (c .before .before .before .before .before .wants .ensures) ∙ ap (λ d. doneOf d tt) (c .before .before .before .enum-told .given .1)) in
+    let p = wants-passed _ _ _ (finished (c .before .before .before .enum-told .given .1)) (c .before .before .before .before .before .wants .ensures) in
     let size : length (c .before .before .moving .result) ≡ 12 = search needs in
     let copied = copied-all (c .before .before .moving .result) (c .before .loop .marks) (omega (arith, p .1, c .before .loop .inv .1, size)) (omega (arith, p .1, c .before .loop .inv .1, c .loop-test .left)) (c .before .loop .inv .2) in
     rw (← c .before .before .before .before .before .before .sized .ensures, ← c .before .before .before .before .before .wants .ensures, c .before .before .before .enum-told .given .1, copied, c .before .before .moving .ensures)

@@ -1,8 +1,7 @@
 -- `predicted` meets its contract: where the checks passed the counts fit.
-use mathlib.Core.Path.{sym, ap, _∙_}
-use Rattle.linear.specs.Answers.{doneOf}
+
 use Rattle.run.specs.Pieces.{predictedReply}
-use Rattle.run.proofs.PieceLaws.{sized-ok, wants-ok}
+use Rattle.run.proofs.PieceLaws.{finished, sized-passed, wants-passed}
 use borrow.Author.Needs.{needs}
 use Rattle.run.proofs.pieces.predicted.Statement.{statement}
 use Rattle.run.proofs.pieces.predicted.Tie as tie
@@ -25,8 +24,8 @@ enum-told c = search needs
 
 predicted-requires : tie.Need-predicted-requires
 predicted-requires c κs =
-    let p = wants-ok _ _ _ (sym (c .before .before .wants .ensures) ∙ ap (λ d. doneOf d tt) (c .enum-told .given .1)) in
-    let z = sized-ok (sym (c .before .before .before .sized .ensures) ∙ p .0) in
+    let p = wants-passed _ _ _ (finished (c .enum-told .given .1)) (c .before .before .wants .ensures) in
+    let z = sized-passed (p .0) (c .before .before .before .sized .ensures) in
     (z .few-variables, z .few-constraints)
 
 returns-2 : tie.Need-returns-2

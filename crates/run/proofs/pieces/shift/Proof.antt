@@ -1,10 +1,9 @@
 -- `shift` meets its contract: where the checks passed the counts and lengths fit.
-use mathlib.Core.Path.{_≡_, sym, ap, _∙_}
+use mathlib.Core.Path.{_≡_}
 use native.Mathlib.Omega.{arith}
 use lib.ListN.{length}
-use Rattle.linear.specs.Answers.{doneOf}
 use Rattle.run.specs.Pieces.{shiftReply}
-use Rattle.run.proofs.PieceLaws.{fits-ok}
+use Rattle.run.proofs.PieceLaws.{finished, fits-passed}
 use borrow.Author.Needs.{needs}
 use Rattle.run.proofs.pieces.shift.Statement.{statement}
 use Rattle.run.proofs.pieces.shift.Tie as tie
@@ -24,7 +23,7 @@ returns c = rw (← c .before .before .fits2 .ensures, c .enum-told2 .given .1)
 
 shift-requires : tie.Need-shift-requires
 shift-requires c κs =
-    let p = fits-ok (sym (c .before .before .before .fits2 .ensures) ∙ ap (λ d. doneOf d tt) (c .before .enum-told .given .1)) in
+    let p = fits-passed (finished (c .before .enum-told .given .1)) (c .before .before .before .fits2 .ensures) in
     let z = p .0 in
     (z .few-variables, (z .few-constraints, (p .1 .0, p .1 .1)))
 
@@ -37,7 +36,7 @@ same-length c = search needs
 returns-2 : tie.Need-returns-2
 unfolding shiftReply
 returns-2 c =
-    let p = fits-ok (sym (c .before .before .before .before .before .before .before .before .before .before .fits2 .ensures) ∙ ap (λ d. doneOf d tt) (c .before .before .before .before .before .before .before .before .enum-told .given .1)) in
+    let p = fits-passed (finished (c .before .before .before .before .before .before .before .before .enum-told .given .1)) (c .before .before .before .before .before .before .before .before .before .before .fits2 .ensures) in
     let k = c .before .before .before .before .before .before .shift in
     let size : length (k .last .1 .1 .1 .1 .0) ≡ 24 = omega (arith, k .kept, p .1 .1) in
     rw (← c .before .before .before .before .before .before .before .before .before .before .fits2 .ensures, c .before .before .before .before .before .before .before .before .enum-told .given .1, ← k .ensures) (rw size at (c .before .before .cleared .ensures))

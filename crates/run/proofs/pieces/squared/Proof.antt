@@ -1,11 +1,10 @@
 -- `squared` meets its contract: where the checks passed the counts fit.
-use mathlib.Core.Path.{sym, ap, _∙_}
+use mathlib.Core.Path.{ap, _∙_}
 use Rattle.interval.specs.Result.{ok}
-use Rattle.linear.specs.Answers.{doneOf}
 use Rattle.run.specs.Rows.{rowsIn, squaredOf}
 use Rattle.run.specs.Pieces.{squaredReply}
 use Rattle.run.proofs.RowLaws.{sum-small}
-use Rattle.run.proofs.PieceLaws.{fits-ok}
+use Rattle.run.proofs.PieceLaws.{finished, fits-passed}
 use borrow.Author.Needs.{needs}
 use Rattle.run.proofs.pieces.squared.Statement.{statement}
 use Rattle.run.proofs.pieces.squared.Tie as tie
@@ -28,12 +27,12 @@ enum-told c = search needs
 
 sum-requires : tie.Need-sum-requires
 sum-requires c κs =
-    let z = fits-ok (sym (c .before .before .fits2 .ensures) ∙ ap (λ d. doneOf d tt) (c .enum-told .given .1)) .0 in
+    let z = fits-passed (finished (c .enum-told .given .1)) (c .before .before .fits2 .ensures) .0 in
     (z .few-variables, (z .few-constraints, z .few-residuals))
 
 squared-requires : tie.Need-squared-requires
 squared-requires c κs =
-    let z = fits-ok (sym (c .before .before .before .fits2 .ensures) ∙ ap (λ d. doneOf d tt) (c .before .enum-told .given .1)) .0 in
+    let z = fits-passed (finished (c .before .enum-told .given .1)) (c .before .before .before .fits2 .ensures) .0 in
     rw (c .sum .ensures) (sum-small (z .few-variables) (z .few-constraints) (z .few-residuals))
 
 returns-2 : tie.Need-returns-2

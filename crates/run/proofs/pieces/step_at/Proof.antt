@@ -1,10 +1,9 @@
 -- `step_at` meets its contract: where the checks passed the counts and lengths fit, and where there is no step both slices are cleared.
-use mathlib.Core.Path.{_≡_, sym, ap, _∙_}
+use mathlib.Core.Path.{_≡_}
 use native.Mathlib.Omega.{arith}
 use lib.ListN.{length}
-use Rattle.linear.specs.Answers.{doneOf}
 use Rattle.run.specs.Pieces.{stepReply}
-use Rattle.run.proofs.PieceLaws.{fits-ok, wants-ok, not-found}
+use Rattle.run.proofs.PieceLaws.{finished, fits-passed, wants-passed, not-found}
 use borrow.Author.Needs.{needs}
 use Rattle.run.proofs.pieces.step_at.Statement.{statement}
 use Rattle.run.proofs.pieces.step_at.Tie as tie
@@ -30,9 +29,9 @@ enum-told c = search needs
 
 step-requires : tie.Need-step-requires
 step-requires c κs =
-    let p = wants-ok _ _ _ (sym (c .before .before .before .before .wants2 .ensures) ∙ ap (λ d. doneOf d tt) (c .before .before .enum-told .given .1)) in
-    let q = wants-ok _ _ _ (sym (c .before .before .before .before .before .wants .ensures) ∙ p .0) in
-    let r = fits-ok (sym (c .before .before .before .before .before .before .fits2 .ensures) ∙ q .0) in
+    let p = wants-passed _ _ _ (finished (c .before .before .enum-told .given .1)) (c .before .before .before .before .wants2 .ensures) in
+    let q = wants-passed _ _ _ (p .0) (c .before .before .before .before .before .wants .ensures) in
+    let r = fits-passed (q .0) (c .before .before .before .before .before .before .fits2 .ensures) in
     let z = r .0 in
     (z .few-variables, (z .few-constraints, (z .few-residuals, (r .1 .1, (q .1, p .1)))))
 
@@ -64,8 +63,8 @@ same-length-4 c = search needs
 returns-3 : tie.Need-returns-3
 unfolding stepReply
 returns-3 c =
-    let p = wants-ok _ _ _ (sym (c .before .before .before .before .before .before .before .before .before .before .before .before .before .before .before .before .before .before .wants2 .ensures) ∙ ap (λ d. doneOf d tt) (c .before .before .before .before .before .before .before .before .before .before .before .before .before .before .before .before .enum-told .given .1)) in
-    let q = wants-ok _ _ _ (sym (c .before .before .before .before .before .before .before .before .before .before .before .before .before .before .before .before .before .before .before .wants .ensures) ∙ p .0) in
+    let p = wants-passed _ _ _ (finished (c .before .before .before .before .before .before .before .before .before .before .before .before .before .before .before .before .enum-told .given .1)) (c .before .before .before .before .before .before .before .before .before .before .before .before .before .before .before .before .before .before .wants2 .ensures) in
+    let q = wants-passed _ _ _ (p .0) (c .before .before .before .before .before .before .before .before .before .before .before .before .before .before .before .before .before .before .before .wants .ensures) in
     let k = c .before .before .before .before .before .before .before .before .before .before .before .before .before .step in
     let long : length (k .last .1 .1 .1 .1 .1 .1 .1 .0) ≡ 24 = omega (arith, k .kept, q .1) in
     let wide : length (k .last .1 .1 .1 .1 .1 .1 .1 .1 .0) ≡ 24 = omega (arith, k .kept, p .1) in

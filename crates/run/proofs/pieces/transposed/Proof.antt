@@ -1,17 +1,16 @@
 -- `transposed` meets its contract: where the checks passed the counts fit, and the places so far are filled.
-use mathlib.Core.Path.{_≡_, sym, ap, _∙_}
+use mathlib.Core.Path.{_≡_, ap, _∙_}
 use Prim.Native.Nat.{_≤_, _-_}
 use native.Mathlib.Nat.{le-antisymm}
 use native.Mathlib.Omega.{arith}
 use lib.ListN.{length}
-use Rattle.linear.specs.Answers.{doneOf}
 use Rattle.linear.specs.Flat.{zeros}
 use Rattle.run.specs.Scratch.{vector, fillTo}
 use Rattle.run.specs.Rows.{rowsIn, sumOf, transposedAt}
 use Rattle.run.specs.Pieces.{transposedReply}
 use Rattle.run.proofs.RowLaws.{sum-small}
 use Rattle.run.proofs.ScratchLaws.{fill-first}
-use Rattle.run.proofs.PieceLaws.{fits-ok}
+use Rattle.run.proofs.PieceLaws.{finished, fits-passed}
 use borrow.Author.Needs.{needs}
 use Rattle.run.proofs.pieces.transposed.Statement.{statement}
 use Rattle.run.proofs.pieces.transposed.Tie as tie
@@ -41,17 +40,17 @@ clear-requires c κs = search needs
 loop-holds : tie.Need-loop-holds Inv-loop μ-loop
 unfolding fillTo
 loop-holds c =
-    let p = fits-ok (sym (c .before .before .before .before .before .before .fits2 .ensures) ∙ ap (λ d. doneOf d tt) (c .before .before .before .before .enum-told .given .1)) in
+    let p = fits-passed (finished (c .before .before .before .before .enum-told .given .1)) (c .before .before .before .before .before .before .fits2 .ensures) in
     (search needs, search needs, c .before .before .clear .ensures ∙ ap zeros (p .1 .1))
 
 sum-requires : tie.Need-sum-requires Inv-loop μ-loop
 sum-requires c κs =
-    let z = fits-ok (sym (c .before .before .before .before .before .before .before .before .before .fits2 .ensures) ∙ ap (λ d. doneOf d tt) (c .before .before .before .before .before .before .before .enum-told .given .1)) .0 in
+    let z = fits-passed (finished (c .before .before .before .before .before .before .before .enum-told .given .1)) (c .before .before .before .before .before .before .before .before .before .fits2 .ensures) .0 in
     (z .few-variables, (z .few-constraints, z .few-residuals))
 
 transposed-at-requires : tie.Need-transposed-at-requires Inv-loop μ-loop
 transposed-at-requires c κs =
-    let z = fits-ok (sym (c .before .before .before .before .before .before .before .before .before .before .fits2 .ensures) ∙ ap (λ d. doneOf d tt) (c .before .before .before .before .before .before .before .before .enum-told .given .1)) .0 in
+    let z = fits-passed (finished (c .before .before .before .before .before .before .before .before .enum-told .given .1)) (c .before .before .before .before .before .before .before .before .before .before .fits2 .ensures) .0 in
     (rw (c .sum .ensures) (sum-small (z .few-variables) (z .few-constraints) (z .few-residuals)), omega (arith, z .few-variables, c .before .before .loop-test .taken))
 
 put-requires : tie.Need-put-requires Inv-loop μ-loop

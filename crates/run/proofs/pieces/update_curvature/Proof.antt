@@ -1,10 +1,9 @@
 -- `update_curvature` meets its contract: where the checks passed the counts and lengths fit.
-use mathlib.Core.Path.{_≡_, sym, ap, _∙_}
+use mathlib.Core.Path.{_≡_}
 use native.Mathlib.Omega.{arith}
 use lib.ListN.{length}
-use Rattle.linear.specs.Answers.{doneOf}
 use Rattle.run.specs.Pieces.{updateReply}
-use Rattle.run.proofs.PieceLaws.{fits-ok, wants-ok}
+use Rattle.run.proofs.PieceLaws.{finished, fits-passed, wants-passed}
 use borrow.Author.Needs.{needs}
 use Rattle.run.proofs.pieces.update_curvature.Statement.{statement}
 use Rattle.run.proofs.pieces.update_curvature.Tie as tie
@@ -30,9 +29,9 @@ returns c = rw (← c .before .before .before .before .fits2 .ensures, ← c .be
 
 update-curvature-requires : tie.Need-update-curvature-requires
 update-curvature-requires c κs =
-    let p = wants-ok _ _ _ (sym (c .before .before .before .wants2 .ensures) ∙ ap (λ d. doneOf d tt) (c .before .enum-told .given .1)) in
-    let q = wants-ok _ _ _ (sym (c .before .before .before .before .wants .ensures) ∙ p .0) in
-    let z = fits-ok (sym (c .before .before .before .before .before .fits2 .ensures) ∙ q .0) .0 in
+    let p = wants-passed _ _ _ (finished (c .before .enum-told .given .1)) (c .before .before .before .wants2 .ensures) in
+    let q = wants-passed _ _ _ (p .0) (c .before .before .before .before .wants .ensures) in
+    let z = fits-passed (q .0) (c .before .before .before .before .before .fits2 .ensures) .0 in
     (z .few-variables, (z .few-constraints, (z .few-residuals, q .1)))
 
 cleared-requires : tie.Need-cleared-requires
@@ -44,9 +43,9 @@ same-length c = search needs
 returns-2 : tie.Need-returns-2
 unfolding updateReply
 returns-2 c =
-    let p = wants-ok _ _ _ (sym (c .before .before .before .before .before .before .before .before .before .before .wants2 .ensures) ∙ ap (λ d. doneOf d tt) (c .before .before .before .before .before .before .before .before .enum-told .given .1)) in
-    let q = wants-ok _ _ _ (sym (c .before .before .before .before .before .before .before .before .before .before .before .wants .ensures) ∙ p .0) in
-    let r = fits-ok (sym (c .before .before .before .before .before .before .before .before .before .before .before .before .fits2 .ensures) ∙ q .0) in
+    let p = wants-passed _ _ _ (finished (c .before .before .before .before .before .before .before .before .enum-told .given .1)) (c .before .before .before .before .before .before .before .before .before .before .wants2 .ensures) in
+    let q = wants-passed _ _ _ (p .0) (c .before .before .before .before .before .before .before .before .before .before .before .wants .ensures) in
+    let r = fits-passed (q .0) (c .before .before .before .before .before .before .before .before .before .before .before .before .fits2 .ensures) in
     let k = c .before .before .before .before .before .before .update-curvature in
     let size : length (k .last .1 .1 .1 .0) ≡ 288 = omega (arith, k .kept, r .1 .1) in
     rw (← c .before .before .before .before .before .before .before .before .before .before .before .before .fits2 .ensures, ← c .before .before .before .before .before .before .before .before .before .before .before .wants .ensures, ← c .before .before .before .before .before .before .before .before .before .before .wants2 .ensures, c .before .before .before .before .before .before .before .before .enum-told .given .1, ← k .ensures) (rw size at (c .before .before .cleared .ensures))
