@@ -13,9 +13,7 @@ use Rattle.interval.specs.declared.Scalar.{Scalar}
 use Rattle.interval.specs.Scalar.{pick}
 use Rattle.linear.specs.Flat.{put, zeros}
 use Rattle.linear.proofs.FlatLaws.{length-put}
-use Rattle.run.specs.Area.{Memory, areaOf, memoryOf, isOpen, isTried, isCorrected, slotsOf, SIZES, SPARE, Holds, written, padded, startOf, tidiedTo}
-use Rattle.run.specs.Curvature.{curvatureEntries}
-use Rattle.run.specs.Rows.{rowNumbers}
+use Rattle.run.specs.Area.{Memory, areaOf, memoryOf, isOpen, isTried, isCorrected, slotsOf, SIZES, SPARE, Holds, written, padded, startOf, tidiedTo, usedIn}
 use Rattle.run.specs.Run.{filterWith}
 use Rattle.run.specs.declared.state.State.{State}
 
@@ -335,18 +333,6 @@ below-at (u ∷ us) (n ∷ ns) b zero h = b .0
 below-at (u ∷ us) (n ∷ ns) b (suc k) h = below-at us ns (b .1) k (le-of-suc-le-suc h)
 
 -- ---- the slots in use
-
--- how many numbers each slot has in use
-abbrev pub usedIn : State → List ℕ
-usedIn st =
-    let n = st .sizes .n in
-    let rows = rowNumbers n (st .sizes .m) (st .sizes .s) in
-    let tried = isTried (st .phase) in
-    let corrected = isCorrected (st .phase) in
-    2 * n
-    ∷ (pick corrected (2 * n) 0
-    ∷ (pick (isOpen (st .phase)) (2 * n) 0
-    ∷ (pick tried rows 0 ∷ (pick corrected rows 0 ∷ (pick tried (2 * n) 0 ∷ (pick tried (2 * st .sizes .m) 0 ∷ (pick tried (2 * curvatureEntries n) 0 ∷ (pick tried (4 * st .counts .iterations) 0 ∷ []))))))))
 
 pick-below : (b : Bool) {count size : ℕ} → count ≤ size → pick b count 0 ≤ size
 pick-below true h = h

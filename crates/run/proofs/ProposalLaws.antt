@@ -1,35 +1,70 @@
--- What a proposal reads: the norm of a list's first scalars, and the parts of a standing point that matter.
-use mathlib.Core.Bool.{true, false}
-use mathlib.Core.Path.{_≡_, refl, _∙_}
-use mathlib.Core.List.{List}
-use Prim.Native.Nat.{ℕ}
-use lib.Ieee.{Float}
+-- What a proposal makes of a step, and what it reads: the norm of a list's first scalars, and the parts of a standing point that matter.
+use mathlib.Core.Bool.{Bool, true, false}
+use mathlib.Core.Path.{_≡_, refl, sym, ap, _∙_}
+use mathlib.Core.List.{List, []}
+use Prim.Native.Nat.{ℕ, _+_, _*_, _<_, _≤_}
+use native.Mathlib.Omega.{arith}
+use borrow.Author.Tests.{lt-ltb, ltb-true, ltb-false}
+use lib.Dec.{ltb}
+use lib.Ieee.{Float, nan}
+use lib.ListN.{length, length-replicate, getD-replicate}
 use Rattle.interval.specs.declared.Scalar.{Scalar}
 use Rattle.interval.specs.Result.{ok, refused}
-use Rattle.interval.specs.Scalar.{divOf, definitelyGreater}
-use Rattle.linear.specs.Flat.{at}
+use Rattle.interval.specs.Scalar.{zero64, zeroS, pick, divOf, definitelyGreater}
+use Rattle.linear.specs.Choose.{chooseOf}
+use Rattle.linear.specs.Flat.{at, zeros}
 use Rattle.linear.specs.Norm.{normOf}
 use Rattle.linear.specs.Results.{bind}
+use Rattle.linear.proofs.FlatLaws.{at-inside}
 use Rattle.linear.proofs.Folds.{bind-ok, bind-refused}
-use Rattle.run.specs.Proposal.{Standing, noDrop, unresolved, noChange, ask, movedOf, sameOf, expectsOf, trialOf, cutOf, cutWithin, shortenedOf, withinOf, proposedBy, proposalOf, stillOf, modelOf, pointOf}
+use Rattle.linear.proofs.Lists.{is-listTo}
+use Rattle.run.specs.Proposal.{Standing, noDrop, unresolved, noChange, ask, movedOf, sameOf, expectsOf, trialOf, cutOf, cutWithin, shortenedOf, withinOf, proposedBy, proposalOf, triedOf, standingWith, modelOf, pointOf}
 use Rattle.run.specs.Rows.{predictedOf}
-use Rattle.run.specs.Scratch.{vector, chosenOf}
+use Rattle.run.specs.Scratch.{vector, chosenOf, fillTo}
 use Rattle.run.specs.Step.{Step, Stepped, found, stepOf}
+use Rattle.run.proofs.ScratchLaws.{length-fillTo, at-fill-in, at-fill-ahead, fill-whole}
 
--- a trial, from the step chosen and the point that it leads to
-module _ (S : Standing) (raw delta next lambda : List Float) (ed : delta ≡ chosenOf vector raw 0 (S .n)) (en : next ≡ movedOf (S .n) (S .x) delta) where
-  pub trial-refused : {k : ℕ} → predictedOf (S .e .constraints) delta ≡ refused k → trialOf S raw lambda ≡ refused k
-  unfolding trialOf
-  trial-refused e = rw (← ed) (bind-refused _ e)
+at-clear : (n i : ℕ) → 2 * i + 1 < n → at (zeros n) i ≡ zeroS
+at-clear n i h =
+    let h₀ : 2 * i < n = omega arith in
+    let m : 2 * i + 1 < length (zeros n) = simp length-replicate h in
+    rw (at-inside (zeros n) i (lt-ltb _ _ m), getD-replicate n (2 * i) zero64 nan h₀, getD-replicate n (2 * i + 1) zero64 nan h)
 
-  pub trial-same : {p : Scalar} → predictedOf (S .e .constraints) delta ≡ ok p → sameOf (S .n) next (S .x) ≡ true → trialOf S raw lambda ≡ ok noChange
-  unfolding trialOf
-  trial-same {p} e s = rw (← ed, ← en) (bind-ok _ e ∙ rw s)
+-- a vector whose first n are chosen in their places, and the others cleared, is one that is chosen into a clear vector
+module _ (xs : List Float) (n : ℕ) (long : length xs ≡ 24) (few : n ≤ 12) where
+  abbrev chosenAt : ℕ → Scalar
+  chosenAt i = pick (ltb i n) (chooseOf (at xs i)) zeroS
 
-  pub trial-asks : {p : Scalar} → predictedOf (S .e .constraints) delta ≡ ok p → sameOf (S .n) next (S .x) ≡ false
-      → trialOf S raw lambda ≡ bind (normOf (at delta) (S .n)) (λ tried. ok (ask (record { delta = delta; lambda = lambda; next = next; predicted = p; tried = tried })))
-  unfolding trialOf
-  trial-asks {p} e s = rw (← ed, ← en) (bind-ok _ e ∙ rw s)
+  chosen-at : (i : ℕ) → i < 12 → at (chosenOf vector xs 0 n) i ≡ chosenAt i
+  chosen-at i h = go (ltb i n) refl
+    where
+      m : 0 + i ≡ i
+      m = omega arith
+
+      go : (b : Bool) → ltb i n ≡ b → at (chosenOf vector xs 0 n) i ≡ pick b (chooseOf (at xs i)) zeroS
+      go true e = rw m at (at-fill-in vector 0 (λ j. chooseOf (at xs (0 + j))) n i (ltb-true i n e) (simp length-replicate (omega arith)))
+      go false e = rw m at (at-fill-ahead vector 0 (λ j. chooseOf (at xs (0 + j))) n i (ltb-false i n e)) ∙ at-clear 24 i (omega arith)
+
+  pub chosen-in-place : fillTo xs 0 chosenAt 12 ≡ chosenOf vector xs 0 n
+  chosen-in-place =
+      fill-whole xs chosenAt 12 long
+      ∙ sym (is-listTo chosenAt 12 (chosenOf vector xs 0 n) (length-fillTo vector 0 (λ j. chooseOf (at xs (0 + j))) n ∙ length-replicate 24 zero64) chosen-at)
+
+-- a trial is made of the step chosen
+pub trial-is : (S : Standing) (raw delta lambda : List Float) → delta ≡ chosenOf vector raw 0 (S .n) → triedOf S delta lambda ≡ trialOf S raw lambda
+unfolding trialOf
+trial-is S raw delta lambda e = ap (λ (d : List Float). triedOf S d lambda) e
+
+module _ (S : Standing) (delta next lambda : List Float) (en : next ≡ movedOf (S .n) (S .x) delta) where
+  pub tried-refused : {k : ℕ} → predictedOf (S .e .constraints) delta ≡ refused k → triedOf S delta lambda ≡ refused k
+  tried-refused e = bind-refused _ e
+
+  pub tried-same : {p : Scalar} → predictedOf (S .e .constraints) delta ≡ ok p → sameOf (S .n) next (S .x) ≡ true → triedOf S delta lambda ≡ ok noChange
+  tried-same {p} e s = bind-ok _ e ∙ rw (← en, s)
+
+  pub tried-asks : {p : Scalar} → predictedOf (S .e .constraints) delta ≡ ok p → sameOf (S .n) next (S .x) ≡ false
+      → triedOf S delta lambda ≡ bind (normOf (at delta) (S .n)) (λ tried. ok (ask (record { delta = delta; lambda = lambda; next = movedOf (S .n) (S .x) delta; predicted = p; tried = tried })))
+  tried-asks {p} e s = bind-ok _ e ∙ rw (← en, s)
 
 -- what is read of a standing point
 module _ (S : Standing) where
@@ -41,7 +76,7 @@ module _ (S : Standing) where
   unfolding trialOf
   trial-reads d lambda = refl
 
-  pub within-reads : (radius : Scalar) (d lambda : List Float) → withinOf (stillOf (S .n) (S .x) (S .e) (S .f) (S .theta) (S .b)) radius d lambda ≡ withinOf S radius d lambda
+  pub within-reads : (radius : Scalar) (d lambda : List Float) → withinOf (standingWith (S .n) (S .x) (S .e) (S .f) (S .theta) (S .b) []) radius d lambda ≡ withinOf S radius d lambda
   unfolding withinOf shortenedOf expectsOf trialOf
   within-reads radius d lambda = refl
 

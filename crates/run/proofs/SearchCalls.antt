@@ -14,12 +14,14 @@ use Rattle.interval.specs.Scaling.{four64, quadrupled, isPositive}
 use Rattle.linear.specs.Flat.{zeros}
 use Rattle.run.specs.Area.{Memory, Holds}
 use Rattle.run.specs.Curvature.{learnedOf}
-use Rattle.run.specs.Proposal.{standingWith}
-use Rattle.run.specs.Rows.{constraintsOf, sumOf, evaluationOf, sumSquared, violationOf}
-use Rattle.run.specs.Run.{Leaves, Bounded, searching, standingAt, standingOf, finish, refuse, leftAt, search, grow, turnDown, notLower}
-use Rattle.run.specs.Search.{Found, rejectedFor, withRadius, grown, retried, damped, searchOf, goesOn, stopsAt}
+use Rattle.run.specs.Proposal.{Standing, movedOf, standingFor}
+use Rattle.run.specs.Rows.{constraintsOf, sumOf, sumSquared, violationOf}
+use Rattle.run.specs.Run.{Leaves, Bounded, searching, standingAt, standingOf, finish, refuse, orRefuse, leftAt, search, soughtWith, soughtOf, grow, turnDown, notLower}
+use Rattle.run.specs.Search.{Found, rejectedFor, withRadius, grown, retried, damped, searchOf, foundResult, goesOn, stopsAt}
+use Rattle.run.specs.declared.proposal.Model.{Model}
 use Rattle.run.specs.declared.search.Damped.{Damped}
 use Rattle.run.specs.declared.search.Damped.the-variants as d
+use Rattle.run.specs.declared.search.Found as declared
 use Rattle.run.specs.declared.state.Out.{Out}
 use Rattle.run.specs.declared.state.Rejection.{Rejection}
 use Rattle.run.specs.declared.state.Rejection.the-variants as why
@@ -66,26 +68,32 @@ grown-bounded {t} {u} {st} y b l f e = go (isFinite (quadrupled (st .search .mu)
         subst (λ (z : Search). Bounded u (searching st z)) (cc) (searched (grown x) b (omega (arith, b .few-turned, l)) (quadrupled-sound (x .mu) f (b .damping) h))
     go false h q = let z : _≡_ {A = ℕ} 0 1 = cc in absurd (omega arith)
 
--- what a search stands on, by what is read of the slots
-pub stood-on : (st : State) (theta : Scalar) {w : Memory} {a b₀ b : List Float} {f : Scalar} → Holds w a → f ≡ sumSquared (sumOf (st .sizes .n) (st .sizes .m) (st .sizes .s) (take 936 (drop 72 a))) → b₀ ≡ zeros 288
-    → b ≡ pick (st .search .plain) b₀ (take 288 (drop 1992 a))
-    → standingWith (st .sizes .n) (take 24 (drop 0 a)) (evaluationOf (st .sizes .n) (st .sizes .m) (st .sizes .s) (take 936 (drop 72 a))) f theta b (st .moving) ≡ standingOf st w theta
-stood-on st theta h ef ez eb = rw (ef, eb, ez, standing-read h, standing-rows-read h, curvature-read h)
-
 -- the violation that is read of the slot
 pub standing-violation : (st : State) {w : Memory} {a : List Float} {x : Res Scalar} → Holds w a → x ≡ violationOf (constraintsOf (st .sizes .n) (st .sizes .m) (take 936 (drop 72 a))) → violationOf (standingAt st w .constraints) ≡ x
 standing-violation st h e = sym (e ∙ ap (λ (xs : List Float). violationOf (constraintsOf (st .sizes .n) (st .sizes .m) xs)) (standing-rows-read h))
 
+-- where a search from what is read of the slots is left
+module _ (st : State) {theta : Scalar} {w : Memory} {a b₀ b : List Float} {z : Model} (d lambda : List Float) (r : declared.Found) where
+  pub sought-by : Holds w a
+      → z ≡ record { n = st .sizes .n; m = st .sizes .m; s = st .sizes .s; f = sumSquared (sumOf (st .sizes .n) (st .sizes .m) (st .sizes .s) (take 936 (drop 72 a))); theta = theta }
+      → b₀ ≡ zeros 288 → b ≡ pick (st .search .plain) b₀ (take 288 (drop 1992 a)) → violationOf (standingAt st w .constraints) ≡ ok theta
+      → foundResult r d lambda (movedOf (z .n) (take 24 (drop 0 a)) d) ≡ searchOf (standingFor z (take 936 (drop 72 a)) b (take 24 (drop 0 a)) (st .moving)) (st .«max_step») (st .search)
+      → foundResult r d lambda (movedOf (st .sizes .n) (w .standing) d) ≡ soughtOf st w
+  sought-by h ez e₀ eb ev e =
+      let S : standingFor z (take 936 (drop 72 a)) b (take 24 (drop 0 a)) (st .moving) ≡ standingOf st w theta = rw (ez, eb, e₀, standing-read h, standing-rows-read h, curvature-read h) in
+      let x : movedOf (z .n) (take 24 (drop 0 a)) d ≡ movedOf (st .sizes .n) (w .standing) d = rw (ez, standing-read h) in
+      sym (ap (λ (y : List Float). foundResult r d lambda y) x) ∙ e ∙ ap (λ (y : Standing). searchOf y (st .«max_step») (st .search)) S ∙ sym (ap (soughtWith st w) ev)
+
 -- ---- what a call leaves
 
 module _ (st : State) (w : Memory) {o : Out} {a : List Float} where
-  pub search-next : {theta : Scalar} {f : Found} → violationOf (standingAt st w .constraints) ≡ ok theta → f ≡ searchOf (standingOf st w theta) (st .«max_step») (st .search) → Leaves (leftAt st w f) o a → Leaves (search st w) o a
-  unfolding search
-  search-next e ef l = or-next st w (λ theta. leftAt st w (searchOf (standingOf st w theta) (st .«max_step») (st .search))) e (subst (λ (f : Found). Leaves (leftAt st w f) o a) ef l)
-
-  pub search-refused : {k : ℕ} → violationOf (standingAt st w .constraints) ≡ refused k → Leaves (refuse st w k) o a → Leaves (search st w) o a
-  unfolding search
-  search-refused e l = or-refused st w (λ theta. leftAt st w (searchOf (standingOf st w theta) (st .«max_step») (st .search))) e l
+  pub search-by : {f : Found} → f ≡ soughtOf st w → Leaves (leftAt st w f) o a → Leaves (search st w) o a
+  unfolding search leftAt
+  search-by e l = go (violationOf (standingAt st w .constraints)) (subst (λ (f : Found). Leaves (leftAt st w f) o a) e l)
+    where
+      go : (v : Res Scalar) → Leaves (leftAt st w (soughtWith st w v)) o a → Leaves (orRefuse st w v (λ theta. leftAt st w (searchOf (standingOf st w theta) (st .«max_step») (st .search)))) o a
+      go (ok theta) l = l
+      go (refused k) l = l
 
   grow-by : {r : Damped} → r ≡ damped goesOn stopsAt (st .search) → Leaves (after (λ y. search (searching st y) w) (λ y s. finish (searching st y) w s) r) o a → Leaves (grow st w) o a
   unfolding grow

@@ -213,6 +213,18 @@ slotsOf w =
 abbrev pub SIZES : List ℕ
 SIZES = POINT ∷ (POINT ∷ (POINT ∷ (ROWS ∷ (ROWS ∷ (POINT ∷ (POINT ∷ (CURVATURE ∷ (FILTER ∷ []))))))))
 
+-- how many numbers of each slot are in use
+abbrev pub usedIn : State → List ℕ
+usedIn st =
+    let n = st .sizes .n in
+    let rows = rowNumbers n (st .sizes .m) (st .sizes .s) in
+    let tried = isTried (st .phase) in
+    let corrected = isCorrected (st .phase) in
+    2 * n
+    ∷ (pick corrected (2 * n) 0
+    ∷ (pick (isOpen (st .phase)) (2 * n) 0
+    ∷ (pick tried rows 0 ∷ (pick corrected rows 0 ∷ (pick tried (2 * n) 0 ∷ (pick tried (2 * st .sizes .m) 0 ∷ (pick tried (2 * curvatureEntries n) 0 ∷ (pick tried (4 * st .counts .iterations) 0 ∷ []))))))))
+
 -- an area that holds w, each list of its slot's length
 pub record Holds (w : Memory) (a : List Float) : Type 0 where
   pub sized : map length (slotsOf w) ≡ SIZES

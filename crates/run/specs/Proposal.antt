@@ -13,12 +13,13 @@ use Rattle.linear.specs.Dot.{dotTo}
 use Rattle.linear.specs.Choose.{chooseOf}
 use Rattle.linear.specs.Norm.{normOf}
 use Rattle.run.specs.Scratch.{vector, fillTo, allTo, chosenOf}
-use Rattle.run.specs.Rows.{Rows, Evaluation, squaredOf, predictedOf}
+use Rattle.run.specs.Rows.{Rows, Evaluation, evaluationOf, squaredOf, predictedOf}
 use Rattle.run.specs.Curvature.{curvatureRow}
 use Rattle.run.specs.Step.{Stepped, found, stepOf}
 use Rattle.run.specs.Step as step
 use Rattle.run.specs.declared.proposal.Expected.{Expected}
 use Rattle.run.specs.declared.proposal.Expected.the-variants as e
+use Rattle.run.specs.declared.proposal.Model.{Model}
 use Rattle.run.specs.declared.proposal.Proposal as declared
 use Rattle.run.specs.declared.proposal.Proposal.the-variants as p
 
@@ -111,15 +112,31 @@ proposalOf S mu radius = bind (stepOf (S .n) (S .e) (S .b) (S .moving) mu) (λ s
 abbrev pub standingWith : ℕ → List Float → Evaluation → Scalar → Scalar → List Float → List Bool → Standing
 standingWith n x e f theta b moving = record { n = n; x = x; e = e; f = f; theta = theta; b = b; moving = moving }
 
+-- by a model's numbers, with its rows and its curvature, the point x and the moving marks
+abbrev pub standingFor : Model → List Float → List Float → List Float → List Bool → Standing
+standingFor z rows b x moving = standingWith (z .n) x (evaluationOf (z .n) (z .m) (z .s) rows) (z .f) (z .theta) b moving
+
 -- one of which only some parts are read: all but the moving marks; the model; the point and the constraints
-abbrev pub stillOf : ℕ → List Float → Evaluation → Scalar → Scalar → List Float → Standing
-stillOf n x e f theta b = standingWith n x e f theta b []
+abbrev pub stillFor : Model → List Float → List Float → List Float → Standing
+stillFor z rows b x = standingFor z rows b x []
+
+abbrev pub modelFor : Model → List Float → List Float → Standing
+modelFor z rows b = stillFor z rows b []
 
 abbrev pub modelOf : ℕ → Evaluation → Scalar → Scalar → List Float → Standing
 modelOf n e f theta b = standingWith n [] e f theta b []
 
 abbrev pub pointOf : ℕ → List Float → Rows → Standing
 pointOf n x c = standingWith n x (record { constraints = c; sum = c }) zeroS zeroS [] []
+
+-- the point that a step leads to, where it is chosen
+abbrev pub triedOf : Standing → List Float → List Float → Res Proposal
+triedOf S delta lambda =
+    let next = movedOf (S .n) (S .x) delta in
+    bind (predictedOf (S .e .constraints) delta)
+    (λ predicted.
+    pick (sameOf (S .n) next (S .x)) (ok noChange)
+    (bind (normOf (at delta) (S .n)) (λ tried. ok (ask (record { delta = delta; lambda = lambda; next = next; predicted = predicted; tried = tried })))))
 
 abbrev pub expectedResult : Expected → Res Bool
 expectedResult e.Drop = ok true

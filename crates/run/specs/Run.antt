@@ -304,6 +304,14 @@ pub record Underway (st : State) : Type 0 where
   pub bounded : Bounded 1073741824 st
   pub below : st .counts .iterations < st .sizes .limit
 
+-- where the search from the standing point is left, once its violation is known or refused
+abbrev pub soughtWith : State → Memory → Res Scalar → Found
+soughtWith st w (ok theta) = searchOf (standingOf st w theta) (st .«max_step») (st .search)
+soughtWith st w (refused k) = refuses (st .search) k
+
+abbrev pub soughtOf : State → Memory → Found
+soughtOf st w = soughtWith st w (violationOf (standingAt st w .constraints))
+
 -- a step taken, once the damping and the radius after it are known
 abbrev pub takenWith : State → Memory → Scalar → Scalar → Scalar → Scalar → Outcome
 takenWith st w theta length mu radius =

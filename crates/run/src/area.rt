@@ -3,10 +3,11 @@ ghost use mathlib.Core.Path.{_≡_};
 ghost use mathlib.Core.List.{_++_};
 ghost use Prim.Native.Nat.{ℕ, _+_, _<_, _≤_};
 ghost use lib.ListN.{length, take, drop, getD};
-ghost use Rattle.interval.specs.Scalar.{pick};
 ghost use Rattle.linear.specs.Flat.{zeros};
-ghost use Rattle.run.specs.Area.{Memory, padded, written, Holds, startOf, tidiedTo, isOpen, isTried, isCorrected, memoryOf, begunMemory, onlyStanding, withStart, withTrial, withLanded, withTaken};
+ghost use Rattle.run.specs.Area.{Memory, padded, written, Holds, startOf, tidiedTo, usedIn, memoryOf, begunMemory, onlyStanding, withStart, withTrial, withLanded, withTaken};
+ghost use Rattle.run.specs.Proposal.{movedOf};
 ghost use Rattle.run.specs.Run.{filterWith};
+use crate::points::moved;
 use crate::state::Kind;
 use crate::state::Phase;
 use crate::state::State;
@@ -99,47 +100,42 @@ fn tidy_slots(area: &mut [f64], sizes: &[usize], used: &[usize])
     }
 }
 
-fn count_of(in_use: bool, count: usize) -> usize
-    ensures { λ r. ⌜ r ≡ pick «in_use» count 0 ⌝ }
+// How many numbers of each slot are in use.
+fn in_use(st: State) -> [usize; 9]
+    requires { ⌜ (st .sizes .n ≤ 12) × ((st .sizes .m ≤ 12) × ((st .sizes .s ≤ 24) × (st .counts .iterations ≤ 200))) ⌝ }
+    ensures { λ r. ⌜ r ≡ usedIn st ⌝ }
 {
-    if in_use {
-        return count;
-    }
-    0
-}
-
-pub fn is_open(phase: Phase) -> bool
-    ensures { λ r. ⌜ r ≡ isOpen phase ⌝ }
-{
-    match phase {
-        Phase::Open(_) => true,
-        Phase::Over => false,
-    }
-}
-
-pub fn is_tried(phase: Phase) -> bool
-    ensures { λ r. ⌜ r ≡ isTried phase ⌝ }
-{
+    let phase = st.phase;
+    let point = 2 * st.sizes.n;
+    let rows = 2 * ((st.sizes.m + st.sizes.s) * (st.sizes.n + 1));
+    let multipliers = 2 * st.sizes.m;
+    let entries = 2 * (st.sizes.n * st.sizes.n);
+    let pairs = 4 * st.counts.iterations;
     match phase {
         Phase::Open(kind) => match kind {
-            Kind::Start => false,
-            Kind::Trial => true,
-            Kind::Correction => true,
+            Kind::Start => {
+                return [point, 0, point, 0, 0, 0, 0, 0, 0];
+            }
+            Kind::Trial => {
+                return [point, 0, point, rows, 0, point, multipliers, entries, pairs];
+            }
+            Kind::Correction => {
+                return [
+                    point,
+                    point,
+                    point,
+                    rows,
+                    rows,
+                    point,
+                    multipliers,
+                    entries,
+                    pairs,
+                ];
+            }
         },
-        Phase::Over => false,
-    }
-}
-
-pub fn is_corrected(phase: Phase) -> bool
-    ensures { λ r. ⌜ r ≡ isCorrected phase ⌝ }
-{
-    match phase {
-        Phase::Open(kind) => match kind {
-            Kind::Start => false,
-            Kind::Trial => false,
-            Kind::Correction => true,
-        },
-        Phase::Over => false,
+        Phase::Over => {
+            return [point, 0, 0, 0, 0, 0, 0, 0, 0];
+        }
     }
 }
 
@@ -148,13 +144,6 @@ pub fn tidy(area: &mut [f64], st: State)
     requires { ⌜ (length (now area) ≡ 8000) × ((st .sizes .n ≤ 12) × ((st .sizes .m ≤ 12) × ((st .sizes .s ≤ 24) × (st .counts .iterations ≤ 200)))) ⌝ }
     ensures { λ _. ⌜ Holds (memoryOf st (now (area .entry))) (now (area .exit)) ⌝ }
 {
-    let z = st.sizes;
-    let counts = st.counts;
-    let phase = st.phase;
-    let tried = is_tried(phase);
-    let corrected = is_corrected(phase);
-    let point = 2 * z.n;
-    let rows = 2 * ((z.m + z.s) * (z.n + 1));
     let sizes = [
         POINT,
         POINT,
@@ -166,17 +155,7 @@ pub fn tidy(area: &mut [f64], st: State)
         ENTRIES,
         PAIRS,
     ];
-    let used = [
-        point,
-        count_of(corrected, point),
-        count_of(is_open(phase), point),
-        count_of(tried, rows),
-        count_of(corrected, rows),
-        count_of(tried, point),
-        count_of(tried, 2 * z.m),
-        count_of(tried, 2 * (z.n * z.n)),
-        count_of(tried, 4 * counts.iterations),
-    ];
+    let used = in_use(st);
     tidy_slots(area, &sizes, &used);
     clear_from(area, SPARE, AREA - SPARE);
 }
@@ -208,13 +187,23 @@ pub fn with_start(area: &mut [f64], rows: &[f64])
     slot(area, STANDING_ROWS, ROWS, rows);
 }
 
-// A trial asked: nothing has landed.
-pub fn with_trial(area: &mut [f64], next: &[f64], delta: &[f64], lambda: &[f64])
-    requires { ⌜ (length (now area) ≡ 8000) × ((length (now next) ≡ 24) × ((length (now delta) ≡ 24) × (length (now lambda) ≡ 24))) ⌝ }
-    ensures { λ _. ⌜ ((w : Memory) → Holds w (now (area .entry)) → Holds (withTrial w (now (next .entry)) (now (delta .entry)) (now (lambda .entry))) (now (area .exit))) ⌝ }
+// The point that a step leads to from the standing one is asked.
+fn with_next(area: &mut [f64], n: usize, delta: &[f64])
+    requires { ⌜ length (now area) ≡ 8000 ⌝ }
+    ensures { λ _. ⌜ now (area .exit) ≡ written (now (area .entry)) 48 (movedOf n (take 24 (drop 0 (now (area .entry)))) (now (delta .entry))) ⌝ }
 {
+    let mut next = [0.0; 24];
+    moved(n, &area[STANDING..LANDED], delta, &mut next);
+    place(area, ASKED, &next);
+}
+
+// A trial asked, where the step leads: nothing has landed.
+pub fn with_trial(area: &mut [f64], n: usize, delta: &[f64], lambda: &[f64])
+    requires { ⌜ (length (now area) ≡ 8000) × ((length (now delta) ≡ 24) × (length (now lambda) ≡ 24)) ⌝ }
+    ensures { λ _. ⌜ ((w : Memory) → Holds w (now (area .entry)) → Holds (withTrial w (movedOf n (w .standing) (now (delta .entry))) (now (delta .entry)) (now (lambda .entry))) (now (area .exit))) ⌝ }
+{
+    with_next(area, n, delta);
     clear_from(area, LANDED, POINT);
-    place(area, ASKED, next);
     clear_from(area, LANDED_ROWS, ROWS);
     place(area, STEP, delta);
     place(area, MULTIPLIERS, lambda);

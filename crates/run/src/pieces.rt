@@ -15,6 +15,7 @@ use crate::judged;
 use crate::judged::Judgement;
 use crate::proposal;
 use crate::proposal::Expected;
+use crate::proposal::Model;
 use crate::rows;
 use crate::scratch::norm_of;
 use crate::state::Last;
@@ -197,7 +198,7 @@ pub fn expects(
         }
         Done::Finished => {}
     }
-    proposal::expects(n, m, s, xs, b, f, theta, delta)
+    proposal::expects(Model { n, m, s, f, theta }, xs, b, delta)
 }
 
 // Clears what was written of a piece that was refused.

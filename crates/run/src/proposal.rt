@@ -5,11 +5,12 @@ ghost use Prim.Native.Nat.{_≤_};
 ghost use lib.Ieee.{Float};
 ghost use lib.ListN.{length};
 ghost use Rattle.interval.specs.Result.{ok};
-ghost use Rattle.interval.specs.Scalar.{zeroS, subOf, definitelyGreater};
+ghost use Rattle.interval.specs.Scalar.{zeroS, pick, subOf, definitelyGreater};
 ghost use Rattle.linear.specs.Answers.{resultOf};
+ghost use Rattle.linear.specs.Choose.{chooseOf};
 ghost use Rattle.linear.specs.Flat.{at};
 ghost use Rattle.linear.specs.Results.{bind};
-ghost use Rattle.run.specs.Proposal.{ask, bentOf, expectsOf, trialOf, cutOf, shortenedOf, withinOf, proposalOf, standingWith, stillOf, modelOf, pointOf, expectedResult, proposalResult};
+ghost use Rattle.run.specs.Proposal.{ask, movedOf, bentOf, expectsOf, trialOf, triedOf, cutOf, shortenedOf, withinOf, proposalOf, standingFor, stillFor, modelFor, pointOf, expectedResult, proposalResult};
 ghost use Rattle.run.specs.Rows.{constraintsOf, evaluationOf};
 ghost use Rattle.run.specs.Step.{PreparedFor};
 use crate::points::moved;
@@ -17,8 +18,8 @@ use crate::points::same;
 use crate::rows::predicted;
 use crate::rows::squared;
 use crate::rows::sum;
-use crate::scratch::chosen;
 use crate::scratch::norm_of;
+use crate::state::Search;
 use crate::state::Trial;
 use crate::step::Prepared;
 use crate::step::StepEnd;
@@ -29,9 +30,17 @@ use linear::Answer;
 use linear::LinearError;
 use linear::at;
 use linear::choose;
-use linear::clear;
 use linear::plus_dot;
 use linear::put;
+
+// A least-squares problem in numbers: variables, constraint rows and sum rows, and f and the violation where it stands.
+pub struct Model {
+    pub n: usize,
+    pub m: usize,
+    pub s: usize,
+    pub f: Scalar,
+    pub theta: Scalar,
+}
 
 // What the model expects of a step.
 pub enum Expected {
@@ -80,25 +89,16 @@ fn falls(theta: Scalar, predicted: Answer) -> Expected
 }
 
 // Whether the model expects the step to lower the sum or, asked only then, the violation.
-pub fn expects(
-    n: usize,
-    m: usize,
-    s: usize,
-    rows: &[f64],
-    b: &[f64],
-    f: Scalar,
-    theta: Scalar,
-    delta: &[f64],
-) -> Expected
-    requires { ⌜ (n ≤ 12) × ((m ≤ 12) × (s ≤ 24)) ⌝ }
-    ensures { λ r. ⌜ expectedResult r ≡ expectsOf (modelOf n (evaluationOf n m s (now (rows .entry))) f theta (now (b .entry))) (now (delta .entry)) ⌝ }
+pub fn expects(model: Model, rows: &[f64], b: &[f64], delta: &[f64]) -> Expected
+    requires { ⌜ (model .n ≤ 12) × ((model .m ≤ 12) × (model .s ≤ 24)) ⌝ }
+    ensures { λ r. ⌜ expectedResult r ≡ expectsOf (modelFor model (now (rows .entry)) (now (b .entry))) (now (delta .entry)) ⌝ }
 {
-    let left = squared(rows, sum(n, m, s), delta, n);
-    let drop = f.sub(left).sub(bent(n, b, delta));
+    let left = squared(rows, sum(model.n, model.m, model.s), delta, model.n);
+    let drop = model.f.sub(left).sub(bent(model.n, b, delta));
     if drop.definitely_greater(Scalar::ZERO) {
         return Expected::Drop;
     }
-    falls(theta, predicted(rows, n, m, delta))
+    falls(model.theta, predicted(rows, model.n, model.m, delta))
 }
 
 // A step times shrink, chosen.
@@ -121,135 +121,151 @@ fn asked(predicted: Scalar, length: Answer) -> Proposal
     }
 }
 
-// The point that a step leads to.
-fn trial(
-    n: usize,
-    m: usize,
-    rows: &[f64],
-    x: &[f64],
-    raw: &[f64],
-    delta: &mut [f64],
-    next: &mut [f64],
-) -> Proposal
-    requires { ⌜ (n ≤ 12) × ((m ≤ 12) × ((length (now delta) ≡ 24) × (length (now next) ≡ 24))) ⌝ }
-    ensures { λ r. ⌜ ((lambda : List Float) → proposalResult r (now (delta .exit)) lambda (now (next .exit)) ≡ trialOf (pointOf n (now (x .entry)) (constraintsOf n m (now (rows .entry)))) (now (raw .entry)) lambda) ⌝ }
+// The point that a step leads to, where it is chosen.
+fn tried(n: usize, m: usize, rows: &[f64], x: &[f64], delta: &[f64]) -> Proposal
+    requires { ⌜ (n ≤ 12) × ((m ≤ 12) × (length (now delta) ≡ 24)) ⌝ }
+    ensures { λ r. ⌜ ((lambda : List Float) → proposalResult r (now (delta .entry)) lambda (movedOf n (now (x .entry)) (now (delta .entry))) ≡ triedOf (pointOf n (now (x .entry)) (constraintsOf n m (now (rows .entry)))) (now (delta .entry)) lambda) ⌝ }
 {
-    clear(delta);
-    chosen(raw, 0, n, delta);
-    moved(n, x, delta, next);
+    let mut next = [0.0; 24];
+    moved(n, x, delta, &mut next);
     match predicted(rows, n, m, delta) {
         Answer::Value(p) => {
-            if same(n, next, x) {
+            if same(n, &next, x) {
                 return Proposal::NoChange;
             }
-            asked(p, norm_of(delta, n))
+            return asked(p, norm_of(delta, n));
         }
-        Answer::Refused(e) => Proposal::Refused(e),
+        Answer::Refused(e) => {
+            return Proposal::Refused(e);
+        }
     }
+}
+
+// Chosen, or zero where it is not in use.
+fn choose_if(in_use: bool, d: Scalar) -> Scalar
+    ensures { λ r. ⌜ r ≡ pick «in_use» (chooseOf d) zeroS ⌝ }
+{
+    if in_use {
+        return choose(d);
+    }
+    Scalar::ZERO
+}
+
+// The point that a step leads to; it is chosen in its place.
+fn trial(n: usize, m: usize, rows: &[f64], x: &[f64], delta: &mut [f64]) -> Proposal
+    requires { ⌜ (n ≤ 12) × ((m ≤ 12) × (length (now delta) ≡ 24)) ⌝ }
+    ensures { λ r. ⌜ ((lambda : List Float) → proposalResult r (now (delta .exit)) lambda (movedOf n (now (x .entry)) (now (delta .exit))) ≡ trialOf (pointOf n (now (x .entry)) (constraintsOf n m (now (rows .entry)))) (now (delta .entry)) lambda) ⌝ }
+{
+    for i in 0..12 {
+        let d = at(delta, i);
+        put(delta, i, choose_if(i < n, d));
+    }
+    tried(n, m, rows, x, delta)
 }
 
 // The point that a step leads to once it is cut, if the model still expects something of it.
 fn shortened(
-    n: usize,
-    m: usize,
-    s: usize,
+    model: Model,
     rows: &[f64],
     x: &[f64],
     b: &[f64],
-    f: Scalar,
-    theta: Scalar,
     shrink: Scalar,
-    raw: &mut [f64],
     delta: &mut [f64],
-    next: &mut [f64],
 ) -> Proposal
-    requires { ⌜ (n ≤ 12) × ((m ≤ 12) × ((s ≤ 24) × ((length (now delta) ≡ 24) × (length (now next) ≡ 24)))) ⌝ }
-    ensures { λ r. ⌜ ((lambda : List Float) → proposalResult r (now (delta .exit)) lambda (now (next .exit)) ≡ shortenedOf (stillOf n (now (x .entry)) (evaluationOf n m s (now (rows .entry))) f theta (now (b .entry))) (cutOf n (now (raw .entry)) shrink) lambda) ⌝ }
+    requires { ⌜ (model .n ≤ 12) × ((model .m ≤ 12) × ((model .s ≤ 24) × (length (now delta) ≡ 24))) ⌝ }
+    ensures { λ r. ⌜ ((lambda : List Float) → proposalResult r (now (delta .exit)) lambda (movedOf (model .n) (now (x .entry)) (now (delta .exit))) ≡ shortenedOf (stillFor model (now (rows .entry)) (now (b .entry)) (now (x .entry))) (cutOf (model .n) (now (delta .entry)) shrink) lambda) ⌝ }
 {
-    cut(n, raw, shrink);
-    match expects(n, m, s, rows, b, f, theta, raw) {
-        Expected::Drop => trial(n, m, rows, x, raw, delta, next),
-        Expected::NoDrop => Proposal::Unresolved,
-        Expected::Refused(e) => Proposal::Refused(e),
+    cut(model.n, delta, shrink);
+    match expects(model, rows, b, delta) {
+        Expected::Drop => {
+            return trial(model.n, model.m, rows, x, delta);
+        }
+        Expected::NoDrop => {
+            return Proposal::Unresolved;
+        }
+        Expected::Refused(e) => {
+            return Proposal::Refused(e);
+        }
     }
 }
 
 // The point that a step leads to, cut where it is definitely longer than the radius.
 fn within(
-    n: usize,
-    m: usize,
-    s: usize,
+    model: Model,
     rows: &[f64],
     x: &[f64],
     b: &[f64],
-    f: Scalar,
-    theta: Scalar,
     radius: Scalar,
-    raw: &mut [f64],
     delta: &mut [f64],
-    next: &mut [f64],
 ) -> Proposal
-    requires { ⌜ (n ≤ 12) × ((m ≤ 12) × ((s ≤ 24) × ((length (now raw) ≡ 24) × ((length (now delta) ≡ 24) × (length (now next) ≡ 24))))) ⌝ }
-    ensures { λ r. ⌜ ((lambda : List Float) → proposalResult r (now (delta .exit)) lambda (now (next .exit)) ≡ withinOf (stillOf n (now (x .entry)) (evaluationOf n m s (now (rows .entry))) f theta (now (b .entry))) radius (now (raw .entry)) lambda) ⌝ }
+    requires { ⌜ (model .n ≤ 12) × ((model .m ≤ 12) × ((model .s ≤ 24) × (length (now delta) ≡ 24))) ⌝ }
+    ensures { λ r. ⌜ ((lambda : List Float) → proposalResult r (now (delta .exit)) lambda (movedOf (model .n) (now (x .entry)) (now (delta .exit))) ≡ withinOf (stillFor model (now (rows .entry)) (now (b .entry)) (now (x .entry))) radius (now (delta .entry)) lambda) ⌝ }
 {
-    match norm_of(raw, n) {
+    match norm_of(delta, model.n) {
         Answer::Value(length) => {
             if !length.definitely_greater(radius) {
-                return trial(n, m, rows, x, raw, delta, next);
+                return trial(model.n, model.m, rows, x, delta);
             }
             match radius.div(length) {
                 ScalarResult::Value(shrink) => {
-                    shortened(n, m, s, rows, x, b, f, theta, shrink, raw, delta, next)
+                    return shortened(model, rows, x, b, shrink, delta);
                 }
-                ScalarResult::Refused(e) => Proposal::Refused(LinearError::Arithmetic(e)),
+                ScalarResult::Refused(e) => {
+                    return Proposal::Refused(LinearError::Arithmetic(e));
+                }
             }
         }
-        Answer::Refused(e) => Proposal::Refused(e),
+        Answer::Refused(e) => {
+            return Proposal::Refused(e);
+        }
     }
 }
 
-// What the damping mu proposes, from what was prepared, within the radius; where it asks, delta, lambda and next hold the step, its multipliers and the point it leads to.
+// What a search's damping proposes, from what was prepared, within its radius; where it asks, delta and lambda hold the step and its multipliers.
 pub fn propose(
-    n: usize,
-    m: usize,
-    s: usize,
+    model: Model,
     rows: &[f64],
     x: &[f64],
     b: &[f64],
     moving: &[bool],
-    f: Scalar,
-    theta: Scalar,
     prepared: Prepared,
     order: &[usize],
     curve: &[f64],
     frame: &[f64],
-    mu: Scalar,
-    radius: Scalar,
+    from: Search,
     delta: &mut [f64],
     lambda: &mut [f64],
-    next: &mut [f64],
 ) -> Proposal
-    requires { ⌜ (n ≤ 12) × ((m ≤ 12) × ((s ≤ 24) × ((length (now moving) ≡ 12) × (PreparedFor n (evaluationOf n m s (now rows)) (now b) (now moving) prepared (now order) (now curve) (now frame) × ((length (now delta) ≡ 24) × ((length (now lambda) ≡ 24) × (length (now next) ≡ 24))))))) ⌝ }
-    ensures { λ r. ⌜ proposalResult r (now (delta .exit)) (now (lambda .exit)) (now (next .exit)) ≡ proposalOf (standingWith n (now (x .entry)) (evaluationOf n m s (now (rows .entry))) f theta (now (b .entry)) (now (moving .entry))) mu radius ⌝ }
+    requires { ⌜ (model .n ≤ 12) × ((model .m ≤ 12) × ((model .s ≤ 24) × ((length (now moving) ≡ 12) × (PreparedFor (model .n) (evaluationOf (model .n) (model .m) (model .s) (now rows)) (now b) (now moving) prepared (now order) (now curve) (now frame) × ((length (now delta) ≡ 24) × (length (now lambda) ≡ 24)))))) ⌝ }
+    ensures { λ r. ⌜ proposalResult r (now (delta .exit)) (now (lambda .exit)) (movedOf (model .n) (now (x .entry)) (now (delta .exit))) ≡ proposalOf (standingFor model (now (rows .entry)) (now (b .entry)) (now (x .entry)) (now (moving .entry))) (from .mu) (from .radius) ⌝ }
 {
-    let mut raw = [0.0; 24];
     match damped_step(
-        n,
+        model.n,
         moving,
         prepared,
         order,
         curve,
         frame,
-        mu,
-        &mut raw,
+        from.mu,
+        delta,
         lambda,
     ) {
-        StepEnd::Found(r) => match expects(n, m, s, rows, b, f, theta, &raw) {
-            Expected::Drop => within(n, m, s, rows, x, b, f, theta, radius, &mut raw, delta, next),
-            Expected::NoDrop => Proposal::NoDrop(r),
-            Expected::Refused(e) => Proposal::Refused(e),
+        StepEnd::Found(r) => match expects(model, rows, b, delta) {
+            Expected::Drop => {
+                return within(model, rows, x, b, from.radius, delta);
+            }
+            Expected::NoDrop => {
+                return Proposal::NoDrop(r);
+            }
+            Expected::Refused(e) => {
+                return Proposal::Refused(e);
+            }
         },
-        StepEnd::NotPositive => Proposal::NotPositive,
-        StepEnd::Refused(e) => Proposal::Refused(e),
+        StepEnd::NotPositive => {
+            return Proposal::NotPositive;
+        }
+        StepEnd::Refused(e) => {
+            return Proposal::Refused(e);
+        }
     }
 }

@@ -6,11 +6,12 @@ ghost use Prim.Native.Nat.{_^_, _<_, _≤_};
 ghost use lib.Ieee.{Float};
 ghost use lib.ListN.{length};
 ghost use Rattle.interval.specs.Scaling.{isPositive};
-ghost use Rattle.run.specs.Proposal.{standingWith, proposalResult};
+ghost use Rattle.run.specs.Proposal.{movedOf, standingFor, proposalResult};
 ghost use Rattle.run.specs.Rows.{evaluationOf};
 ghost use Rattle.run.specs.Search as defined;
 ghost use Rattle.run.specs.Search.{rejectedFor, withRadius, anew, flatOr, damped, goesOn, stopsAt, follow, searchOf, turnOf, foundResult, turnResult};
 ghost use Rattle.run.specs.Step.{PreparedFor};
+use crate::proposal::Model;
 use crate::proposal::Proposal;
 use crate::proposal::propose;
 use crate::state::Rejection;
@@ -22,7 +23,7 @@ use crate::step::prepare;
 use interval::Scalar;
 use linear::LinearError;
 
-// Where a search is left; with a question the slices hold the step, its multipliers and the point it leads to.
+// Where a search is left; with a question the slices hold the step and its multipliers.
 pub enum Found {
     Ask(Search, Trial),
     Stop(Search, Stop),
@@ -115,15 +116,11 @@ fn follow(p: Proposal, x: Search, m: usize, max: Scalar) -> Turn
 
 // The search, from what no damping changes.
 fn seek_from(
-    n: usize,
-    m: usize,
-    s: usize,
+    model: Model,
     rows: &[f64],
     x: &[f64],
     b: &[f64],
     moving: &[bool],
-    f: Scalar,
-    theta: Scalar,
     max: Scalar,
     prepared: Prepared,
     order: &[usize],
@@ -132,35 +129,28 @@ fn seek_from(
     from: Search,
     delta: &mut [f64],
     lambda: &mut [f64],
-    next: &mut [f64],
 ) -> Found
-    requires { ⌜ (n ≤ 12) × ((m ≤ 12) × ((s ≤ 24) × ((length (now moving) ≡ 12) × (PreparedFor n (evaluationOf n m s (now rows)) (now b) (now moving) prepared (now order) (now curve) (now frame) × ((length (now delta) ≡ 24) × ((length (now lambda) ≡ 24) × (length (now next) ≡ 24))))))) ⌝ }
+    requires { ⌜ (model .n ≤ 12) × ((model .m ≤ 12) × ((model .s ≤ 24) × ((length (now moving) ≡ 12) × (PreparedFor (model .n) (evaluationOf (model .n) (model .m) (model .s) (now rows)) (now b) (now moving) prepared (now order) (now curve) (now frame) × ((length (now delta) ≡ 24) × (length (now lambda) ≡ 24)))))) ⌝ }
     requires { ⌜ (from .«turned_down» < 2 ^ 31) × (isPositive (from .mu) ≡ true) ⌝ }
-    ensures { λ r. ⌜ foundResult r (now (delta .exit)) (now (lambda .exit)) (now (next .exit)) ≡ searchOf (standingWith n (now (x .entry)) (evaluationOf n m s (now (rows .entry))) f theta (now (b .entry)) (now (moving .entry))) max from ⌝ }
+    ensures { λ r. ⌜ foundResult r (now (delta .exit)) (now (lambda .exit)) (movedOf (model .n) (now (x .entry)) (now (delta .exit))) ≡ searchOf (standingFor model (now (rows .entry)) (now (b .entry)) (now (x .entry)) (now (moving .entry))) max from ⌝ }
 {
     let mut state = from;
     let found = loop {
         let p = propose(
-            n,
-            m,
-            s,
+            model,
             rows,
             x,
             b,
             moving,
-            f,
-            theta,
             prepared,
             order,
             curve,
             frame,
-            state.mu,
-            state.radius,
+            state,
             delta,
             lambda,
-            next,
         );
-        match follow(p, state, m, max) {
+        match follow(p, state, model.m, max) {
             Turn::Leave(left) => {
                 break left;
             }
@@ -172,41 +162,42 @@ fn seek_from(
     found
 }
 
-// The search from a standing point x with its rows, f, violation theta, curvature b and moving marks.
+// The search from a standing point x with its model, rows, curvature b and moving marks.
 pub fn seek(
-    n: usize,
-    m: usize,
-    s: usize,
+    model: Model,
     rows: &[f64],
     x: &[f64],
     b: &[f64],
     moving: &[bool],
-    f: Scalar,
-    theta: Scalar,
     max: Scalar,
     from: Search,
     delta: &mut [f64],
     lambda: &mut [f64],
-    next: &mut [f64],
 ) -> Found
-    requires { ⌜ (n ≤ 12) × ((m ≤ 12) × ((s ≤ 24) × ((length (now moving) ≡ 12) × ((length (now delta) ≡ 24) × ((length (now lambda) ≡ 24) × (length (now next) ≡ 24)))))) ⌝ }
+    requires { ⌜ (model .n ≤ 12) × ((model .m ≤ 12) × ((model .s ≤ 24) × ((length (now moving) ≡ 12) × ((length (now delta) ≡ 24) × (length (now lambda) ≡ 24))))) ⌝ }
     requires { ⌜ (from .«turned_down» < 2 ^ 31) × (isPositive (from .mu) ≡ true) ⌝ }
-    ensures { λ r. ⌜ foundResult r (now (delta .exit)) (now (lambda .exit)) (now (next .exit)) ≡ searchOf (standingWith n (now (x .entry)) (evaluationOf n m s (now (rows .entry))) f theta (now (b .entry)) (now (moving .entry))) max from ⌝ }
+    ensures { λ r. ⌜ foundResult r (now (delta .exit)) (now (lambda .exit)) (movedOf (model .n) (now (x .entry)) (now (delta .exit))) ≡ searchOf (standingFor model (now (rows .entry)) (now (b .entry)) (now (x .entry)) (now (moving .entry))) max from ⌝ }
 {
     let mut order = [0; 24];
     let mut curve = [0.0; 336];
     let mut frame = [0.0; 888];
-    let prepared = prepare(n, m, s, rows, b, moving, &mut order, &mut curve, &mut frame);
+    let prepared = prepare(
+        model.n,
+        model.m,
+        model.s,
+        rows,
+        b,
+        moving,
+        &mut order,
+        &mut curve,
+        &mut frame,
+    );
     seek_from(
-        n,
-        m,
-        s,
+        model,
         rows,
         x,
         b,
         moving,
-        f,
-        theta,
         max,
         prepared,
         &order,
@@ -215,6 +206,5 @@ pub fn seek(
         from,
         delta,
         lambda,
-        next,
     )
 }

@@ -88,7 +88,7 @@ fn learn(n: usize, m: usize, s: usize, plain: bool, area: &[f64], b: &mut [f64])
     requires { ⌜ (n ≤ 12) × ((m ≤ 12) × ((s ≤ 24) × ((length (now area) ≡ 8000) × (now b ≡ zeros 288)))) ⌝ }
     ensures { λ r. ⌜ ((w : Memory) → Holds w (now (area .entry)) → doneOf r (now (b .exit)) ≡ updateCurvature n (pick plain (zeros 288) (w .curvature)) (w .step) (evaluationOf n m s (w .standingRows)) (evaluationOf n m s (w .landedRows)) (w .multipliers)) ⌝ }
 {
-    bent(plain, &area[area::CURVATURE..area::FILTER], b);
+    bent(plain, area, b);
     update_curvature(
         n,
         m,

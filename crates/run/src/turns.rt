@@ -2,18 +2,21 @@
 ghost use mathlib.Core.Bool.{not, _&&_};
 ghost use mathlib.Core.Path.{_≡_};
 ghost use Prim.Native.Nat.{_^_, _<_, _≤_};
-ghost use lib.ListN.{length};
+ghost use lib.ListN.{length, take, drop};
 ghost use Rattle.interval.specs.Scalar.{pick};
 ghost use Rattle.run.specs.Area.{Memory, Holds};
 ghost use Rattle.run.specs.Curvature.{learnedOf};
+ghost use Rattle.run.specs.Proposal.{movedOf};
+ghost use Rattle.run.specs.Rows.{sumOf, sumSquared};
 ghost use Rattle.run.specs.Run as run;
-ghost use Rattle.run.specs.Run.{Leaves, Bounded, leftAt};
+ghost use Rattle.run.specs.Run.{Leaves, Bounded, leftAt, soughtOf};
 ghost use Rattle.run.specs.Search.{foundResult};
 use crate::area;
 use crate::curvature::learned;
 use crate::endings::ask;
 use crate::endings::finish;
 use crate::endings::refuse;
+use crate::proposal::Model;
 use crate::rows::sum_squared;
 use crate::rows::violation;
 use crate::search::Damped;
@@ -24,6 +27,7 @@ use crate::state::Kind;
 use crate::state::Out;
 use crate::state::Rejection;
 use crate::state::Search;
+use crate::state::Sizes;
 use crate::state::State;
 use crate::state::Stop;
 use crate::states::with_search;
@@ -33,36 +37,76 @@ use interval::ScalarResult;
 use linear::Answer;
 use linear::LinearError;
 
-// What follows where a search was left, with the step, its multipliers and the point it leads to.
-fn left_at(
-    st: State,
-    area: &mut [f64],
-    found: Found,
-    delta: &[f64],
-    lambda: &[f64],
-    next: &[f64],
-) -> Out
-    requires { ⌜ (length (now area) ≡ 8000) × ((st .counts .question < 2 ^ 32) × ((length (now delta) ≡ 24) × ((length (now lambda) ≡ 24) × (length (now next) ≡ 24)))) ⌝ }
-    ensures { λ r. ⌜ ((w : Memory) → Holds w (now (area .entry)) → Leaves (leftAt st w (foundResult found (now (delta .entry)) (now (lambda .entry)) (now (next .entry)))) r (now (area .exit))) ⌝ }
+// What follows where a search was left, with the step and its multipliers.
+fn left_at(st: State, area: &mut [f64], found: Found, delta: &[f64], lambda: &[f64]) -> Out
+    requires { ⌜ (length (now area) ≡ 8000) × ((st .counts .question < 2 ^ 32) × ((length (now delta) ≡ 24) × (length (now lambda) ≡ 24))) ⌝ }
+    ensures { λ r. ⌜ ((w : Memory) → Holds w (now (area .entry)) → Leaves (leftAt st w (foundResult found (now (delta .entry)) (now (lambda .entry)) (movedOf (st .sizes .n) (w .standing) (now (delta .entry))))) r (now (area .exit))) ⌝ }
 {
     match found {
         Found::Ask(x, t) => {
-            area::with_trial(area, next, delta, lambda);
-            ask(with_trial_of(st, x, t), Kind::Trial, 0)
+            area::with_trial(area, st.sizes.n, delta, lambda);
+            return ask(with_trial_of(st, x, t), Kind::Trial, 0);
         }
-        Found::Stop(x, stop) => finish(with_search(st, x), area, stop),
-        Found::Refused(x, e) => refuse(with_search(st, x), area, e),
+        Found::Stop(x, stop) => {
+            return finish(with_search(st, x), area, stop);
+        }
+        Found::Refused(x, e) => {
+            return refuse(with_search(st, x), area, e);
+        }
     }
 }
 
 // The curvature that a proposal goes by, over +0: none in plain.
-pub fn bent(plain: bool, curvature: &[f64], b: &mut [f64])
-    requires { ⌜ length (now curvature) ≡ length (now b) ⌝ }
-    ensures { λ _. ⌜ now (b .exit) ≡ pick plain (now (b .entry)) (now (curvature .entry)) ⌝ }
+pub fn bent(plain: bool, area: &[f64], b: &mut [f64])
+    requires { ⌜ (length (now area) ≡ 8000) × (length (now b) ≡ 288) ⌝ }
+    ensures { λ _. ⌜ now (b .exit) ≡ pick plain (now (b .entry)) (take 288 (drop 1992 (now (area .entry)))) ⌝ }
 {
     if !plain {
-        area::place(b, 0, curvature);
+        area::place(b, 0, &area[area::CURVATURE..area::FILTER]);
     }
+}
+
+// The model's numbers, from the rows where it stands and their violation.
+fn model(z: Sizes, rows: &[f64], theta: Scalar) -> Model
+    requires { ⌜ (z .n ≤ 12) × ((z .m ≤ 12) × (z .s ≤ 24)) ⌝ }
+    ensures { λ r. ⌜ r ≡ record { n = z .n; m = z .m; s = z .s; f = sumSquared (sumOf (z .n) (z .m) (z .s) (now (rows .entry))); theta = theta } ⌝ }
+{
+    Model {
+        n: z.n,
+        m: z.m,
+        s: z.s,
+        f: sum_squared(rows, z.n, z.m, z.s),
+        theta,
+    }
+}
+
+// The search from the standing point, until it is left; a violation that is refused leaves it.
+fn seek_standing(st: State, area: &[f64], delta: &mut [f64], lambda: &mut [f64]) -> Found
+    requires { ⌜ (length (now area) ≡ 8000) × (Bounded 2147483648 st × ((length (now delta) ≡ 24) × (length (now lambda) ≡ 24))) ⌝ }
+    ensures { λ r. ⌜ ((w : Memory) → Holds w (now (area .entry)) → foundResult r (now (delta .exit)) (now (lambda .exit)) (movedOf (st .sizes .n) (w .standing) (now (delta .exit))) ≡ soughtOf st w) ⌝ }
+{
+    let from = st.search;
+    let rows = &area[area::STANDING_ROWS..area::LANDED_ROWS];
+    let theta = match violation(rows, st.sizes.n, st.sizes.m) {
+        Answer::Value(v) => v,
+        Answer::Refused(e) => {
+            return Found::Refused(from, e);
+        }
+    };
+    let mut b = [0.0; 288];
+    let moving = st.moving;
+    bent(from.plain, area, &mut b);
+    seek(
+        model(st.sizes, rows, theta),
+        rows,
+        &area[area::STANDING..area::LANDED],
+        &b,
+        &moving,
+        st.max_step,
+        from,
+        delta,
+        lambda,
+    )
 }
 
 // The search for a proposal from the standing point, until a question, the finish or a refusal.
@@ -70,40 +114,10 @@ fn search(st: State, area: &mut [f64]) -> Out
     requires { ⌜ (length (now area) ≡ 8000) × Bounded 2147483648 st ⌝ }
     ensures { λ r. ⌜ ((w : Memory) → Holds w (now (area .entry)) → Leaves (run.search st w) r (now (area .exit))) ⌝ }
 {
-    let z = st.sizes;
-    let standing = violation(&area[area::STANDING_ROWS..area::LANDED_ROWS], z.n, z.m);
-    let theta = match standing {
-        Answer::Value(v) => v,
-        Answer::Refused(e) => {
-            return refuse(st, area, e);
-        }
-    };
-    let mut b = [0.0; 288];
     let mut delta = [0.0; 24];
     let mut lambda = [0.0; 24];
-    let mut next = [0.0; 24];
-    let plain = st.search.plain;
-    let moving = st.moving;
-    let rows = &area[area::STANDING_ROWS..area::LANDED_ROWS];
-    let f = sum_squared(rows, z.n, z.m, z.s);
-    bent(plain, &area[area::CURVATURE..area::FILTER], &mut b);
-    let found = seek(
-        z.n,
-        z.m,
-        z.s,
-        rows,
-        &area[area::STANDING..area::LANDED],
-        &b,
-        &moving,
-        f,
-        theta,
-        st.max_step,
-        st.search,
-        &mut delta,
-        &mut lambda,
-        &mut next,
-    );
-    left_at(st, area, found, &delta, &lambda, &next)
+    let found = seek_standing(st, area, &mut delta, &mut lambda);
+    left_at(st, area, found, &delta, &lambda)
 }
 
 // A new iteration, or the finish where the limit is reached.

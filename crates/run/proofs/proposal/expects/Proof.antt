@@ -16,16 +16,16 @@ use Rattle.run.proofs.proposal.expects.Tie as tie
 -- the drop of the sum, less what the curvature bends
 dropped : (k : tie.After-definitely-greater)
     → let a = k .before .before .before .before .before .before .before .before .before .args in
-    k .definitely-greater .result ≡ definitelyGreater (subOf (subOf (a .f) (squaredOf (sumOf (a .n) (a .m) (a .s) (a .rows .now)) (a .delta .now) (a .n))) (bentOf (a .n) (a .b .now) (a .delta .now))) zeroS
+    k .definitely-greater .result ≡ definitelyGreater (subOf (subOf (a .model .f) (squaredOf (sumOf (a .model .n) (a .model .m) (a .model .s) (a .rows .now)) (a .delta .now) (a .model .n))) (bentOf (a .model .n) (a .b .now) (a .delta .now))) zeroS
 unfolding ofBits
 dropped k =
     let a = k .before .before .before .before .before .before .before .before .before .args in
-    let q : k .before .before .before .before .squared .result ≡ squaredOf (sumOf (a .n) (a .m) (a .s) (a .rows .now)) (a .delta .now) (a .n) =
-    k .before .before .before .before .squared .ensures ∙ ap (λ (e : RowSet). squaredOf (rowsIn (a .rows .now) e) (a .delta .now) (a .n)) (k .before .before .before .before .before .sum .ensures) in
-    let d = k .before .before .before .sub .ensures .value ∙ ap (λ (x : Scalar). subOf (a .f) x) q in
+    let q : k .before .before .before .before .squared .result ≡ squaredOf (sumOf (a .model .n) (a .model .m) (a .model .s) (a .rows .now)) (a .delta .now) (a .model .n) =
+    k .before .before .before .before .squared .ensures ∙ ap (λ (e : RowSet). squaredOf (rowsIn (a .rows .now) e) (a .delta .now) (a .model .n)) (k .before .before .before .before .before .sum .ensures) in
+    let d = k .before .before .before .sub .ensures .value ∙ ap (λ (x : Scalar). subOf (a .model .f) x) q in
     k .definitely-greater .ensures
     ∙ ap (λ (x : Scalar). definitelyGreater x zeroS)
-    (k .before .sub2 .ensures .value ∙ ap (λ (x : Scalar). subOf x (k .before .before .bent .result)) d ∙ ap (λ (x : Scalar). subOf (subOf (a .f) (squaredOf (sumOf (a .n) (a .m) (a .s) (a .rows .now)) (a .delta .now) (a .n))) x) (k .before .before .bent .ensures))
+    (k .before .sub2 .ensures .value ∙ ap (λ (x : Scalar). subOf x (k .before .before .bent .result)) d ∙ ap (λ (x : Scalar). subOf (subOf (a .model .f) (squaredOf (sumOf (a .model .n) (a .model .m) (a .model .s) (a .rows .now)) (a .delta .now) (a .model .n))) x) (k .before .before .bent .ensures))
 
 sum-requires : tie.Need-sum-requires
 sum-requires c κs = search needs
@@ -33,7 +33,7 @@ sum-requires c κs = search needs
 squared-requires : tie.Need-squared-requires
 squared-requires c κs =
     let s = c .before .before .before .before in
-    let p = product-small {i = s .args .m} {n = s .args .n + 1} (omega (arith, s .pre)) (omega (arith, s .pre)) in
+    let p = product-small {i = s .args .model .m} {n = s .args .model .n + 1} (omega (arith, s .pre)) (omega (arith, s .pre)) in
     rw (c .sum .ensures) (record { few-variables = s .pre .0; few-rows = s .pre .1 .1; values-near = omega (arith, p); slopes-near = omega (arith, p, s .pre) })
 
 sub-requires : tie.Need-sub-requires

@@ -1,18 +1,18 @@
 -- `shortened` meets its contract: each arm is the definition's.
 use mathlib.Core.Path.{_≡_, sym, ap, _∙_}
 use mathlib.Core.List.{List}
-use borrow.Author.Needs.{needs}
+use native.Mathlib.Omega.{arith}
 use lib.Ieee.{Float}
-use Rattle.run.specs.Proposal.{Standing, stillOf, expectsOf, expectedResult, shortenedOf}
-use Rattle.run.specs.Rows.{evaluationOf}
+use Rattle.run.specs.Proposal.{Standing, stillFor, expectsOf, expectedResult, shortenedOf}
 use Rattle.run.proofs.ProposalLaws.{expects-reads, trial-reads, shortened-drop, shortened-not, shortened-refused}
+use borrow.Author.Needs.{needs}
 use Rattle.run.proofs.proposal.shortened.Statement.{statement}
 use Rattle.run.proofs.proposal.shortened.Tie as tie
 
 -- what it stands on, the step cut, and what the model expects of it
 module _ (k : tie.After-expects) where
   abbrev from : Standing
-  from = let a = k .before .before .before .before .before .before .before .before .before .before .before .before .args in stillOf (a .n) (a .x .now) (evaluationOf (a .n) (a .m) (a .s) (a .rows .now)) (a .f) (a .theta) (a .b .now)
+  from = let a = k .before .before .before .before .before .before .before .before .before .before .args in stillFor (a .model) (a .rows .now) (a .b .now) (a .x .now)
 
   abbrev cut : List Float
   cut = k .before .before .before .before .cut .last .1 .0
@@ -24,46 +24,40 @@ cut-requires : tie.Need-cut-requires
 cut-requires c κs = search needs
 
 expects-requires : tie.Need-expects-requires
-expects-requires c κs = let p = c .before .before .before .before .before .before .before .before .before .before .before .pre in (p .0, (p .1 .0, p .1 .1 .0))
+expects-requires c κs = let p = c .before .before .before .before .before .before .before .before .before .pre in (p .0, (p .1 .0, p .1 .1 .0))
 
 enum-told : tie.Need-enum-told
 enum-told c = search needs
 
 trial-requires : tie.Need-trial-requires
-trial-requires c κs = let p = c .before .before .before .before .before .before .before .before .before .before .before .before .before .before .before .before .before .pre in (p .0, (p .1 .0, p .1 .1 .1))
-
-enum-told-2 : tie.Need-enum-told-2
-enum-told-2 c = search needs
-
-enum-known-e : tie.Need-enum-known-e
-enum-known-e c = search needs
+trial-requires c κs = let p = c .before .before .before .before .before .before .before .before .before .before .before .before .before .pre in (p .0, (p .1 .0, omega (arith, c .before .before .before .before .before .before .before .cut .kept, p .1 .1 .1)))
 
 same-length : tie.Need-same-length
 same-length c = search needs
 
-same-length-2 : tie.Need-same-length-2
-same-length-2 c = search needs
-
-same-length-3 : tie.Need-same-length-3
-same-length-3 c = search needs
-
 returns : tie.Need-returns
 returns c lambda =
-    let k = c .before .before .before .before .before .before .before .before .before .before in
-    c .before .before .before .before .trial .ensures lambda ∙ trial-reads (from k) (cut k) lambda
-    ∙ sym (shortened-drop (from k) (cut k) lambda (expected k ∙ ap expectedResult (c .before .before .before .before .before .before .before .before .enum-told .given .1)))
-    ∙ ap (λ (d : List Float). shortenedOf (from k) d lambda) (c .before .before .before .before .before .before .before .before .before .before .before .before .before .before .cut .ensures)
+    let k = c .before .before .before .before .before .before in
+    c .before .before .trial .ensures lambda ∙ trial-reads (from k) (cut k) lambda
+    ∙ sym (shortened-drop (from k) (cut k) lambda (expected k ∙ ap expectedResult (c .before .before .before .before .enum-told .given .1)))
+    ∙ ap (λ (d : List Float). shortenedOf (from k) d lambda) (c .before .before .before .before .before .before .before .before .before .before .cut .ensures)
 
-same-length-4 : tie.Need-same-length-4
-same-length-4 c = search needs
+enum-told-2 : tie.Need-enum-told-2
+enum-told-2 c = search needs
+
+same-length-2 : tie.Need-same-length-2
+same-length-2 c = search needs
 
 returns-2 : tie.Need-returns-2
 returns-2 c lambda =
     let k = c .before .before in
     sym (shortened-not (from k) (cut k) lambda (expected k ∙ ap expectedResult (c .enum-told2 .given .1))) ∙ ap (λ (d : List Float). shortenedOf (from k) d lambda) (c .before .before .before .before .before .before .cut .ensures)
 
-same-length-5 : tie.Need-same-length-5
-same-length-5 c = search needs
+enum-known-e : tie.Need-enum-known-e
+enum-known-e c = search needs
+
+same-length-3 : tie.Need-same-length-3
+same-length-3 c = search needs
 
 returns-3 : tie.Need-returns-3
 returns-3 c lambda =
@@ -78,13 +72,11 @@ shortened-spec =
     expects-requires
     enum-told
     trial-requires
-    enum-told-2
-    enum-known-e
     same-length
-    same-length-2
-    same-length-3
     returns
-    same-length-4
+    enum-told-2
+    same-length-2
     returns-2
-    same-length-5
+    enum-known-e
+    same-length-3
     returns-3)

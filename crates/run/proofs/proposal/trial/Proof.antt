@@ -1,113 +1,83 @@
--- `trial` meets its contract: the definition's steps, from what each call gives.
-use mathlib.Core.Path.{_≡_, sym, ap, _∙_}
-use mathlib.Core.List.{List}
+-- `trial` meets its contract: the places so far are chosen or clear, and the place that is read is still as it was.
+use mathlib.Core.Path.{_≡_, refl, ap, _∙_}
+use Prim.Native.Nat.{ℕ, _+_, _≤_, _-_}
+use native.Mathlib.Nat.{le-antisymm}
 use native.Mathlib.Omega.{arith}
-use borrow.Author.Needs.{needs}
-use lib.Ieee.{Float, ofBits}
-use Rattle.linear.specs.Flat.{zeros}
-use Rattle.linear.specs.Results.{bind}
-use Rattle.run.specs.Proposal.{Standing, pointOf, movedOf}
+use lib.Dec.{ltb}
+use lib.ListN.{length}
+use Rattle.interval.specs.declared.Scalar.{Scalar}
+use Rattle.interval.specs.Scalar.{zeroS, pick}
+use Rattle.linear.specs.Choose.{chooseOf}
+use Rattle.linear.specs.Flat.{at}
+use Rattle.run.specs.Proposal.{pointOf}
 use Rattle.run.specs.Rows.{constraintsOf}
-use Rattle.run.specs.Scratch.{vector, chosenOf}
-use Rattle.run.proofs.ProposalLaws.{trial-refused, trial-same, trial-asks}
+use Rattle.run.specs.Scratch.{fillTo, vector, chosenOf}
+use Rattle.run.proofs.ProposalLaws.{trial-is, chosen-in-place}
+use Rattle.run.proofs.ScratchLaws.{fill-turn, at-next}
+use borrow.Author.Needs.{needs}
 use Rattle.run.proofs.proposal.trial.Statement.{statement}
 use Rattle.run.proofs.proposal.trial.Tie as tie
 
--- what it stands on, the step chosen, and the point that it leads to
-module _ (k : tie.After-predicted) where
-  abbrev from : Standing
-  from = let a = k .before .before .before .before .before .before .before .before .before .before .before .before .before .before .before .before .before .before .before .before .args in pointOf (a .n) (a .x .now) (constraintsOf (a .n) (a .m) (a .rows .now))
+abbrev Inv-loop : tie.InvT-loop
+Inv-loop n m rows x delta₀ i₀ delta i = (i ≤ 12) × (length delta ≡ length delta₀) × (delta ≡ fillTo delta₀ 0 (λ j. pick (ltb j n) (chooseOf (at delta₀ j)) zeroS) i)
 
-  abbrev delta : List Float
-  delta = k .before .before .before .before .before .before .before .before .before .chosen .last .1 .1 .1 .0
+abbrev μ-loop : tie.MeasureT-loop
+μ-loop n m rows x delta₀ i₀ delta i = 12 - i
 
-  abbrev next : List Float
-  next = k .before .before .before .before .moved .last .1 .1 .1 .0
+loop-holds : tie.Need-loop-holds Inv-loop μ-loop
+unfolding fillTo
+loop-holds c = (omega arith, refl, refl)
 
-  delta-is : delta ≡ chosenOf vector (k .before .before .before .before .before .before .before .before .before .before .before .before .before .before .before .before .before .before .before .before .args .raw .now) 0 (from .n)
-  unfolding ofBits
-  delta-is = let s = k .before .before .before .before .before .before .before .before .before .before .before .before .before .before .before .before .before .before .before .before in k .before .before .before .before .before .before .before .before .before .chosen .ensures ∙ ap (λ (d : List Float). chosenOf d (s .args .raw .now) 0 (s .args .n)) (k .before .before .before .before .before .before .before .before .before .before .before .before .before .clear .ensures ∙ ap zeros (s .pre .1 .1 .0))
+at-requires : tie.Need-at-requires Inv-loop μ-loop
+at-requires c κs = search needs
 
-  next-is : next ≡ movedOf (from .n) (from .x) delta
-  next-is = k .before .before .before .before .moved .ensures
+choose-if-requires : tie.Need-choose-if-requires Inv-loop μ-loop
+choose-if-requires c κs = search needs
 
-clear-requires : tie.Need-clear-requires
-clear-requires c κs = search needs
+put-requires : tie.Need-put-requires Inv-loop μ-loop
+put-requires c κs = search needs
 
-chosen-requires : tie.Need-chosen-requires
-chosen-requires c κs = search needs
+add-i : tie.Need-add-i Inv-loop μ-loop
+add-i c = search needs
 
-moved-requires : tie.Need-moved-requires
-moved-requires c κs = search needs
+loop-less : tie.Need-loop-less Inv-loop μ-loop
+loop-less c = search needs
 
-predicted-requires : tie.Need-predicted-requires
-predicted-requires c κs = search needs
+loop-again : tie.Need-loop-again Inv-loop μ-loop
+loop-again c =
+    let l = c .before .before .before .before .before .before .before .before .loop in
+    let a = c .before .before .before .before .before .before .before .before .before .before .before .before .args in
+    let f : ℕ → Scalar = λ j. pick (ltb j (a .n)) (chooseOf (at (a .delta .now) j)) zeroS in
+    let z : 0 + l .i ≡ l .i = omega arith in
+    let v : c .before .before .before .choose-if .result ≡ f (l .i) = c .before .before .before .choose-if .ensures ∙ ap (λ (s : Scalar). pick (ltb (l .i) (a .n)) (chooseOf s) zeroS) (c .before .before .before .before .before .at .ensures ∙ at-next (a .delta .now) f (l .i) (l .inv .2)) in
+    (search needs, search needs, c .before .before .put .ensures ∙ rw z at (fill-turn (a .delta .now) 0 f (l .i) (l .inv .2) v))
 
-enum-known-p : tie.Need-enum-known-p
-enum-known-p c = search needs
+tried-requires : tie.Need-tried-requires Inv-loop μ-loop
+tried-requires c κs = let p = c .before .before .before .before .before .before .pre in (p .0, (p .1 .0, c .before .before .loop .inv .1 ∙ p .1 .1))
 
-same-requires : tie.Need-same-requires
-same-requires c κs = search needs
-
-same-length : tie.Need-same-length
+same-length : tie.Need-same-length Inv-loop μ-loop
 same-length c = search needs
 
-same-length-2 : tie.Need-same-length-2
-same-length-2 c = search needs
-
-returns : tie.Need-returns
-returns c lambda = let k = c .before .before .before .before .before .before in sym (trial-same (from k) _ _ _ lambda (delta-is k) (next-is k) {p = c .before .before .before .before .p .given .0 .0} (sym (k .predicted .ensures) ∙ rw (c .before .before .before .before .p .given .1)) (sym (c .before .same .ensures) ∙ c .if1 .taken))
-
-norm-of-requires : tie.Need-norm-of-requires
-norm-of-requires c κs =
-    let s = c .before .before .before .before .before .before .before .before .before .before .before .before .before .before .before .before .before .before .before .before .before .before .before .before .before .before .before in
-    (omega (arith, s .pre .0), omega (arith, c .before .before .before .before .before .before .before .before .before .before .before .before .before .before .before .before .chosen .kept, c .before .before .before .before .before .before .before .before .before .before .before .before .before .before .before .before .before .before .before .before .clear .kept, s .pre))
-
-asked-requires : tie.Need-asked-requires
-asked-requires c κs = search needs
-
-enum-known-e : tie.Need-enum-known-e
-enum-known-e c = search needs
-
-same-length-3 : tie.Need-same-length-3
-same-length-3 c = search needs
-
-same-length-4 : tie.Need-same-length-4
-same-length-4 c = search needs
-
-returns-2 : tie.Need-returns-2
-unfolding bind
-returns-2 c lambda = let k = c .before .before .before .before .before .before .before .before .before in
-    sym (trial-asks (from k) _ _ _ lambda (delta-is k) (next-is k) {p = c .before .before .before .before .before .before .before .p .given .0 .0} (sym (k .predicted .ensures) ∙ rw (c .before .before .before .before .before .before .before .p .given .1)) (sym (c .before .before .before .before .same .ensures) ∙ c .before .before .before .if1 .left) ∙ rw (← c .before .norm-of .ensures) (sym (c .asked .ensures _ _ _)))
-
-same-length-5 : tie.Need-same-length-5
-same-length-5 c = search needs
-
-same-length-6 : tie.Need-same-length-6
-same-length-6 c = search needs
-
-returns-3 : tie.Need-returns-3
-returns-3 c lambda = let k = c .before .before .before in sym (trial-refused (from k) _ _ _ lambda (delta-is k) (next-is k) (sym (k .predicted .ensures) ∙ rw (c .before .e .given .1)))
+returns : tie.Need-returns Inv-loop μ-loop
+returns c lambda =
+    let s = c .before .before .before .before .before .before .before in
+    let a = s .args in
+    let e : c .before .before .before .loop .delta ≡ chosenOf vector (a .delta .now) 0 (a .n) = rw (le-antisymm (c .before .before .before .loop .inv .0) (c .before .before .loop-test .left)) at (c .before .before .before .loop .inv .2) ∙ chosen-in-place (a .delta .now) (a .n) (s .pre .1 .1) (s .pre .0) in
+    c .tried .ensures lambda ∙ trial-is (pointOf (a .n) (a .x .now) (constraintsOf (a .n) (a .m) (a .rows .now))) (a .delta .now) (c .before .before .before .loop .delta) lambda e
 
 pub trial-spec : {M : Type 1} → statement M
 trial-spec =
     tie.close
     (tie.spec
-    clear-requires
-    chosen-requires
-    moved-requires
-    predicted-requires
-    enum-known-p
-    same-requires
+    Inv-loop
+    μ-loop
+    loop-holds
+    at-requires
+    choose-if-requires
+    put-requires
+    add-i
+    loop-less
+    loop-again
+    tried-requires
     same-length
-    same-length-2
-    returns
-    norm-of-requires
-    asked-requires
-    enum-known-e
-    same-length-3
-    same-length-4
-    returns-2
-    same-length-5
-    same-length-6
-    returns-3)
+    returns)

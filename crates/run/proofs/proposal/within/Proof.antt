@@ -1,27 +1,30 @@
 -- `within` meets its contract: the length and the test decide whether the step is cut.
 use mathlib.Core.Path.{_≡_, sym, ap, _∙_}
 use mathlib.Core.List.{List}
-use borrow.Author.Needs.{needs}
 use borrow.Author.Tests.{not-true, not-false}
 use lib.Ieee.{Float}
+use Rattle.interval.specs.declared.Scalar.{Scalar}
 use Rattle.interval.specs.Result as scalar
 use Rattle.linear.specs.Answers.{resultOf}
 use Rattle.linear.specs.Flat.{at}
 use Rattle.linear.specs.Norm.{normOf}
 use Rattle.linear.proofs.Folds.{bind-ok, bind-refused}
-use Rattle.run.specs.Proposal.{Standing, stillOf}
-use Rattle.run.specs.Rows.{evaluationOf}
+use Rattle.run.specs.Proposal.{Standing, stillFor}
 use Rattle.run.proofs.ProposalLaws.{trial-reads, within-refused, within-whole, within-cut}
+use borrow.Author.Needs.{needs}
 use Rattle.run.proofs.proposal.within.Statement.{statement}
 use Rattle.run.proofs.proposal.within.Tie as tie
 
--- what it stands on, and the step's length
+-- what it stands on, the step, and its length
 module _ (k : tie.After-norm-of) where
   abbrev from : Standing
-  from = let a = k .before .before .before .before .before .before .before .before .args in stillOf (a .n) (a .x .now) (evaluationOf (a .n) (a .m) (a .s) (a .rows .now)) (a .f) (a .theta) (a .b .now)
+  from = let a = k .before .before .before .before .before .before .args in stillFor (a .model) (a .rows .now) (a .b .now) (a .x .now)
+
+  abbrev radius : Scalar
+  radius = k .before .before .before .before .before .before .args .radius
 
   abbrev raw : List Float
-  raw = k .before .before .before .before .before .before .before .before .args .raw .now
+  raw = k .before .before .before .before .before .before .args .delta .now
 
   long : normOf (at raw) (from .n) ≡ resultOf (k .norm-of .result)
   long = sym (k .norm-of .ensures)
@@ -36,22 +39,16 @@ definitely-greater-requires : tie.Need-definitely-greater-requires
 definitely-greater-requires c κs = search needs
 
 trial-requires : tie.Need-trial-requires
-trial-requires c κs = let p = c .before .before .before .before .before .before .before .before .before .before .before .before .before .before .before .before .pre in (p .0, (p .1 .0, p .1 .1 .1 .1))
+trial-requires c κs = let p = c .before .before .before .before .before .before .before .before .before .before .before .before .pre in (p .0, (p .1 .0, p .1 .1 .1))
 
 same-length : tie.Need-same-length
 same-length c = search needs
 
-same-length-2 : tie.Need-same-length-2
-same-length-2 c = search needs
-
-same-length-3 : tie.Need-same-length-3
-same-length-3 c = search needs
-
 returns : tie.Need-returns
 returns c lambda =
-    let k = c .before .before .before .before .before .before .before .before .before .before .before .before .before in
-    c .before .before .before .before .trial .ensures lambda ∙ trial-reads (from k) (raw k) lambda
-    ∙ sym (within-whole (from k) (c .before .before .before .before .before .before .before .before .before .before .before .before .before .before .before .before .before .before .before .before .before .args .radius) (raw k) lambda (c .before .before .before .before .before .before .before .before .before .before .before .length .given .0 .0) (long k ∙ ap resultOf (c .before .before .before .before .before .before .before .before .before .before .before .length .given .1)) (sym (c .before .before .before .before .before .before .before .before .before .definitely-greater .ensures) ∙ not-true _ (c .before .before .before .before .before .before .before .before .if1 .taken)))
+    let k = c .before .before .before .before .before .before .before .before .before in
+    c .before .before .trial .ensures lambda ∙ trial-reads (from k) (raw k) lambda
+    ∙ sym (within-whole (from k) (radius k) (raw k) lambda (c .before .before .before .before .before .before .before .length .given .0 .0) (long k ∙ ap resultOf (c .before .before .before .before .before .before .before .length .given .1)) (sym (c .before .before .before .before .before .definitely-greater .ensures) ∙ not-true _ (c .before .before .before .before .if1 .taken)))
 
 div-requires : tie.Need-div-requires
 div-requires c κs = search needs
@@ -60,10 +57,27 @@ enum-known-shrink : tie.Need-enum-known-shrink
 enum-known-shrink c = search needs
 
 shortened-requires : tie.Need-shortened-requires
-shortened-requires c κs = let p = c .before .before .before .before .before .before .before .before .before .before .before .before .before .before .before .before .before .before .before .before .pre in (p .0, (p .1 .0, (p .1 .1 .0, p .1 .1 .1 .1)))
+shortened-requires c κs = c .before .before .before .before .before .before .before .before .before .before .before .before .before .before .before .before .pre
+
+same-length-2 : tie.Need-same-length-2
+same-length-2 c = search needs
+
+returns-2 : tie.Need-returns-2
+returns-2 c lambda =
+    let k = c .before .before .before .before .before .before .before .before .before .before .before .before .before in
+    c .before .before .shortened .ensures lambda
+    ∙ sym (within-cut (from k) (radius k) (raw k) lambda (c .before .before .before .before .before .before .before .before .before .before .before .length .given .0 .0) (long k ∙ ap resultOf (c .before .before .before .before .before .before .before .before .before .before .before .length .given .1)) (sym (c .before .before .before .before .before .before .before .before .before .definitely-greater .ensures) ∙ not-false _ (c .before .before .before .before .before .before .before .before .if1 .left)) ∙ bind-ok _ (sym (c .before .before .before .before .before .before .before .div .ensures .value) ∙ ap scalar.resultOf (c .before .before .before .before .before .shrink .given .1)))
 
 enum-known-e : tie.Need-enum-known-e
 enum-known-e c = search needs
+
+same-length-3 : tie.Need-same-length-3
+same-length-3 c = search needs
+
+returns-3 : tie.Need-returns-3
+returns-3 c lambda =
+    let k = c .before .before .before .before .before .before .before .before .before in
+    sym (within-cut (from k) (radius k) (raw k) lambda (c .before .before .before .before .before .before .before .length .given .0 .0) (long k ∙ ap resultOf (c .before .before .before .before .before .before .before .length .given .1)) (sym (c .before .before .before .before .before .definitely-greater .ensures) ∙ not-false _ (c .before .before .before .before .if1 .left)) ∙ bind-refused _ (sym (c .before .before .before .div .ensures .value) ∙ ap scalar.resultOf (c .before .e .given .1)))
 
 enum-known-e-2 : tie.Need-enum-known-e-2
 enum-known-e-2 c = search needs
@@ -71,31 +85,8 @@ enum-known-e-2 c = search needs
 same-length-4 : tie.Need-same-length-4
 same-length-4 c = search needs
 
-same-length-5 : tie.Need-same-length-5
-same-length-5 c = search needs
-
-same-length-6 : tie.Need-same-length-6
-same-length-6 c = search needs
-
-returns-2 : tie.Need-returns-2
-returns-2 c lambda =
-    let k = c .before .before .before .before .before .before .before .before .before .before .before .before .before .before .before .before .before .before .before in
-    c .before .before .before .before .before .before .shortened .ensures lambda
-    ∙ sym (within-cut (from k) (c .before .before .before .before .before .before .before .before .before .before .before .before .before .before .before .before .before .before .before .before .before .before .before .before .before .before .before .args .radius) (raw k) lambda (c .before .before .before .before .before .before .before .before .before .before .before .before .before .before .before .before .before .length .given .0 .0) (long k ∙ ap resultOf (c .before .before .before .before .before .before .before .before .before .before .before .before .before .before .before .before .before .length .given .1)) (sym (c .before .before .before .before .before .before .before .before .before .before .before .before .before .before .before .definitely-greater .ensures) ∙ not-false _ (c .before .before .before .before .before .before .before .before .before .before .before .before .before .before .if1 .left)) ∙ bind-ok _ (sym (c .before .before .before .before .before .before .before .before .before .before .before .before .before .div .ensures .value) ∙ ap scalar.resultOf (c .before .before .before .before .before .before .before .before .before .before .before .shrink .given .1)))
-
-same-length-7 : tie.Need-same-length-7
-same-length-7 c = search needs
-
-returns-3 : tie.Need-returns-3
-returns-3 c lambda =
-    let k = c .before .before .before .before .before .before .before .before .before in
-    sym (within-cut (from k) (c .before .before .before .before .before .before .before .before .before .before .before .before .before .before .before .before .before .args .radius) (raw k) lambda (c .before .before .before .before .before .before .before .length .given .0 .0) (long k ∙ ap resultOf (c .before .before .before .before .before .before .before .length .given .1)) (sym (c .before .before .before .before .before .definitely-greater .ensures) ∙ not-false _ (c .before .before .before .before .if1 .left)) ∙ bind-refused _ (sym (c .before .before .before .div .ensures .value) ∙ ap scalar.resultOf (c .before .e .given .1)))
-
-same-length-8 : tie.Need-same-length-8
-same-length-8 c = search needs
-
 returns-4 : tie.Need-returns-4
-returns-4 c lambda = let k = c .before .before .before in sym (within-refused (from k) (c .before .before .before .before .before .before .before .before .before .before .before .args .radius) (raw k) lambda (long k ∙ ap resultOf (c .before .e2 .given .1)))
+returns-4 c lambda = let k = c .before .before .before in sym (within-refused (from k) (radius k) (raw k) lambda (long k ∙ ap resultOf (c .before .e2 .given .1)))
 
 pub within-spec : {M : Type 1} → statement M
 within-spec =
@@ -106,19 +97,15 @@ within-spec =
     definitely-greater-requires
     trial-requires
     same-length
-    same-length-2
-    same-length-3
     returns
     div-requires
     enum-known-shrink
     shortened-requires
+    same-length-2
+    returns-2
     enum-known-e
+    same-length-3
+    returns-3
     enum-known-e-2
     same-length-4
-    same-length-5
-    same-length-6
-    returns-2
-    same-length-7
-    returns-3
-    same-length-8
     returns-4)

@@ -16,9 +16,7 @@ slice-aggregate-prepare-3 c = search needs
 
 prepare-requires : tie.Need-prepare-requires
 unfolding ofBits
-prepare-requires c κs =
-    let p = c .before .before .before .before .before .before .before .before .before .before .pre .0 in
-    (p .0, (p .1 .0, (p .1 .1 .0, (p .1 .1 .1 .0, (refl, (refl, refl))))))
+prepare-requires c κs = let p = c .before .before .before .before .before .before .before .before .before .pre .0 in (p .0, (p .1 .0, (p .1 .1 .0, (p .1 .1 .1 .0, (refl, (refl, refl))))))
 
 slice-aggregate-seek-from : tie.Need-slice-aggregate-seek-from
 slice-aggregate-seek-from c = search needs
@@ -31,8 +29,9 @@ slice-aggregate-seek-from-3 c = search needs
 
 seek-from-requires : tie.Need-seek-from-requires
 seek-from-requires c κs =
-    let p = c .before .before .before .before .before .before .before .before .before .before .before .before .before .before .before .before .before .before .before .before .pre .0 in
-    ((p .0, (p .1 .0, (p .1 .1 .0, (p .1 .1 .1 .0, (c .before .before .before .before .before .before .before .before .before .prepare .ensures, (p .1 .1 .1 .1 .0, (p .1 .1 .1 .1 .1 .0, p .1 .1 .1 .1 .1 .1))))))), c .before .before .before .before .before .before .before .before .before .before .before .before .before .before .before .before .before .before .before .before .pre .1)
+    let s = c .before .before .before .before .before .before .before .before .before .before .before .before .before .before .before .before .before .before in
+    let p = s .pre .0 in
+    ((p .0, (p .1 .0, (p .1 .1 .0, (p .1 .1 .1 .0, (c .before .before .before .before .before .before .before .before .prepare .ensures, p .1 .1 .1 .1))))), s .pre .1)
 
 same-length : tie.Need-same-length
 same-length c = search needs
@@ -40,11 +39,8 @@ same-length c = search needs
 same-length-2 : tie.Need-same-length-2
 same-length-2 c = search needs
 
-same-length-3 : tie.Need-same-length-3
-same-length-3 c = search needs
-
 returns : tie.Need-returns
-returns c = c .before .before .before .before .before .before .seek-from .ensures
+returns c = c .before .before .before .before .seek-from .ensures
 
 pub seek-spec : {M : Type 1} → statement M
 seek-spec =
@@ -60,5 +56,4 @@ seek-spec =
     seek-from-requires
     same-length
     same-length-2
-    same-length-3
     returns)

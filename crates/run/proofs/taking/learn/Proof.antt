@@ -1,6 +1,6 @@
 -- `learn` meets its contract: each part of the area is its slot.
 use mathlib.Core.List.{List}
-use mathlib.Core.Path.{ap, sym, _∙_}
+use mathlib.Core.Path.{ap, _∙_}
 use native.Mathlib.Omega.{arith}
 use lib.Ieee.{Float}
 use lib.ListN.{length, take, drop}
@@ -13,17 +13,8 @@ use borrow.Author.Needs.{needs}
 use Rattle.run.proofs.taking.learn.Statement.{statement}
 use Rattle.run.proofs.taking.learn.Tie as tie
 
-sub-bent : tie.Need-sub-bent
-sub-bent c = search needs
-
-part-bent-start : tie.Need-part-bent-start
-part-bent-start c = search needs
-
-part-bent-end : tie.Need-part-bent-end
-part-bent-end c = search needs
-
 bent-requires : tie.Need-bent-requires
-bent-requires c κs = let s = c .before .before .before .before in cut-length 288 1992 (s .args .area .now) (omega (arith, s .pre .1 .1 .1 .0)) ∙ sym (ap length (s .pre .1 .1 .1 .1) ∙ length-clear 288)
+bent-requires c κs = let p = c .before .before .before .pre .1 .1 .1 in (p .0, ap length (p .1) ∙ length-clear 288)
 
 sub-update-curvature : tie.Need-sub-update-curvature
 sub-update-curvature c = search needs
@@ -63,27 +54,23 @@ part-update-curvature-end-4 c = search needs
 
 update-curvature-requires : tie.Need-update-curvature-requires
 update-curvature-requires c κs =
-    let p = c .before .before .before .before .before .before .before .before .before .before .before .before .pre in
-    (p .0, (p .1 .0, (p .1 .1 .0, cut-length 24 1944 (c .before .before .before .before .before .before .before .before .before .before .before .before .args .area .now) (omega (arith, p .1 .1 .1 .0)))))
+    let p = c .before .before .before .before .before .before .before .before .before .before .before .pre in
+    (p .0, (p .1 .0, (p .1 .1 .0, cut-length 24 1944 (c .before .before .before .before .before .before .before .before .before .before .before .args .area .now) (omega (arith, p .1 .1 .1 .0)))))
 
 same-length : tie.Need-same-length
 same-length c = search needs
 
 returns : tie.Need-returns
 returns c w h =
-    let s = c .before .before .before .before .before .before .before .before .before .before .before .before .before .before .before in
+    let s = c .before .before .before .before .before .before .before .before .before .before .before .before .before .before in
     let a = s .args in
-    let b =
-    c .before .before .before .before .before .before .before .before .before .before .bent .ensures ∙ ap (λ (x : List Float). pick (a .plain) x (take 288 (drop 1992 (a .area .now)))) (s .pre .1 .1 .1 .1) ∙ ap (λ (x : List Float). pick (a .plain) (zeros 288) x) (curvature-read h) in
+    let b = c .before .before .before .before .before .before .before .before .before .before .bent .ensures ∙ ap (λ (x : List Float). pick (a .plain) x (take 288 (drop 1992 (a .area .now)))) (s .pre .1 .1 .1 .1) ∙ ap (λ (x : List Float). pick (a .plain) (zeros 288) x) (curvature-read h) in
     learned-is (a .n) (a .m) (a .s) h b (c .before .before .update-curvature .ensures)
 
 pub learn-spec : {M : Type 1} → statement M
 learn-spec =
     tie.close
     (tie.spec
-    sub-bent
-    part-bent-start
-    part-bent-end
     bent-requires
     sub-update-curvature
     part-update-curvature-start

@@ -1,7 +1,8 @@
 -- `left_at` meets its contract: each arm is the definition's.
 use mathlib.Core.List.{[]}
-use Rattle.run.specs.Run.{leftAt}
 use Rattle.run.specs.Area.{withTrial}
+use Rattle.run.specs.Proposal.{movedOf}
+use Rattle.run.specs.Run.{leftAt}
 use borrow.Author.Needs.{needs}
 use Rattle.run.proofs.turns.left_at.Statement.{statement}
 use Rattle.run.proofs.turns.left_at.Tie as tie
@@ -16,7 +17,18 @@ with-trial-of-requires : tie.Need-with-trial-of-requires
 with-trial-of-requires c κs = search needs
 
 ask-requires : tie.Need-ask-requires
-ask-requires c κs = rw (c .with-trial-of .ensures [] [] []) (c .before .before .before .before .before .before .before .before .before .before .before .before .pre .1 .0)
+ask-requires c κs = rw (c .with-trial-of .ensures [] [] []) (c .before .before .before .before .before .before .before .before .before .before .before .pre .1 .0)
+
+same-length : tie.Need-same-length
+same-length c = search needs
+
+returns : tie.Need-returns
+unfolding leftAt
+returns c w h =
+    let a = c .before .before .before .before .before .before .before .before .before .before .before .before .args in
+    let next = movedOf (a .st .sizes .n) (w .standing) (a .delta .now) in
+    rw (c .before .before .before .before .before .before .before .found .given .1)
+    (rw (c .before .with-trial-of .ensures (a .delta .now) (a .lambda .now) next) at (c .ask .ensures (withTrial w next (a .delta .now) (a .lambda .now)) _ (c .before .before .before .before .with-trial .ensures w h)))
 
 enum-known-found-2 : tie.Need-enum-known-found-2
 enum-known-found-2 c = search needs
@@ -27,6 +39,13 @@ with-search-requires c κs = search needs
 finish-requires : tie.Need-finish-requires
 finish-requires c κs = search needs
 
+same-length-2 : tie.Need-same-length-2
+same-length-2 c = search needs
+
+returns-2 : tie.Need-returns-2
+unfolding leftAt
+returns-2 c w h = rw (c .before .before .before .before .before .before .found2 .given .1) (rw (c .before .before .before .before .with-search .ensures) at (c .before .before .finish .ensures w h))
+
 enum-known-found-3 : tie.Need-enum-known-found-3
 enum-known-found-3 c = search needs
 
@@ -35,23 +54,6 @@ with-search-requires-2 c κs = search needs
 
 refuse-requires : tie.Need-refuse-requires
 refuse-requires c κs = search needs
-
-same-length : tie.Need-same-length
-same-length c = search needs
-
-returns : tie.Need-returns
-unfolding leftAt
-returns c w h =
-    let a = c .before .before .before .before .before .before .before .before .before .before .before .before .before .args in
-    rw (c .before .before .before .before .before .before .before .found .given .1)
-    (rw (c .before .with-trial-of .ensures (a .delta .now) (a .lambda .now) (a .next .now)) at (c .ask .ensures (withTrial w (a .next .now) (a .delta .now) (a .lambda .now)) _ (c .before .before .before .before .with-trial .ensures w h)))
-
-same-length-2 : tie.Need-same-length-2
-same-length-2 c = search needs
-
-returns-2 : tie.Need-returns-2
-unfolding leftAt
-returns-2 c w h = rw (c .before .before .before .before .before .before .found2 .given .1) (rw (c .before .before .before .before .with-search .ensures) at (c .before .before .finish .ensures w h))
 
 same-length-3 : tie.Need-same-length-3
 same-length-3 c = search needs
@@ -68,15 +70,15 @@ left-at-spec =
     with-trial-requires
     with-trial-of-requires
     ask-requires
+    same-length
+    returns
     enum-known-found-2
     with-search-requires
     finish-requires
+    same-length-2
+    returns-2
     enum-known-found-3
     with-search-requires-2
     refuse-requires
-    same-length
-    returns
-    same-length-2
-    returns-2
     same-length-3
     returns-3)
