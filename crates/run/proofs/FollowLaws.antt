@@ -12,13 +12,14 @@ use Rattle.interval.specs.declared.Scalar.{Scalar}
 use Rattle.interval.specs.Result.{Res, ok, refused}
 use Rattle.interval.specs.Scalar.{degenerate, pick, divOf, definitelyGreater, definitelyLess}
 use Rattle.interval.specs.Scaling.{three64}
+use Rattle.linear.specs.Results.{bind}
 use Rattle.run.specs.Area.{Memory, Holds, withStart, withAsked, withLanded, withTaken}
 use Rattle.run.specs.Calls.{phaseFits}
 use Rattle.run.specs.Correction.{CORRECTIONS, Shift, to, stay, shiftOf, shiftFrom, shiftedStep}
 use Rattle.run.specs.Curvature.{updateCurvature}
 use Rattle.run.specs.Judgement.{Judged, judgeOf}
 use Rattle.run.specs.Rows.{rowNumbers, movingOf, sumSquared, violationOf}
-use Rattle.run.specs.Run.{Outcome, Leaves, Bounded, Underway, finish, refuse, question, curvatureOf, standingAt, landedAt, rowsAt, linearOf, shrunk, reachOf, filterWith, standingOn, moves, landing, iterate, notLower, orRefuse, take, takenWith, wasTaken, decide, judge, correct, landTrial, keep, landCorrection, started, answered, answeredNone}
+use Rattle.run.specs.Run.{Outcome, Leaves, Bounded, Underway, finish, refuse, question, curvatureOf, standingAt, landedAt, rowsAt, linearOf, shrunk, reachOf, filterWith, standingOn, moves, landing, iterate, notLower, orRefuse, take, takenWith, wasTaken, decide, judge, correct, landTrial, keep, landCorrection, nearerOf, started, answered, answeredNone}
 use Rattle.run.specs.declared.state.Kind.{Kind}
 use Rattle.run.specs.declared.state.Kind.the-variants as kind
 use Rattle.run.specs.declared.state.Out.{Out}
@@ -133,16 +134,8 @@ keptBy st w rows theta d =
     let v = withLanded w rows (shiftedStep (st .sizes .n) (w .step) d) in
     pick (leb CORRECTIONS (t .counts .corrections)) (judge t v theta) (correct t v theta)
 
--- a correction's rows, once their violation is known
-abbrev pub landedNearer : State → Memory → List Float → Scalar → Scalar → Outcome
-landedNearer st w rows theta new =
-    orRefuse st w (violationOf (landedAt st w .constraints)) (λ old. pick (definitelyLess new old) (keep st w rows theta) (judge st w theta))
-
 abbrev rose-or : State → Memory → Scalar → Scalar → Outcome
 rose-or st v theta new = pick (definitelyGreater new theta) (correct st v theta) (judge st v theta)
-
-abbrev nearer-or : State → Memory → List Float → Scalar → Scalar → Scalar → Outcome
-nearer-or st w rows theta new old = pick (definitelyLess new old) (keep st w rows theta) (judge st w theta)
 
 module _ (st : State) (w : Memory) (rows : List Float) (theta : Scalar) {o : Out} {a : List Float} where
   -- a trial's
@@ -168,23 +161,15 @@ module _ (st : State) (w : Memory) (rows : List Float) (theta : Scalar) {o : Out
     unfolding keep
     keep-refused e l = or-refused st w (λ d. keptBy st w rows theta d) (shift-of st w em er ∙ e) l
 
-  module _ (new : Scalar) where
-    pub nearer-kept : {old : Scalar} {b : Bool} → violationOf (landedAt st w .constraints) ≡ ok old → b ≡ definitelyLess new old → b ≡ true → Leaves (keep st w rows theta) o a → Leaves (landedNearer st w rows theta new) o a
-    nearer-kept e eb t l = or-next st w (nearer-or st w rows theta new) e (when (keep st w rows theta) (judge st w theta) (sym eb ∙ t) l)
-
-    pub nearer-not : {old : Scalar} {b : Bool} → violationOf (landedAt st w .constraints) ≡ ok old → b ≡ definitelyLess new old → b ≡ false → Leaves (judge st w theta) o a → Leaves (landedNearer st w rows theta new) o a
-    nearer-not e eb t l = or-next st w (nearer-or st w rows theta new) e (unless (keep st w rows theta) (judge st w theta) (sym eb ∙ t) l)
-
-    pub nearer-refused : {k : ℕ} → violationOf (landedAt st w .constraints) ≡ refused k → Leaves (refuse st w k) o a → Leaves (landedNearer st w rows theta new) o a
-    nearer-refused e l = or-refused st w (nearer-or st w rows theta new) e l
-
-  pub correction-known : {new : Scalar} → violationOf (rowsAt st rows .constraints) ≡ ok new → Leaves (landedNearer st w rows theta new) o a → Leaves (landCorrection st w rows theta) o a
-  unfolding landCorrection
-  correction-known e l = or-next st w (λ new. landedNearer st w rows theta new) e l
-
-  pub correction-refused : {k : ℕ} → violationOf (rowsAt st rows .constraints) ≡ refused k → Leaves (refuse st w k) o a → Leaves (landCorrection st w rows theta) o a
-  unfolding landCorrection
-  correction-refused e l = or-refused st w (λ new. landedNearer st w rows theta new) e l
+  pub correction-by : Leaves (orRefuse st w (nearerOf (st .sizes) rows (w .landedRows)) (λ kept. pick kept (keep st w rows theta) (judge st w theta))) o a → Leaves (landCorrection st w rows theta) o a
+  unfolding landCorrection bind
+  correction-by l = go (violationOf (rowsAt st rows .constraints)) (violationOf (landedAt st w .constraints)) l
+    where
+      go : (x y : Res Scalar) → Leaves (orRefuse st w (bind x (λ new. bind y (λ old. ok (definitelyLess new old)))) (λ kept. pick kept (keep st w rows theta) (judge st w theta))) o a
+          → Leaves (orRefuse st w x (λ new. orRefuse st w y (λ old. pick (definitelyLess new old) (keep st w rows theta) (judge st w theta)))) o a
+      go (ok new) (ok old) l = l
+      go (ok new) (refused k) l = l
+      go (refused k) y l = l
 
 -- fewer than four, or four at least
 turned-about : {A : Type 0} (n : ℕ) (x y : A) → pick (ltb n 4) x y ≡ pick (leb 4 n) y x

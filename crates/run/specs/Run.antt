@@ -12,13 +12,16 @@ use Rattle.interval.specs.Scalar.{two64, zeroS, degenerate, pick, subOf, mulOf,
 use Rattle.interval.specs.Scaling.{three64, four64, isPositive}
 use Rattle.linear.specs.Answers.{numberOf}
 use Rattle.linear.specs.Flat.{put, zeros}
-use Rattle.run.specs.Rows.{Evaluation, evaluationOf, sumSquared, violationOf, movingOf}
+use Rattle.linear.specs.Results.{bind}
+use Rattle.run.specs.Rows.{Evaluation, constraintsOf, evaluationOf, sumSquared, violationOf, movingOf}
 use Rattle.run.specs.Curvature.{learnedOf, updateCurvature}
 use Rattle.run.specs.Proposal.{Standing, Trial}
 use Rattle.run.specs.Judgement.{Judged, judgeOf}
 use Rattle.run.specs.Correction.{CORRECTIONS, shiftOf, Shift, to, stay, shiftFrom, shiftedStep}
 use Rattle.run.specs.Area.{Memory, Holds, CURVATURE, onlyStanding, withStart, withTrial, withAsked, withLanded, withTaken}
 use Rattle.run.specs.Search.{rejectedFor, withRadius, retried, anew, damped, Found, asks, stops, refuses, searchOf}
+use Rattle.run.specs.declared.landing.Nearer.{Nearer}
+use Rattle.run.specs.declared.landing.Nearer.the-variants as nearer
 use Rattle.run.specs.declared.state.Answer.{Answer}
 use Rattle.run.specs.declared.state.Answer.the-variants as answer
 use Rattle.run.specs.declared.state.Counts.{Counts}
@@ -31,6 +34,7 @@ use Rattle.run.specs.declared.state.Phase.the-variants.{Open, Over}
 use Rattle.run.specs.declared.state.Rejection.{Rejection}
 use Rattle.run.specs.declared.state.Rejection.the-variants as why
 use Rattle.run.specs.declared.state.Search.{Search}
+use Rattle.run.specs.declared.state.Sizes.{Sizes}
 use Rattle.run.specs.declared.state.State.{State}
 use Rattle.run.specs.declared.state.Stop.{Stop}
 use Rattle.run.specs.declared.state.Stop.the-variants as stop
@@ -318,7 +322,16 @@ takenWith st w theta length mu radius =
     orRefuse st w (updateCurvature (st .sizes .n) (curvatureOf st w) (w .step) (standingAt st w) (landedAt st w) (w .multipliers))
     (λ b. iterate (standingOn st length mu radius) (withTaken w b (filterWith (w .filter) (st .counts .iterations) (sumSquared (standingAt st w .sum)) theta)))
 
--- what `linear_of` answers
+-- whether a correction's rows are nearer the constraints than the landed ones
+abbrev pub nearerOf : Sizes → List Float → List Float → Res Bool
+nearerOf z rows landed =
+    bind (violationOf (constraintsOf (z .n) (z .m) rows)) (λ new. bind (violationOf (constraintsOf (z .n) (z .m) landed)) (λ old. ok (definitelyLess new old)))
+
+-- what `is_nearer` and `linear_of` answer
+abbrev pub nearerResult : Nearer → Res Bool
+nearerResult (nearer.Known b) = ok b
+nearerResult (nearer.Refused e) = refused (numberOf e)
+
 abbrev pub linearResult : Linear → Res Bool
 linearResult (linear.Known b) = ok b
 linearResult (linear.Refused e) = refused (numberOf e)

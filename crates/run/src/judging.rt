@@ -64,12 +64,11 @@ fn decide(st: State, area: &mut [f64], theta: Scalar, j: Judged) -> Out
     requires { ⌜ (length (now area) ≡ 8000) × Underway st ⌝ }
     ensures { λ r. ⌜ ((w : Memory) → Holds w (now (area .entry)) → Leaves (decide st w theta j) r (now (area .exit))) ⌝ }
 {
-    let first = st.search.first;
     let last = st.last;
-    if is_stuck(first, last, j) {
+    if is_stuck(st.search.first, last, j) {
         return finish(st, area, Stop::Undecided);
     }
-    if is_better(first, j) {
+    if is_better(st.search.first, j) {
         return take(st, area, theta, j.length);
     }
     not_lower(st, area)
@@ -80,12 +79,11 @@ pub fn judge_landed(st: State, area: &mut [f64], theta: Scalar) -> Out
     requires { ⌜ (length (now area) ≡ 8000) × Underway st ⌝ }
     ensures { λ r. ⌜ ((w : Memory) → Holds w (now (area .entry)) → Leaves (judge st w theta) r (now (area .exit))) ⌝ }
 {
-    let z = st.sizes;
     let last = st.last;
-    let judgement = judge(
-        z.n,
-        z.m,
-        z.s,
+    match judge(
+        st.sizes.n,
+        st.sizes.m,
+        st.sizes.s,
         &area[area::STANDING_ROWS..area::LANDED_ROWS],
         &area[area::LANDED_ROWS..area::STEP],
         theta,
@@ -93,12 +91,12 @@ pub fn judge_landed(st: State, area: &mut [f64], theta: Scalar) -> Out
         st.counts.iterations,
         last,
         &area[area::STEP..area::MULTIPLIERS],
-    );
-    let j = match judgement {
-        Judgement::Of(j) => j,
+    ) {
+        Judgement::Of(j) => {
+            return decide(st, area, theta, j);
+        }
         Judgement::Refused(e) => {
             return refuse(st, area, e);
         }
-    };
-    decide(st, area, theta, j)
+    }
 }

@@ -1,13 +1,14 @@
 // Where an answer leads: corrections of a landed point, and what follows an accepted answer.
 ghost use mathlib.Core.Bool.{true};
 ghost use mathlib.Core.Path.{_≡_};
-ghost use Prim.Native.Nat.{_≤_};
+ghost use Prim.Native.Nat.{_*_, _≤_};
 ghost use lib.ListN.{length};
 ghost use Rattle.interval.specs.Scalar.{pick};
+ghost use Rattle.linear.specs.Answers.{resultOf};
 ghost use Rattle.run.specs.Area.{Memory, Holds};
 ghost use Rattle.run.specs.Calls.{phaseFits};
-ghost use Rattle.run.specs.Rows.{rowNumbers};
-ghost use Rattle.run.specs.Run.{Leaves, Bounded, Underway, judge, correct, keep, landCorrection, started, answered, answeredNone};
+ghost use Rattle.run.specs.Rows.{rowNumbers, constraintsOf, violationOf};
+ghost use Rattle.run.specs.Run.{Leaves, Bounded, Underway, judge, correct, keep, landTrial, landCorrection, nearerOf, nearerResult, fromStanding, started, answered, answeredNone};
 ghost use Rattle.run.specs.declared.state.Kind.the-variants as kinds;
 ghost use Rattle.run.specs.declared.state.Phase.the-variants.{Open};
 use crate::area;
@@ -21,6 +22,7 @@ use crate::rows;
 use crate::state::Kind;
 use crate::state::Out;
 use crate::state::Rejection;
+use crate::state::Sizes;
 use crate::state::State;
 use crate::state::Stop;
 use crate::states::with_landed_number;
@@ -30,6 +32,13 @@ use crate::turns::turn_down;
 use interval::Scalar;
 use linear::Answer;
 use linear::Done;
+use linear::LinearError;
+
+// Whether the constraints are nearer.
+pub enum Nearer {
+    Known(bool),
+    Refused(LinearError),
+}
 
 // The landed point is shifted back onto the constraints, and that point asked, or it is judged.
 fn correct(st: State, area: &mut [f64], theta: Scalar) -> Out
@@ -96,28 +105,43 @@ fn keep(st: State, area: &mut [f64], rows: &[f64], theta: Scalar) -> Out
     correct_or_judge(t, area, theta, corrections < 4)
 }
 
+// Whether a correction's rows are nearer the constraints than the landed ones.
+fn is_nearer(z: Sizes, area: &[f64], rows: &[f64]) -> Nearer
+    requires { ⌜ (z .m ≤ 12) × ((length (now area) ≡ 8000) × (2 * z .m ≤ length (now rows))) ⌝ }
+    ensures { λ r. ⌜ ((w : Memory) → Holds w (now (area .entry)) → nearerResult r ≡ nearerOf z (now (rows .entry)) (w .landedRows)) ⌝ }
+{
+    let landed = &area[area::LANDED_ROWS..area::STEP];
+    match rows::violation(rows, z.n, z.m) {
+        Answer::Value(new) => match rows::violation(landed, z.n, z.m) {
+            Answer::Value(old) => {
+                return Nearer::Known(new.definitely_less(old));
+            }
+            Answer::Refused(e) => {
+                return Nearer::Refused(e);
+            }
+        },
+        Answer::Refused(e) => {
+            return Nearer::Refused(e);
+        }
+    }
+}
+
 // A correction's rows, from a standing point with violation theta: kept where they are nearer than the landed ones.
 fn land_correction(st: State, area: &mut [f64], rows: &[f64], theta: Scalar) -> Out
     requires { ⌜ (length (now area) ≡ 8000) × ((length (now rows) ≡ rowNumbers (st .sizes .n) (st .sizes .m) (st .sizes .s)) × (Underway st × (st .counts .corrections ≤ 4))) ⌝ }
     ensures { λ r. ⌜ ((w : Memory) → Holds w (now (area .entry)) → Leaves (landCorrection st w (now (rows .entry)) theta) r (now (area .exit))) ⌝ }
 {
-    let new = match rows::violation(rows, st.sizes.n, st.sizes.m) {
-        Answer::Value(v) => v,
-        Answer::Refused(e) => {
+    match is_nearer(st.sizes, area, rows) {
+        Nearer::Known(kept) => {
+            if kept {
+                return keep(st, area, rows, theta);
+            }
+            return judge_landed(st, area, theta);
+        }
+        Nearer::Refused(e) => {
             return refuse(st, area, e);
         }
-    };
-    let landed = rows::violation(&area[area::LANDED_ROWS..area::STEP], st.sizes.n, st.sizes.m);
-    let old = match landed {
-        Answer::Value(v) => v,
-        Answer::Refused(e) => {
-            return refuse(st, area, e);
-        }
-    };
-    if new.definitely_less(old) {
-        return keep(st, area, rows, theta);
     }
-    judge_landed(st, area, theta)
 }
 
 // A start's rows: what they say moves, and the first iteration.
@@ -130,67 +154,60 @@ fn started(st: State, area: &mut [f64], rows: &[f64]) -> Out
     iterate(with_moving(st, moving), area)
 }
 
-fn trial_answered(st: State, area: &mut [f64], rows: &[f64]) -> Out
+// A trial's rows, from a standing point with violation theta: corrected where the violation rose.
+fn land_trial(st: State, area: &mut [f64], rows: &[f64], theta: Scalar) -> Out
     requires { ⌜ (length (now area) ≡ 8000) × ((length (now rows) ≤ 936) × Underway st) ⌝ }
-    ensures { λ r. ⌜ ((w : Memory) → Holds w (now (area .entry)) → Leaves (answered kinds.Trial st w (now (rows .entry))) r (now (area .exit))) ⌝ }
+    ensures { λ r. ⌜ ((w : Memory) → Holds w (now (area .entry)) → Leaves (landTrial st w (now (rows .entry)) theta) r (now (area .exit))) ⌝ }
 {
-    let standing = rows::violation(
-        &area[area::STANDING_ROWS..area::LANDED_ROWS],
-        st.sizes.n,
-        st.sizes.m,
-    );
-    let theta = match standing {
-        Answer::Value(v) => v,
-        Answer::Refused(e) => {
-            return refuse(st, area, e);
-        }
-    };
     area::landed(area, rows);
     let t = with_landed_number(st, 0);
-    let landed = rows::violation(&area[area::LANDED_ROWS..area::STEP], st.sizes.n, st.sizes.m);
-    let new = match landed {
-        Answer::Value(v) => v,
+    match rows::violation(&area[area::LANDED_ROWS..area::STEP], st.sizes.n, st.sizes.m) {
+        Answer::Value(new) => {
+            return correct_or_judge(t, area, theta, new.definitely_greater(theta));
+        }
         Answer::Refused(e) => {
             return refuse(t, area, e);
         }
-    };
-    correct_or_judge(t, area, theta, new.definitely_greater(theta))
+    }
 }
 
-fn correction_answered(st: State, area: &mut [f64], rows: &[f64]) -> Out
-    requires { ⌜ (length (now area) ≡ 8000) × ((length (now rows) ≡ rowNumbers (st .sizes .n) (st .sizes .m) (st .sizes .s)) × (Underway st × (st .counts .corrections ≤ 4))) ⌝ }
-    ensures { λ r. ⌜ ((w : Memory) → Holds w (now (area .entry)) → Leaves (answered kinds.Correction st w (now (rows .entry))) r (now (area .exit))) ⌝ }
+fn standing_violation(z: Sizes, area: &[f64]) -> Answer
+    requires { ⌜ (z .m ≤ 12) × (length (now area) ≡ 8000) ⌝ }
+    ensures { λ r. ⌜ ((w : Memory) → Holds w (now (area .entry)) → resultOf r ≡ violationOf (constraintsOf (z .n) (z .m) (w .standingRows))) ⌝ }
 {
-    let standing = rows::violation(
-        &area[area::STANDING_ROWS..area::LANDED_ROWS],
-        st.sizes.n,
-        st.sizes.m,
-    );
-    let theta = match standing {
-        Answer::Value(v) => v,
+    rows::violation(&area[area::STANDING_ROWS..area::LANDED_ROWS], z.n, z.m)
+}
+
+// A trial's or a correction's rows.
+fn land(st: State, area: &mut [f64], rows: &[f64], trial: bool) -> Out
+    requires { ⌜ (length (now area) ≡ 8000) × ((length (now rows) ≡ rowNumbers (st .sizes .n) (st .sizes .m) (st .sizes .s)) × (Underway st × (st .counts .corrections ≤ 4))) ⌝ }
+    ensures { λ r. ⌜ ((w : Memory) → Holds w (now (area .entry)) → Leaves (fromStanding st w (λ theta. pick trial (landTrial st w (now (rows .entry)) theta) (landCorrection st w (now (rows .entry)) theta))) r (now (area .exit))) ⌝ }
+{
+    match standing_violation(st.sizes, area) {
+        Answer::Value(theta) => {
+            if trial {
+                return land_trial(st, area, rows, theta);
+            }
+            return land_correction(st, area, rows, theta);
+        }
         Answer::Refused(e) => {
             return refuse(st, area, e);
         }
-    };
-    land_correction(st, area, rows, theta)
+    }
 }
 
 fn correction_none(st: State, area: &mut [f64]) -> Out
     requires { ⌜ (length (now area) ≡ 8000) × Underway st ⌝ }
     ensures { λ r. ⌜ ((w : Memory) → Holds w (now (area .entry)) → Leaves (answeredNone kinds.Correction st w) r (now (area .exit))) ⌝ }
 {
-    let standing = rows::violation(
-        &area[area::STANDING_ROWS..area::LANDED_ROWS],
-        st.sizes.n,
-        st.sizes.m,
-    );
-    let theta = match standing {
-        Answer::Value(v) => v,
+    match standing_violation(st.sizes, area) {
+        Answer::Value(theta) => {
+            return judge_landed(st, area, theta);
+        }
         Answer::Refused(e) => {
             return refuse(st, area, e);
         }
-    };
-    judge_landed(st, area, theta)
+    }
 }
 
 // What follows an accepted answer with rows.
@@ -199,9 +216,15 @@ pub fn answered(kind: Kind, st: State, area: &mut [f64], rows: &[f64]) -> Out
     ensures { λ r. ⌜ ((w : Memory) → Holds w (now (area .entry)) → Leaves (answered kind st w (now (rows .entry))) r (now (area .exit))) ⌝ }
 {
     match kind {
-        Kind::Start => started(st, area, rows),
-        Kind::Trial => trial_answered(st, area, rows),
-        Kind::Correction => correction_answered(st, area, rows),
+        Kind::Start => {
+            return started(st, area, rows);
+        }
+        Kind::Trial => {
+            return land(st, area, rows, true);
+        }
+        Kind::Correction => {
+            return land(st, area, rows, false);
+        }
     }
 }
 

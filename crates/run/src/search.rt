@@ -56,6 +56,12 @@ pub fn renew(x: Search, mu: Scalar, radius: Scalar) -> Search
     }
 }
 
+pub fn reject(x: Search, why: Rejection) -> Search
+    ensures { λ r. ⌜ r ≡ rejectedFor x why ⌝ }
+{
+    Search { rejected: why, ..x }
+}
+
 // Rejected, with that radius: four times the damping and a turn-down, while that damping is finite.
 pub fn damp(x: Search, radius: Scalar, why: Rejection) -> Damped
     requires { ⌜ x .«turned_down» < 2 ^ 32 ⌝ }

@@ -131,19 +131,19 @@ pub fn take(st: State, area: &mut [f64], theta: Scalar, span: Scalar) -> Out
     requires { ⌜ (length (now area) ≡ 8000) × Underway st ⌝ }
     ensures { λ r. ⌜ ((w : Memory) → Holds w (now (area .entry)) → Leaves (take st w theta span) r (now (area .exit))) ⌝ }
 {
-    let mu = st.search.mu;
-    let linear = match linear_of(st, area, theta) {
-        Linear::Known(known) => known,
+    match linear_of(st, area, theta) {
+        Linear::Known(linear) => match st.search.mu.div(Scalar::degenerate(3.0)) {
+            ScalarResult::Value(third) => {
+                let mu = shrunk(st.search.mu, third);
+                let radius = reach(span, st.search.radius, st.max_step, linear);
+                return take_with(st, area, theta, span, mu, radius);
+            }
+            ScalarResult::Refused(e) => {
+                return refuse(st, area, LinearError::Arithmetic(e));
+            }
+        },
         Linear::Refused(e) => {
             return refuse(st, area, e);
         }
-    };
-    let third = match mu.div(Scalar::degenerate(3.0)) {
-        ScalarResult::Value(q) => q,
-        ScalarResult::Refused(e) => {
-            return refuse(st, area, LinearError::Arithmetic(e));
-        }
-    };
-    let radius = reach(span, st.search.radius, st.max_step, linear);
-    take_with(st, area, theta, span, shrunk(mu, third), radius)
+    }
 }

@@ -9,8 +9,8 @@ ghost use Rattle.run.specs.Curvature.{learnedOf};
 ghost use Rattle.run.specs.Proposal.{movedOf};
 ghost use Rattle.run.specs.Rows.{sumOf, sumSquared};
 ghost use Rattle.run.specs.Run as run;
-ghost use Rattle.run.specs.Run.{Leaves, Bounded, leftAt, soughtOf};
-ghost use Rattle.run.specs.Search.{foundResult};
+ghost use Rattle.run.specs.Run.{Leaves, Bounded, searching, leftAt, soughtOf};
+ghost use Rattle.run.specs.Search.{rejectedFor, withRadius, foundResult};
 use crate::area;
 use crate::curvature::learned;
 use crate::endings::ask;
@@ -22,6 +22,7 @@ use crate::rows::violation;
 use crate::search::Damped;
 use crate::search::Found;
 use crate::search::damp;
+use crate::search::reject;
 use crate::search::seek;
 use crate::state::Kind;
 use crate::state::Out;
@@ -133,29 +134,35 @@ pub fn iterate(st: State, area: &mut [f64]) -> Out
     search(st, area)
 }
 
+// With that radius and more damping, while that is finite.
+fn grow(st: State, area: &mut [f64], radius: Scalar, why: Rejection) -> Out
+    requires { ⌜ (length (now area) ≡ 8000) × Bounded 1073741824 st ⌝ }
+    ensures { λ r. ⌜ ((w : Memory) → Holds w (now (area .entry)) → Leaves (run.grow (searching st (withRadius (rejectedFor (st .search) why) radius)) w) r (now (area .exit))) ⌝ }
+{
+    match damp(st.search, radius, why) {
+        Damped::On(y) => {
+            return search(with_search(st, y), area);
+        }
+        Damped::Stop(y, stop) => {
+            return finish(with_search(st, y), area, stop);
+        }
+    }
+}
+
 // A step turned down: a quarter of the length tried is the radius, and more damping.
 pub fn turn_down(st: State, area: &mut [f64], why: Rejection) -> Out
     requires { ⌜ (length (now area) ≡ 8000) × Bounded 1073741824 st ⌝ }
     ensures { λ r. ⌜ ((w : Memory) → Holds w (now (area .entry)) → Leaves (run.turnDown st w why) r (now (area .exit))) ⌝ }
 {
-    let from = st.search;
-    let quarter = match st.trial.tried.div(Scalar::degenerate(4.0)) {
-        ScalarResult::Value(q) => q,
+    match st.trial.tried.div(Scalar::degenerate(4.0)) {
+        ScalarResult::Value(q) => {
+            return grow(st, area, q.sharpen(), why);
+        }
         ScalarResult::Refused(e) => {
-            let x = Search {
-                rejected: why,
-                ..from
-            };
+            let x = reject(st.search, why);
             return refuse(with_search(st, x), area, LinearError::Arithmetic(e));
         }
-    };
-    let grown = match damp(from, quarter.sharpen(), why) {
-        Damped::On(y) => y,
-        Damped::Stop(y, stop) => {
-            return finish(with_search(st, y), area, stop);
-        }
-    };
-    search(with_search(st, grown), area)
+    }
 }
 
 // Whether a step that is not lower is tried again without the curvature learned.

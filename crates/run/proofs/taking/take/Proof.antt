@@ -15,27 +15,15 @@ use Rattle.run.proofs.taking.take.Statement.{statement}
 use Rattle.run.proofs.taking.take.Tie as tie
 
 -- the third, as it is answered
-divided : (k : tie.After-div) → resultOf (k .div .result) ≡ divOf (k .before .before .before .before .before .before .before .before .before .args .st .search .mu) (degenerate three64)
+divided : (k : tie.After-div) → resultOf (k .div .result) ≡ divOf (k .before .before .before .before .before .before .before .before .args .st .search .mu) (degenerate three64)
 unfolding ofBits
-divided k = k .div .ensures .value ∙ ap (λ (x : Scalar). divOf (k .before .before .before .before .before .before .before .before .before .args .st .search .mu) x) (k .before .degenerate .ensures)
+divided k = k .div .ensures .value ∙ ap (λ (x : Scalar). divOf (k .before .before .before .before .before .before .before .before .args .st .search .mu) x) (k .before .degenerate .ensures)
 
 linear-of-requires : tie.Need-linear-of-requires
-linear-of-requires c κs = let p = c .before .before .before .pre in (p .1 .bounded .few-constraints, p .0)
+linear-of-requires c κs = let p = c .before .before .pre in (p .1 .bounded .few-constraints, p .0)
 
-enum-known-known : tie.Need-enum-known-known
-enum-known-known c = search needs
-
-enum-known-e : tie.Need-enum-known-e
-enum-known-e c = search needs
-
-refuse-requires : tie.Need-refuse-requires
-refuse-requires c κs = c .before .before .before .before .before .before .before .before .pre .0
-
-same-length : tie.Need-same-length
-same-length c = search needs
-
-returns : tie.Need-returns
-returns c w h = let a = c .before .before .before .before .before .before .before .before .before .before .before .args in take-refused (a .st) w (a .theta) (a .span) (sym (c .before .before .before .before .before .before .before .linear-of .ensures w h) ∙ ap linearResult (c .before .before .before .before .before .e .given .1)) (c .before .before .refuse .ensures w h)
+enum-known-linear : tie.Need-enum-known-linear
+enum-known-linear c = search needs
 
 degenerate-requires : tie.Need-degenerate-requires
 degenerate-requires c κs = search needs
@@ -43,64 +31,76 @@ degenerate-requires c κs = search needs
 div-requires : tie.Need-div-requires
 div-requires c κs = search needs
 
-enum-known-q : tie.Need-enum-known-q
-enum-known-q c = search needs
+enum-known-third : tie.Need-enum-known-third
+enum-known-third c = search needs
 
-enum-known-e-2 : tie.Need-enum-known-e-2
-enum-known-e-2 c = search needs
+shrunk-requires : tie.Need-shrunk-requires
+shrunk-requires c κs = search needs
 
-refuse-requires-2 : tie.Need-refuse-requires-2
-refuse-requires-2 c κs = c .before .before .before .before .before .before .before .before .before .before .before .before .before .pre .0
+reach-requires : tie.Need-reach-requires
+reach-requires c κs = search needs
+
+take-with-requires : tie.Need-take-with-requires
+take-with-requires c κs =
+    let s = c .before .before .before .before .before .before .before .before .before .before .before .before .before .before in
+    let g = s .good .0 .1 .1 .1 .1 .0 .1 .1 .0 .1 .1 in
+    (s .pre .0, (s .pre .1, subst (λ (x : Scalar). isPositive x ≡ true) (sym (c .before .before .shrunk .ensures)) (shrunk-positive (s .args .st .search .mu) _ (yes (g .0 .1), yes (g .1 .0 .1)) (s .pre .1 .bounded .damping) (sym (divided (c .before .before .before .before .before .before)) ∙ ap resultOf (c .before .before .before .before .third .given .1)))))
+
+same-length : tie.Need-same-length
+same-length c = search needs
+
+returns : tie.Need-returns
+returns c w h =
+    let a = c .before .before .before .before .before .before .before .before .before .before .before .before .before .before .before .before .before .args in
+    take-known (a .st) w (a .theta) (a .span) (sym (c .before .before .before .before .before .before .before .before .before .before .before .before .before .before .linear-of .ensures w h) ∙ ap linearResult (c .before .before .before .before .before .before .before .before .before .before .before .before .linear .given .1))
+    (third-known (a .st) w (a .theta) (a .span) (c .before .before .before .before .before .before .before .before .before .before .before .before .linear .given .0 .0) (sym (divided (c .before .before .before .before .before .before .before .before .before)) ∙ ap resultOf (c .before .before .before .before .before .before .before .third .given .1)) (c .before .before .before .before .before .shrunk .ensures) (c .before .before .before .before .reach .ensures) (c .before .before .take-with .ensures w h))
+
+enum-known-e : tie.Need-enum-known-e
+enum-known-e c = search needs
+
+refuse-requires : tie.Need-refuse-requires
+refuse-requires c κs = c .before .before .before .before .before .before .before .before .before .before .before .before .pre .0
 
 same-length-2 : tie.Need-same-length-2
 same-length-2 c = search needs
 
 returns-2 : tie.Need-returns-2
 returns-2 c w h =
-    let a = c .before .before .before .before .before .before .before .before .before .before .before .before .before .before .before .before .args in
-    take-known (a .st) w (a .theta) (a .span) (sym (c .before .before .before .before .before .before .before .before .before .before .before .before .linear-of .ensures w h) ∙ ap linearResult (c .before .before .before .before .before .before .before .before .before .before .known .given .1))
-    (third-refused (a .st) w (a .theta) (a .span) (c .before .before .before .before .before .before .before .before .before .before .known .given .0 .0) (sym (divided (c .before .before .before .before .before .before .before)) ∙ ap resultOf (c .before .before .before .before .before .e2 .given .1)) (c .before .before .refuse2 .ensures w h))
+    let a = c .before .before .before .before .before .before .before .before .before .before .before .before .before .before .before .args in
+    take-known (a .st) w (a .theta) (a .span) (sym (c .before .before .before .before .before .before .before .before .before .before .before .before .linear-of .ensures w h) ∙ ap linearResult (c .before .before .before .before .before .before .before .before .before .before .linear .given .1))
+    (third-refused (a .st) w (a .theta) (a .span) (c .before .before .before .before .before .before .before .before .before .before .linear .given .0 .0) (sym (divided (c .before .before .before .before .before .before .before)) ∙ ap resultOf (c .before .before .before .before .before .e .given .1)) (c .before .before .refuse .ensures w h))
 
-reach-requires : tie.Need-reach-requires
-reach-requires c κs = search needs
+enum-known-e-2 : tie.Need-enum-known-e-2
+enum-known-e-2 c = search needs
 
-shrunk-requires : tie.Need-shrunk-requires
-shrunk-requires c κs = search needs
-
-take-with-requires : tie.Need-take-with-requires
-take-with-requires c κs =
-    let s = c .before .before .before .before .before .before .before .before .before .before .before .before .before .before .before in
-    let g = s .good .0 .1 .1 .1 .1 .0 .1 .1 .0 .1 .1 in
-    (s .pre .0, (s .pre .1, subst (λ (x : Scalar). isPositive x ≡ true) (sym (c .shrunk .ensures)) (shrunk-positive (s .args .st .search .mu) _ (yes (g .0 .1), yes (g .1 .0 .1)) (s .pre .1 .bounded .damping) (sym (divided (c .before .before .before .before .before .before)) ∙ ap resultOf (c .before .before .before .before .q .given .1)))))
+refuse-requires-2 : tie.Need-refuse-requires-2
+refuse-requires-2 c κs = c .before .before .before .before .before .before .before .pre .0
 
 same-length-3 : tie.Need-same-length-3
 same-length-3 c = search needs
 
 returns-3 : tie.Need-returns-3
-returns-3 c w h =
-    let a = c .before .before .before .before .before .before .before .before .before .before .before .before .before .before .before .before .before .before .args in
-    take-known (a .st) w (a .theta) (a .span) (sym (c .before .before .before .before .before .before .before .before .before .before .before .before .before .before .linear-of .ensures w h) ∙ ap linearResult (c .before .before .before .before .before .before .before .before .before .before .before .before .known .given .1))
-    (third-known (a .st) w (a .theta) (a .span) (c .before .before .before .before .before .before .before .before .before .before .before .before .known .given .0 .0) (sym (divided (c .before .before .before .before .before .before .before .before .before)) ∙ ap resultOf (c .before .before .before .before .before .before .before .q .given .1)) (c .before .before .before .shrunk .ensures) (c .before .before .before .before .before .reach .ensures) (c .before .before .take-with .ensures w h))
+returns-3 c w h = let a = c .before .before .before .before .before .before .before .before .before .before .args in take-refused (a .st) w (a .theta) (a .span) (sym (c .before .before .before .before .before .before .before .linear-of .ensures w h) ∙ ap linearResult (c .before .before .before .before .before .e2 .given .1)) (c .before .before .refuse2 .ensures w h)
 
 pub take-spec : {M : Type 1} → statement M
 take-spec =
     tie.close
     (tie.spec
     linear-of-requires
-    enum-known-known
-    enum-known-e
-    refuse-requires
-    same-length
-    returns
+    enum-known-linear
     degenerate-requires
     div-requires
-    enum-known-q
-    enum-known-e-2
-    refuse-requires-2
+    enum-known-third
+    shrunk-requires
+    reach-requires
+    take-with-requires
+    same-length
+    returns
+    enum-known-e
+    refuse-requires
     same-length-2
     returns-2
-    reach-requires
-    shrunk-requires
-    take-with-requires
+    enum-known-e-2
+    refuse-requires-2
     same-length-3
     returns-3)
