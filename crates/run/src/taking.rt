@@ -16,6 +16,7 @@ use crate::curvature::update_curvature;
 use crate::endings::refuse;
 use crate::rows;
 use crate::state::Out;
+use crate::state::Sizes;
 use crate::state::State;
 use crate::states::standing_on;
 use crate::turns::bent;
@@ -84,15 +85,15 @@ fn reach(length: Scalar, radius: Scalar, max: Scalar, linear: bool) -> Scalar
 }
 
 // The curvature after the step, over +0 into b.
-fn learn(n: usize, m: usize, s: usize, plain: bool, area: &[f64], b: &mut [f64]) -> Done
-    requires { ⌜ (n ≤ 12) × ((m ≤ 12) × ((s ≤ 24) × ((length (now area) ≡ 8000) × (now b ≡ zeros 288)))) ⌝ }
-    ensures { λ r. ⌜ ((w : Memory) → Holds w (now (area .entry)) → doneOf r (now (b .exit)) ≡ updateCurvature n (pick plain (zeros 288) (w .curvature)) (w .step) (evaluationOf n m s (w .standingRows)) (evaluationOf n m s (w .landedRows)) (w .multipliers)) ⌝ }
+fn learn(z: Sizes, plain: bool, area: &[f64], b: &mut [f64]) -> Done
+    requires { ⌜ (z .n ≤ 12) × ((z .m ≤ 12) × ((z .s ≤ 24) × ((length (now area) ≡ 8000) × (now b ≡ zeros 288)))) ⌝ }
+    ensures { λ r. ⌜ ((w : Memory) → Holds w (now (area .entry)) → doneOf r (now (b .exit)) ≡ updateCurvature (z .n) (pick plain (zeros 288) (w .curvature)) (w .step) (evaluationOf (z .n) (z .m) (z .s) (w .standingRows)) (evaluationOf (z .n) (z .m) (z .s) (w .landedRows)) (w .multipliers)) ⌝ }
 {
     bent(plain, area, b);
     update_curvature(
-        n,
-        m,
-        s,
+        z.n,
+        z.m,
+        z.s,
         b,
         &area[area::STEP..area::MULTIPLIERS],
         &area[area::STANDING_ROWS..area::LANDED_ROWS],
@@ -113,15 +114,19 @@ fn take_with(
     requires { ⌜ (length (now area) ≡ 8000) × (Underway st × (isPositive mu ≡ true)) ⌝ }
     ensures { λ r. ⌜ ((w : Memory) → Holds w (now (area .entry)) → Leaves (takenWith st w theta span mu radius) r (now (area .exit))) ⌝ }
 {
-    let z = st.sizes;
     let mut b = [0.0; 288];
-    match learn(z.n, z.m, z.s, st.search.plain, area, &mut b) {
+    match learn(st.sizes, st.search.plain, area, &mut b) {
         Done::Finished => {}
         Done::Refused(e) => {
             return refuse(st, area, e);
         }
     }
-    let f = rows::sum_squared(&area[area::STANDING_ROWS..area::LANDED_ROWS], z.n, z.m, z.s);
+    let f = rows::sum_squared(
+        &area[area::STANDING_ROWS..area::LANDED_ROWS],
+        st.sizes.n,
+        st.sizes.m,
+        st.sizes.s,
+    );
     area::with_taken(area, &b, st.counts.iterations, f, theta);
     iterate(standing_on(st, span, mu, radius), area)
 }

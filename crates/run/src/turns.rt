@@ -126,9 +126,7 @@ pub fn iterate(st: State, area: &mut [f64]) -> Out
     requires { ⌜ (length (now area) ≡ 8000) × Bounded 2147483648 st ⌝ }
     ensures { λ r. ⌜ ((w : Memory) → Holds w (now (area .entry)) → Leaves (run.iterate st w) r (now (area .exit))) ⌝ }
 {
-    let z = st.sizes;
-    let c = st.counts;
-    if z.limit <= c.iterations {
+    if st.sizes.limit <= st.counts.iterations {
         return finish(st, area, Stop::Budget);
     }
     search(st, area)
@@ -181,9 +179,8 @@ pub fn not_lower(st: State, area: &mut [f64]) -> Out
     requires { ⌜ (length (now area) ≡ 8000) × Bounded 1073741824 st ⌝ }
     ensures { λ r. ⌜ ((w : Memory) → Holds w (now (area .entry)) → Leaves (run.notLower st w) r (now (area .exit))) ⌝ }
 {
-    let z = st.sizes;
     let x = st.search;
-    if may_retry(x.plain, z.n, area) {
+    if may_retry(x.plain, st.sizes.n, area) {
         let y = Search {
             turned_down: x.turned_down + 1,
             plain: true,

@@ -65,7 +65,7 @@ returns c w h =
     let s = c .before .before .before .before .before .before .before .before .before .before .before .before .before .before in
     let a = s .args in
     let b = c .before .before .before .before .before .before .before .before .before .before .bent .ensures ∙ ap (λ (x : List Float). pick (a .plain) x (take 288 (drop 1992 (a .area .now)))) (s .pre .1 .1 .1 .1) ∙ ap (λ (x : List Float). pick (a .plain) (zeros 288) x) (curvature-read h) in
-    learned-is (a .n) (a .m) (a .s) h b (c .before .before .update-curvature .ensures)
+    learned-is (a .z .n) (a .z .m) (a .z .s) h b (c .before .before .update-curvature .ensures)
 
 pub learn-spec : {M : Type 1} → statement M
 learn-spec =

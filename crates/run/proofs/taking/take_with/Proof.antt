@@ -20,7 +20,7 @@ slice-aggregate-learn c = search needs
 
 learn-requires : tie.Need-learn-requires
 unfolding ofBits
-learn-requires c κs = let s = c .before .before .before .before in let b = s .pre .1 .0 .bounded in (b .few-variables, (b .few-constraints, (b .few-sums, (s .pre .0, refl))))
+learn-requires c κs = let s = c .before .before .before in let b = s .pre .1 .0 .bounded in (b .few-variables, (b .few-constraints, (b .few-sums, (s .pre .0, refl))))
 
 enum-told : tie.Need-enum-told
 enum-told c = search needs
@@ -29,16 +29,16 @@ enum-known-e : tie.Need-enum-known-e
 enum-known-e c = search needs
 
 refuse-requires : tie.Need-refuse-requires
-refuse-requires c κs = c .before .before .before .before .before .before .before .before .before .before .pre .0
+refuse-requires c κs = c .before .before .before .before .before .before .before .before .before .pre .0
 
 same-length : tie.Need-same-length
 same-length c = search needs
 
 returns : tie.Need-returns
 returns c w h =
-    let a = c .before .before .before .before .before .before .before .before .before .before .before .before .before .args in
+    let a = c .before .before .before .before .before .before .before .before .before .before .before .before .args in
     let l = c .before .before .before .before .before .before .before .before .learn in
-    learned-refused (a .st) w (a .theta) (a .span) (a .mu) (a .radius) (sym (l .ensures w h) ∙ ap (λ (d : Done). doneOf d (l .last .1 .1 .1 .1 .1 .0)) (c .before .before .before .before .before .e .given .1)) (c .before .before .refuse .ensures w h)
+    learned-refused (a .st) w (a .theta) (a .span) (a .mu) (a .radius) (sym (l .ensures w h) ∙ ap (λ (d : Done). doneOf d (l .last .1 .1 .1 .0)) (c .before .before .before .before .before .e .given .1)) (c .before .before .refuse .ensures w h)
 
 sub-sum-squared : tie.Need-sub-sum-squared
 sub-sum-squared c = search needs
@@ -50,20 +50,20 @@ part-sum-squared-end : tie.Need-part-sum-squared-end
 part-sum-squared-end c = search needs
 
 sum-squared-requires : tie.Need-sum-squared-requires
-sum-squared-requires c κs = let b = c .before .before .before .before .before .before .before .before .before .before .pre .1 .0 .bounded in (b .few-variables, (b .few-constraints, b .few-sums))
+sum-squared-requires c κs = let b = c .before .before .before .before .before .before .before .before .before .pre .1 .0 .bounded in (b .few-variables, (b .few-constraints, b .few-sums))
 
 slice-aggregate-with-taken : tie.Need-slice-aggregate-with-taken
 slice-aggregate-with-taken c = search needs
 
 with-taken-requires : tie.Need-with-taken-requires
-with-taken-requires c κs = let s = c .before .before .before .before .before .before .before .before .before .before .before .before .before in let u = s .pre .1 .0 in (s .pre .0, (c .before .before .before .before .before .before .before .before .learn .kept .1 .1 .1 .1 .1 .0, omega (arith, u .below, u .bounded .few-iterations)))
+with-taken-requires c κs = let s = c .before .before .before .before .before .before .before .before .before .before .before .before in let u = s .pre .1 .0 in (s .pre .0, (c .before .before .before .before .before .before .before .before .learn .kept .1 .1 .1 .0, omega (arith, u .below, u .bounded .few-iterations)))
 
 standing-on-requires : tie.Need-standing-on-requires
-standing-on-requires c κs = let u = c .before .before .before .before .before .before .before .before .before .before .before .before .before .before .before .before .pre .1 .0 in omega (arith, u .below, u .bounded .few-iterations)
+standing-on-requires c κs = let u = c .before .before .before .before .before .before .before .before .before .before .before .before .before .before .before .pre .1 .0 in omega (arith, u .below, u .bounded .few-iterations)
 
 iterate-requires : tie.Need-iterate-requires
 iterate-requires c κs =
-    let s = c .before .before .before .before .before .before .before .before .before .before .before .before .before .before .before .before .before .before in
+    let s = c .before .before .before .before .before .before .before .before .before .before .before .before .before .before .before .before .before in
     let a = s .args in
     (omega (arith, c .before .before .before .before .with-taken .kept, s .pre .0), subst (λ (x : State). Bounded 2147483648 x) (sym (c .before .standing-on .ensures)) (stood (a .span) (a .mu) (a .radius) (s .pre .1 .0) (s .pre .1 .1)))
 
@@ -72,10 +72,10 @@ same-length-2 c = search needs
 
 returns-2 : tie.Need-returns-2
 returns-2 c w h =
-    let a = c .before .before .before .before .before .before .before .before .before .before .before .before .before .before .before .before .before .before .before .before .before .args in
+    let a = c .before .before .before .before .before .before .before .before .before .before .before .before .before .before .before .before .before .before .before .before .args in
     let z = a .st .sizes in
     let l = c .before .before .before .before .before .before .before .before .before .before .before .before .before .before .before .before .learn in
-    let b = l .last .1 .1 .1 .1 .1 .0 in
+    let b = l .last .1 .1 .1 .0 in
     learned-known (a .st) w (a .theta) (a .span) (a .mu) (a .radius) (sym (l .ensures w h) ∙ ap (λ (d : Done). doneOf d b) (c .before .before .before .before .before .before .before .before .before .before .before .before .before .enum-told .given .1))
     (stands-on (a .st) w (a .theta) (a .span) (a .mu) (a .radius) b (c .before .before .before .before .standing-on .ensures) (c .before .before .before .before .before .before .before .before .before .before .sum-squared .ensures ∙ ap (λ (x : List Float). sumSquared (sumOf (z .n) (z .m) (z .s) x)) (standing-rows-read h)) (c .before .before .before .before .before .before .before .with-taken .ensures w h) (c .before .before .iterate .ensures))
 

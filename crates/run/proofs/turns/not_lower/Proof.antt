@@ -11,15 +11,15 @@ use Rattle.run.proofs.turns.not_lower.Tie as tie
 may-retry-requires : tie.Need-may-retry-requires
 may-retry-requires c κs = search needs
 
-add-t9 : tie.Need-add-t9
-add-t9 c = omega (arith, c .before .before .before .before .before .before .before .pre .1 .few-turned)
+add-t8 : tie.Need-add-t8
+add-t8 c = omega (arith, c .before .before .before .before .before .before .pre .1 .few-turned)
 
 with-search-requires : tie.Need-with-search-requires
 with-search-requires c κs = search needs
 
 search-requires : tie.Need-search-requires
 search-requires c κs =
-    let s = c .before .before .before .before .before .before .before .before .before .before .before in
+    let s = c .before .before .before .before .before .before .before .before .before .before in
     let b = s .pre .1 in
     rw (c .before .with-search .ensures) (s .pre .0, searched (retried (rejectedFor (s .args .st .search) why.NotLower)) b (omega (arith, b .few-turned)) (b .damping))
 
@@ -28,7 +28,7 @@ same-length c = search needs
 
 returns : tie.Need-returns
 returns c w h =
-    let st = c .before .before .before .before .before .before .before .before .before .before .before .before .before .before .args .st in
+    let st = c .before .before .before .before .before .before .before .before .before .before .before .before .before .args .st in
     retries st w (sym (c .before .before .before .before .before .before .before .before .before .may-retry .ensures w h) ∙ c .before .before .before .before .before .before .before .before .if1 .taken) refl refl (c .before .before .before .before .with-search .ensures) (c .before .before .search .ensures w h)
 
 turn-down-requires : tie.Need-turn-down-requires
@@ -38,14 +38,14 @@ same-length-2 : tie.Need-same-length-2
 same-length-2 c = search needs
 
 returns-2 : tie.Need-returns-2
-returns-2 c w h = turns-down (c .before .before .before .before .before .before .before .before .before .before .args .st) w (sym (c .before .before .before .before .before .may-retry .ensures w h) ∙ c .before .before .before .before .if1 .left) (c .before .before .turn-down .ensures w h)
+returns-2 c w h = turns-down (c .before .before .before .before .before .before .before .before .before .args .st) w (sym (c .before .before .before .before .before .may-retry .ensures w h) ∙ c .before .before .before .before .if1 .left) (c .before .before .turn-down .ensures w h)
 
 pub not-lower-spec : {M : Type 1} → statement M
 not-lower-spec =
     tie.close
     (tie.spec
     may-retry-requires
-    add-t9
+    add-t8
     with-search-requires
     search-requires
     same-length
