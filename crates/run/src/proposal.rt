@@ -121,7 +121,7 @@ fn asked(predicted: Scalar, length: Answer) -> Proposal
     }
 }
 
-// The point that a step leads to, where it is chosen.
+// The point that a chosen step leads to.
 fn tried(n: usize, m: usize, rows: &[f64], x: &[f64], delta: &[f64]) -> Proposal
     requires { ⌜ (n ≤ 12) × ((m ≤ 12) × (length (now delta) ≡ 24)) ⌝ }
     ensures { λ r. ⌜ ((lambda : List Float) → proposalResult r (now (delta .entry)) lambda (movedOf n (now (x .entry)) (now (delta .entry))) ≡ triedOf (pointOf n (now (x .entry)) (constraintsOf n m (now (rows .entry)))) (now (delta .entry)) lambda) ⌝ }

@@ -88,26 +88,27 @@ fn seek_standing(st: State, area: &[f64], delta: &mut [f64], lambda: &mut [f64])
 {
     let from = st.search;
     let rows = &area[area::STANDING_ROWS..area::LANDED_ROWS];
-    let theta = match violation(rows, st.sizes.n, st.sizes.m) {
-        Answer::Value(v) => v,
+    match violation(rows, st.sizes.n, st.sizes.m) {
+        Answer::Value(theta) => {
+            let mut b = [0.0; 288];
+            let moving = st.moving;
+            bent(from.plain, area, &mut b);
+            return seek(
+                model(st.sizes, rows, theta),
+                rows,
+                &area[area::STANDING..area::LANDED],
+                &b,
+                &moving,
+                st.max_step,
+                from,
+                delta,
+                lambda,
+            );
+        }
         Answer::Refused(e) => {
             return Found::Refused(from, e);
         }
-    };
-    let mut b = [0.0; 288];
-    let moving = st.moving;
-    bent(from.plain, area, &mut b);
-    seek(
-        model(st.sizes, rows, theta),
-        rows,
-        &area[area::STANDING..area::LANDED],
-        &b,
-        &moving,
-        st.max_step,
-        from,
-        delta,
-        lambda,
-    )
+    }
 }
 
 // The search for a proposal from the standing point, until a question, the finish or a refusal.

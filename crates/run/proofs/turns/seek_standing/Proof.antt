@@ -24,14 +24,14 @@ part-rows-end c = search needs
 violation-requires : tie.Need-violation-requires
 violation-requires c κs = let p = c .before .before .before .before .before .pre in (p .1 .0 .few-constraints, slot-enough 72 (c .before .before .before .before .before .args .area .now) (omega (arith, p .0)) (p .1 .0 .few-constraints))
 
-enum-known-v : tie.Need-enum-known-v
-enum-known-v c = search needs
+enum-known-theta : tie.Need-enum-known-theta
+enum-known-theta c = search needs
 
 enum-known-e : tie.Need-enum-known-e
 enum-known-e c = search needs
 
-returns : tie.Need-returns
-returns c w h =
+returns-2 : tie.Need-returns-2
+returns-2 c w h =
     let st = c .before .before .before .before .before .before .before .before .before .args .st in
     sym (ap (soughtWith st w) (standing-violation st h (sym (ap resultOf (c .before .e .given .1)) ∙ c .before .before .before .violation .ensures)))
 
@@ -72,12 +72,12 @@ same-length c = search needs
 same-length-2 : tie.Need-same-length-2
 same-length-2 c = search needs
 
-returns-2 : tie.Need-returns-2
+returns : tie.Need-returns
 unfolding ofBits
-returns-2 c w h =
+returns c w h =
     let st = c .before .before .before .before .before .before .before .before .before .before .before .before .before .before .before .before .before .before .before .before .before .before .before .before .args .st in
     let l = c .before .before .before .before .seek .last .1 .1 .1 .1 .1 .1 .1 in
-    sought-by st (l .0) (l .1 .0) (c .before .before .before .before .seek .result) h (c .before .before .before .before .before .before .before .before .before .before .model .ensures) refl (c .before .before .before .before .before .before .before .before .before .before .before .before .bent .ensures) (standing-violation st h (sym (ap resultOf (c .before .before .before .before .before .before .before .before .before .before .before .before .before .before .before .before .v .given .1)) ∙ c .before .before .before .before .before .before .before .before .before .before .before .before .before .before .before .before .before .before .violation .ensures)) (c .before .before .before .before .seek .ensures)
+    sought-by st (l .0) (l .1 .0) (c .before .before .before .before .seek .result) h (c .before .before .before .before .before .before .before .before .before .before .model .ensures) refl (c .before .before .before .before .before .before .before .before .before .before .before .before .bent .ensures) (standing-violation st h (sym (ap resultOf (c .before .before .before .before .before .before .before .before .before .before .before .before .before .before .before .before .theta .given .1)) ∙ c .before .before .before .before .before .before .before .before .before .before .before .before .before .before .before .before .before .before .violation .ensures)) (c .before .before .before .before .seek .ensures)
 
 pub seek-standing-spec : {M : Type 1} → statement M
 seek-standing-spec =
@@ -87,9 +87,7 @@ seek-standing-spec =
     part-rows-start
     part-rows-end
     violation-requires
-    enum-known-v
-    enum-known-e
-    returns
+    enum-known-theta
     slice-aggregate-bent
     bent-requires
     model-requires
@@ -101,4 +99,6 @@ seek-standing-spec =
     seek-requires
     same-length
     same-length-2
+    returns
+    enum-known-e
     returns-2)
