@@ -220,13 +220,8 @@ module _ (k m r : ℕ) (c : ℕ → Scalar) (q coefficients dependent : List Flo
   unfolding correctionOf
   solved-is = rw (ey, erows, erhs)
 
-  pub correction-on : {delta : List Float} → d ≡ done.Finished → delta ≡ combinedTo k (sharpOf y r) q vector r → ok delta ≡ correctionOf (problemBy k m c [] []) (basisBy r q [] coefficients dependent order)
-  unfolding bind
-  correction-on ed e = ap ok e ∙ sym (rw ed at solved-is)
-
-  pub correction-refused : {e : LinearError} → d ≡ done.Refused e → refused (numberOf e) ≡ correctionOf (problemBy k m c [] []) (basisBy r q [] coefficients dependent order)
-  unfolding bind
-  correction-refused ed = sym (rw ed at solved-is)
+  pub correction-is : {delta : List Float} → delta ≡ combinedTo k (sharpOf y r) q vector r → doneOf d delta ≡ correctionOf (problemBy k m c [] []) (basisBy r q [] coefficients dependent order)
+  correction-is e = ap (doneOf d) e ∙ done-bind d y (λ y. combinedTo k (sharpOf y r) q vector r) ∙ sym solved-is
 
 pub correction-reads : (P : Problem) (b : Basis) → correctionOf (problemBy (P .k) (P .m) (P .c) [] []) (basisBy (b .rank) (b .q) [] (b .coefficients) (b .dependent) (b .order)) ≡ correctionOf P b
 unfolding correctionOf
@@ -235,6 +230,12 @@ correction-reads P b = refl
 pub multipliers-reads : (k : ℕ) (b : Basis) (pull : List Float) → multipliersOf k (basisBy (b .rank) (b .q) [] (b .coefficients) [] (b .order)) pull ≡ multipliersOf k b pull
 unfolding multipliersOf multiplierStep
 multipliers-reads k b pull = refl
+
+-- the multipliers, once the fold over the vectors ended
+pub multipliers-is : (k : ℕ) (b : Basis) (pull : List Float) (byRow : List Float) (d : Done) {lambda : List Float}
+    → doneOf d byRow ≡ foldR (multiplierStep k b pull) vector (b .rank) → lambda ≡ spreadTo (b .order) byRow (b .rank) → doneOf d lambda ≡ multipliersOf k b pull
+unfolding multipliersOf
+multipliers-is k b pull byRow d e el = ap (doneOf d) el ∙ done-bind d byRow (λ x. spreadTo (b .order) x (b .rank)) ∙ ap (λ x. bind x (λ y. ok (spreadTo (b .order) y (b .rank)))) e
 
 -- ---- the coefficients behind Q
 

@@ -13,16 +13,18 @@ use Rattle.linear.specs.Answers.{numberOf}
 use Rattle.linear.specs.Results.{bind}
 use Rattle.linear.specs.declared.answers.LinearError.{LinearError}
 use Rattle.linear.specs.Cholesky.{Factor, choleskyOf}
-use Rattle.run.specs.Scratch.{allFinite}
+use Rattle.run.specs.Scratch.{allFinite, spreadTo}
 use Rattle.run.specs.Rows.{Evaluation}
 use Rattle.run.specs.Model.{Kept, keptTo, Problem, problemOf, problemIn, dampedCurve, gradientIn}
 use Rattle.run.specs.Basis.{Basis, basisOf, correctionOf, multiplierStep, multipliersOf, basisBy, problemBy, rankedOf}
 use Rattle.run.specs.declared.basis.Rank.{Rank}
 use Rattle.run.specs.declared.basis.Rank.the-variants as rank
+use Rattle.run.specs.declared.step.StepEnd.{StepEnd}
+use Rattle.run.specs.declared.step.StepEnd.the-variants as end
 use Rattle.run.specs.declared.step.Prepared.{Prepared}
 use Rattle.run.specs.declared.step.Prepared.the-variants as prepared
 use Rattle.run.specs.Directions.{Directions, directionsOf}
-use Rattle.run.specs.Step.{Stepped, notPositive, forceOf, pullOf, reducedOf, againstOf, Weights, weights, none, weightsOf, steppedBy, alongZ, freeStep, keptStep, spreadStep, stepOf, curved, spanned, solvedWith, addedTo, freePart, withMultipliers, spreadEnd, basisFor, correctedStep, basedStep, testedStep, rankOf, readyStep, framedStep, dampedStep, preparedStep}
+use Rattle.run.specs.Step.{Stepped, notPositive, forceOf, pullOf, reducedOf, againstOf, Weights, weights, none, weightsOf, steppedBy, alongZ, freeStep, keptStep, spreadStep, stepOf, curved, spanned, solvedWith, addedTo, freePart, withMultipliers, endOf, spreadEnd, basisFor, correctedStep, basedStep, testedStep, rankOf, readyStep, framedStep, dampedStep, preparedStep}
 use Rattle.run.proofs.BasisLaws.{basis-reads, rank-small}
 use Rattle.run.proofs.Frames.{first-of-four, second-of-four, third-of-four, fourth-of-four}
 
@@ -198,6 +200,12 @@ spread-tested : (k : Kept) (finite : Bool) (x : Res Stepped) → spreadEnd k (pi
 unfolding spreadEnd bind
 spread-tested k true x = refl
 spread-tested k false x = refl
+
+pub end-spread : (x : StepEnd) (k : Kept) (kept lambda : List Float) {delta : List Float} → delta ≡ spreadTo (k .index) kept (k .count) → endOf x delta lambda ≡ spreadEnd k (endOf x kept lambda)
+unfolding spreadEnd bind
+end-spread (end.Found r) k kept lambda e = rw e
+end-spread end.NotPositive k kept lambda e = refl
+end-spread (end.Refused o) k kept lambda e = refl
 
 pub step-is : (n : ℕ) (e : Evaluation) (b : List Float) (moving : List Bool) (mu : Scalar) {k : Kept} {x y : Res Stepped}
     → k ≡ keptTo moving n → x ≡ testedStep (problemOf n k e b mu) → y ≡ spreadEnd k x → y ≡ stepOf n e b moving mu

@@ -376,7 +376,7 @@ fn sides(m: usize, r: usize, order: &[usize], xs: &[f64], e: RowSet, rhs: &mut [
     }
 }
 
-// The least-squares correction of every row, for the constraint values in xs.
+// The least-squares correction of every row, for the constraint values in xs; delta says nothing where it is refused.
 pub fn correction(
     k: usize,
     m: usize,
@@ -401,17 +401,11 @@ pub fn correction(
     let mut weights = [0.0; 24];
     coefficient_rows(m, r, coefficients, dependent, &mut rows[..s]);
     sides(m, r, order, xs, e, &mut rhs[..u]);
-    match linear::least_squares(m, r, &rows[..s], &rhs[..u], &mut y[..w]) {
-        Done::Finished => {
-            linear::sharp(r, &y[..w], &mut weights[..w]);
-            clear(delta);
-            combine(k, &weights[..w], q, delta, r);
-            return Done::Finished;
-        }
-        Done::Refused(refusal) => {
-            return Done::Refused(refusal);
-        }
-    }
+    let end = linear::least_squares(m, r, &rows[..s], &rhs[..u], &mut y[..w]);
+    linear::sharp(r, &y[..w], &mut weights[..w]);
+    clear(delta);
+    combine(k, &weights[..w], q, delta, r);
+    end
 }
 
 // ---- the multipliers
@@ -456,7 +450,7 @@ fn multipliers_by_row(k: usize, r: usize, q: &[f64], pull: &[f64], by_row: &mut 
     Done::Finished
 }
 
-// The constraints' multipliers, against a pull; the coefficients stand behind Q.
+// The constraints' multipliers, against a pull; the coefficients stand behind Q. Where they are refused lambda says nothing.
 pub fn multipliers(
     k: usize,
     r: usize,
@@ -469,11 +463,7 @@ pub fn multipliers(
     ensures { λ d. ⌜ doneOf d (now (lambda .exit)) ≡ multipliersOf k (basisBy r (now (q .entry)) [] (drop 288 (now (q .entry))) [] (now (order .entry))) (now (pull .entry)) ⌝ }
 {
     let mut by_row = [0.0; 24];
-    match multipliers_by_row(k, r, q, pull, &mut by_row) {
-        Done::Finished => {
-            spread(order, &by_row, r, lambda);
-            Done::Finished
-        }
-        Done::Refused(e) => Done::Refused(e),
-    }
+    let end = multipliers_by_row(k, r, q, pull, &mut by_row);
+    spread(order, &by_row, r, lambda);
+    end
 }

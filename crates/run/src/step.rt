@@ -279,7 +279,7 @@ fn kept_step(
 
 // ---- over all variables
 
-// The step with the damping mu, from what was prepared for the variables that move, with the constraints' multipliers.
+// The step with the damping mu, from what was prepared for the variables that move, with the constraints' multipliers; delta says nothing where there is none.
 pub fn damped_step(
     n: usize,
     moving: &[bool],
@@ -297,14 +297,9 @@ pub fn damped_step(
     let mut index = [0; 12];
     let mut kept = [0.0; 24];
     let k = keep(moving, n, &mut index);
-    match kept_step(k, prepared, order, curve, frame, mu, &mut kept, lambda) {
-        StepEnd::Found(r) => {
-            spread(&index, &kept, k, delta);
-            StepEnd::Found(r)
-        }
-        StepEnd::NotPositive => StepEnd::NotPositive,
-        StepEnd::Refused(e) => StepEnd::Refused(e),
-    }
+    let end = kept_step(k, prepared, order, curve, frame, mu, &mut kept, lambda);
+    spread(&index, &kept, k, delta);
+    end
 }
 
 // The step of the linearized problem, from an answer's rows and the curvature b, over the variables that move, with the constraints' multipliers.

@@ -11,7 +11,7 @@ use Rattle.linear.specs.Flat.{zeros}
 use Rattle.linear.specs.Householder.{leastSquaresOf}
 use Rattle.run.specs.Rows.{rowsIn, valueAt}
 use Rattle.run.specs.Scratch.{vector, combinedTo}
-use Rattle.run.proofs.BasisLaws.{correction-on, correction-refused}
+use Rattle.run.proofs.BasisLaws.{correction-is}
 use Rattle.run.proofs.LinearCalls.{least-squares-result, sharp-written}
 use Rattle.run.proofs.Prefixes.{front-room, front-kept}
 use Rattle.run.proofs.RowLaws.{few}
@@ -93,20 +93,17 @@ slice-aggregate-least-squares-3 c = sym (length-take-le _ _ (short (c .before .b
 least-squares-requires : tie.Need-least-squares-requires
 least-squares-requires c κs = tt
 
-enum-told : tie.Need-enum-told
-enum-told c = search needs
-
 array-share-prefix-y : tie.Need-array-share-prefix-y
-array-share-prefix-y c = front-room _ (c .before .before .before .least-squares .last .1 .1 .1 .1 .0) _ (short (c .before .before .before .before .before .before .before .before .before .before .before .before .before .before .before .before .before .before .before)) (c .before .before .before .least-squares .kept .1 .1 .1 .1 .0)
+array-share-prefix-y c = front-room _ (c .before .least-squares .last .1 .1 .1 .1 .0) _ (short (c .before .before .before .before .before .before .before .before .before .before .before .before .before .before .before .before .before)) (c .before .least-squares .kept .1 .1 .1 .1 .0)
 
 slice-aggregate-sharp : tie.Need-slice-aggregate-sharp
-slice-aggregate-sharp c = sym (length-take-le _ _ (front-room _ (c .before .before .before .before .least-squares .last .1 .1 .1 .1 .0) _ (short (c .before .before .before .before .before .before .before .before .before .before .before .before .before .before .before .before .before .before .before .before)) (c .before .before .before .before .least-squares .kept .1 .1 .1 .1 .0)))
+slice-aggregate-sharp c = sym (length-take-le _ _ (front-room _ (c .before .before .least-squares .last .1 .1 .1 .1 .0) _ (short (c .before .before .before .before .before .before .before .before .before .before .before .before .before .before .before .before .before .before)) (c .before .before .least-squares .kept .1 .1 .1 .1 .0)))
 
 array-borrow-prefix-weights : tie.Need-array-borrow-prefix-weights
 array-borrow-prefix-weights c = search needs
 
 slice-aggregate-sharp-2 : tie.Need-slice-aggregate-sharp-2
-slice-aggregate-sharp-2 c = sym (length-take-le _ _ (short (c .before .before .before .before .before .before .before .before .before .before .before .before .before .before .before .before .before .before .before .before .before)))
+slice-aggregate-sharp-2 c = sym (length-take-le _ _ (short (c .before .before .before .before .before .before .before .before .before .before .before .before .before .before .before .before .before .before .before)))
 
 sharp-requires : tie.Need-sharp-requires
 sharp-requires c κs = tt
@@ -115,23 +112,23 @@ clear-requires : tie.Need-clear-requires
 clear-requires c κs = search needs
 
 array-share-prefix-weights : tie.Need-array-share-prefix-weights
-array-share-prefix-weights c = front-room _ (c .before .before .before .before .before .sharp .last .1 .1 .0) _ (short (c .before .before .before .before .before .before .before .before .before .before .before .before .before .before .before .before .before .before .before .before .before .before .before .before .before .before .before)) (c .before .before .before .before .before .sharp .kept .1 .1 .0)
+array-share-prefix-weights c = front-room _ (c .before .before .before .before .before .sharp .last .1 .1 .0) _ (short (c .before .before .before .before .before .before .before .before .before .before .before .before .before .before .before .before .before .before .before .before .before .before .before .before .before)) (c .before .before .before .before .before .sharp .kept .1 .1 .0)
 
 slice-aggregate-combine : tie.Need-slice-aggregate-combine
-slice-aggregate-combine c = sym (length-take-le _ _ (front-room _ (c .before .before .before .before .before .before .sharp .last .1 .1 .0) _ (short (c .before .before .before .before .before .before .before .before .before .before .before .before .before .before .before .before .before .before .before .before .before .before .before .before .before .before .before .before)) (c .before .before .before .before .before .before .sharp .kept .1 .1 .0)))
+slice-aggregate-combine c = sym (length-take-le _ _ (front-room _ (c .before .before .before .before .before .before .sharp .last .1 .1 .0) _ (short (c .before .before .before .before .before .before .before .before .before .before .before .before .before .before .before .before .before .before .before .before .before .before .before .before .before .before)) (c .before .before .before .before .before .before .sharp .kept .1 .1 .0)))
 
 combine-requires : tie.Need-combine-requires
-combine-requires c κs = let p = (c .before .before .before .before .before .before .before .before .before .before .before .before .before .before .before .before .before .before .before .before .before .before .before .before .before .before .before .before .before) .pre in (omega (arith, p .0), omega (arith, p .1 .1 .0))
+combine-requires c κs = let p = (c .before .before .before .before .before .before .before .before .before .before .before .before .before .before .before .before .before .before .before .before .before .before .before .before .before .before .before) .pre in (omega (arith, p .0), omega (arith, p .1 .1 .0))
 
 same-length : tie.Need-same-length
 same-length c = search needs
 
 returns : tie.Need-returns
 returns c =
-    let s = c .before .before .before .before .before .before .before .before .before .before .before .before .before .before .before .before .before .before .before .before .before .before .before .before .before .before .before .before .before .before .before .before in
+    let s = c .before .before .before .before .before .before .before .before .before .before .before .before .before .before .before .before .before .before .before .before .before .before .before .before .before .before .before .before .before .before in
     let a = s .args in
     let p = s .pre in
-    let k = c .before .before .before .before .before .before .before .before .before .before .before .before .before .before .before .before in
+    let k = c .before .before .before .before .before .before .before .before .before .before .before .before .before .before in
     let h = c .before .before .before .before .before .before .before .before .before .before .sharp in
     let y = k .least-squares .last .1 .1 .1 .1 .0 in
     let ly = k .least-squares .kept .1 .1 .1 .1 .0 in
@@ -139,16 +136,7 @@ returns c =
     let w : v ≡ sharpOf y (a .r) = sharp-written (h .result) (a .r) y _ v (omega (arith, p .1 .1 .0)) (ly ∙ length-take-le _ _ (short s)) (length-take-le _ _ (short s)) (rw (front-kept _ y _ (short s) ly) at (h .ensures)) in
     let z : c .before .before .before .before .before .before .before .clear .last .0 ≡ vector = c .before .before .before .before .before .before .before .clear .ensures ∙ ap zeros (p .1 .1 .1 .1) in
     let d = c .before .before .combine .ensures ∙ ap (λ (x : List Float). combinedTo (a .k) x (a .q .now) (c .before .before .before .before .before .before .before .clear .last .0) (a .r)) (front-kept _ v _ (short s) (h .kept .1 .1 .0) ∙ w) ∙ ap (λ (x : List Float). combinedTo (a .k) (sharpOf y (a .r)) (a .q .now) x (a .r)) z in
-    correction-on (a .k) (a .m) (a .r) (valueAt (rowsIn (a .xs .now) (a .e))) (a .q .now) (a .coefficients .now) (a .dependent .now) (a .order .now) y (k .least-squares .result) (c .before .before .before .before .before .before .before .before .before .before .before .before .before .before .before .before .before .before .before .before .before .before .before .before .coefficient-rows .ensures) (c .before .before .before .before .before .before .before .before .before .before .before .before .before .before .before .before .before .before .before .before .before .sides .ensures) (solved k) (c .before .before .before .before .before .before .before .before .before .before .before .before .before .enum-told .given .1) d
-
-enum-known-refusal : tie.Need-enum-known-refusal
-enum-known-refusal c = search needs
-
-returns-2 : tie.Need-returns-2
-returns-2 c =
-    let a = c .before .before .before .before .before .before .before .before .before .before .before .before .before .before .before .before .before .before .before .before .args in
-    let k = c .before .before .before .before in
-    correction-refused (a .k) (a .m) (a .r) (valueAt (rowsIn (a .xs .now) (a .e))) (a .q .now) (a .coefficients .now) (a .dependent .now) (a .order .now) (k .least-squares .last .1 .1 .1 .1 .0) (k .least-squares .result) (c .before .before .before .before .before .before .before .before .before .before .before .before .coefficient-rows .ensures) (c .before .before .before .before .before .before .before .before .before .sides .ensures) (solved k) (c .before .refusal .given .1)
+    correction-is (a .k) (a .m) (a .r) (valueAt (rowsIn (a .xs .now) (a .e))) (a .q .now) (a .coefficients .now) (a .dependent .now) (a .order .now) y (k .least-squares .result) (c .before .before .before .before .before .before .before .before .before .before .before .before .before .before .before .before .before .before .before .before .before .before .coefficient-rows .ensures) (c .before .before .before .before .before .before .before .before .before .before .before .before .before .before .before .before .before .before .before .sides .ensures) (solved k) d
 
 pub correction-spec : {M : Type 1} → statement M
 correction-spec =
@@ -171,7 +159,6 @@ correction-spec =
     array-borrow-prefix-y
     slice-aggregate-least-squares-3
     least-squares-requires
-    enum-told
     array-share-prefix-y
     slice-aggregate-sharp
     array-borrow-prefix-weights
@@ -182,6 +169,4 @@ correction-spec =
     slice-aggregate-combine
     combine-requires
     same-length
-    returns
-    enum-known-refusal
-    returns-2)
+    returns)

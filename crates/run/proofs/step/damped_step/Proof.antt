@@ -1,12 +1,10 @@
--- `damped_step` meets its contract: the kept variables, into a clear array, their step, and where there is one, its spread.
+-- `damped_step` meets its contract: the kept variables, into a clear array, their step, and its spread.
 use Prim.Native.Nat.{ℕ, _≤_}
 use mathlib.Core.Path.{_≡_, refl}
 use native.Mathlib.Omega.{arith}
 use lib.Ieee.{ofBits}
-use Rattle.linear.specs.Results.{bind}
-use Rattle.run.specs.Step.{spreadEnd}
 use Rattle.run.proofs.ModelLaws.{kept-few}
-use Rattle.run.proofs.StepLaws.{prepared-by}
+use Rattle.run.proofs.StepLaws.{prepared-by, end-spread}
 use borrow.Author.Needs.{needs}
 use Rattle.run.proofs.step.damped_step.Statement.{statement}
 use Rattle.run.proofs.step.damped_step.Tie as tie
@@ -30,9 +28,6 @@ kept-step-requires c κs =
     let p = c .before .before .before .before .before .before .before .before .before .before .before .pre in
     (omega (arith, kept-few _ _ (c .before .before .before .keep .ensures), p .0), (p .1 .1 .0, (refl, p .1 .1 .1 .1)))
 
-enum-known-r : tie.Need-enum-known-r
-enum-known-r c = search needs
-
 slice-aggregate-spread : tie.Need-slice-aggregate-spread
 slice-aggregate-spread c = search needs
 
@@ -40,13 +35,7 @@ slice-aggregate-spread-2 : tie.Need-slice-aggregate-spread-2
 slice-aggregate-spread-2 c = search needs
 
 spread-requires : tie.Need-spread-requires
-spread-requires c κs = let p = c .before .before .before .before .before .before .before .before .before .before .before .before .before .before .before .before .before .before .before .before .before .pre in let k = c .before .before .before .before .before .before .before .before .before .before .before .before .before .keep in (p .1 .1 .1 .0, inside (kept-few _ _ (k .ensures)) (p .0) (k .kept .1 .1 .0))
-
-enum-told : tie.Need-enum-told
-enum-told c = search needs
-
-enum-known-e : tie.Need-enum-known-e
-enum-known-e c = search needs
+spread-requires c κs = let p = c .before .before .before .before .before .before .before .before .before .before .before .before .before .before .before .before .before .before .pre in let k = c .before .before .before .before .before .before .before .before .before .before .keep in (p .1 .1 .1 .0, inside (kept-few _ _ (k .ensures)) (p .0) (k .kept .1 .1 .0))
 
 same-length : tie.Need-same-length
 same-length c = search needs
@@ -55,22 +44,9 @@ same-length-2 : tie.Need-same-length-2
 same-length-2 c = search needs
 
 returns : tie.Need-returns
-unfolding spreadEnd bind
-returns c = prepared-by _ _ _ _ _ _ _ (c .before .before .before .before .before .before .before .before .before .before .before .before .before .before .before .before .keep .ensures) (rw (c .before .before .before .before .before .before .before .r .given .1) at (c .before .before .before .before .before .before .before .before .before .before .before .before .kept-step .ensures)) (rw (c .before .before .spread .ensures))
-
-same-length-3 : tie.Need-same-length-3
-same-length-3 c = search needs
-
-returns-2 : tie.Need-returns-2
-unfolding spreadEnd bind
-returns-2 c = prepared-by _ _ _ _ _ _ _ (c .before .before .before .before .before .before .before .before .before .keep .ensures) (rw (c .enum-told .given .1) at (c .before .before .before .before .before .kept-step .ensures)) refl
-
-same-length-4 : tie.Need-same-length-4
-same-length-4 c = search needs
-
-returns-3 : tie.Need-returns-3
-unfolding spreadEnd bind
-returns-3 c = prepared-by _ _ _ _ _ _ _ (c .before .before .before .before .before .before .before .before .before .before .keep .ensures) (rw (c .before .e .given .1) at (c .before .before .before .before .before .before .kept-step .ensures)) refl
+returns c =
+    let k = c .before .before .before .before .before .before .before .before .before .kept-step in
+    prepared-by _ _ _ _ _ _ _ (c .before .before .before .before .before .before .before .before .before .before .before .before .before .keep .ensures) (k .ensures) (end-spread (k .result) _ _ _ (c .before .before .spread .ensures))
 
 pub damped-step-spec : {M : Type 1} → statement M
 damped-step-spec =
@@ -80,16 +56,9 @@ damped-step-spec =
     keep-requires
     slice-aggregate-kept-step
     kept-step-requires
-    enum-known-r
     slice-aggregate-spread
     slice-aggregate-spread-2
     spread-requires
-    enum-told
-    enum-known-e
     same-length
     same-length-2
-    returns
-    same-length-3
-    returns-2
-    same-length-4
-    returns-3)
+    returns)
