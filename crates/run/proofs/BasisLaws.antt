@@ -95,21 +95,13 @@ module _ (k r i : ℕ) (jc q gram c w : List Float) (o : List ℕ) (v v′ c′ 
   unfolding bind
   new-refused ea = sym (rw ea at steps)
 
-  new-added : {l l′ : Scalar} {q′ c″ : List Float} (gram′ : List Float) (d : Done) → a ≡ answer.Value l → l′ ≡ sharpen l → q′ ≡ fillTo q (12 * r) (unitAt (along v′ 0 1) l′) k → c″ ≡ put c′ (12 * r + r) l′
+  pub new-added : {l l′ : Scalar} {q′ c″ : List Float} (gram′ : List Float) (d : Done) → a ≡ answer.Value l → l′ ≡ sharpen l → q′ ≡ fillTo q (12 * r) (unitAt (along v′ 0 1) l′) k → c″ ≡ put c′ (12 * r + r) l′
       → doneOf d gram′ ≡ gramRow k r q′ gram → doneOf d (basisBy (r + 1) q′ gram′ c″ w (set o r i)) ≡ extended (rowProblem k [] jc) (basisBy r q gram c w o) i
   unfolding bind
   new-added {l} {l′} {q′} {c″} gram′ d ea es eq ec eg =
       let h : extended (rowProblem k [] jc) (basisBy r q gram c w o) i ≡ grown l = rw ea at steps in
       let g : grown l ≡ bind (doneOf d gram′) (λ g. ok (basisBy (r + 1) q′ g c″ w (set o r i))) = rw (ec, eg, eq, es) in
       done-bind d gram′ (λ g. basisBy (r + 1) q′ g c″ w (set o r i)) ∙ sym g ∙ sym h
-
-  pub new-finished : {l l′ : Scalar} {q′ c″ : List Float} (gram′ : List Float) (d : Done) → a ≡ answer.Value l → l′ ≡ sharpen l → q′ ≡ fillTo q (12 * r) (unitAt (along v′ 0 1) l′) k → c″ ≡ put c′ (12 * r + r) l′
-      → doneOf d gram′ ≡ gramRow k r q′ gram → d ≡ done.Finished → ok (basisBy (r + 1) q′ gram′ c″ w (set o r i)) ≡ extended (rowProblem k [] jc) (basisBy r q gram c w o) i
-  new-finished gram′ d ea es eq ec eg ed = rw ed at (new-added gram′ d ea es eq ec eg)
-
-  pub new-stopped : {l l′ : Scalar} {q′ c″ : List Float} (gram′ : List Float) (d : Done) {e : LinearError} → a ≡ answer.Value l → l′ ≡ sharpen l → q′ ≡ fillTo q (12 * r) (unitAt (along v′ 0 1) l′) k → c″ ≡ put c′ (12 * r + r) l′
-      → doneOf d gram′ ≡ gramRow k r q′ gram → d ≡ done.Refused e → refused (numberOf e) ≡ extended (rowProblem k [] jc) (basisBy r q gram c w o) i
-  new-stopped gram′ d ea es eq ec eg ed = rw ed at (new-added gram′ d ea es eq ec eg)
 
 -- ---- one row, from what each call gives
 

@@ -193,7 +193,21 @@ fn row_of(k: usize, i: usize, jc: &[f64], v: &mut [f64])
 
 // ---- one row after the other
 
-// Row i of `jc` says something new: it is the newest vector of the basis.
+// The rank, or the refusal of the newest vector's row of the Gram factor.
+fn ranked(d: Done, r: usize) -> Rank
+    ensures { λ x. ⌜ ((q gram coefficients dependent : List Float) (order : List ℕ) → rankedOf x q gram coefficients dependent order ≡ doneOf d (basisBy r q gram coefficients dependent order)) ⌝ }
+{
+    match d {
+        Done::Finished => {
+            return Rank::Of(r);
+        }
+        Done::Refused(e) => {
+            return Rank::Refused(e);
+        }
+    }
+}
+
+// Row i of `jc` says something new: it is the newest vector of the basis; the order is its caller's.
 fn add_row(
     k: usize,
     r: usize,
@@ -202,13 +216,11 @@ fn add_row(
     q: &mut [f64],
     gram: &mut [f64],
     coefficients: &mut [f64],
-    order: &mut [usize],
 ) -> Rank
-    requires { ⌜ (k ≤ 12) × ((r ≤ i) × ((i < 12) × (length (now order) ≡ 24))) ⌝ }
-    ensures { λ x. ⌜ ((w : List Float) → rankedOf x (now (q .exit)) (now (gram .exit)) (now (coefficients .exit)) w (now (order .exit)) ≡ extended (problemBy k 0 (λ _. zeroS) [] (now (jc .entry))) (basisBy r (now (q .entry)) (now (gram .entry)) (now (coefficients .entry)) w (now (order .entry))) i) ⌝ }
+    requires { ⌜ (k ≤ 12) × ((r ≤ i) × (i < 12)) ⌝ }
+    ensures { λ x. ⌜ ((w : List Float) (o : List ℕ) → rankedOf x (now (q .exit)) (now (gram .exit)) (now (coefficients .exit)) w (set o r i) ≡ extended (problemBy k 0 (λ _. zeroS) [] (now (jc .entry))) (basisBy r (now (q .entry)) (now (gram .entry)) (now (coefficients .entry)) w o) i) ⌝ }
 {
     let mut v = [0.0; 24];
-    order[r] = i;
     row_of(k, i, jc, &mut v);
     parts_out(k, r, q, &mut v, coefficients);
     match norm_of(&v, k) {
@@ -216,14 +228,7 @@ fn add_row(
             let length = l.sharpen();
             unit(&v, 0, length, k, q, 12 * r);
             put(coefficients, 12 * r + r, length);
-            match gram_row(k, r, q, gram) {
-                Done::Finished => {
-                    return Rank::Of(r + 1);
-                }
-                Done::Refused(e) => {
-                    return Rank::Refused(e);
-                }
-            }
+            return ranked(gram_row(k, r, q, gram), r + 1);
         }
         Answer::Refused(e) => {
             return Rank::Refused(e);
@@ -284,7 +289,8 @@ fn next_row(
     match measure(k, r, i, wide, q, gram, &mut a) {
         Answer::Value(l) => {
             if l.definitely_greater(Scalar::ZERO) {
-                return add_row(k, r, i, jc, q, gram, coefficients, order);
+                order[r] = i;
+                return add_row(k, r, i, jc, q, gram, coefficients);
             }
             let d = i - r;
             order[12 + d] = i;

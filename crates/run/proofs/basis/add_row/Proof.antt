@@ -2,17 +2,11 @@
 use mathlib.Core.Path.{_≡_, _∙_}
 use native.Mathlib.Omega.{arith}
 use lib.Ieee.{ofBits}
-use lib.ListN.{length}
-use Rattle.run.proofs.BasisLaws.{new-refused, new-finished, new-stopped}
+use lib.ListN.{length, set}
+use Rattle.run.proofs.BasisLaws.{new-refused, new-added}
 use borrow.Author.Needs.{needs}
 use Rattle.run.proofs.basis.add_row.Statement.{statement}
 use Rattle.run.proofs.basis.add_row.Tie as tie
-
-mul-order : tie.Need-mul-order
-mul-order c = search needs
-
-slice-write-order : tie.Need-slice-write-order
-slice-write-order c = search needs
 
 slice-aggregate-row-of : tie.Need-slice-aggregate-row-of
 slice-aggregate-row-of c = search needs
@@ -31,7 +25,7 @@ slice-aggregate-norm-of c = search needs
 
 norm-of-requires : tie.Need-norm-of-requires
 norm-of-requires c κs =
-    let p = (c .before .before .before .before .before .before .before .before .before .before .before .before .before .before .before .before) .pre in
+    let p = (c .before .before .before .before .before .before .before .before .before .before .before .before .before .before .before) .pre in
     let l : length (c .before .before .before .before .before .before .before .before .before .row-of .last .1 .1 .1 .0) ≡ 24 = c .before .before .before .before .before .before .before .before .before .row-of .kept .1 .1 .1 .0 in
     (omega (arith, p .0), omega (arith, c .before .before .before .before .parts-out .kept .1 .1 .1 .0, l, p .0))
 
@@ -48,25 +42,25 @@ mul-unit : tie.Need-mul-unit
 mul-unit c = search needs
 
 unit-requires : tie.Need-unit-requires
-unit-requires c κs = let p = (c .before .before .before .before .before .before .before .before .before .before .before .before .before .before .before .before .before .before .before .before .before .before .before) .pre in (omega arith, (omega (arith, p .1 .0, p .1 .1 .0), omega (arith, p .0)))
+unit-requires c κs = let p = (c .before .before .before .before .before .before .before .before .before .before .before .before .before .before .before .before .before .before .before .before .before .before) .pre in (omega arith, (omega (arith, p .1 .0, p .1 .1), omega (arith, p .0)))
 
 mul-put : tie.Need-mul-put
-mul-put c = omega (arith, (c .before .before .before .before .before .before .before .before .before .before .before .before .before .before .before .before .before .before .before .before .before .before .before .before .before .before .before) .pre .1 .0, (c .before .before .before .before .before .before .before .before .before .before .before .before .before .before .before .before .before .before .before .before .before .before .before .before .before .before .before) .pre .1 .1 .0)
+mul-put c = omega (arith, (c .before .before .before .before .before .before .before .before .before .before .before .before .before .before .before .before .before .before .before .before .before .before .before .before .before .before) .pre .1 .0, (c .before .before .before .before .before .before .before .before .before .before .before .before .before .before .before .before .before .before .before .before .before .before .before .before .before .before) .pre .1 .1)
 
 add-put : tie.Need-add-put
-add-put c = omega (arith, (c .before .before .before .before .before .before .before .before .before .before .before .before .before .before .before .before .before .before .before .before .before .before .before .before .before .before .before) .pre .1 .0, (c .before .before .before .before .before .before .before .before .before .before .before .before .before .before .before .before .before .before .before .before .before .before .before .before .before .before .before) .pre .1 .1 .0)
+add-put c = omega (arith, (c .before .before .before .before .before .before .before .before .before .before .before .before .before .before .before .before .before .before .before .before .before .before .before .before .before .before) .pre .1 .0, (c .before .before .before .before .before .before .before .before .before .before .before .before .before .before .before .before .before .before .before .before .before .before .before .before .before .before) .pre .1 .1)
 
 put-requires : tie.Need-put-requires
 put-requires c κs = search needs
 
 gram-row-requires : tie.Need-gram-row-requires
-gram-row-requires c κs = omega (arith, (c .before .before .before .before .before .before .before .before .before .before .before .before .before .before .before .before .before .before .before .before .before .before .before .before .before .before .before .before .before .before .before .before) .pre .1 .0, (c .before .before .before .before .before .before .before .before .before .before .before .before .before .before .before .before .before .before .before .before .before .before .before .before .before .before .before .before .before .before .before .before) .pre .1 .1 .0)
+gram-row-requires c κs = omega (arith, (c .before .before .before .before .before .before .before .before .before .before .before .before .before .before .before .before .before .before .before .before .before .before .before .before .before .before .before .before .before .before .before) .pre .1 .0, (c .before .before .before .before .before .before .before .before .before .before .before .before .before .before .before .before .before .before .before .before .before .before .before .before .before .before .before .before .before .before .before) .pre .1 .1)
 
-enum-told : tie.Need-enum-told
-enum-told c = search needs
+add-ranked : tie.Need-add-ranked
+add-ranked c = omega (arith, (c .before .before .before .before .before .before .before .before .before .before .before .before .before .before .before .before .before .before .before .before .before .before .before .before .before .before .before .before .before .before .before .before .before .before) .pre .1 .0, (c .before .before .before .before .before .before .before .before .before .before .before .before .before .before .before .before .before .before .before .before .before .before .before .before .before .before .before .before .before .before .before .before .before .before) .pre .1 .1)
 
-add-t42 : tie.Need-add-t42
-add-t42 c = omega (arith, (c .before .before .before .before .before .before .before .before .before .before .before .before .before .before .before .before .before .before .before .before .before .before .before .before .before .before .before .before .before .before .before .before .before .before .before .before .before) .pre .1 .0, (c .before .before .before .before .before .before .before .before .before .before .before .before .before .before .before .before .before .before .before .before .before .before .before .before .before .before .before .before .before .before .before .before .before .before .before .before .before) .pre .1 .1 .0)
+ranked-requires : tie.Need-ranked-requires
+ranked-requires c κs = search needs
 
 same-length : tie.Need-same-length
 same-length c = search needs
@@ -77,68 +71,36 @@ same-length-2 c = search needs
 same-length-3 : tie.Need-same-length-3
 same-length-3 c = search needs
 
-same-length-4 : tie.Need-same-length-4
-same-length-4 c = search needs
-
 returns : tie.Need-returns
 unfolding ofBits
 returns c =
-    let a = (c .before .before .before .before .before .before .before .before .before .before .before .before .before .before .before .before .before .before .before .before .before .before .before .before .before .before .before .before .before .before .before .before .before .before .before .before .before) .args in
-    let p = c .before .before .before .before .before .before .before .before .before .before .before .before .before .before .before .before .before .before .before .before .before .before .before .before .before .parts-out in
-    let k = c .before .before .before .before .before .before .before .before .before .before .before .before .before .before .before .before .before .before .before .before .norm-of in
-    let g = c .before .before .before .before .gram-row in
-    λ w. new-finished (a .k) (a .r) (a .i) (a .jc .now) (a .q .now) (a .gram .now) (a .coefficients .now) w (a .order .now) (c .before .before .before .before .before .before .before .before .before .before .before .before .before .before .before .before .before .before .before .before .before .before .before .before .before .before .before .before .before .before .row-of .last .1 .1 .1 .0) (p .last .1 .1 .1 .0) (p .last .1 .1 .1 .1 .0) (k .result) (c .before .before .before .before .before .before .before .before .before .before .before .before .before .before .before .before .before .before .before .before .before .before .before .before .before .before .before .before .before .before .row-of .ensures) (p .ensures) (k .ensures) (g .last .1 .1 .1 .0) (g .result) (c .before .before .before .before .before .before .before .before .before .before .before .before .before .before .before .before .before .before .l .given .1) (c .before .before .before .before .before .before .before .before .before .before .before .before .before .before .before .before .sharpen .ensures) (c .before .before .before .before .before .before .before .before .before .before .before .before .before .unit .ensures) (c .before .before .before .before .before .before .before .before .before .put .ensures) (g .ensures) (c .enum-told .given .1)
+    let a = (c .before .before .before .before .before .before .before .before .before .before .before .before .before .before .before .before .before .before .before .before .before .before .before .before .before .before .before .before .before .before .before .before .before .before .before) .args in
+    let p = c .before .before .before .before .before .before .before .before .before .before .before .before .before .before .before .before .before .before .before .before .before .before .before .before .parts-out in
+    let k = c .before .before .before .before .before .before .before .before .before .before .before .before .before .before .before .before .before .before .before .norm-of in
+    let g = c .before .before .before .gram-row in
+    λ w o. c .ranked .ensures _ _ _ w (set o (a .r) (a .i)) ∙ new-added (a .k) (a .r) (a .i) (a .jc .now) (a .q .now) (a .gram .now) (a .coefficients .now) w o (c .before .before .before .before .before .before .before .before .before .before .before .before .before .before .before .before .before .before .before .before .before .before .before .before .before .before .before .before .before .row-of .last .1 .1 .1 .0) (p .last .1 .1 .1 .0) (p .last .1 .1 .1 .1 .0) (k .result) (c .before .before .before .before .before .before .before .before .before .before .before .before .before .before .before .before .before .before .before .before .before .before .before .before .before .before .before .before .before .row-of .ensures) (p .ensures) (k .ensures) (g .last .1 .1 .1 .0) (g .result) (c .before .before .before .before .before .before .before .before .before .before .before .before .before .before .before .before .before .l .given .1) (c .before .before .before .before .before .before .before .before .before .before .before .before .before .before .before .sharpen .ensures) (c .before .before .before .before .before .before .before .before .before .before .before .before .unit .ensures) (c .before .before .before .before .before .before .before .before .put .ensures) (g .ensures)
 
 enum-known-e : tie.Need-enum-known-e
 enum-known-e c = search needs
 
+same-length-4 : tie.Need-same-length-4
+same-length-4 c = search needs
+
 same-length-5 : tie.Need-same-length-5
 same-length-5 c = search needs
-
-same-length-6 : tie.Need-same-length-6
-same-length-6 c = search needs
-
-same-length-7 : tie.Need-same-length-7
-same-length-7 c = search needs
-
-same-length-8 : tie.Need-same-length-8
-same-length-8 c = search needs
 
 returns-2 : tie.Need-returns-2
 unfolding ofBits
 returns-2 c =
-    let a = (c .before .before .before .before .before .before .before .before .before .before .before .before .before .before .before .before .before .before .before .before .before .before .before .before .before .before .before .before .before .before .before .before .before .before .before .before .before .before) .args in
-    let p = c .before .before .before .before .before .before .before .before .before .before .before .before .before .before .before .before .before .before .before .before .before .before .before .before .before .before .parts-out in
-    let k = c .before .before .before .before .before .before .before .before .before .before .before .before .before .before .before .before .before .before .before .before .before .norm-of in
-    let g = c .before .before .before .before .before .gram-row in
-    λ w. new-stopped (a .k) (a .r) (a .i) (a .jc .now) (a .q .now) (a .gram .now) (a .coefficients .now) w (a .order .now) (c .before .before .before .before .before .before .before .before .before .before .before .before .before .before .before .before .before .before .before .before .before .before .before .before .before .before .before .before .before .before .before .row-of .last .1 .1 .1 .0) (p .last .1 .1 .1 .0) (p .last .1 .1 .1 .1 .0) (k .result) (c .before .before .before .before .before .before .before .before .before .before .before .before .before .before .before .before .before .before .before .before .before .before .before .before .before .before .before .before .before .before .before .row-of .ensures) (p .ensures) (k .ensures) (g .last .1 .1 .1 .0) (g .result) (c .before .before .before .before .before .before .before .before .before .before .before .before .before .before .before .before .before .before .before .l .given .1) (c .before .before .before .before .before .before .before .before .before .before .before .before .before .before .before .before .before .sharpen .ensures) (c .before .before .before .before .before .before .before .before .before .before .before .before .before .before .unit .ensures) (c .before .before .before .before .before .before .before .before .before .before .put .ensures) (g .ensures) (c .before .e .given .1)
-
-enum-known-e-2 : tie.Need-enum-known-e-2
-enum-known-e-2 c = search needs
-
-same-length-9 : tie.Need-same-length-9
-same-length-9 c = search needs
-
-same-length-10 : tie.Need-same-length-10
-same-length-10 c = search needs
-
-same-length-11 : tie.Need-same-length-11
-same-length-11 c = search needs
-
-returns-3 : tie.Need-returns-3
-unfolding ofBits
-returns-3 c =
-    let a = (c .before .before .before .before .before .before .before .before .before .before .before .before .before .before .before .before .before .before .before .before) .args in
+    let a = (c .before .before .before .before .before .before .before .before .before .before .before .before .before .before .before .before .before .before .before) .args in
     let p = c .before .before .before .before .before .before .before .before .parts-out in
     let k = c .before .before .before .norm-of in
-    λ w. new-refused (a .k) (a .r) (a .i) (a .jc .now) (a .q .now) (a .gram .now) (a .coefficients .now) w (a .order .now) (c .before .before .before .before .before .before .before .before .before .before .before .before .before .row-of .last .1 .1 .1 .0) (p .last .1 .1 .1 .0) (p .last .1 .1 .1 .1 .0) (k .result) (c .before .before .before .before .before .before .before .before .before .before .before .before .before .row-of .ensures) (p .ensures) (k .ensures) (c .before .e2 .given .1)
+    λ w o. new-refused (a .k) (a .r) (a .i) (a .jc .now) (a .q .now) (a .gram .now) (a .coefficients .now) w o (c .before .before .before .before .before .before .before .before .before .before .before .before .before .row-of .last .1 .1 .1 .0) (p .last .1 .1 .1 .0) (p .last .1 .1 .1 .1 .0) (k .result) (c .before .before .before .before .before .before .before .before .before .before .before .before .before .row-of .ensures) (p .ensures) (k .ensures) (c .before .e .given .1)
 
 pub add-row-spec : {M : Type 1} → statement M
 add-row-spec =
     tie.close
     (tie.spec
-    mul-order
-    slice-write-order
     slice-aggregate-row-of
     row-of-requires
     slice-aggregate-parts-out
@@ -154,21 +116,13 @@ add-row-spec =
     add-put
     put-requires
     gram-row-requires
-    enum-told
-    add-t42
+    add-ranked
+    ranked-requires
     same-length
     same-length-2
     same-length-3
-    same-length-4
     returns
     enum-known-e
+    same-length-4
     same-length-5
-    same-length-6
-    same-length-7
-    same-length-8
-    returns-2
-    enum-known-e-2
-    same-length-9
-    same-length-10
-    same-length-11
-    returns-3)
+    returns-2)

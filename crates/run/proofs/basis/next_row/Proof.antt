@@ -27,6 +27,12 @@ enum-known-l c = search needs
 definitely-greater-requires : tie.Need-definitely-greater-requires
 definitely-greater-requires c κs = search needs
 
+mul-order : tie.Need-mul-order
+mul-order c = search needs
+
+slice-write-order : tie.Need-slice-write-order
+slice-write-order c = search needs
+
 add-row-requires : tie.Need-add-row-requires
 add-row-requires c κs = search needs
 
@@ -45,9 +51,9 @@ same-length-4 c = search needs
 returns : tie.Need-returns
 unfolding ofBits
 returns c =
-    let a = c .before .before .before .before .before .before .before .before .before .before .before .before .before .before .before .before .before .before .before .before .before .before .before .before .before .before .before .before .before .before .args in
-    let k = c .before .before .before .before .before .before .before .before .before .before .before .before .before .before .before .before .before .before .before .measure in
-    row-new (a .k) (a .r) (a .i) (a .wide .now) (a .jc .now) (a .q .now) (a .gram .now) (a .coefficients .now) (a .dependent .now) (a .order .now) (k .result) (take (2 * a .r) (k .last .1 .1 .1 .1 .1 .1 .0)) (k .ensures) (c .before .before .before .before .before .before .before .before .before .before .before .before .before .before .before .before .l .given .1) (c .before .before .before .before .before .before .before .before .before .before .before .before .before .before .definitely-greater .ensures) (c .before .before .before .before .before .before .before .before .before .before .before .before .before .if1 .taken) (c .before .before .before .before .before .before .before .before .add-row .ensures (a .dependent .now))
+    let a = c .before .before .before .before .before .before .before .before .before .before .before .before .before .before .before .before .before .before .before .before .before .before .before .before .before .before .before .args in
+    let k = c .before .before .before .before .before .before .before .before .before .before .before .before .before .before .before .before .measure in
+    row-new (a .k) (a .r) (a .i) (a .wide .now) (a .jc .now) (a .q .now) (a .gram .now) (a .coefficients .now) (a .dependent .now) (a .order .now) (k .result) (take (2 * a .r) (k .last .1 .1 .1 .1 .1 .1 .0)) (k .ensures) (c .before .before .before .before .before .before .before .before .before .before .before .before .before .l .given .1) (c .before .before .before .before .before .before .before .before .before .before .before .definitely-greater .ensures) (c .before .before .before .before .before .before .before .before .before .before .if1 .taken) (c .before .before .before .before .before .before .add-row .ensures (a .dependent .now) (a .order .now))
 
 sub-d : tie.Need-sub-d
 sub-d c = search needs
@@ -55,11 +61,11 @@ sub-d c = search needs
 add-order : tie.Need-add-order
 add-order c = search needs
 
-mul-order : tie.Need-mul-order
-mul-order c = search needs
+mul-order-2 : tie.Need-mul-order-2
+mul-order-2 c = search needs
 
-slice-write-order : tie.Need-slice-write-order
-slice-write-order c = search needs
+slice-write-order-2 : tie.Need-slice-write-order-2
+slice-write-order-2 c = search needs
 
 slice-aggregate-chosen-at : tie.Need-slice-aggregate-chosen-at
 slice-aggregate-chosen-at c = search needs
@@ -117,6 +123,8 @@ next-row-spec =
     measure-requires
     enum-known-l
     definitely-greater-requires
+    mul-order
+    slice-write-order
     add-row-requires
     same-length
     same-length-2
@@ -125,8 +133,8 @@ next-row-spec =
     returns
     sub-d
     add-order
-    mul-order
-    slice-write-order
+    mul-order-2
+    slice-write-order-2
     slice-aggregate-chosen-at
     mul-chosen-at
     chosen-at-requires
