@@ -9,8 +9,10 @@ use lib.ListN.{length, take, drop}
 use Rattle.interval.specs.declared.Scalar.{Scalar}
 use Rattle.interval.specs.Result.{Res, ok, refused}
 use Rattle.interval.specs.Scalar.{zeroS, pick}
-use Rattle.linear.specs.Answers.{numberOf}
+use Rattle.linear.specs.Answers.{numberOf, doneOf}
 use Rattle.linear.specs.Results.{bind}
+use Rattle.linear.specs.declared.answers.Done.{Done}
+use Rattle.linear.specs.declared.answers.Done.the-variants as done
 use Rattle.linear.specs.declared.answers.LinearError.{LinearError}
 use Rattle.linear.specs.Cholesky.{Factor, choleskyOf}
 use Rattle.run.specs.Scratch.{allFinite, spreadTo}
@@ -23,9 +25,12 @@ use Rattle.run.specs.declared.step.StepEnd.{StepEnd}
 use Rattle.run.specs.declared.step.StepEnd.the-variants as end
 use Rattle.run.specs.declared.step.Prepared.{Prepared}
 use Rattle.run.specs.declared.step.Prepared.the-variants as prepared
-use Rattle.run.specs.Directions.{Directions, directionsOf}
-use Rattle.run.specs.Step.{Stepped, notPositive, forceOf, pullOf, reducedOf, againstOf, Weights, weights, none, weightsOf, steppedBy, alongZ, freeStep, keptStep, spreadStep, stepOf, curved, spanned, solvedWith, addedTo, freePart, withMultipliers, endOf, spreadEnd, basisFor, correctedStep, basedStep, testedStep, rankOf, readyStep, framedStep, dampedStep, preparedStep}
+use Rattle.run.specs.declared.directions.Found.{Found}
+use Rattle.run.specs.declared.directions.Found.the-variants as found
+use Rattle.run.specs.Directions.{Directions, directionsOf, directionsIn, foundOf}
+use Rattle.run.specs.Step.{Stepped, notPositive, forceOf, pullOf, reducedOf, againstOf, Weights, weights, none, weightsOf, steppedBy, alongZ, freeStep, keptStep, spreadStep, stepOf, curved, spanned, solvedWith, addedTo, freePart, withMultipliers, endOf, spreadEnd, basisFor, correctedStep, basedStep, testedStep, rankOf, Few, readyOf, readyStep, framedStep, dampedStep, preparedStep}
 use Rattle.run.proofs.BasisLaws.{basis-reads, rank-small}
+use Rattle.run.proofs.DirectionLaws.{directions-few}
 use Rattle.run.proofs.Frames.{first-of-four, second-of-four, third-of-four, fourth-of-four}
 
 -- the kept step, once its part along Z is added
@@ -165,10 +170,35 @@ rank-bound P q gram coefficients dependent order (rank.Refused x) e = omega arit
 -- ---- what no damping changes
 
 -- a frame, as it is read
-pub framed-is : (x : Prepared) (P : Problem) (order : List ℕ) (frame q c delta z : List Float) → length q ≡ 288 → length c ≡ 288 → length delta ≡ 24 → length z ≡ 288 → frame ≡ q ++ (c ++ (delta ++ z))
+framed-is : (x : Prepared) (P : Problem) (order : List ℕ) (frame q c delta z : List Float) → length q ≡ 288 → length c ≡ 288 → length delta ≡ 24 → length z ≡ 288 → frame ≡ q ++ (c ++ (delta ++ z))
     → framedStep x P order frame ≡ readyStep x P q c order delta z
 framed-is x P order frame q c delta z lq lc ld lz e =
     rw (first-of-four frame q c delta z lq lc ld lz e, second-of-four frame q c delta z lq lc ld lz e, third-of-four frame q c delta z lq lc ld lz e, fourth-of-four frame q c delta z lq lc ld lz e)
+
+-- the step from it, as the correction and the directions ended
+module _ (P : Problem) (b : Basis) (delta z left : List Float) where
+  ready-is : (d : Done) (f : Found) → doneOf d delta ≡ correctionOf P b → foundOf f z left ≡ directionsOf (P .k) (b .rank) (b .q)
+      → readyStep (readyOf d f (b .rank)) (curved (P .k) (P .h) (P .g)) (b .q) (b .coefficients) (b .order) delta z ≡ basedStep P b
+  ready-is done.Finished (found.Of count) ec ef = based-on P b ec (corrected-on P b delta ef (free-read P b delta (directionsIn count z left)))
+  ready-is done.Finished (found.Refused e) ec ef = based-on P b ec (corrected-refused P b delta ef)
+  ready-is (done.Refused e) f ec ef = based-refused P b ec
+
+  pub ready-framed : {x : Prepared} (frame : List Float) (d : Done) (f : Found) → length (b .q) ≡ 288 → length (b .coefficients) ≡ 288 → length delta ≡ 24 → length z ≡ 288 → frame ≡ b .q ++ (b .coefficients ++ (delta ++ z))
+      → x ≡ readyOf d f (b .rank) → doneOf d delta ≡ correctionOf P b → foundOf f z left ≡ directionsOf (P .k) (b .rank) (b .q) → framedStep x (curved (P .k) (P .h) (P .g)) (b .order) frame ≡ basedStep P b
+  ready-framed {x} frame d f lq lc ld lz e ex ec ef =
+      framed-is x (curved (P .k) (P .h) (P .g)) (b .order) frame (b .q) (b .coefficients) delta z lq lc ld lz e
+      ∙ ap (λ (y : Prepared). readyStep y (curved (P .k) (P .h) (P .g)) (b .q) (b .coefficients) (b .order) delta z) ex
+      ∙ ready-is d f ec ef
+
+-- at most twelve of each
+module _ (k r : ℕ) (q z left : List Float) (hk : k ≤ 12) (hr : r ≤ 12) where
+  few-found : (d : Done) (f : Found) → foundOf f z left ≡ directionsOf k r q → Few (readyOf d f r)
+  few-found done.Finished (found.Of count) e = record { independent = hr; free = omega (arith, directions-few k r q e, hk) }
+  few-found done.Finished (found.Refused o) e = record { independent = omega arith; free = omega arith }
+  few-found (done.Refused o) f e = record { independent = omega arith; free = omega arith }
+
+  pub ready-few : {x : Prepared} (d : Done) (f : Found) → x ≡ readyOf d f r → foundOf f z left ≡ directionsOf k r q → Few x
+  ready-few d f ex e = rw ex (few-found d f e)
 
 -- the step from it, where the correction is copied, or the refusal
 module _ {x : Prepared} (P : Problem) (order : List ℕ) (frame : List Float) where

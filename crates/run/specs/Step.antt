@@ -16,6 +16,8 @@ use Rattle.linear.specs.Dot.{dotTo}
 use Rattle.linear.specs.Choose.{chooseOf, sharpOf}
 use Rattle.linear.specs.Cholesky.{Factor, choleskyOf}
 use Rattle.linear.specs.Substitution.{solveOf}
+use Rattle.linear.specs.declared.answers.Done.{Done}
+use Rattle.linear.specs.declared.answers.Done.the-variants as done
 use Rattle.run.specs.Scratch.{vector, matrix, row, fillTo, fillRows, anyTo, allFinite, combinedTo, spreadTo}
 use Rattle.run.specs.Rows.{Evaluation}
 use Rattle.run.specs.Model.{Kept, keptTo, Problem, problemOf, dampedCurve, gradientIn}
@@ -23,6 +25,8 @@ use Rattle.run.specs.Basis.{Basis, basisOf, correctionOf, multipliersOf}
 use Rattle.run.specs.Directions.{Directions, directionsOf, directionsIn}
 use Rattle.run.specs.declared.basis.Rank.{Rank}
 use Rattle.run.specs.declared.basis.Rank.the-variants as rank
+use Rattle.run.specs.declared.directions.Found.{Found}
+use Rattle.run.specs.declared.directions.Found.the-variants as f
 use Rattle.run.specs.declared.free.Along.{Along}
 use Rattle.run.specs.declared.free.Along.the-variants as a
 use Rattle.run.specs.declared.step.Prepared.{Prepared}
@@ -184,6 +188,12 @@ freeIn (p.Refused e) = 0
 pub record Few (x : Prepared) : Type 0 where
   pub independent : independentIn x ≤ 12
   pub free : freeIn x ≤ 12
+
+-- how the preparation ends with r independent rows, where the correction and then the directions ended so
+abbrev pub readyOf : Done → Found → ℕ → Prepared
+readyOf done.Finished (f.Of count) r = p.Ready r count
+readyOf done.Finished (f.Refused e) r = p.Refused e
+readyOf (done.Refused e) x r = p.Refused e
 
 -- the step over the kept variables from it, for the curvature and the gradient of a problem
 abbrev pub readyStep : Prepared → Problem → List Float → List Float → List ℕ → List Float → List Float → Res Stepped

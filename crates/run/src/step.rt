@@ -10,7 +10,7 @@ ghost use Rattle.run.specs.Basis.{basisBy};
 ghost use Rattle.run.specs.Model.{problemIn};
 ghost use Rattle.run.specs.Rows.{rowsIn, evaluationOf, valueAt};
 ghost use Rattle.run.specs.Scratch.{allFinite};
-ghost use Rattle.run.specs.Step.{pullOf, freeStep, curved, spanned, endOf, withMultipliers, basisFor, basedStep, keptStep, stepOf, Few, framedStep, dampedStep, preparedStep, Framed, PreparedFor};
+ghost use Rattle.run.specs.Step.{pullOf, freeStep, curved, spanned, endOf, withMultipliers, basisFor, basedStep, keptStep, stepOf, Few, framedStep, dampedStep, preparedStep, Framed, PreparedFor, readyOf};
 use crate::area::place;
 use crate::basis::Rank;
 use crate::basis::basis;
@@ -115,6 +115,25 @@ fn free_step(
 
 // ---- what no damping changes
 
+// What was prepared with r independent rows, or the first refusal.
+fn ready(end: Done, found: Found, r: usize) -> Prepared
+    ensures { λ x. ⌜ x ≡ readyOf end found r ⌝ }
+{
+    match end {
+        Done::Finished => match found {
+            Found::Of(count) => {
+                return Prepared::Ready(r, count);
+            }
+            Found::Refused(e) => {
+                return Prepared::Refused(e);
+            }
+        },
+        Done::Refused(e) => {
+            return Prepared::Refused(e);
+        }
+    }
+}
+
 // A frame, from the basis on: Q, the coefficients, the correction and the free directions, one behind the other.
 fn prepare_free(
     k: usize,
@@ -134,7 +153,7 @@ fn prepare_free(
     let mut left = [0.0; 288];
     place(frame, 0, q);
     place(frame, COEFFICIENTS, coefficients);
-    match correction(
+    let end = correction(
         k,
         m,
         r,
@@ -145,19 +164,9 @@ fn prepare_free(
         xs,
         c,
         &mut frame[CORRECTION..DIRECTIONS],
-    ) {
-        Done::Finished => match free_directions(k, r, q, &mut frame[DIRECTIONS..FRAME], &mut left) {
-            Found::Of(count) => {
-                return Prepared::Ready(r, count);
-            }
-            Found::Refused(e) => {
-                return Prepared::Refused(e);
-            }
-        },
-        Done::Refused(e) => {
-            return Prepared::Refused(e);
-        }
-    }
+    );
+    let found = free_directions(k, r, q, &mut frame[DIRECTIONS..FRAME], &mut left);
+    ready(end, found, r)
 }
 
 // The basis, and what follows from it, for the constraint values in xs.
