@@ -11,7 +11,7 @@ use lib.ListN.{length, take, drop, set, replicate, length-drop, length-replicate
 use lib.Seq.{take-at}
 use Rattle.interval.specs.declared.Scalar.{Scalar}
 use Rattle.interval.specs.Result.{Res, ok, refused}
-use Rattle.interval.specs.Scalar.{zeroS, pick, negOf, divOf, sharpen, definitelyGreater}
+use Rattle.interval.specs.Scalar.{zeroS, pick, negOf, divOf, sqrtOf, sharpen, definitelyGreater}
 use Rattle.interval.proofs.Results.{ok-inj}
 use Rattle.linear.specs.Answers.{numberOf, resultOf, doneOf}
 use Rattle.linear.specs.Choose.{chooseOf, sharpOf}
@@ -20,23 +20,23 @@ use Rattle.linear.specs.Flat.{at, along, put, listTo}
 use Rattle.linear.specs.Householder.{leastSquaresOf}
 use Rattle.linear.specs.Norm.{normOf}
 use Rattle.linear.specs.Results.{bind, foldR}
-use Rattle.linear.specs.Substitution.{solveOf}
+use Rattle.linear.specs.Substitution.{storeR, solveOf}
 use Rattle.linear.specs.declared.answers.Answer.{Answer}
 use Rattle.linear.specs.declared.answers.Answer.the-variants as answer
 use Rattle.linear.specs.declared.answers.Done.{Done}
 use Rattle.linear.specs.declared.answers.Done.the-variants as done
 use Rattle.linear.specs.declared.answers.LinearError.{LinearError}
 use Rattle.linear.proofs.Agree.{normOf-ext, minusTo-ext, dotTo-ext}
-use Rattle.linear.proofs.Folds.{turn, ends, bind-value}
+use Rattle.linear.proofs.Folds.{turn, ends, bind-value, bind-ok, bind-refused}
 use Rattle.linear.proofs.Reflections.{rows-positive}
 use Rattle.linear.proofs.Sums.{along-start}
 use Rattle.run.specs.Model.{Problem}
-use Rattle.run.specs.Basis.{Basis, Taken, noRows, packed, coefficientsIn, outsideAt, partOut, partsOut, gramRow, extended, withDependent, rowStep, basisOf, orderAt, coefficientAt, correctionOf, multiplierStep, multipliersOf, basisBy, takenBy, problemBy, rankedOf}
+use Rattle.run.specs.Basis.{Basis, Taken, noRows, packed, coefficientsIn, outsideAt, partOut, partsOut, gramStep, gramRow, extended, withDependent, rowStep, basisOf, orderAt, coefficientAt, correctionOf, multiplierStep, multipliersOf, basisBy, takenBy, problemBy, rankedOf}
 use Rattle.run.specs.declared.basis.Rank.{Rank}
 use Rattle.run.specs.declared.basis.Rank.the-variants as rank
 use Rattle.run.specs.Scratch.{vector, row, column, entry, fillTo, minusScaled, unitAt, combinedTo, spreadTo}
 use Rattle.run.proofs.Parts.{at-behind, along-behind, along-take}
-use Rattle.run.proofs.ScratchLaws.{at-take}
+use Rattle.run.proofs.ScratchLaws.{at-take, fill-ext}
 
 pub part-turn : (k r : ℕ) (q : List Float) (z : Taken) (j : ℕ) {s t : Taken} → s ≡ partsOut k r q z j → t ≡ partOut k r q s j → t ≡ partsOut k r q z (j + 1)
 unfolding partsOut
@@ -103,6 +103,17 @@ module _ (k r i : ℕ) (jc q gram c w : List Float) (o : List ℕ) (v v′ c′ 
       let g : grown l ≡ bind (doneOf d gram′) (λ g. ok (basisBy (r + 1) q′ g c″ w (set o r i))) = rw (ec, eg, eq, es) in
       done-bind d gram′ (λ g. basisBy (r + 1) q′ g c″ w (set o r i)) ∙ sym g ∙ sym h
 
+-- the Gram factor's newest row, from what each call gives
+module _ (k r : ℕ) (q gram gram′ : List Float) (d : Done) (eg : doneOf d gram′ ≡ foldR (gramStep k r q) gram r) where
+  pub gram-on : {z s : Scalar} {y : Res Scalar} {x : Res (List Float)}
+      → d ≡ done.Finished → z ≡ dotTo (row q r) (row q r) k → s ≡ minusTo (row gram′ r) (row gram′ r) z r → y ≡ sqrtOf s → x ≡ storeR gram′ (12 * r + r) y → x ≡ gramRow k r q gram
+  unfolding gramRow
+  gram-on ed ez es ey ex = (rw (ey, es, ez) at ex) ∙ sym (bind-ok _ (sym (rw ed at eg)))
+
+  pub gram-refused : {e : LinearError} → d ≡ done.Refused e → refused (numberOf e) ≡ gramRow k r q gram
+  unfolding gramRow
+  gram-refused ed = sym (bind-refused _ (sym (rw ed at eg)))
+
 -- ---- one row, from what each call gives
 
 module _ (k r i : ℕ) (wide jc q gram c w : List Float) (o : List ℕ) (x : Answer) (a : List Float)
@@ -132,13 +143,15 @@ module _ (k r i : ℕ) (wide jc q gram c w : List Float) (o : List ℕ) (x : Ans
       let p : decided a l ≡ extended (rowProblem k wide jc) before i = rw t in
       eb ∙ sym (h ∙ p)
 
-  pub row-dependent : {l : Scalar} {s : Bool} → x ≡ answer.Value l → s ≡ definitelyGreater l zeroS → s ≡ false → ok (withDependent before i a) ≡ rowStep (rowProblem k wide jc) before i
+  pub row-dependent : {l : Scalar} {s : Bool} {w′ : List Float} (y : List Float) → a ≡ take (2 * r) y → 2 * r ≤ length y → x ≡ answer.Value l → s ≡ definitelyGreater l zeroS → s ≡ false
+      → w′ ≡ fillTo w (12 * (i - r)) (λ j. chooseOf (at y j)) r → ok (basisBy r q gram c w′ (set o (12 + (i - r)) i)) ≡ rowStep (rowProblem k wide jc) before i
   unfolding bind
-  row-dependent {l} e es et =
+  row-dependent {l} y ea ly e es et ew =
+      let f = fill-ext w (12 * (i - r)) (λ j. chooseOf (at y j)) (λ j. chooseOf (at a j)) r (λ j h. ap chooseOf (sym (ap (λ (z : List Float). at z j) ea ∙ at-take y r j h ly))) in
       let h : rowStep (rowProblem k wide jc) before i ≡ decided a l = rw e at row-is in
       let t : definitelyGreater l zeroS ≡ false = sym es ∙ et in
       let p : decided a l ≡ ok (withDependent before i a) = rw t in
-      sym (h ∙ p)
+      ap (λ (z : List Float). ok (basisBy r q gram c z (set o (12 + (i - r)) i))) (ew ∙ f) ∙ sym (h ∙ p)
 
 -- ---- never more vectors than rows
 

@@ -1,8 +1,6 @@
 -- `gram_row` meets its contract: the entries below the diagonal, then the diagonal.
-use mathlib.Core.Path.{sym, _∙_}
 use lib.Ieee.{ofBits}
-use Rattle.linear.proofs.Folds.{bind-ok, bind-refused}
-use Rattle.run.specs.Basis.{gramRow}
+use Rattle.run.proofs.BasisLaws.{gram-on, gram-refused}
 use borrow.Author.Needs.{needs}
 use Rattle.run.proofs.basis.gram_row.Statement.{statement}
 use Rattle.run.proofs.basis.gram_row.Tie as tie
@@ -50,20 +48,20 @@ same-length : tie.Need-same-length
 same-length c = search needs
 
 returns : tie.Need-returns
-unfolding gramRow ofBits
+unfolding ofBits
 returns c =
-    let e = rw (c .before .before .before .before .before .before .before .before .enum-told .given .1) at (c .before .before .before .before .before .before .before .before .before .before .before .before .gram-entries .ensures) in
-    let d = rw (c .before .before .before .sqrt .ensures .value, c .before .before .before .before .before .minus-dot .ensures, c .before .before .before .before .before .before .before .plus-dot .ensures) at (c .before .before .store .ensures) in
-    d ∙ sym (bind-ok _ (sym e))
+    let a = c .before .before .before .before .before .before .before .before .before .before .before .before .before .before .before .before .args in
+    let g = c .before .before .before .before .before .before .before .before .before .before .before .before .gram-entries in
+    gram-on (a .k) (a .r) (a .q .now) (a .gram .now) (g .last .1 .1 .1 .0) (g .result) (g .ensures) (c .before .before .before .before .before .before .before .before .enum-told .given .1) (c .before .before .before .before .before .before .before .plus-dot .ensures) (c .before .before .before .before .before .minus-dot .ensures) (c .before .before .before .sqrt .ensures .value) (c .before .before .store .ensures)
 
 same-length-2 : tie.Need-same-length-2
 same-length-2 c = search needs
 
 returns-2 : tie.Need-returns-2
-unfolding gramRow
 returns-2 c =
-    let e = rw (c .before .e .given .1) at (c .before .before .before .before .before .gram-entries .ensures) in
-    sym (bind-refused _ (sym e))
+    let a = c .before .before .before .before .before .before .before .before .before .args in
+    let g = c .before .before .before .before .before .gram-entries in
+    gram-refused (a .k) (a .r) (a .q .now) (a .gram .now) (g .last .1 .1 .1 .0) (g .result) (g .ensures) (c .before .e .given .1)
 
 pub gram-row-spec : {M : Type 1} → statement M
 gram-row-spec =

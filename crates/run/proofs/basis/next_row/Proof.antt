@@ -1,16 +1,10 @@
 -- `next_row` meets its contract: the length that is left decides the arm.
-use mathlib.Core.Path.{_≡_, refl, sym, ap, _∙_}
-use Prim.Native.Nat.{_+_, _*_, _-_, _≤_}
+use mathlib.Core.Path.{_≡_, refl}
+use Prim.Native.Nat.{_*_}
 use native.Mathlib.Omega.{arith}
 use lib.Ieee.{ofBits}
-use lib.ListN.{length, set, take}
-use Rattle.interval.specs.Result.{ok}
-use Rattle.linear.specs.Choose.{chooseOf}
-use Rattle.linear.specs.Flat.{at}
-use Rattle.run.specs.Basis.{basisBy}
+use lib.ListN.{length, take}
 use Rattle.run.proofs.BasisLaws.{row-refused, row-new, row-dependent}
-use Rattle.run.proofs.ScratchLaws.{at-take}
-use Rattle.run.proofs.ScratchLaws.{fill-ext}
 use borrow.Author.Needs.{needs}
 use Rattle.run.proofs.basis.next_row.Statement.{statement}
 use Rattle.run.proofs.basis.next_row.Tie as tie
@@ -95,10 +89,8 @@ returns-2 c =
     let a = s .args in
     let k = c .before .before .before .before .before .before .before .before .before .before .before .measure in
     let x = k .last .1 .1 .1 .1 .1 .1 .0 in
-    let d = a .i - a .r in
     let l : length x ≡ 24 = k .kept .1 .1 .1 .1 .1 .1 .0 in
-    let e = c .before .before .chosen-at .ensures ∙ fill-ext (a .dependent .now) (12 * d) (λ j. chooseOf (at x j)) (λ j. chooseOf (at (take (2 * a .r) x) j)) (a .r) (λ j h. ap chooseOf (sym (at-take x (a .r) j h (omega (arith, l, s .pre .1 .0, s .pre .1 .1 .0))))) in
-    ap (λ z. ok (basisBy (a .r) (a .q .now) (a .gram .now) (a .coefficients .now) z (set (a .order .now) (12 + d) (a .i)))) e ∙ row-dependent (a .k) (a .r) (a .i) (a .wide .now) (a .jc .now) (a .q .now) (a .gram .now) (a .coefficients .now) (a .dependent .now) (a .order .now) (k .result) (take (2 * a .r) x) (k .ensures) (c .before .before .before .before .before .before .before .before .l .given .1) (c .before .before .before .before .before .before .definitely-greater .ensures) (c .before .before .before .before .before .if1 .left)
+    row-dependent (a .k) (a .r) (a .i) (a .wide .now) (a .jc .now) (a .q .now) (a .gram .now) (a .coefficients .now) (a .dependent .now) (a .order .now) (k .result) (take (2 * a .r) x) (k .ensures) x refl (omega (arith, l, s .pre .1 .0, s .pre .1 .1 .0)) (c .before .before .before .before .before .before .before .before .l .given .1) (c .before .before .before .before .before .before .definitely-greater .ensures) (c .before .before .before .before .before .if1 .left) (c .before .before .chosen-at .ensures)
 
 enum-known-e : tie.Need-enum-known-e
 enum-known-e c = search needs
