@@ -175,9 +175,11 @@ fn gram_row(k: usize, r: usize, q: &[f64], gram: &mut [f64]) -> Done
         Done::Finished => {
             let z = plus_dot(q, 12 * r, 1, q, 12 * r, 1, Scalar::ZERO, k);
             let s = minus_dot(gram, 12 * r, 1, gram, 12 * r, 1, z, r);
-            store(gram, 12 * r + r, s.sqrt())
+            return store(gram, 12 * r + r, s.sqrt());
         }
-        Done::Refused(e) => Done::Refused(e),
+        Done::Refused(e) => {
+            return Done::Refused(e);
+        }
     }
 }
 
@@ -263,9 +265,11 @@ fn measure(
     match coefficients(k, r, i, wide, q, gram, a) {
         Done::Finished => {
             outside(k, r, i, wide, q, a, &mut out);
-            norm_of(&out, k)
+            return norm_of(&out, k);
         }
-        Done::Refused(e) => Answer::Refused(e),
+        Done::Refused(e) => {
+            return Answer::Refused(e);
+        }
     }
 }
 

@@ -121,9 +121,11 @@ fn take_longest(k: usize, count: usize, z: &mut [f64], left: &mut [f64]) -> Next
                 without(k, z, count, left);
                 return Next::Taken;
             }
-            Next::Enough
+            return Next::Enough;
         }
-        ScalarResult::Refused(e) => Next::Refused(LinearError::Arithmetic(e)),
+        ScalarResult::Refused(e) => {
+            return Next::Refused(LinearError::Arithmetic(e));
+        }
     }
 }
 

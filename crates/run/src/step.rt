@@ -249,9 +249,11 @@ fn prepared_step(
     match prepared {
         Prepared::Ready(r, count) => {
             place(kept, 0, &frame[CORRECTION..DIRECTIONS]);
-            free_step(k, r, count, h, g, order, frame, kept, lambda)
+            return free_step(k, r, count, h, g, order, frame, kept, lambda);
         }
-        Prepared::Refused(e) => StepEnd::Refused(e),
+        Prepared::Refused(e) => {
+            return StepEnd::Refused(e);
+        }
     }
 }
 

@@ -41,9 +41,6 @@ sqrt-requires c κs = search needs
 store-requires : tie.Need-store-requires
 store-requires c κs = search needs
 
-enum-known-e : tie.Need-enum-known-e
-enum-known-e c = search needs
-
 same-length : tie.Need-same-length
 same-length c = search needs
 
@@ -53,6 +50,9 @@ returns c =
     let a = c .before .before .before .before .before .before .before .before .before .before .before .before .before .before .before .before .args in
     let g = c .before .before .before .before .before .before .before .before .before .before .before .before .gram-entries in
     gram-on (a .k) (a .r) (a .q .now) (a .gram .now) (g .last .1 .1 .1 .0) (g .result) (g .ensures) (c .before .before .before .before .before .before .before .before .enum-told .given .1) (c .before .before .before .before .before .before .before .plus-dot .ensures) (c .before .before .before .before .before .minus-dot .ensures) (c .before .before .before .sqrt .ensures .value) (c .before .before .store .ensures)
+
+enum-known-e : tie.Need-enum-known-e
+enum-known-e c = search needs
 
 same-length-2 : tie.Need-same-length-2
 same-length-2 c = search needs
@@ -79,8 +79,8 @@ gram-row-spec =
     add-store
     sqrt-requires
     store-requires
-    enum-known-e
     same-length
     returns
+    enum-known-e
     same-length-2
     returns-2)

@@ -33,9 +33,6 @@ slice-aggregate-norm-of c = search needs
 norm-of-requires : tie.Need-norm-of-requires
 norm-of-requires c κs = search needs
 
-enum-known-e : tie.Need-enum-known-e
-enum-known-e c = search needs
-
 same-length : tie.Need-same-length
 same-length c = search needs
 
@@ -49,6 +46,9 @@ returns c =
     let h : 2 * a .k ≤ 24 = omega (arith, s .pre .0) in
     let l = rw (c .before .before .before .outside .ensures) at (c .norm-of .ensures) ∙ norm-fill _ g (a .k) h in
     λ f. ap (λ z. bind z (f (take (2 * a .r) x))) (l ∙ left-take (a .k) (a .r) (a .i) (a .wide .now) (a .q .now) x (omega (arith, c .before .before .before .before .before .before .before .before .before .before .coefficients .kept, s .pre .1 .0, s .pre .1 .1 .1))) ∙ sym (bind-ok _ (sym e))
+
+enum-known-e : tie.Need-enum-known-e
+enum-known-e c = search needs
 
 same-length-2 : tie.Need-same-length-2
 same-length-2 c = search needs
@@ -69,8 +69,8 @@ measure-spec =
     outside-requires
     slice-aggregate-norm-of
     norm-of-requires
-    enum-known-e
     same-length
     returns
+    enum-known-e
     same-length-2
     returns-2)

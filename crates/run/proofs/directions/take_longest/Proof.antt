@@ -51,9 +51,6 @@ returns c =
     let r = rw (c .before .before .before .before .before .before .before .before .before .before .before .before .before .before .before .l .given .1) at (c .before .before .before .before .before .before .before .before .before .before .before .before .before .before .before .before .before .sqrt .ensures .value) in
     turn-on _ _ (longest-place _ _ _ b) (longest-root _ _ _ b r) (c .before .before .before .before .before .before .before .before .before .before .before .before .before .sharpen .ensures) (c .before .before .before .before .before .before .before .before .before .before .before .before .definitely-greater .ensures) (c .before .before .before .before .before .before .before .before .before .before .before .if1 .taken) (c .before .before .before .before .before .before .before .unit .ensures) (c .before .before .without .ensures)
 
-enum-known-e : tie.Need-enum-known-e
-enum-known-e c = search needs
-
 same-length-3 : tie.Need-same-length-3
 same-length-3 c = search needs
 
@@ -63,6 +60,9 @@ returns-2 c =
     let b = c .before .before .before .before .before .before .before .longest .ensures in
     let r = rw (c .before .before .before .before .l .given .1) at (c .before .before .before .before .before .before .sqrt .ensures .value) in
     turn-last _ _ (longest-place _ _ _ b) (longest-root _ _ _ b r) (c .before .before .sharpen .ensures) (c .before .definitely-greater .ensures) (c .if1 .left)
+
+enum-known-e : tie.Need-enum-known-e
+enum-known-e c = search needs
 
 same-length-4 : tie.Need-same-length-4
 same-length-4 c = search needs
@@ -89,8 +89,8 @@ take-longest-spec =
     same-length
     same-length-2
     returns
-    enum-known-e
     same-length-3
     returns-2
+    enum-known-e
     same-length-4
     returns-3)

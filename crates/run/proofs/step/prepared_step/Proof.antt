@@ -30,9 +30,6 @@ free-step-requires c κs =
     let g = c .before .before .before .before .before .before .before .before .prepared .given .1 in
     (p .0, (rw g at (p .1 .0 .independent), (rw g at (p .1 .0 .free), (p .1 .1 .0, (p .1 .1 .1 .0, p .1 .1 .1 .1 .1)))))
 
-enum-known-prepared-2 : tie.Need-enum-known-prepared-2
-enum-known-prepared-2 c = search needs
-
 same-length : tie.Need-same-length
 same-length c = search needs
 
@@ -45,6 +42,9 @@ returns c =
     let p = s .pre in
     let l = cut-length 24 576 (s .args .frame .now) (omega (arith, p .1 .1 .1 .0)) in
     ready-on (curved (s .args .k) (s .args .h .now) (s .args .g .now)) (s .args .order .now) (s .args .frame .now) (c .before .before .before .before .before .before .before .before .before .before .before .before .before .prepared .given .1) (c .before .before .before .before .before .before .before .before .before .place .ensures ∙ written-all (s .args .kept .now) (take 24 (drop 576 (s .args .frame .now))) (omega (arith, l, p .1 .1 .1 .1 .0))) (c .before .before .before .before .free-step .ensures)
+
+enum-known-prepared-2 : tie.Need-enum-known-prepared-2
+enum-known-prepared-2 c = search needs
 
 returns-2 : tie.Need-returns-2
 returns-2 c = let a = c .before .before .before .before .before .before .before .before .before .args in ready-refused (curved (a .k) (a .h .now) (a .g .now)) (a .order .now) (a .frame .now) (c .before .prepared2 .given .1)
@@ -59,8 +59,8 @@ prepared-step-spec =
     part-place-end
     place-requires
     free-step-requires
-    enum-known-prepared-2
     same-length
     same-length-2
     returns
+    enum-known-prepared-2
     returns-2)
