@@ -1,25 +1,53 @@
--- What the calls hand back of the area, the point, and the lengths that `begin` passes.
+-- What the calls hand back of the area, the point, and what the number that refuses a begin says.
 use Prim.Native.Nat.{ℕ, _*_, _≤_}
-use mathlib.Core.Bool.{true, false, _&&_}
+use mathlib.Core.Bool.{Bool, true, false, _&&_}
 use mathlib.Core.List.{List, []}
-use mathlib.Core.Path.{_≡_, sym, ap}
+use mathlib.Core.Path.{_≡_, refl, sym, ap}
 use native.Mathlib.Omega.{arith}
 use borrow.Author.Tests.{eq-eqb, eqb-true}
 use lib.Dec.{eqb}
 use lib.Ieee.{Float}
 use lib.ListN.{length, take, drop}
+use Rattle.interval.specs.declared.Scalar.{Scalar}
+use Rattle.interval.specs.Scalar.{pick}
 use Rattle.run.specs.Area.{AREA}
-use Rattle.run.specs.Calls.{valid, pointAt, pointOf}
+use Rattle.run.specs.Calls.{Left, checks, unchanged, sizesFit, allInDomain, stepFits, noRun, begunOf, beginOf, valid, pointAt, pointOf}
 use Rattle.run.specs.declared.state.Phase.{Phase}
+use Rattle.run.specs.declared.state.Sizes.{Sizes}
 use Rattle.run.specs.declared.state.State.{State}
-use Rattle.run.proofs.CheckLaws.{both}
+use Rattle.run.proofs.CheckLaws.{both, size-bounds}
 
--- lengths that `begin` passes
-pub begin-ready : (n area : ℕ) (start : List Float) → n ≤ 12 → (eqb (length start) (2 * n) && eqb area AREA) ≡ true → (length start ≤ 24) × (area ≡ 8000)
-begin-ready n area start h e =
-    let b = both (eqb (length start) (2 * n)) _ e in
-    let l : length start ≡ 2 * n = eqb-true _ _ (b .0) in
-    (omega (arith, l, h), eqb-true _ _ (b .1))
+-- three checks by the number k that refuses: none is left where k is 0
+refused-by : {k : ℕ} (p q r : Bool) (back : ℕ → Left) (next : Left) → k ≡ pick p (pick q (pick r 0 3) 2) 1 → (k ≡ 0 → ⊥) → back k ≡ checks p 1 back (checks q 2 back (checks r 3 back next))
+refused-by true true true back next e n = absurd (n e)
+refused-by true true false back next e n = ap back e
+refused-by true false r back next e n = ap back e
+refused-by false q r back next e n = ap back e
+
+passed-by : {k : ℕ} (p q r : Bool) → k ≡ pick p (pick q (pick r 0 3) 2) 1 → k ≡ 0 → (p ≡ true) × ((q ≡ true) × (r ≡ true))
+passed-by true true true e z = (refl, (refl, refl))
+passed-by true true false e z = absurd (omega (arith, e, z))
+passed-by true false r e z = absurd (omega (arith, e, z))
+passed-by false q r e z = absurd (omega (arith, e, z))
+
+-- the checks of a begin by that number
+module _ (z : Sizes) (start : List Float) (max : Scalar) (a : List Float) {k : ℕ} (e : k ≡ pick (sizesFit z) (pick (eqb (length start) (2 * z .n) && eqb (length a) AREA) (pick (allInDomain start (z .n) && stepFits max) 0 3) 2) 1) where
+  pub begin-refused : (k ≡ 0 → ⊥) → unchanged noRun a k ≡ beginOf z start max a
+  unfolding beginOf
+  begin-refused n = refused-by (sizesFit z) (eqb (length start) (2 * z .n) && eqb (length a) AREA) (allInDomain start (z .n) && stepFits max) (unchanged noRun a) (begunOf z start max) e n
+
+  pub begin-lengths : k ≡ 0 → (length a ≡ 8000) × (length start ≤ 24)
+  begin-lengths h =
+      let p = passed-by (sizesFit z) (eqb (length start) (2 * z .n) && eqb (length a) AREA) (allInDomain start (z .n) && stepFits max) e h in
+      let b = both (eqb (length start) (2 * z .n)) _ (p .1 .0) in
+      let l : length start ≡ 2 * z .n = eqb-true _ _ (b .0) in
+      (eqb-true _ _ (b .1), omega (arith, l, size-bounds z (p .0) .n))
+
+  pub begin-passed : k ≡ 0 → begunOf z start max ≡ beginOf z start max a
+  unfolding beginOf
+  begin-passed h =
+      let p = passed-by (sizesFit z) (eqb (length start) (2 * z .n) && eqb (length a) AREA) (allInDomain start (z .n) && stepFits max) e h in
+      rw (p .0, p .1 .0, p .1 .1)
 
 -- ---- the point
 

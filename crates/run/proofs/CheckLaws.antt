@@ -1,11 +1,14 @@
 -- What the checks tell: the bounds of a run that passes number 4's test, and a reply where its checks refuse it and where they accept it.
 use Prim.Native.Nat.{ℕ, _+_, _*_, _<_, _≤_}
 use mathlib.Core.Bool.{Bool, true, false, _&&_}
-use mathlib.Core.List.{List}
+use mathlib.Core.List.{List, [], _∷_}
+use mathlib.Core.Logic.{⊎-elim}
 use mathlib.Core.Path.{_≡_, refl, sym, ap, _∙_}
 use native.Mathlib.Nat.{mul-le-mul}
 use native.Mathlib.Omega.{arith}
 use borrow.Author.Tests.{leb-true, ltb-true, eqb-true}
+use denote.Enum.Declared.{tagOf}
+use types.Run.{OneOf}
 use lib.Dec.{leb, ltb, eqb}
 use lib.Ieee.{Float}
 use lib.ListN.{length}
@@ -25,9 +28,19 @@ use Rattle.run.specs.declared.state.Phase.the-variants.{Open, Over}
 use Rattle.run.specs.declared.state.Sizes.{Sizes}
 use Rattle.run.specs.declared.state.State.{State}
 use Rattle.run.proofs.Booleans.{and-left, and-right}
+use Rattle.run.proofs.state.Kind.{the-type as the-kind}
 
 pub both : (a b : Bool) → (a && b) ≡ true → (a ≡ true) × (b ≡ true)
 both a b e = (and-left a b e, and-right a b e)
+
+-- what the second of two decides
+and-false : (a : Bool) {b : Bool} → b ≡ false → (a && b) ≡ false
+and-false true e = e
+and-false false e = refl
+
+and-true : (a : Bool) {b : Bool} → b ≡ true → (a && b) ≡ a
+and-true true e = e
+and-true false e = refl
 
 -- ---- the bounds of a run
 
@@ -43,6 +56,19 @@ size-bounds z e =
     let b = both (leb (z .m) 12) _ (a .1) in
     let d = both (leb (z .s) 24) _ (b .1) in
     record { n = leb-true _ _ (a .0); m = leb-true _ _ (b .0); s = leb-true _ _ (d .0); limit = leb-true _ _ (d .1) }
+
+-- ---- with a question open: what the damping decides, and the iterations where it is not the start's
+
+module _ (st : State) where
+  pub not-positive : (k : Kind) → isPositive (st .search .mu) ≡ false → false ≡ phaseFits st (Open k)
+  not-positive kind.Start e = sym e
+  not-positive kind.Trial e = sym (and-false (ltb (st .counts .iterations) (st .sizes .limit)) e)
+  not-positive kind.Correction e = sym (and-false (ltb (st .counts .iterations) (st .sizes .limit)) e)
+
+  pub past-start : (k : Kind) → OneOf (1 ∷ (2 ∷ [])) (tagOf the-kind k) → isPositive (st .search .mu) ≡ true → ltb (st .counts .iterations) (st .sizes .limit) ≡ phaseFits st (Open k)
+  past-start kind.Start o e = absurd (⊎-elim (λ i. omega (arith, i)) (λ i. omega (arith, i)) o)
+  past-start kind.Trial o e = sym (and-true (ltb (st .counts .iterations) (st .sizes .limit)) e)
+  past-start kind.Correction o e = sym (and-true (ltb (st .counts .iterations) (st .sizes .limit)) e)
 
 pub record Bounds (st : State) : Type 0 where
   pub sizes : SizeBounds (st .sizes)

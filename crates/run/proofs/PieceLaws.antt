@@ -1,6 +1,6 @@
 -- Checks one after the other: what those that passed say, and what a call gives then.
 use Prim.Native.Nat.{ℕ, _+_, _*_, _<_, _≤_}
-use mathlib.Core.Bool.{Bool, true, false}
+use mathlib.Core.Bool.{Bool, true, false, _&&_}
 use mathlib.Core.Logic.{⊎-elim}
 use mathlib.Core.Path.{_≡_, refl, sym, _∙_}
 use mathlib.Core.List.{List, [], _∷_}
@@ -21,10 +21,12 @@ use Rattle.linear.specs.Results.{bind}
 use Rattle.linear.specs.declared.answers.Done.{Done}
 use Rattle.linear.specs.declared.answers.Done.the-variants as done
 use Rattle.run.specs.Rows.{rowNumbers}
+use Rattle.run.specs.Calls.{sizesFit}
 use Rattle.run.specs.Pieces.{sizedOf, wantsOf, stepReplied, stepReplyOf}
 use Rattle.run.specs.Step.{endOf}
 use Rattle.run.specs.declared.step.StepEnd.{StepEnd}
 use Rattle.run.specs.declared.step.StepEnd.the-variants as s
+use Rattle.run.proofs.Booleans.{never}
 use Rattle.run.proofs.step.StepEnd.{the-type}
 
 -- the scalars of an answer
@@ -33,6 +35,17 @@ answer-small {n} {m} {s} hn hm hs =
     let a : m + s ≤ 36 = omega arith in
     let b : n + 1 ≤ 13 = omega arith in
     mul-le-mul a b
+
+-- sizes of which one is above its limit
+one-refused : (a b d : Bool) (r : Res (Unit {0})) → (a && (b && (d && true))) ≡ false → refused 1 ≡ checkedValue a 1 (checkedValue b 1 (checkedValue d 1 r))
+one-refused true true true r e = never (sym e)
+one-refused true true false r e = refl
+one-refused true false d r e = refl
+one-refused false b d r e = refl
+
+pub too-many : (n m s count : ℕ) → sizesFit (record { n = n; m = m; s = s; limit = 0 }) ≡ false → refused 1 ≡ sizedOf n m s count
+unfolding sizedOf
+too-many n m s count e = one-refused (leb n 12) (leb m 12) (leb s 24) _ e
 
 -- a check that passed
 checked-ok : {A : Type 0} {x : A} (b : Bool) (k : ℕ) (r : Res A) → checkedValue b k r ≡ ok x → (b ≡ true) × (r ≡ ok x)

@@ -1,11 +1,12 @@
 // The calls of a run.
 ghost use mathlib.Core.Bool.{_&&_};
 ghost use mathlib.Core.Path.{_≡_};
-ghost use Prim.Native.Nat.{_*_, _≤_};
+ghost use Prim.Native.Nat.{_*_};
 ghost use lib.Dec.{eqb};
 ghost use lib.ListN.{length};
+ghost use Rattle.interval.specs.Scalar.{pick};
 ghost use Rattle.run.specs.Area.{AREA};
-ghost use Rattle.run.specs.Calls.{allInDomain, stepFits, leftOf, notBegun, beginOf, pointOf};
+ghost use Rattle.run.specs.Calls.{sizesFit, allInDomain, stepFits, leftOf, notBegun, beginOf, pointOf};
 use crate::area;
 use crate::area::begun;
 use crate::checks;
@@ -36,30 +37,43 @@ pub fn point(st: State, area: &[f64]) -> &[f64]
     }
 }
 
+// Beside a refusal: no run, so any reply to it gets 4.
 fn not_begun(number: usize) -> Out
     ensures { λ r. ⌜ r ≡ notBegun number ⌝ }
 {
-    let state = checks::no_run();
+    let z = Sizes {
+        n: 0,
+        m: 0,
+        s: 0,
+        limit: 0,
+    };
+    let state = checks::state_with(z, Scalar::ZERO, Scalar::ZERO, Phase::Over);
     Out {
         state,
         answer: Answer::Refused(number),
     }
 }
 
-fn lengths_fit(n: usize, start: &[f64], area: usize) -> bool
-    requires { ⌜ n ≤ 12 ⌝ }
-    ensures { λ r. ⌜ r ≡ eqb (length (now (start .entry))) (2 * n) && eqb area AREA ⌝ }
+// The number that refuses a begin, with an area of that length, or 0.
+fn refusal(z: Sizes, start: &[f64], max_step: Scalar, area: usize) -> usize
+    ensures { λ r. ⌜ r ≡ pick (sizesFit z) (pick (eqb (length (now (start .entry))) (2 * z .n) && eqb area AREA) (pick (allInDomain (now (start .entry)) (z .n) && stepFits «max_step») 0 3) 2) 1 ⌝ }
 {
-    start.len() == 2 * n && area == 8000
-}
-
-fn ends_fit(n: usize, start: &[f64], max_step: Scalar) -> bool
-    ensures { λ r. ⌜ r ≡ allInDomain (now (start .entry)) n && stepFits «max_step» ⌝ }
-{
-    if !all_in_domain(start, n) {
-        return false;
+    if !checks::sizes_fit(z) {
+        return 1;
     }
-    checks::step_fits(max_step)
+    if start.len() != 2 * z.n {
+        return 2;
+    }
+    if area != 8000 {
+        return 2;
+    }
+    if !all_in_domain(start, z.n) {
+        return 3;
+    }
+    if !checks::step_fits(max_step) {
+        return 3;
+    }
+    0
 }
 
 // Begins a run of n variables, m constraint rows and s sum rows from the point `start`, with at most `limit` iterations: its first question asks for the rows of `start`.
@@ -75,14 +89,9 @@ pub fn begin(
     ensures { λ r. ⌜ leftOf r (now (area .exit)) ≡ beginOf (record { n = n; m = m; s = s; limit = limit }) (now (start .entry)) «max_step» (now (area .entry)) ⌝ }
 {
     let z = Sizes { n, m, s, limit };
-    if !checks::sizes_fit(z) {
-        return not_begun(1);
-    }
-    if !lengths_fit(n, start, area.len()) {
-        return not_begun(2);
-    }
-    if !ends_fit(n, start, max_step) {
-        return not_begun(3);
+    let number = refusal(z, start, max_step, area.len());
+    if number != 0 {
+        return not_begun(number);
     }
     begun(area, start);
     let mu = checks::first_mu();

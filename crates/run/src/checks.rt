@@ -1,10 +1,8 @@
 // The limits of a run, the run as it begins, and the checks of a reply in the order of document 01's table.
-ghost use mathlib.Core.Bool.{_&&_};
 ghost use mathlib.Core.Path.{_≡_};
 ghost use Prim.Native.Nat.{_≤_};
-ghost use lib.Dec.{ltb};
 ghost use Rattle.interval.specs.Scaling.{isPositive};
-ghost use Rattle.run.specs.Calls.{sizesFit, countsFit, phaseFits, valid, firstMu, stateWith, noRun, stepFits, checkOf, checkRowsOf};
+ghost use Rattle.run.specs.Calls.{sizesFit, countsFit, phaseFits, valid, firstMu, stateWith, stepFits, checkOf, checkRowsOf};
 use crate::rows::all_in_domain;
 use crate::rows::in_domain;
 use crate::scratch::or_zero;
@@ -71,31 +69,20 @@ fn is_positive(x: Scalar) -> bool
     x.lo <= x.hi
 }
 
-// Whether a step may follow: iterations are below the limit, and the damping is positive.
-fn may_step(iterations: usize, limit: usize, mu: Scalar) -> bool
-    ensures { λ r. ⌜ r ≡ ltb iterations limit && isPositive mu ⌝ }
-{
-    if iterations >= limit {
-        return false;
-    }
-    is_positive(mu)
-}
-
 fn phase_fits(st: State) -> bool
     ensures { λ r. ⌜ r ≡ phaseFits st (st .phase) ⌝ }
 {
     let phase = st.phase;
-    let mu = st.search.mu;
-    let iterations = st.counts.iterations;
-    let limit = st.sizes.limit;
-    match phase {
-        Phase::Open(kind) => match kind {
-            Kind::Start => is_positive(mu),
-            Kind::Trial => may_step(iterations, limit, mu),
-            Kind::Correction => may_step(iterations, limit, mu),
-        },
-        Phase::Over => true,
+    let Phase::Open(kind) = phase else {
+        return true;
+    };
+    if !is_positive(st.search.mu) {
+        return false;
     }
+    let Kind::Start = kind else {
+        return st.counts.iterations < st.sizes.limit;
+    };
+    true
 }
 
 // Whether a call could have left this run.
@@ -163,19 +150,6 @@ pub fn state_with(z: Sizes, mu: Scalar, max: Scalar, phase: Phase) -> State
         phase,
         moving,
     }
-}
-
-// Beside a refused begin: no run, so any reply to it gets 4.
-pub fn no_run() -> State
-    ensures { λ r. ⌜ r ≡ noRun ⌝ }
-{
-    let z = Sizes {
-        n: 0,
-        m: 0,
-        s: 0,
-        limit: 0,
-    };
-    state_with(z, Scalar::ZERO, Scalar::ZERO, Phase::Over)
 }
 
 // The checks of reply none, with an area of that length.

@@ -124,9 +124,11 @@ fn add_chosen(b: &mut [f64], p: usize, q: ScalarResult) -> Done
         ScalarResult::Value(v) => {
             let a = at(b, p);
             put(b, p, choose(a.add(v)));
-            Done::Finished
+            return Done::Finished;
         }
-        ScalarResult::Refused(e) => Done::Refused(LinearError::Arithmetic(e)),
+        ScalarResult::Refused(e) => {
+            return Done::Refused(LinearError::Arithmetic(e));
+        }
     }
 }
 

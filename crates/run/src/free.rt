@@ -17,7 +17,6 @@ use linear::Done;
 use linear::LinearError;
 use linear::at;
 use linear::choose;
-use linear::clear;
 use linear::plus_dot;
 use linear::put;
 
@@ -54,12 +53,11 @@ fn force(k: usize, h: &[f64], g: &[f64], v: &[f64], out: &mut [f64])
     }
 }
 
-// -(g + H v), chosen.
+// -(g + H v), chosen, into a clear vector.
 pub fn pull(k: usize, h: &[f64], g: &[f64], v: &[f64], out: &mut [f64])
-    requires { ⌜ (k ≤ 12) × (length (now out) ≡ 24) ⌝ }
+    requires { ⌜ (k ≤ 12) × (now out ≡ vector) ⌝ }
     ensures { λ _. ⌜ now (out .exit) ≡ pullOf (curved k (now (h .entry)) (now (g .entry))) (now (v .entry)) ⌝ }
 {
-    clear(out);
     for i in 0..k {
         put(out, i, choose(slope_at(k, h, g, v, i).neg()));
     }

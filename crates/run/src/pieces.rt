@@ -9,6 +9,7 @@ ghost use Rattle.linear.specs.Replies.{replied, replyOf};
 ghost use Rattle.run.specs.Proposal.{expectedResult, cutWithin};
 ghost use Rattle.run.specs.Judgement.{judgementOf};
 ghost use Rattle.run.specs.Pieces.{sizedOf, wantsOf, reachOf, squaredReply, predictedReply, transposedReply, movingReply, judgeReply, expectsReply, cutReply, alongReply, shiftReply, updateReply, learnedReply, learningOf, stepReplied, stepReply};
+use crate::checks::sizes_fit;
 use crate::correction;
 use crate::curvature;
 use crate::judged;
@@ -19,6 +20,7 @@ use crate::proposal::Model;
 use crate::rows;
 use crate::scratch::norm_of;
 use crate::state::Last;
+use crate::state::Sizes;
 use crate::step;
 use crate::step::StepEnd;
 use interval::Scalar;
@@ -40,13 +42,7 @@ pub enum Learning {
 fn sized(n: usize, m: usize, s: usize, count: usize) -> Done
     ensures { λ r. ⌜ doneOf r tt ≡ sizedOf n m s count ⌝ }
 {
-    if n > 12 {
-        return Done::Refused(LinearError::TooMany);
-    }
-    if m > 12 {
-        return Done::Refused(LinearError::TooMany);
-    }
-    if s > 24 {
+    if !sizes_fit(Sizes { n, m, s, limit: 0 }) {
         return Done::Refused(LinearError::TooMany);
     }
     if count != 2 * ((m + s) * (n + 1)) {
@@ -218,19 +214,23 @@ fn cut_within(n: usize, radius: Scalar, delta: &mut [f64]) -> Done
     ensures { λ r. ⌜ doneOf r (now (delta .exit)) ≡ cutWithin n radius (now (delta .entry)) ⌝ }
 {
     match norm_of(delta, n) {
+        Answer::Refused(e) => {
+            return Done::Refused(e);
+        }
         Answer::Value(length) => {
             if !length.definitely_greater(radius) {
                 return Done::Finished;
             }
             match radius.div(length) {
+                ScalarResult::Refused(e) => {
+                    return Done::Refused(LinearError::Arithmetic(e));
+                }
                 ScalarResult::Value(shrink) => {
                     proposal::cut(n, delta, shrink);
-                    Done::Finished
+                    return Done::Finished;
                 }
-                ScalarResult::Refused(e) => Done::Refused(LinearError::Arithmetic(e)),
             }
         }
-        Answer::Refused(e) => Done::Refused(e),
     }
 }
 

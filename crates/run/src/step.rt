@@ -9,7 +9,7 @@ ghost use Rattle.linear.specs.Answers.{doneOf};
 ghost use Rattle.run.specs.Basis.{basisBy};
 ghost use Rattle.run.specs.Model.{problemIn};
 ghost use Rattle.run.specs.Rows.{rowsIn, evaluationOf, valueAt};
-ghost use Rattle.run.specs.Scratch.{allFinite};
+ghost use Rattle.run.specs.Scratch.{vector, allFinite};
 ghost use Rattle.run.specs.Step.{pullOf, freeStep, curved, spanned, endOf, withMultipliers, basisFor, basedStep, keptStep, stepOf, Few, framedStep, dampedStep, preparedStep, Framed, PreparedFor, readyOf};
 use crate::area::place;
 use crate::basis::Rank;
@@ -61,7 +61,7 @@ const FRAME: usize = 888;
 
 // What pulls against the kept step, and whether both are finite.
 pub fn finite_pull(k: usize, h: &[f64], g: &[f64], kept: &[f64], out: &mut [f64]) -> bool
-    requires { ⌜ (k ≤ 12) × (length (now out) ≡ 24) ⌝ }
+    requires { ⌜ (k ≤ 12) × (now out ≡ vector) ⌝ }
     ensures { λ r. ⌜ (now (out .exit) ≡ pullOf (curved k (now (h .entry)) (now (g .entry))) (now (kept .entry))) × (r ≡ (allFinite (now (kept .entry)) 12 && allFinite (now (out .exit)) 12)) ⌝ }
 {
     pull(k, h, g, kept, out);

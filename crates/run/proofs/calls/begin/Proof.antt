@@ -1,50 +1,42 @@
--- `begin` meets its contract: each check decides, and what passes them all has begun.
+-- `begin` meets its contract: the number says which check refuses it, and what passes them all has begun.
 use denote.Ref.{now}
-use mathlib.Core.Path.{_∙_, sym, ap}
-use borrow.Author.Tests.{not-true, not-false}
-use Rattle.run.specs.Calls.{leftOf, beginOf}
+use mathlib.Core.List.{List}
+use mathlib.Core.Path.{_≡_, _∙_, ap}
+use lib.Ieee.{Float}
+use Rattle.interval.specs.declared.Scalar.{Scalar}
+use Rattle.run.specs.Area.{areaOf, begunMemory}
+use Rattle.run.specs.Calls.{leftOf, firstMu, stateWith, begunOf}
+use Rattle.run.specs.declared.state.Answer.the-variants as answer
+use Rattle.run.specs.declared.state.Kind.the-variants as kind
 use Rattle.run.specs.declared.state.Out.{Out}
-use Rattle.run.proofs.CheckLaws.{size-bounds}
-use Rattle.run.proofs.CallLaws.{begin-ready}
+use Rattle.run.specs.declared.state.Phase.the-variants.{Open}
+use Rattle.run.specs.declared.state.Sizes.{Sizes}
+use Rattle.run.specs.declared.state.State.{State}
+use Rattle.run.proofs.CallLaws.{begin-refused, begin-lengths, begin-passed}
 use borrow.Author.Needs.{needs}
 use Rattle.run.proofs.calls.begin.Statement.{statement}
 use Rattle.run.proofs.calls.begin.Tie as tie
 
-sizes-fit-requires : tie.Need-sizes-fit-requires
-sizes-fit-requires c κs = search needs
+-- a run that has begun, of equal parts
+begun : {z : Sizes} {mu max : Scalar} {st : State} {a : List Float} (start : List Float) → st ≡ stateWith z mu max (Open kind.Start) → mu ≡ firstMu → a ≡ areaOf (begunMemory start) → leftOf (record { state = st; answer = answer.Question 0 kind.Start 0 }) a ≡ begunOf z start max
+begun start es em ea = rw (es, em, ea)
+
+refusal-requires : tie.Need-refusal-requires
+refusal-requires c κs = search needs
 
 not-begun-requires : tie.Need-not-begun-requires
 not-begun-requires c κs = search needs
 
 returns : tie.Need-returns
-unfolding beginOf
-returns c = rw (sym (c .before .before .sizes-fit .ensures) ∙ not-true _ (c .before .if1 .taken)) (ap (λ (r : Out). leftOf r (now (c .before .before .before .before .before .args .area))) (c .not-begun .ensures))
-
-lengths-fit-requires : tie.Need-lengths-fit-requires
-lengths-fit-requires c κs = let z = c .before .before .before .before .args in size-bounds (record { n = z .n; m = z .m; s = z .s; limit = z .limit }) (sym (c .before .sizes-fit .ensures) ∙ not-false _ (c .if1 .left)) .n
-
-not-begun-requires-2 : tie.Need-not-begun-requires-2
-not-begun-requires-2 c κs = search needs
-
-returns-2 : tie.Need-returns-2
-unfolding beginOf
-returns-2 c = rw (sym (c .before .before .before .before .sizes-fit .ensures) ∙ not-false _ (c .before .before .before .if1 .left), sym (c .before .before .lengths-fit .ensures) ∙ not-true _ (c .before .if2 .taken)) (ap (λ (r : Out). leftOf r (now (c .before .before .before .before .before .before .before .args .area))) (c .not-begun2 .ensures))
-
-ends-fit-requires : tie.Need-ends-fit-requires
-ends-fit-requires c κs = search needs
-
-not-begun-requires-3 : tie.Need-not-begun-requires-3
-not-begun-requires-3 c κs = search needs
-
-returns-3 : tie.Need-returns-3
-unfolding beginOf
-returns-3 c = rw (sym (c .before .before .before .before .before .before .sizes-fit .ensures) ∙ not-false _ (c .before .before .before .before .before .if1 .left), sym (c .before .before .before .before .lengths-fit .ensures) ∙ not-false _ (c .before .before .before .if2 .left), sym (c .before .before .ends-fit .ensures) ∙ not-true _ (c .before .if3 .taken)) (ap (λ (r : Out). leftOf r (now (c .before .before .before .before .before .before .before .before .before .args .area))) (c .not-begun3 .ensures))
+returns c =
+    let a = c .before .before .before .before .before .args in
+    ap (λ (r : Out). leftOf r (now (a .area))) (c .not-begun .ensures)
+    ∙ begin-refused (record { n = a .n; m = a .m; s = a .s; limit = a .limit }) (now (a .start)) (a .max-step) (now (a .area)) (c .before .before .refusal .ensures) (c .before .if1 .taken)
 
 begun-requires : tie.Need-begun-requires
 begun-requires c κs =
-    let z = c .before .before .before .before .before .before .before .before .before .args in
-    let r = begin-ready (z .n) _ (now (z .start)) (size-bounds (record { n = z .n; m = z .m; s = z .s; limit = z .limit }) (sym (c .before .before .before .before .before .before .sizes-fit .ensures) ∙ not-false _ (c .before .before .before .before .before .if1 .left)) .n) (sym (c .before .before .before .before .lengths-fit .ensures) ∙ not-false _ (c .before .before .before .if2 .left)) in
-    (r .1, r .0)
+    let a = c .before .before .before .before .before .args in
+    begin-lengths (record { n = a .n; m = a .m; s = a .s; limit = a .limit }) (now (a .start)) (a .max-step) (now (a .area)) (c .before .before .refusal .ensures) (c .before .if1 .left)
 
 first-mu-requires : tie.Need-first-mu-requires
 first-mu-requires c κs = search needs
@@ -55,25 +47,22 @@ state-with-requires c κs = search needs
 same-length : tie.Need-same-length
 same-length c = search needs
 
-returns-4 : tie.Need-returns-4
-unfolding beginOf
-returns-4 c = rw (sym (c .before .before .before .before .before .before .before .before .before .before .before .sizes-fit .ensures) ∙ not-false _ (c .before .before .before .before .before .before .before .before .before .before .if1 .left), sym (c .before .before .before .before .before .before .before .before .before .lengths-fit .ensures) ∙ not-false _ (c .before .before .before .before .before .before .before .before .if2 .left), sym (c .before .before .before .before .before .before .before .ends-fit .ensures) ∙ not-false _ (c .before .before .before .before .before .before .if3 .left), c .before .before .before .before .begun .ensures .is, c .state-with .ensures, c .before .first-mu .ensures)
+returns-2 : tie.Need-returns-2
+returns-2 c =
+    let a = c .before .before .before .before .before .before .before .before .before .before .args in
+    let z : Sizes = record { n = a .n; m = a .m; s = a .s; limit = a .limit } in
+    begun (now (a .start)) (c .state-with .ensures) (c .before .first-mu .ensures) (c .before .before .before .before .begun .ensures .is)
+    ∙ begin-passed z (now (a .start)) (a .max-step) (now (a .area)) (c .before .before .before .before .before .before .before .refusal .ensures) (c .before .before .before .before .before .before .if1 .left)
 
 pub begin-spec : {M : Type 1} → statement M
 begin-spec =
     tie.close
     (tie.spec
-    sizes-fit-requires
+    refusal-requires
     not-begun-requires
     returns
-    lengths-fit-requires
-    not-begun-requires-2
-    returns-2
-    ends-fit-requires
-    not-begun-requires-3
-    returns-3
     begun-requires
     first-mu-requires
     state-with-requires
     same-length
-    returns-4)
+    returns-2)

@@ -30,14 +30,14 @@ choose-requires c κs = search needs
 put-requires : tie.Need-put-requires
 put-requires c κs = search needs
 
-enum-known-q-2 : tie.Need-enum-known-q-2
-enum-known-q-2 c = search needs
-
 same-length : tie.Need-same-length
 same-length c = search needs
 
 returns : tie.Need-returns
 returns c = let a = c .before .before .before .before .before .before .before .before .before .before .before .before .args in rw (c .before .before .before .before .before .before .before .before .before .q .given .1) (ap ok (added (a .b .now) (a .p) _ (c .before .before .before .before .before .before .at .ensures) (c .before .before .before .before .add .ensures .value) (c .before .before .before .choose .ensures) (c .before .before .put .ensures)))
+
+enum-known-q-2 : tie.Need-enum-known-q-2
+enum-known-q-2 c = search needs
 
 returns-2 : tie.Need-returns-2
 returns-2 c = rw (c .before .q2 .given .1)
@@ -51,7 +51,7 @@ add-chosen-spec =
     add-requires
     choose-requires
     put-requires
-    enum-known-q-2
     same-length
     returns
+    enum-known-q-2
     returns-2)

@@ -20,12 +20,9 @@ Inv-loop k h g v out₀ i₀ out i = (i ≤ k) × (length out ≡ length out₀)
 abbrev μ-loop : tie.MeasureT-loop
 μ-loop k h g v out₀ i₀ out i = k - i
 
-clear-requires : tie.Need-clear-requires Inv-loop μ-loop
-clear-requires c κs = search needs
-
 loop-holds : tie.Need-loop-holds Inv-loop μ-loop
 unfolding fillTo
-loop-holds c = (search needs, search needs, rw (c .before .before .before .before .before .before .before .before .pre .1) at (c .before .before .clear .ensures))
+loop-holds c = (search needs, search needs, c .before .before .before .before .pre .1)
 
 slope-at-requires : tie.Need-slope-at-requires Inv-loop μ-loop
 slope-at-requires c κs = search needs
@@ -63,7 +60,6 @@ pull-spec =
     (tie.spec
     Inv-loop
     μ-loop
-    clear-requires
     loop-holds
     slope-at-requires
     neg-requires

@@ -1,45 +1,41 @@
--- `sized` meets its contract: each check decides one of the definition's.
+-- `sized` meets its contract: the sizes decide the definition's first three checks, the count its last.
 use native.Mathlib.Omega.{arith}
+use mathlib.Core.Path.{_≡_, refl, sym, _∙_}
 use borrow.Author.Needs.{needs}
-use borrow.Author.Tests.{le-leb, lt-leb, eq-eqb, ne-eqb}
+use borrow.Author.Tests.{not-true, not-false, le-leb, eq-eqb, ne-eqb}
 use Rattle.run.specs.Pieces.{sizedOf}
-use Rattle.run.proofs.PieceLaws.{answer-small}
+use Rattle.run.proofs.CheckLaws.{size-bounds}
+use Rattle.run.proofs.PieceLaws.{answer-small, too-many}
 use Rattle.run.proofs.pieces.sized.Statement.{statement}
 use Rattle.run.proofs.pieces.sized.Tie as tie
 
+sizes-fit-requires : tie.Need-sizes-fit-requires
+sizes-fit-requires c κs = search needs
+
 returns : tie.Need-returns
-unfolding sizedOf
-returns c = rw (lt-leb _ _ (c .if1 .taken))
+returns c = let a = c .before .before .args in too-many (a .n) (a .m) (a .s) (a .count) (sym (c .before .sizes-fit .ensures) ∙ not-true _ (c .if1 .taken))
+
+add-if2 : tie.Need-add-if2
+add-if2 c = let a = c .before .before .args in let b = size-bounds (record { n = a .n; m = a .m; s = a .s; limit = 0 }) (sym (c .before .sizes-fit .ensures) ∙ not-false _ (c .if1 .left)) in omega (arith, b .m, b .s)
+
+add-if2-2 : tie.Need-add-if2-2
+add-if2-2 c = let a = c .before .before .args in let b = size-bounds (record { n = a .n; m = a .m; s = a .s; limit = 0 }) (sym (c .before .sizes-fit .ensures) ∙ not-false _ (c .if1 .left)) in omega (arith, b .n)
+
+mul-if2 : tie.Need-mul-if2
+mul-if2 c = let a = c .before .before .args in let b = size-bounds (record { n = a .n; m = a .m; s = a .s; limit = 0 }) (sym (c .before .sizes-fit .ensures) ∙ not-false _ (c .if1 .left)) in omega (arith, answer-small (b .n) (b .m) (b .s))
+
+mul-if2-2 : tie.Need-mul-if2-2
+mul-if2-2 c = let a = c .before .before .args in let b = size-bounds (record { n = a .n; m = a .m; s = a .s; limit = 0 }) (sym (c .before .sizes-fit .ensures) ∙ not-false _ (c .if1 .left)) in omega (arith, answer-small (b .n) (b .m) (b .s))
 
 returns-2 : tie.Need-returns-2
 unfolding sizedOf
-returns-2 c = rw (le-leb _ _ (c .before .if1 .left), lt-leb _ _ (c .if2 .taken))
+returns-2 c = let a = c .before .before .before .args in let b = size-bounds (record { n = a .n; m = a .m; s = a .s; limit = 0 }) (sym (c .before .before .sizes-fit .ensures) ∙ not-false _ (c .before .if1 .left)) in rw (le-leb _ _ (b .n), le-leb _ _ (b .m), le-leb _ _ (b .s), ne-eqb _ _ (c .if2 .taken))
 
 returns-3 : tie.Need-returns-3
 unfolding sizedOf
-returns-3 c = rw (le-leb _ _ (c .before .before .if1 .left), le-leb _ _ (c .before .if2 .left), lt-leb _ _ (c .if3 .taken))
-
-add-if4 : tie.Need-add-if4
-add-if4 c = search needs
-
-add-if4-2 : tie.Need-add-if4-2
-add-if4-2 c = search needs
-
-mul-if4 : tie.Need-mul-if4
-mul-if4 c = omega (arith, answer-small (c .before .before .if1 .left) (c .before .if2 .left) (c .if3 .left))
-
-mul-if4-2 : tie.Need-mul-if4-2
-mul-if4-2 c = omega (arith, answer-small (c .before .before .if1 .left) (c .before .if2 .left) (c .if3 .left))
-
-returns-4 : tie.Need-returns-4
-unfolding sizedOf
-returns-4 c = rw (le-leb _ _ (c .before .before .before .if1 .left), le-leb _ _ (c .before .before .if2 .left), le-leb _ _ (c .before .if3 .left), ne-eqb _ _ (c .if4 .taken))
-
-returns-5 : tie.Need-returns-5
-unfolding sizedOf
-returns-5 c = rw (le-leb _ _ (c .before .before .before .if1 .left), le-leb _ _ (c .before .before .if2 .left), le-leb _ _ (c .before .if3 .left), eq-eqb _ _ (c .if4 .left))
+returns-3 c = let a = c .before .before .before .args in let b = size-bounds (record { n = a .n; m = a .m; s = a .s; limit = 0 }) (sym (c .before .before .sizes-fit .ensures) ∙ not-false _ (c .before .if1 .left)) in rw (le-leb _ _ (b .n), le-leb _ _ (b .m), le-leb _ _ (b .s), eq-eqb _ _ (c .if2 .left))
 
 pub sized-spec : {M : Type 1} → statement M
 sized-spec =
     tie.close
-    (tie.spec returns returns-2 returns-3 add-if4 add-if4-2 mul-if4 mul-if4-2 returns-4 returns-5)
+    (tie.spec sizes-fit-requires returns add-if2 add-if2-2 mul-if2 mul-if2-2 returns-2 returns-3)

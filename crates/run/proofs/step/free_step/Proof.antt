@@ -1,5 +1,6 @@
 -- `free_step` meets its contract: the weights along the directions decide, then whether the step and what pulls against it are finite; the multipliers end it.
-use mathlib.Core.Path.{_∙_}
+use mathlib.Core.Path.{_∙_, refl}
+use lib.Ieee.{ofBits}
 use native.Mathlib.Omega.{arith}
 use Rattle.linear.specs.Results.{bind}
 use Rattle.run.proofs.BasisLaws.{multipliers-reads, multipliers-part}
@@ -27,7 +28,8 @@ slice-aggregate-finite-pull : tie.Need-slice-aggregate-finite-pull
 slice-aggregate-finite-pull c = search needs
 
 finite-pull-requires : tie.Need-finite-pull-requires
-finite-pull-requires c κs = search needs
+unfolding ofBits
+finite-pull-requires c κs = (search needs, refl)
 
 slice-aggregate-multipliers : tie.Need-slice-aggregate-multipliers
 slice-aggregate-multipliers c = search needs
