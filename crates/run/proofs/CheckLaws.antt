@@ -70,6 +70,11 @@ module _ (st : State) where
   past-start kind.Trial o e = sym (and-true (ltb (st .counts .iterations) (st .sizes .limit)) e)
   past-start kind.Correction o e = sym (and-true (ltb (st .counts .iterations) (st .sizes .limit)) e)
 
+  -- where the sizes and the counts fit, the phase decides
+  pub phase-decides : {r : Bool} → sizesFit (st .sizes) ≡ true → countsFit st ≡ true → r ≡ phaseFits st (st .phase) → r ≡ valid st
+  unfolding valid
+  phase-decides a b e = rw (a, b) e
+
 pub record Bounds (st : State) : Type 0 where
   pub sizes : SizeBounds (st .sizes)
   pub iterations : st .counts .iterations ≤ st .sizes .limit

@@ -11,6 +11,8 @@ use crate::area;
 use crate::area::begun;
 use crate::checks;
 use crate::rows::all_in_domain;
+use crate::rows::in_domain;
+use crate::scratch::or_zero;
 use crate::state::Answer;
 use crate::state::Kind;
 use crate::state::Out;
@@ -70,7 +72,10 @@ fn refusal(z: Sizes, start: &[f64], max_step: Scalar, area: usize) -> usize
     if !all_in_domain(start, z.n) {
         return 3;
     }
-    if !checks::step_fits(max_step) {
+    if !in_domain(max_step) {
+        return 3;
+    }
+    if !max_step.definitely_greater(Scalar::ZERO) {
         return 3;
     }
     0
@@ -94,7 +99,7 @@ pub fn begin(
         return not_begun(number);
     }
     begun(area, start);
-    let mu = checks::first_mu();
+    let mu = or_zero(Scalar::from_ratio(1, 1000));
     let state = checks::state_with(z, mu, max_step, Phase::Open(Kind::Start));
     Out {
         state,

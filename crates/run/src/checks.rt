@@ -2,10 +2,8 @@
 ghost use mathlib.Core.Path.{_≡_};
 ghost use Prim.Native.Nat.{_≤_};
 ghost use Rattle.interval.specs.Scaling.{isPositive};
-ghost use Rattle.run.specs.Calls.{sizesFit, countsFit, phaseFits, valid, firstMu, stateWith, stepFits, checkOf, checkRowsOf};
+ghost use Rattle.run.specs.Calls.{sizesFit, countsFit, valid, stateWith, checkOf, checkRowsOf};
 use crate::rows::all_in_domain;
-use crate::rows::in_domain;
-use crate::scratch::or_zero;
 use crate::state::Counts;
 use crate::state::Kind;
 use crate::state::Last;
@@ -69,9 +67,16 @@ fn is_positive(x: Scalar) -> bool
     x.lo <= x.hi
 }
 
-fn phase_fits(st: State) -> bool
-    ensures { λ r. ⌜ r ≡ phaseFits st (st .phase) ⌝ }
+// Whether a call could have left this run.
+pub fn valid(st: State) -> bool
+    ensures { λ r. ⌜ r ≡ valid st ⌝ }
 {
+    if !sizes_fit(st.sizes) {
+        return false;
+    }
+    if !counts_fit(st) {
+        return false;
+    }
     let phase = st.phase;
     let Phase::Open(kind) = phase else {
         return true;
@@ -83,37 +88,6 @@ fn phase_fits(st: State) -> bool
         return st.counts.iterations < st.sizes.limit;
     };
     true
-}
-
-// Whether a call could have left this run.
-pub fn valid(st: State) -> bool
-    ensures { λ r. ⌜ r ≡ valid st ⌝ }
-{
-    let z = st.sizes;
-    if !sizes_fit(z) {
-        return false;
-    }
-    if !counts_fit(st) {
-        return false;
-    }
-    phase_fits(st)
-}
-
-// Whether a step limit is in the domain and above 0.
-pub fn step_fits(x: Scalar) -> bool
-    ensures { λ r. ⌜ r ≡ stepFits x ⌝ }
-{
-    if !in_domain(x) {
-        return false;
-    }
-    x.definitely_greater(Scalar::ZERO)
-}
-
-// The damping that a run begins with.
-pub fn first_mu() -> Scalar
-    ensures { λ r. ⌜ r ≡ firstMu ⌝ }
-{
-    or_zero(Scalar::from_ratio(1, 1000))
 }
 
 // A run before its first answer.

@@ -1,6 +1,7 @@
 -- `refusal` meets its contract: each check decides one of the definition's.
 use native.Mathlib.Omega.{arith}
 use mathlib.Core.Path.{_∙_, sym}
+use lib.Ieee.{ofBits}
 use borrow.Author.Needs.{needs}
 use borrow.Author.Tests.{not-true, not-false, eq-eqb, ne-eqb}
 use Rattle.run.proofs.CheckLaws.{size-bounds}
@@ -28,14 +29,22 @@ all-in-domain-requires c κs = search needs
 returns-4 : tie.Need-returns-4
 returns-4 c = rw (sym (c .before .before .before .before .before .before .sizes-fit .ensures) ∙ not-false _ (c .before .before .before .before .before .if1 .left), eq-eqb _ _ (c .before .before .before .if2 .left), eq-eqb _ _ (c .before .before .if3 .left), sym (c .before .all-in-domain .ensures) ∙ not-true _ (c .if4 .taken))
 
-step-fits-requires : tie.Need-step-fits-requires
-step-fits-requires c κs = search needs
+in-domain-requires : tie.Need-in-domain-requires
+in-domain-requires c κs = search needs
 
 returns-5 : tie.Need-returns-5
-returns-5 c = rw (sym (c .before .before .before .before .before .before .before .before .sizes-fit .ensures) ∙ not-false _ (c .before .before .before .before .before .before .before .if1 .left), eq-eqb _ _ (c .before .before .before .before .before .if2 .left), eq-eqb _ _ (c .before .before .before .before .if3 .left), sym (c .before .before .before .all-in-domain .ensures) ∙ not-false _ (c .before .before .if4 .left), sym (c .before .step-fits .ensures) ∙ not-true _ (c .if5 .taken))
+returns-5 c = rw (sym (c .before .before .before .before .before .before .before .before .sizes-fit .ensures) ∙ not-false _ (c .before .before .before .before .before .before .before .if1 .left), eq-eqb _ _ (c .before .before .before .before .before .if2 .left), eq-eqb _ _ (c .before .before .before .before .if3 .left), sym (c .before .before .before .all-in-domain .ensures) ∙ not-false _ (c .before .before .if4 .left), sym (c .before .in-domain .ensures) ∙ not-true _ (c .if5 .taken))
+
+definitely-greater-requires : tie.Need-definitely-greater-requires
+definitely-greater-requires c κs = search needs
 
 returns-6 : tie.Need-returns-6
-returns-6 c = rw (sym (c .before .before .before .before .before .before .before .before .sizes-fit .ensures) ∙ not-false _ (c .before .before .before .before .before .before .before .if1 .left), eq-eqb _ _ (c .before .before .before .before .before .if2 .left), eq-eqb _ _ (c .before .before .before .before .if3 .left), sym (c .before .before .before .all-in-domain .ensures) ∙ not-false _ (c .before .before .if4 .left), sym (c .before .step-fits .ensures) ∙ not-false _ (c .if5 .left))
+unfolding ofBits
+returns-6 c = rw (sym (c .before .before .before .before .before .before .before .before .before .before .sizes-fit .ensures) ∙ not-false _ (c .before .before .before .before .before .before .before .before .before .if1 .left), eq-eqb _ _ (c .before .before .before .before .before .before .before .if2 .left), eq-eqb _ _ (c .before .before .before .before .before .before .if3 .left), sym (c .before .before .before .before .before .all-in-domain .ensures) ∙ not-false _ (c .before .before .before .before .if4 .left), sym (c .before .before .before .in-domain .ensures) ∙ not-false _ (c .before .before .if5 .left), sym (c .before .definitely-greater .ensures) ∙ not-true _ (c .if6 .taken))
+
+returns-7 : tie.Need-returns-7
+unfolding ofBits
+returns-7 c = rw (sym (c .before .before .before .before .before .before .before .before .before .before .sizes-fit .ensures) ∙ not-false _ (c .before .before .before .before .before .before .before .before .before .if1 .left), eq-eqb _ _ (c .before .before .before .before .before .before .before .if2 .left), eq-eqb _ _ (c .before .before .before .before .before .before .if3 .left), sym (c .before .before .before .before .before .all-in-domain .ensures) ∙ not-false _ (c .before .before .before .before .if4 .left), sym (c .before .before .before .in-domain .ensures) ∙ not-false _ (c .before .before .if5 .left), sym (c .before .definitely-greater .ensures) ∙ not-false _ (c .if6 .left))
 
 pub refusal-spec : {M : Type 1} → statement M
 refusal-spec =
@@ -48,6 +57,8 @@ refusal-spec =
     returns-3
     all-in-domain-requires
     returns-4
-    step-fits-requires
+    in-domain-requires
     returns-5
-    returns-6)
+    definitely-greater-requires
+    returns-6
+    returns-7)
