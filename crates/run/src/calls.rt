@@ -31,12 +31,12 @@ pub fn point(st: State, area: &[f64]) -> &[f64]
     if area.len() != 8000 {
         return &area[..0];
     }
-    let n = st.sizes.n;
+    let q = 2 * st.sizes.n;
     let phase = st.phase;
-    match phase {
-        Phase::Open(_) => &area[area::ASKED..area::ASKED + 2 * n],
-        Phase::Over => &area[0..2 * n],
-    }
+    let Phase::Open(_) = phase else {
+        return &area[..q];
+    };
+    &area[area::ASKED..area::ASKED + q]
 }
 
 // Beside a refusal: no run, so any reply to it gets 4.

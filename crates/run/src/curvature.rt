@@ -78,8 +78,9 @@ pub fn along_constraints(n: usize, m: usize, xs: &[f64], v: &[f64], out: &mut [f
     let mut jc = [0.0; 288];
     let mut rhs = [0.0; 24];
     chosen_slopes(xs, constraints(n, m), &mut jc[..q]);
-    products(n, m, &jc[..q], v, &mut rhs[..k]);
-    minus_solved(m, n, &jc[..q], &rhs[..k], &v[..w], out)
+    let slopes = &jc[..q];
+    products(n, m, slopes, v, &mut rhs[..k]);
+    minus_solved(m, n, slopes, &rhs[..k], &v[..w], out)
 }
 
 // One entry of how far the gradient of the Lagrangian turned; r has the sum's new values, chosen.

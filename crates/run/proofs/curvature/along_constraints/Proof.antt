@@ -43,32 +43,26 @@ chosen-slopes-requires c κs = let s = c .before .before .before .before .before
 array-share-prefix-jc : tie.Need-array-share-prefix-jc
 array-share-prefix-jc c = front-room _ (c .before .chosen-slopes .last .1 .1 .0) _ (room (c .before .before .before .before .before .before .before)) (c .before .chosen-slopes .kept .1 .1 .0)
 
-slice-aggregate-products : tie.Need-slice-aggregate-products
-slice-aggregate-products c = sym (length-take-le _ _ (front-room _ (c .before .before .chosen-slopes .last .1 .1 .0) _ (room (c .before .before .before .before .before .before .before .before)) (c .before .before .chosen-slopes .kept .1 .1 .0)))
+slice-aggregate-slopes : tie.Need-slice-aggregate-slopes
+slice-aggregate-slopes c = sym (length-take-le _ _ (front-room _ (c .before .before .chosen-slopes .last .1 .1 .0) _ (room (c .before .before .before .before .before .before .before .before)) (c .before .before .chosen-slopes .kept .1 .1 .0)))
 
 array-borrow-prefix-rhs : tie.Need-array-borrow-prefix-rhs
 array-borrow-prefix-rhs c = search needs
 
-slice-aggregate-products-2 : tie.Need-slice-aggregate-products-2
-slice-aggregate-products-2 c = sym (length-take-le _ _ (high (c .before .before .before .before .before .before .before .before .before)))
+slice-aggregate-products : tie.Need-slice-aggregate-products
+slice-aggregate-products c = sym (length-take-le _ _ (high (c .before .before .before .before .before .before .before .before .before)))
 
 products-requires : tie.Need-products-requires
 products-requires c κs = search needs
 
-array-share-prefix-jc-2 : tie.Need-array-share-prefix-jc-2
-array-share-prefix-jc-2 c = front-room _ (c .before .before .before .before .before .chosen-slopes .last .1 .1 .0) _ (room (c .before .before .before .before .before .before .before .before .before .before .before)) (c .before .before .before .before .before .chosen-slopes .kept .1 .1 .0)
+array-share-prefix-rhs : tie.Need-array-share-prefix-rhs
+array-share-prefix-rhs c = front-room _ (c .before .products .last .1 .1 .1 .1 .0) _ (high (c .before .before .before .before .before .before .before .before .before .before .before)) (c .before .products .kept .1 .1 .1 .1 .0)
 
 slice-aggregate-minus-solved : tie.Need-slice-aggregate-minus-solved
-slice-aggregate-minus-solved c = sym (length-take-le _ _ (front-room _ (c .before .before .before .before .before .before .chosen-slopes .last .1 .1 .0) _ (room (c .before .before .before .before .before .before .before .before .before .before .before .before)) (c .before .before .before .before .before .before .chosen-slopes .kept .1 .1 .0)))
-
-array-share-prefix-rhs : tie.Need-array-share-prefix-rhs
-array-share-prefix-rhs c = front-room _ (c .before .before .products .last .1 .1 .1 .1 .0) _ (high (c .before .before .before .before .before .before .before .before .before .before .before .before)) (c .before .before .products .kept .1 .1 .1 .1 .0)
+slice-aggregate-minus-solved c = sym (length-take-le _ _ (front-room _ (c .before .before .products .last .1 .1 .1 .1 .0) _ (high (c .before .before .before .before .before .before .before .before .before .before .before .before)) (c .before .before .products .kept .1 .1 .1 .1 .0)))
 
 slice-aggregate-minus-solved-2 : tie.Need-slice-aggregate-minus-solved-2
-slice-aggregate-minus-solved-2 c = sym (length-take-le _ _ (front-room _ (c .before .before .before .products .last .1 .1 .1 .1 .0) _ (high (c .before .before .before .before .before .before .before .before .before .before .before .before .before)) (c .before .before .before .products .kept .1 .1 .1 .1 .0)))
-
-slice-aggregate-minus-solved-3 : tie.Need-slice-aggregate-minus-solved-3
-slice-aggregate-minus-solved-3 c = sym (length-take-le _ _ ((c .before .before .before .before .before .before .before .before .before .before .before .before .before .before) .pre .1 .1 .0))
+slice-aggregate-minus-solved-2 c = sym (length-take-le _ _ ((c .before .before .before .before .before .before .before .before .before .before .before .before .before) .pre .1 .1 .0))
 
 minus-solved-requires : tie.Need-minus-solved-requires
 minus-solved-requires c κs = tt
@@ -78,12 +72,12 @@ same-length c = search needs
 
 returns : tie.Need-returns
 returns c =
-    let s = (c .before .before .before .before .before .before .before .before .before .before .before .before .before .before .before .before .before .before) in
+    let s = (c .before .before .before .before .before .before .before .before .before .before .before .before .before .before .before .before .before) in
     let a = s .args in
     let p = s .pre in
-    let fj = front-kept _ (c .before .before .before .before .before .before .before .before .before .before .before .before .chosen-slopes .last .1 .1 .0) _ (room s) (c .before .before .before .before .before .before .before .before .before .before .before .before .chosen-slopes .kept .1 .1 .0) in
-    let fr = front-kept _ (c .before .before .before .before .before .before .before .before .products .last .1 .1 .1 .1 .0) _ (high s) (c .before .before .before .before .before .before .before .before .products .kept .1 .1 .1 .1 .0) in
-    along-is (a .n) (a .m) (a .xs .now) (a .v .now) _ _ (a .out .now) (p .0) (p .1 .0) (p .1 .1 .0) _ _ (c .before .before .minus-solved .result) _ (p .1 .1 .1) (length-take-le _ _ (room s)) (length-take-le _ _ (high s)) fj fr (c .before .before .before .before .before .before .before .before .before .before .before .before .before .before .constraints .ensures) (c .before .before .before .before .before .before .before .before .before .before .before .before .chosen-slopes .ensures) (c .before .before .before .before .before .before .before .before .products .ensures) (c .before .before .minus-solved .ensures)
+    let fj = front-kept _ (c .before .before .before .before .before .before .before .before .before .before .before .chosen-slopes .last .1 .1 .0) _ (room s) (c .before .before .before .before .before .before .before .before .before .before .before .chosen-slopes .kept .1 .1 .0) in
+    let fr = front-kept _ (c .before .before .before .before .before .before .before .products .last .1 .1 .1 .1 .0) _ (high s) (c .before .before .before .before .before .before .before .products .kept .1 .1 .1 .1 .0) in
+    along-is (a .n) (a .m) (a .xs .now) (a .v .now) _ _ (a .out .now) (p .0) (p .1 .0) (p .1 .1 .0) _ _ (c .before .before .minus-solved .result) _ (p .1 .1 .1) (length-take-le _ _ (room s)) (length-take-le _ _ (high s)) fj fr (c .before .before .before .before .before .before .before .before .before .before .before .before .before .constraints .ensures) (c .before .before .before .before .before .before .before .before .before .before .before .chosen-slopes .ensures) (c .before .before .before .before .before .before .before .products .ensures) (c .before .before .minus-solved .ensures)
 
 pub along-constraints-spec : {M : Type 1} → statement M
 along-constraints-spec =
@@ -98,15 +92,13 @@ along-constraints-spec =
     slice-aggregate-chosen-slopes
     chosen-slopes-requires
     array-share-prefix-jc
-    slice-aggregate-products
+    slice-aggregate-slopes
     array-borrow-prefix-rhs
-    slice-aggregate-products-2
+    slice-aggregate-products
     products-requires
-    array-share-prefix-jc-2
-    slice-aggregate-minus-solved
     array-share-prefix-rhs
+    slice-aggregate-minus-solved
     slice-aggregate-minus-solved-2
-    slice-aggregate-minus-solved-3
     minus-solved-requires
     same-length
     returns)
