@@ -12,9 +12,10 @@ use crate::area::only_standing;
 use crate::state::Answer;
 use crate::state::Kind;
 use crate::state::Out;
+use crate::state::Phase;
 use crate::state::State;
 use crate::state::Stop;
-use crate::states::ended;
+use crate::states::with_phase;
 use crate::states::with_question;
 use interval::GeopError;
 use linear::LinearError;
@@ -39,12 +40,14 @@ pub fn finish(st: State, area: &mut [f64], stop: Stop) -> Out
     ensures { λ r. ⌜ ((w : Memory) → Holds w (now (area .entry)) → Leaves (run.finish st w stop) r (now (area .exit))) ⌝ }
 {
     only_standing(area);
-    let c = st.counts;
-    let x = st.search;
-    let state = ended(st);
     Out {
-        state,
-        answer: Answer::Finish(stop, c.iterations, x.turned_down, c.standing),
+        state: with_phase(st, Phase::Over),
+        answer: Answer::Finish(
+            stop,
+            st.counts.iterations,
+            st.search.turned_down,
+            st.counts.standing,
+        ),
     }
 }
 
@@ -54,9 +57,8 @@ pub fn refuse(st: State, area: &mut [f64], e: LinearError) -> Out
     ensures { λ r. ⌜ ((w : Memory) → Holds w (now (area .entry)) → Leaves (run.refuse st w (numberOf e)) r (now (area .exit))) ⌝ }
 {
     only_standing(area);
-    let state = ended(st);
     Out {
-        state,
+        state: with_phase(st, Phase::Over),
         answer: Answer::Refused(number_of(e)),
     }
 }
@@ -66,10 +68,8 @@ pub fn ask(st: State, kind: Kind, corrections: usize) -> Out
     requires { ⌜ st .counts .question < 2 ^ 32 ⌝ }
     ensures { λ r. ⌜ ((w : Memory) (a : List Float) → Holds w a → Leaves (run.question st w kind corrections) r a) ⌝ }
 {
-    let c = st.counts;
-    let state = with_question(st, kind, corrections);
     Out {
-        state,
-        answer: Answer::Question(c.question + 1, kind, c.standing),
+        state: with_question(st, kind, corrections),
+        answer: Answer::Question(st.counts.question + 1, kind, st.counts.standing),
     }
 }

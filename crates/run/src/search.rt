@@ -93,12 +93,18 @@ fn flat(x: Search, independent: usize, m: usize) -> Stop
     Stop::Damped(why)
 }
 
-fn turned(d: Damped) -> Turn
-    ensures { λ r. ⌜ r ≡ turnOf d ⌝ }
+// Rejected, with that radius: gone on with more damping, or left.
+fn turned(x: Search, radius: Scalar, why: Rejection) -> Turn
+    requires { ⌜ x .«turned_down» < 2 ^ 32 ⌝ }
+    ensures { λ r. ⌜ r ≡ turnOf (damped goesOn stopsAt (rejectedFor (withRadius x radius) why)) ⌝ }
 {
-    match d {
-        Damped::On(y) => Turn::On(y),
-        Damped::Stop(y, s) => Turn::Leave(Found::Stop(y, s)),
+    match damp(x, radius, why) {
+        Damped::On(y) => {
+            return Turn::On(y);
+        }
+        Damped::Stop(y, s) => {
+            return Turn::Leave(Found::Stop(y, s));
+        }
     }
 }
 
@@ -108,15 +114,25 @@ fn follow(p: Proposal, x: Search, m: usize, max: Scalar) -> Turn
     ensures { λ r. ⌜ ((on : Search → defined.Found) (delta lambda next : List Float) → turnResult r on delta lambda next ≡ follow on m max x (proposalResult p delta lambda next)) ⌝ }
 {
     match p {
-        Proposal::Ask(t) => Turn::Leave(Found::Ask(x, t)),
+        Proposal::Ask(t) => {
+            return Turn::Leave(Found::Ask(x, t));
+        }
         Proposal::NoChange => {
             let why = x.rejected;
-            Turn::Leave(Found::Stop(x, Stop::NoChange(why)))
+            return Turn::Leave(Found::Stop(x, Stop::NoChange(why)));
         }
-        Proposal::NoDrop(r) => Turn::Leave(Found::Stop(x, flat(x, r, m))),
-        Proposal::Refused(e) => Turn::Leave(Found::Refused(x, e)),
-        Proposal::Unresolved => turned(damp(x, max, Rejection::Unresolved)),
-        Proposal::NotPositive => turned(damp(x, x.radius, Rejection::NotPositive)),
+        Proposal::NoDrop(r) => {
+            return Turn::Leave(Found::Stop(x, flat(x, r, m)));
+        }
+        Proposal::Refused(e) => {
+            return Turn::Leave(Found::Refused(x, e));
+        }
+        Proposal::Unresolved => {
+            return turned(x, max, Rejection::Unresolved);
+        }
+        Proposal::NotPositive => {
+            return turned(x, x.radius, Rejection::NotPositive);
+        }
     }
 }
 

@@ -180,14 +180,11 @@ pub fn not_lower(st: State, area: &mut [f64]) -> Out
     requires { ⌜ (length (now area) ≡ 8000) × Bounded 1073741824 st ⌝ }
     ensures { λ r. ⌜ ((w : Memory) → Holds w (now (area .entry)) → Leaves (run.notLower st w) r (now (area .exit))) ⌝ }
 {
-    let x = st.search;
-    if may_retry(x.plain, st.sizes.n, area) {
-        let y = Search {
-            turned_down: x.turned_down + 1,
-            plain: true,
-            rejected: Rejection::NotLower,
-            ..x
-        };
+    if may_retry(st.search.plain, st.sizes.n, area) {
+        let mut y = reject(st.search, Rejection::NotLower);
+        let turned_down = st.search.turned_down + 1;
+        y.turned_down = turned_down;
+        y.plain = true;
         return search(with_search(st, y), area);
     }
     turn_down(st, area, Rejection::NotLower)

@@ -8,8 +8,8 @@ use Rattle.run.proofs.endings.refuse.Tie as tie
 only-standing-requires : tie.Need-only-standing-requires
 only-standing-requires c κs = search needs
 
-ended-requires : tie.Need-ended-requires
-ended-requires c κs = search needs
+with-phase-requires : tie.Need-with-phase-requires
+with-phase-requires c κs = search needs
 
 number-of-requires : tie.Need-number-of-requires
 number-of-requires c κs = search needs
@@ -18,9 +18,9 @@ same-length : tie.Need-same-length
 same-length c = search needs
 
 returns : tie.Need-returns
-returns c w h = record { state-is = c .before .ended .ensures; answer-is = ap answer.Refused (c .number-of .ensures); held = c .before .before .before .before .only-standing .ensures w h }
+returns c w h = record { state-is = c .before .with-phase .ensures; answer-is = ap answer.Refused (c .number-of .ensures); held = c .before .before .before .before .only-standing .ensures w h }
 
 pub refuse-spec : {M : Type 1} → statement M
 refuse-spec =
     tie.close
-    (tie.spec only-standing-requires ended-requires number-of-requires same-length returns)
+    (tie.spec only-standing-requires with-phase-requires number-of-requires same-length returns)

@@ -1,6 +1,6 @@
 -- `follow` meets its contract: each arm is the definition's.
-use mathlib.Core.Path.{ap, _∙_}
-use Rattle.run.specs.Search.{stops, rejectedFor, withRadius, turnOf}
+use mathlib.Core.Path.{ap}
+use Rattle.run.specs.Search.{stops, rejectedFor, withRadius}
 use Rattle.run.specs.declared.state.Rejection.the-variants as why
 use Rattle.run.specs.declared.state.Stop.{Stop}
 use Rattle.run.proofs.SearchLaws.{damped-turn}
@@ -11,8 +11,14 @@ use Rattle.run.proofs.search.follow.Tie as tie
 enum-known-p : tie.Need-enum-known-p
 enum-known-p c = search needs
 
+returns : tie.Need-returns
+returns c on delta lambda next = rw (c .before .p .given .1)
+
 enum-told : tie.Need-enum-told
 enum-told c = search needs
+
+returns-2 : tie.Need-returns-2
+returns-2 c on delta lambda next = rw (c .enum-told .given .1)
 
 enum-known-p-2 : tie.Need-enum-known-p-2
 enum-known-p-2 c = search needs
@@ -20,63 +26,49 @@ enum-known-p-2 c = search needs
 flat-requires : tie.Need-flat-requires
 flat-requires c κs = search needs
 
-enum-known-p-3 : tie.Need-enum-known-p-3
-enum-known-p-3 c = search needs
-
-enum-told-2 : tie.Need-enum-told-2
-enum-told-2 c = search needs
-
-damp-requires : tie.Need-damp-requires
-damp-requires c κs = c .before .before .pre
-
-turned-requires : tie.Need-turned-requires
-turned-requires c κs = search needs
-
-enum-told-3 : tie.Need-enum-told-3
-enum-told-3 c = search needs
-
-damp-requires-2 : tie.Need-damp-requires-2
-damp-requires-2 c κs = c .before .before .pre
-
-turned-requires-2 : tie.Need-turned-requires-2
-turned-requires-2 c κs = search needs
-
-returns : tie.Need-returns
-returns c on delta lambda next = rw (c .before .p .given .1)
-
-returns-2 : tie.Need-returns-2
-returns-2 c on delta lambda next = rw (c .enum-told .given .1)
-
 returns-3 : tie.Need-returns-3
 returns-3 c on delta lambda next = rw (c .before .before .p2 .given .1) (ap (λ (s : Stop). stops (c .before .before .before .before .args .x) s) (c .flat .ensures))
+
+enum-known-p-3 : tie.Need-enum-known-p-3
+enum-known-p-3 c = search needs
 
 returns-4 : tie.Need-returns-4
 returns-4 c on delta lambda next = rw (c .before .p3 .given .1)
 
+enum-told-2 : tie.Need-enum-told-2
+enum-told-2 c = search needs
+
+turned-requires : tie.Need-turned-requires
+turned-requires c κs = c .before .before .pre
+
 returns-5 : tie.Need-returns-5
-returns-5 c on delta lambda next = let a = c .before .before .before .before .args in rw (c .before .before .enum-told2 .given .1) (damped-turn (rejectedFor (withRadius (a .x) (a .max)) why.Unresolved) (c .turned .ensures ∙ ap turnOf (c .before .damp .ensures)) on delta lambda next)
+returns-5 c on delta lambda next = let a = c .before .before .before .args in rw (c .before .enum-told2 .given .1) (damped-turn (rejectedFor (withRadius (a .x) (a .max)) why.Unresolved) (c .turned .ensures) on delta lambda next)
+
+enum-told-3 : tie.Need-enum-told-3
+enum-told-3 c = search needs
+
+turned-requires-2 : tie.Need-turned-requires-2
+turned-requires-2 c κs = c .before .before .pre
 
 returns-6 : tie.Need-returns-6
-returns-6 c on delta lambda next = rw (c .before .before .enum-told3 .given .1) (damped-turn (rejectedFor (c .before .before .before .before .args .x) why.NotPositive) (c .turned2 .ensures ∙ ap turnOf (c .before .damp2 .ensures)) on delta lambda next)
+returns-6 c on delta lambda next = rw (c .before .enum-told3 .given .1) (damped-turn (rejectedFor (c .before .before .before .args .x) why.NotPositive) (c .turned2 .ensures) on delta lambda next)
 
 pub follow-spec : {M : Type 1} → statement M
 follow-spec =
     tie.close
     (tie.spec
     enum-known-p
+    returns
     enum-told
+    returns-2
     enum-known-p-2
     flat-requires
-    enum-known-p-3
-    enum-told-2
-    damp-requires
-    turned-requires
-    enum-told-3
-    damp-requires-2
-    turned-requires-2
-    returns
-    returns-2
     returns-3
+    enum-known-p-3
     returns-4
+    enum-told-2
+    turned-requires
     returns-5
+    enum-told-3
+    turned-requires-2
     returns-6)

@@ -1,19 +1,24 @@
--- `turned` meets its contract: each arm is the definition's.
+-- `turned` meets its contract: each arm is the definition's, from what `damp` gives.
+use mathlib.Core.Path.{sym, ap, _∙_}
+use Rattle.run.specs.Search.{turnOf}
 use borrow.Author.Needs.{needs}
 use Rattle.run.proofs.search.turned.Statement.{statement}
 use Rattle.run.proofs.search.turned.Tie as tie
 
-enum-known-d : tie.Need-enum-known-d
-enum-known-d c = search needs
+damp-requires : tie.Need-damp-requires
+damp-requires c κs = c .pre
 
-enum-known-d-2 : tie.Need-enum-known-d-2
-enum-known-d-2 c = search needs
+enum-known-y : tie.Need-enum-known-y
+enum-known-y c = search needs
 
 returns : tie.Need-returns
-returns c = rw (c .before .d .given .1)
+returns c = ap turnOf (sym (c .before .y .given .1) ∙ c .before .before .before .damp .ensures)
+
+enum-known-y-2 : tie.Need-enum-known-y-2
+enum-known-y-2 c = search needs
 
 returns-2 : tie.Need-returns-2
-returns-2 c = rw (c .before .d2 .given .1)
+returns-2 c = ap turnOf (sym (c .before .y2 .given .1) ∙ c .before .before .before .damp .ensures)
 
 pub turned-spec : {M : Type 1} → statement M
-turned-spec = tie.close (tie.spec enum-known-d enum-known-d-2 returns returns-2)
+turned-spec = tie.close (tie.spec damp-requires enum-known-y returns enum-known-y-2 returns-2)
