@@ -3,7 +3,8 @@ ghost use mathlib.Core.Bool.{not, _&&_, _||_};
 ghost use mathlib.Core.Path.{_≡_};
 ghost use lib.ListN.{length};
 ghost use Rattle.run.specs.Area.{Memory, Holds};
-ghost use Rattle.run.specs.Run.{Leaves, Underway, wasTaken, decide, judge};
+ghost use Rattle.run.specs.Judgement.{judgeOf, judgementOf};
+ghost use Rattle.run.specs.Run.{Leaves, Underway, standingAt, landedAt, wasTaken, decide, judge};
 use crate::area;
 use crate::endings::finish;
 use crate::endings::refuse;
@@ -74,13 +75,13 @@ fn decide(st: State, area: &mut [f64], theta: Scalar, j: Judged) -> Out
     not_lower(st, area)
 }
 
-// The landed point is judged, from a standing point with violation theta.
-pub fn judge_landed(st: State, area: &mut [f64], theta: Scalar) -> Out
+// The judgement of the landed point, from a standing point with violation theta.
+fn judge_in(st: State, area: &[f64], theta: Scalar) -> Judgement
     requires { ⌜ (length (now area) ≡ 8000) × Underway st ⌝ }
-    ensures { λ r. ⌜ ((w : Memory) → Holds w (now (area .entry)) → Leaves (judge st w theta) r (now (area .exit))) ⌝ }
+    ensures { λ r. ⌜ ((w : Memory) → Holds w (now (area .entry)) → judgementOf r ≡ judgeOf (st .sizes .n) (standingAt st w) (landedAt st w) theta (w .filter) (st .counts .iterations) (st .last) (w .step)) ⌝ }
 {
     let last = st.last;
-    match judge(
+    judge(
         st.sizes.n,
         st.sizes.m,
         st.sizes.s,
@@ -91,7 +92,15 @@ pub fn judge_landed(st: State, area: &mut [f64], theta: Scalar) -> Out
         st.counts.iterations,
         last,
         &area[area::STEP..area::MULTIPLIERS],
-    ) {
+    )
+}
+
+// The landed point is judged, from a standing point with violation theta.
+pub fn judge_landed(st: State, area: &mut [f64], theta: Scalar) -> Out
+    requires { ⌜ (length (now area) ≡ 8000) × Underway st ⌝ }
+    ensures { λ r. ⌜ ((w : Memory) → Holds w (now (area .entry)) → Leaves (judge st w theta) r (now (area .exit))) ⌝ }
+{
+    match judge_in(st, area, theta) {
         Judgement::Of(j) => {
             return decide(st, area, theta, j);
         }
