@@ -234,8 +234,14 @@ pub fn answered_none(kind: Kind, st: State, area: &mut [f64]) -> Out
     ensures { λ r. ⌜ ((w : Memory) → Holds w (now (area .entry)) → Leaves (answeredNone kind st w) r (now (area .exit))) ⌝ }
 {
     match kind {
-        Kind::Start => finish(st, area, Stop::Infeasible),
-        Kind::Trial => turn_down(st, area, Rejection::Infeasible),
-        Kind::Correction => correction_none(st, area),
+        Kind::Start => {
+            return finish(st, area, Stop::Infeasible);
+        }
+        Kind::Trial => {
+            return turn_down(st, area, Rejection::Infeasible);
+        }
+        Kind::Correction => {
+            return correction_none(st, area);
+        }
     }
 }

@@ -48,10 +48,14 @@ fn linear_of(st: State, area: &[f64], theta: Scalar) -> Linear
 {
     if theta.definitely_greater(Scalar::ZERO) {
         let landed = rows::violation(&area[area::LANDED_ROWS..area::STEP], st.sizes.n, st.sizes.m);
-        return match landed {
-            Answer::Value(new) => Linear::Known(held(theta, st.trial.predicted, new)),
-            Answer::Refused(e) => Linear::Refused(e),
-        };
+        match landed {
+            Answer::Value(new) => {
+                return Linear::Known(held(theta, st.trial.predicted, new));
+            }
+            Answer::Refused(e) => {
+                return Linear::Refused(e);
+            }
+        }
     }
     Linear::Known(false)
 }

@@ -10,29 +10,29 @@ enum-told c = search needs
 finish-requires : tie.Need-finish-requires
 finish-requires c κs = c .before .before .before .before .pre .0
 
-enum-told-2 : tie.Need-enum-told-2
-enum-told-2 c = search needs
-
-turn-down-requires : tie.Need-turn-down-requires
-turn-down-requires c κs = let p = c .before .before .before .before .pre in (p .0, p .1 .0)
-
-enum-told-3 : tie.Need-enum-told-3
-enum-told-3 c = search needs
-
-correction-none-requires : tie.Need-correction-none-requires
-correction-none-requires c κs = let p = c .before .before .before .before .pre in (p .0, correction-underway (p .1 .0) (c .before .enum-told3 .given .1) (p .1 .1))
-
 same-length : tie.Need-same-length
 same-length c = search needs
 
 returns : tie.Need-returns
 returns c w h = none-as (c .before .before .before .before .before .before .before .args .st) w (c .before .before .before .before .enum-told .given .1) (c .before .before .finish .ensures w h)
 
+enum-told-2 : tie.Need-enum-told-2
+enum-told-2 c = search needs
+
+turn-down-requires : tie.Need-turn-down-requires
+turn-down-requires c κs = let p = c .before .before .before .before .pre in (p .0, p .1 .0)
+
 same-length-2 : tie.Need-same-length-2
 same-length-2 c = search needs
 
 returns-2 : tie.Need-returns-2
 returns-2 c w h = none-as (c .before .before .before .before .before .before .before .args .st) w (c .before .before .before .before .enum-told2 .given .1) (c .before .before .turn-down .ensures w h)
+
+enum-told-3 : tie.Need-enum-told-3
+enum-told-3 c = search needs
+
+correction-none-requires : tie.Need-correction-none-requires
+correction-none-requires c κs = let p = c .before .before .before .before .pre in (p .0, correction-underway (p .1 .0) (c .before .enum-told3 .given .1) (p .1 .1))
 
 same-length-3 : tie.Need-same-length-3
 same-length-3 c = search needs
@@ -46,13 +46,13 @@ answered-none-spec =
     (tie.spec
     enum-told
     finish-requires
-    enum-told-2
-    turn-down-requires
-    enum-told-3
-    correction-none-requires
     same-length
     returns
+    enum-told-2
+    turn-down-requires
     same-length-2
     returns-2
+    enum-told-3
+    correction-none-requires
     same-length-3
     returns-3)

@@ -30,14 +30,14 @@ enum-known-landed c = search needs
 held-requires : tie.Need-held-requires
 held-requires c κs = search needs
 
-enum-known-landed-2 : tie.Need-enum-known-landed-2
-enum-known-landed-2 c = search needs
-
 returns : tie.Need-returns
 unfolding ofBits
 returns c w h =
     let a = c .before .before .before .before .before .before .before .before .before .args in
     ap ok (c .held .ensures) ∙ linear-known (a .st) w (a .theta) (sym (landed-violation (a .st) h (c .before .before .before .before .violation .ensures))) (sym (c .before .before .before .before .before .before .before .definitely-greater .ensures) ∙ c .before .before .before .before .before .before .if1 .taken) (ap resultOf (c .before .before .landed .given .1))
+
+enum-known-landed-2 : tie.Need-enum-known-landed-2
+enum-known-landed-2 c = search needs
 
 returns-2 : tie.Need-returns-2
 unfolding ofBits
@@ -60,7 +60,7 @@ linear-of-spec =
     violation-requires
     enum-known-landed
     held-requires
-    enum-known-landed-2
     returns
+    enum-known-landed-2
     returns-2
     returns-3)
