@@ -67,7 +67,7 @@ pub left-take : (k r i : ℕ) (wide q a : List Float) → 2 * r ≤ length a
     → normOf (λ p. minusTo (at a) (column q p) (entry wide i p) r) k ≡ normOf (λ p. minusTo (at (take (2 * r) a)) (column q p) (entry wide i p) r) k
 left-take k r i wide q a h = normOf-ext _ _ k (λ p _. minusTo-ext _ _ _ _ _ r (λ j l. sym (at-take a r j l h)) (λ j _. refl))
 
--- ---- a row that says something new, from what each call gives
+-- ---- an independent row, from what each call gives
 
 done-bind : {A B : Type 0} (d : Done) (x : A) (f : A → B) → doneOf d (f x) ≡ bind (doneOf d x) (λ y. ok (f y))
 unfolding bind

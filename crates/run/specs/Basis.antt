@@ -1,4 +1,4 @@
--- An orthonormal basis Q of the constraints' rows, by modified Gram-Schmidt, and each row's coefficients in it. Whether a row says something new is asked of the unsharpened rows.
+-- An orthonormal basis Q of the constraints' rows, by modified Gram-Schmidt, and each row's coefficients in it. Whether a row is independent of those before it is asked of the unsharpened rows.
 use Prim.Native.Nat.{ℕ, zero, suc, _+_, _-_, _*_, _/_, _%_}
 use mathlib.Core.Bool.{false}
 use mathlib.Core.List.{List, []}
@@ -48,7 +48,7 @@ coefficientsIn P b i =
 abbrev pub outsideAt : Problem → Basis → ℕ → List Float → ℕ → Scalar
 outsideAt P b i a p = minusTo (at a) (column (b .q) p) (entry (P .wide) i p) (b .rank)
 
--- ---- a row that says something new
+-- ---- an independent row
 
 -- v, and the coefficients, once the parts along the first vectors are taken out
 pub record Taken : Type 0 where

@@ -126,7 +126,7 @@ fn outside(k: usize, r: usize, i: usize, wide: &[f64], q: &[f64], a: &[f64], out
     }
 }
 
-// ---- a row that says something new
+// ---- an independent row
 
 // v without its parts along r vectors, which row r of the coefficients keeps.
 fn parts_out(k: usize, r: usize, q: &[f64], v: &mut [f64], coefficients: &mut [f64])
@@ -209,7 +209,7 @@ fn ranked(d: Done, r: usize) -> Rank
     }
 }
 
-// Row i of `jc` says something new: it is the newest vector of the basis; the order is its caller's.
+// Row i of `jc` is independent of those in the basis and is its newest vector. The caller writes the order.
 fn add_row(
     k: usize,
     r: usize,
@@ -386,7 +386,7 @@ fn sides(m: usize, r: usize, order: &[usize], xs: &[f64], e: RowSet, rhs: &mut [
     }
 }
 
-// The least-squares correction of every row, for the constraint values in xs; delta says nothing where it is refused.
+// The least-squares correction of every row, for the constraint values in xs. Where it is refused, what delta holds has no meaning.
 pub fn correction(
     k: usize,
     m: usize,
@@ -460,7 +460,7 @@ fn multipliers_by_row(k: usize, r: usize, q: &[f64], pull: &[f64], by_row: &mut 
     Done::Finished
 }
 
-// The constraints' multipliers, against a pull; the coefficients stand behind Q. Where they are refused lambda says nothing.
+// The constraints' multipliers, against a pull; the coefficients stand behind Q. Where they are refused, what lambda holds has no meaning.
 pub fn multipliers(
     k: usize,
     r: usize,

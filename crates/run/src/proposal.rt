@@ -33,7 +33,7 @@ use linear::choose;
 use linear::plus_dot;
 use linear::put;
 
-// A least-squares problem in numbers: variables, constraint rows and sum rows, and f and the violation where it stands.
+// The numbers of a standing point's problem: how many variables, constraint rows and sum rows there are, the sum f and the violation theta.
 pub struct Model {
     pub n: usize,
     pub m: usize,

@@ -290,7 +290,7 @@ fn kept_step(
 
 // ---- over all variables
 
-// The step with the damping mu, from what was prepared for the variables that move, with the constraints' multipliers; delta says nothing where there is none.
+// The step with the damping mu, from what was prepared for the variables that move, with the constraints' multipliers. Where there is none, what delta holds has no meaning.
 pub fn damped_step(
     n: usize,
     moving: &[bool],

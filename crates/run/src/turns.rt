@@ -67,7 +67,7 @@ pub fn bent(plain: bool, area: &[f64], b: &mut [f64])
     }
 }
 
-// The model's numbers, from the rows where it stands and their violation.
+// The numbers of the standing point's problem, from its rows and their violation.
 fn model(z: Sizes, rows: &[f64], theta: Scalar) -> Model
     requires { ⌜ (z .n ≤ 12) × ((z .m ≤ 12) × (z .s ≤ 24)) ⌝ }
     ensures { λ r. ⌜ r ≡ record { n = z .n; m = z .m; s = z .s; f = sumSquared (sumOf (z .n) (z .m) (z .s) (now (rows .entry))); theta = theta } ⌝ }
