@@ -21,6 +21,7 @@ pub mod Product
 pub mod Infinite
 pub mod Inverse
 pub mod Enclosure
+pub mod Rescaling
 pub mod OneSided
 pub mod OrderUnits
 pub mod Bounded

@@ -1,7 +1,7 @@
 -- Enclosure (document 01, "Interval ends"): what an interval holds, over whole numbers. A finite float is a whole number of units, 2 ^ -1074 each.
 -- A choice inside an interval is a whole number over a power of two, p / 2 ^ k. Where operands and result are finite, each operation holds the exact result
 -- for every choice inside its operands: quotients are cross-multiplied, roots squared and taken of choices that are not below 0.
-use Prim.Native.Nat.{ℕ, zero, suc, _+_, _*_, _/_, _^_}
+use Prim.Native.Nat.{ℕ, zero, suc, _+_, _-_, _*_, _/_, _^_, _≤_}
 use mathlib.Core.Path.{_≡_}
 use mathlib.Core.Bool.{Bool, true, false, cond}
 use mathlib.Core.Logic.{_⊎_}
@@ -42,11 +42,21 @@ pub record HoldsQ (x : Scalar) (p : ℤ) (c : ℕ) : Type 0 where
 abbrev pub Holds : Scalar → ℤ → ℕ → Type 0
 Holds x p k = HoldsQ x p (2 ^ k)
 
+-- the choice p / 2 ^ j written over 2 ^ c, for a c that is at least j
+unfoldable pub rescaled : ℤ → ℕ → ℕ → ℤ
+rescaled p j c = p *ℤ pos (2 ^ (c - j))
+
 -- ---- what each operation encloses
 
 -- sum, difference and greater: of choices over a power of two that both share
 abbrev pub Encloses : (ℤ → ℤ → ℤ) → Scalar → Scalar → Scalar → Type 0
 Encloses op x y r = Finite x → Finite y → Finite r → (p q : ℤ) (k : ℕ) → Holds x p k → Holds y q k → Holds r (op p q) k
+
+-- the same with a power for each choice: both are written over any 2 ^ c where c is at least each power
+abbrev pub EnclosesEach : (ℤ → ℤ → ℤ) → Scalar → Scalar → Scalar → Type 0
+EnclosesEach op x y r =
+    Finite x → Finite y → Finite r → (p q : ℤ) (j k c : ℕ) → j ≤ c → k ≤ c →
+    Holds x p j → Holds y q k → Holds r (op (rescaled p j c) (rescaled q k c)) c
 
 -- the greater of two whole numbers
 abbrev pub maxℤ : ℤ → ℤ → ℤ

@@ -13,7 +13,7 @@ use lib.Signed.{ltZ}
 use Rattle.interval.specs.declared.Scalar.{Scalar}
 use Rattle.interval.specs.Result.{ok}
 use Rattle.interval.specs.Scalar.{subOf}
-use Rattle.linear.specs.Squares.{squaresTo, Chosen}
+use Rattle.linear.specs.Squares.{squaresTo, ChosenEach, rescaledAll}
 use Rattle.run.specs.Rows.{Rows, valueAt, constraintsOf, sumOf, violationOf}
 use Rattle.run.specs.Judgement.{sumChange, indefinite, contracts}
 use Rattle.run.specs.Area.{AREA}
@@ -129,9 +129,12 @@ In e (x ∷ xs) = (e ≡ x) ⊎ In e xs
 
 -- ---- exact progress
 
--- the sum of the squares of the values is lower at e′ than at e for all choices: each value anywhere in its interval, a whole number over any power of two
+-- the sum of the squares of the values is lower at e′ than at e for all choices: each value anywhere in its interval, a
+-- whole number over its own power of two; the sums are those of the choices written over any power at least as great
 abbrev pub Falls : Rows → Rows → Type 0
-Falls e e′ = (p q : ℕ → ℤ) (k : ℕ) → Chosen (valueAt e) (e .count) p k → Chosen (valueAt e′) (e′ .count) q k → T (ltZ (squaresTo q (e′ .count)) (squaresTo p (e .count)))
+Falls e e′ =
+    (p q : ℕ → ℤ) (j k : ℕ → ℕ) (c : ℕ) → ChosenEach (valueAt e) (e .count) p j c → ChosenEach (valueAt e′) (e′ .count) q k c →
+    T (ltZ (squaresTo (rescaledAll q k c) (e′ .count)) (squaresTo (rescaledAll p j c) (e .count)))
 
 -- one and the same of a point's two sums is lower
 abbrev pub Lower : Sizes → List Float → List Float → Type 0
