@@ -232,7 +232,8 @@ module _ (f : ℕ → Scalar) (n : ℕ) (r : Rows f n) (p : ℕ → ℤ) (k : �
   pub over-within : (g : Scalar) (s : Scale g) (d : Scalar) → scaledSquares f g n ≡ ok d → Within d (pos (natAbs (squaresTo p n) * (2 ^ low binary64 * 2 ^ low binary64))) (2 ^ k * suc (s .size) * (2 ^ k * suc (s .size)))
   over-within g s d e =
       subst (λ (z : ℤ). Within d z (2 ^ k * suc (s .size) * (2 ^ k * suc (s .size)))) (scaled-sum p (2 ^ low binary64) n)
-      (scaled-within g s f n d (λ i h. r i h .0) e p (2 ^ k) (pow-pos k) (λ i h. holds-within (f i) (p i) (2 ^ k) (r i h .1) (a i h .inside)))
+      (scaled-within g s f n d (λ i h. r i h .0) e p (2 ^ k) (pow-pos k)
+      (λ i h. holds-within (f i) (p i) (2 ^ k) (r i h .1) (a i h .inside)))
 
   pub scaled-not-negative : (g : Scalar) (s : Scale g) (d : Scalar) → scaledSquares f g n ≡ ok d → lt (d .hi) zero64 ≡ false
   scaled-not-negative g s d e =
@@ -265,7 +266,8 @@ lower-ends f n r o i h = record {
   is-finite = r i h .1;
   inside = record {
     from-lo = leZ-refl (unitsOf binary64 (f i .lo) *ℤ pos (2 ^ low binary64));
-    to-hi = mono (unitsOf binary64 (f i .lo)) (unitsOf binary64 (f i .hi)) (2 ^ low binary64) (le-units (f i .lo) (f i .hi) (r i h .0 .0) (r i h .1 .lo-finite) (r i h .0 .1) (r i h .1 .hi-finite) (o i h));
+    to-hi = mono (unitsOf binary64 (f i .lo)) (unitsOf binary64 (f i .hi)) (2 ^ low binary64)
+        (le-units (f i .lo) (f i .hi) (r i h .0 .0) (r i h .1 .lo-finite) (r i h .0 .1) (r i h .1 .hi-finite) (o i h));
   };
 }
 

@@ -52,7 +52,9 @@ squares-within f (suc n) t p c C a =
     (squares-within f n (λ i l. t i (le-trans l (le-suc n))) p c C (λ i l. a i (le-trans l (le-suc n)))) (square-within (f n) (p n) c C (t n h) (a n h))
 
 pub dot-within : (f : ℕ → Scalar) (n : ℕ) → Rows f n → (p : ℕ → ℤ) (k : ℕ) → Chosen f n p k → Within (dotTo f f n) (squaresTo p n) (2 ^ k * 2 ^ k)
-dot-within f n r p k a = squares-within f n (λ i h. r i h .0) p (2 ^ k) (pow-pos k) (λ i h. holds-within (f i) (p i) (2 ^ k) (r i h .1) (a i h .inside))
+dot-within f n r p k a =
+    squares-within f n (λ i h. r i h .0) p (2 ^ k) (pow-pos k)
+    (λ i h. holds-within (f i) (p i) (2 ^ k) (r i h .1) (a i h .inside))
 
 -- ---- a definite answer about two sums, of n and of m scalars
 pub dot-less : (f g : ℕ → Scalar) (n m : ℕ) → Rows f n → Rows g m → T (definitelyLess (dotTo g g m) (dotTo f f n)) → (p q : ℕ → ℤ) (k : ℕ) → Chosen f n p k → Chosen g m q k → T (ltZ (squaresTo q m) (squaresTo p n))
@@ -63,8 +65,11 @@ pub dot-greater : (f g : ℕ → Scalar) (n m : ℕ) → Rows f n → Rows g m �
 dot-greater f g n m rf rg h = dot-less f g n m rf rg h
 
 -- ---- choices with a power for each
-pub chosen-rescaled : (f : ℕ → Scalar) (n : ℕ) (p : ℕ → ℤ) (j : ℕ → ℕ) (c : ℕ) → ChosenEach f n p j c → Chosen f n (rescaledAll p j c) c
-chosen-rescaled f n p j c a i h = let (l, x) = a i h in record { is-finite = x .is-finite; inside = holds-rescaled (f i) (p i) (j i) c l (x .inside) }
+pub chosen-rescaled : (f : ℕ → Scalar) (n : ℕ) (p : ℕ → ℤ) (j : ℕ → ℕ) (c : ℕ)
+    → ChosenEach f n p j c → Chosen f n (rescaledAll p j c) c
+chosen-rescaled f n p j c a i h =
+    let (l, x) = a i h in
+    record { is-finite = x .is-finite; inside = holds-rescaled (f i) (p i) (j i) c l (x .inside) }
 
 -- ---- magnitude
 pub bounded-rows : (f : ℕ → Scalar) (n a : ℕ) → ((i : ℕ) → i < n → Bounded (f i) a) → Rows f n

@@ -25,8 +25,7 @@ use Rattle.linear.proofs.NormLaws.{norm-less, norm-fell}
 use Rattle.linear.proofs.SquareLaws.{dot-fits, squares-within}
 use Rattle.run.specs.Rows.{Rows, valueAt, linearizedAt, squaredOf, sumSquared, violationOf}
 use Rattle.run.specs.Judgement.{sumChange, rises}
-use Rattle.run.specs.Demand.{Falls}
-use Rattle.run.proofs.ExactLaws.{FiniteRows, ExactLaws}
+use Rattle.run.proofs.ExactLaws.{FiniteRows, FallsTogether, falls-each, ExactLaws}
 
 -- ---- f, with zero added to each value
 
@@ -34,7 +33,8 @@ plus-zero : (e : Rows) → FiniteRows e → (p : ℕ → ℤ) (k : ℕ) → Chos
 unfolding linearizedAt plusTo
 plus-zero e r p k a i h =
     subst (λ (z : ℤ). Within (addOf (valueAt e i) zeroS) z (2 ^ k)) (+ℤ-idr (p i))
-    (add-within (valueAt e i) zeroS (p i) (pos 0) (2 ^ k) (r i h .0) zero-fits (holds-within (valueAt e i) (p i) (2 ^ k) (r i h .1) (a i h)) (zero-within (2 ^ k)))
+    (add-within (valueAt e i) zeroS (p i) (pos 0) (2 ^ k) (r i h .0) zero-fits
+    (holds-within (valueAt e i) (p i) (2 ^ k) (r i h .1) (a i h .inside)) (zero-within (2 ^ k)))
 
 f-within : (e : Rows) → FiniteRows e → (p : ℕ → ℤ) (k : ℕ) → Chosen (valueAt e) (e .count) p k → Within (sumSquared e) (squaresTo p (e .count)) (2 ^ k * 2 ^ k)
 unfolding squaredOf linearizedAt plusTo
@@ -44,17 +44,20 @@ f-fits : (e : Rows) → Fits (sumSquared e)
 unfolding squaredOf
 f-fits e = dot-fits (linearizedAt e (e .list) 0) (linearizedAt e (e .list) 0) (e .count)
 
-sum-less : (e e′ : Rows) → FiniteRows e → FiniteRows e′ → T (definitelyLess (sumSquared e′) (sumSquared e)) → Falls e e′
+sum-less : (e e′ : Rows) → FiniteRows e → FiniteRows e′ → T (definitelyLess (sumSquared e′) (sumSquared e))
+    → FallsTogether e e′
 sum-less e e′ r r′ h p q k a b =
     less-within (sumSquared e′) (sumSquared e) (squaresTo q (e′ .count)) (squaresTo p (e .count)) (2 ^ k * 2 ^ k) (mul-pos (pow-pos k) (pow-pos k)) (f-fits e′) (f-fits e) (f-within e′ r′ q k b) (f-within e r p k a) h
 
 -- ---- the violation
 
-violation-less : (e e′ : Rows) → FiniteRows e → FiniteRows e′ → (v v′ : Scalar) → violationOf e ≡ ok v → violationOf e′ ≡ ok v′ → T (definitelyLess v′ v) → Falls e e′
+violation-less : (e e′ : Rows) → FiniteRows e → FiniteRows e′ → (v v′ : Scalar) → violationOf e ≡ ok v
+    → violationOf e′ ≡ ok v′ → T (definitelyLess v′ v) → FallsTogether e e′
 unfolding violationOf
 violation-less e e′ r r′ v v′ x x′ h = norm-less (valueAt e) (valueAt e′) (e .count) (e′ .count) r r′ v v′ x x′ h
 
-violation-falls : (e e′ : Rows) → FiniteRows e → FiniteRows e′ → (v v′ : Scalar) → violationOf e ≡ ok v → violationOf e′ ≡ ok v′ → T (rises (subOf v v′)) → Falls e e′
+violation-falls : (e e′ : Rows) → FiniteRows e → FiniteRows e′ → (v v′ : Scalar) → violationOf e ≡ ok v
+    → violationOf e′ ≡ ok v′ → T (rises (subOf v v′)) → FallsTogether e e′
 unfolding violationOf
 violation-falls e e′ r r′ v v′ x x′ h = norm-fell (valueAt e) (valueAt e′) (e .count) (e′ .count) r r′ v v′ x x′ h
 
@@ -103,8 +106,8 @@ module _ (f g : ℕ → Scalar) (p q : ℕ → ℤ) (k : ℕ) where
       let h : n < suc n = lt-suc-self n in
       let x = f n in
       let y = g n in
-      let wx = holds-within x (p n) c (rf n h .1) (a n h) in
-      let wy = holds-within y (q n) c (rg n h .1) (b n h) in
+      let wx = holds-within x (p n) c (rf n h .1) (a n h .inside) in
+      let wy = holds-within y (q n) c (rg n h .1) (b n h .inside) in
       let one : Within (mulOf (subOf x y) (addOf x y)) ((p n -ℤ q n) *ℤ (p n +ℤ q n)) (c * c) =
       mul-within (subOf x y) (addOf x y) (p n -ℤ q n) (p n +ℤ q n) c c C C (outward-fits _ _) (outward-fits _ _)
       (record { left = λ u v. absurd (sub-stepped x y (p n) (q n) c C (rf n h .0) (rg n h .0) wx wy u v); right = λ u v. absurd (sum-stepped x y (p n) (q n) c C (rf n h .0) (rg n h .0) wx wy u v) })
@@ -119,11 +122,17 @@ module _ (f g : ℕ → Scalar) (p q : ℕ → ℤ) (k : ℕ) where
       let up = less-within zeroS (change n) (pos 0) d c (mul-pos (pow-pos k) (pow-pos k)) zero-fits (dot-fits _ _ n) (zero-within c) (change-within n rf rg a b) h in
       lt-of-parts (squaresTo q n) (squaresTo p n) (omega (arith, change-is p q n, parts-of-lt (pos 0) d up))
 
-change-falls : (e e′ : Rows) → e .count ≡ e′ .count → FiniteRows e → FiniteRows e′ → T (rises (sumChange e e′)) → Falls e e′
+change-falls : (e e′ : Rows) → e .count ≡ e′ .count → FiniteRows e → FiniteRows e′ → T (rises (sumChange e e′))
+    → FallsTogether e e′
 unfolding sumChange
 change-falls e e′ same r r′ h p q k a b =
     subst (λ (m : ℕ). T (ltZ (squaresTo q m) (squaresTo p (e .count)))) same
     (change-less (valueAt e) (valueAt e′) p q k (e .count) r (subst (squares.Rows (valueAt e′)) (sym same) r′) a (subst (λ (m : ℕ). Chosen (valueAt e′) m q k) (sym same) b) h)
 
 pub exact-laws : ExactLaws
-exact-laws = record { change-falls = change-falls; sum-less = sum-less; violation-falls = violation-falls; violation-less = violation-less }
+exact-laws = record {
+  change-falls = λ e e′ same r r′ h. falls-each e e′ (change-falls e e′ same r r′ h);
+  sum-less = λ e e′ r r′ h. falls-each e e′ (sum-less e e′ r r′ h);
+  violation-falls = λ e e′ r r′ v v′ x x′ h. falls-each e e′ (violation-falls e e′ r r′ v v′ x x′ h);
+  violation-less = λ e e′ r r′ v v′ x x′ h. falls-each e e′ (violation-less e e′ r r′ v v′ x x′ h);
+}

@@ -129,11 +129,12 @@ In e (x ∷ xs) = (e ≡ x) ⊎ In e xs
 
 -- ---- exact progress
 
--- the sum of the squares of the values is lower at e′ than at e for all choices: each value anywhere in its interval, a
--- whole number over its own power of two; the sums are those of the choices written over any power at least as great
+-- the sum of the squares of the values is lower at e′ than at e for all choices: each value anywhere in its interval,
+-- a whole number over a power of two of its own; both sums are of the choices written over any common power
 abbrev pub Falls : Rows → Rows → Type 0
 Falls e e′ =
-    (p q : ℕ → ℤ) (j k : ℕ → ℕ) (c : ℕ) → ChosenEach (valueAt e) (e .count) p j c → ChosenEach (valueAt e′) (e′ .count) q k c →
+    (p q : ℕ → ℤ) (j k : ℕ → ℕ) (c : ℕ) →
+    ChosenEach (valueAt e) (e .count) p j c → ChosenEach (valueAt e′) (e′ .count) q k c →
     T (ltZ (squaresTo (rescaledAll q k c) (e′ .count)) (squaresTo (rescaledAll p j c) (e .count)))
 
 -- one and the same of a point's two sums is lower
