@@ -24,6 +24,7 @@ pub mod Enclosure
 pub mod Rescaling
 pub mod OneSided
 pub mod OrderUnits
+pub mod NearestOfAll
 pub mod Bounded
 pub mod Scaling
 pub mod Bounds
