@@ -1,6 +1,6 @@
 -- The area as slots one behind the other: a run of numbers written over a slot takes its place, and reading a slot gives what it holds.
 use mathlib.Core.Bool.{Bool, true, false}
-use mathlib.Core.Path.{_≡_, refl, sym, ap, subst, _∙_}
+use mathlib.Core.Path.{_≡_, refl, sym, ap, ap₂, subst, _∙_}
 use mathlib.Core.List.{List, [], _∷_, _++_, map, append-assoc, append-nil}
 use Prim.Native.Nat.{ℕ, zero, suc, _+_, _-_, _*_, _<_, _≤_}
 use native.Mathlib.Nat.{not-suc-le-zero, le-of-suc-le-suc, mul-le-mul, add-assoc, add-zero, zero-add}
@@ -8,7 +8,8 @@ use native.Mathlib.Numerals.{add-one}
 use native.Mathlib.Omega.{arith}
 use lib.Ieee.{Float, nan}
 use lib.ListN.{length, take, drop, getD, set, length-append, length-drop, length-set, length-replicate, length-map, List·getD-map, drop-of-length-le, replicate-append-replicate}
-use lib.Seq.{paste, paste-zero, paste-suc, drop-paste, length-take-le, take-length, take-at, drop-at, drop-drop, take-append-add, drop-append-add, getD-drop, getD-take}
+use lib.Seq.{paste, paste-zero, paste-suc, drop-paste, length-take-le, take-length, take-at, drop-at, drop-drop}
+use lib.Seq.{take-append-add, drop-append-add, getD-append-add, getD-drop, getD-take}
 use Rattle.interval.specs.declared.Scalar.{Scalar}
 use Rattle.interval.specs.Scalar.{pick}
 use Rattle.linear.specs.Flat.{put, zeros}
@@ -139,6 +140,16 @@ module _ (e : List Float) where
   read-part (x ∷ ls) zero h = take-at x (joined ls e) (length x) refl
   read-part (x ∷ ls) (suc k) h = rw (start-cons (length x) (map length ls) k, drop-append-add x (joined ls e) (startOf (map length ls) k)) (read-part ls k (le-of-suc-le-suc h))
 
+-- the end behind all parts
+read-end : (ls : List (List Float)) (e : List Float) (j : ℕ) (d : Float)
+    → getD (joined ls e) (startOf (map length ls) (length ls) + j) d ≡ getD e j d
+unfolding startOf
+read-end [] e j d = ap (λ (i : ℕ). getD e i d) (zero-add j)
+read-end (x ∷ ls) e j d =
+    let n = startOf (map length ls) (length ls) in
+    rw (start-cons (length x) (map length ls) (length ls), add-assoc (length x) n j)
+    (getD-append-add x (joined ls e) (n + j) d ∙ read-end ls e j d)
+
 lengths-set : (ls : List (List Float)) (k : ℕ) (s : List Float) → map length (set ls k s) ≡ set (map length ls) k (length s)
 lengths-set [] k s = refl
 lengths-set (x ∷ ls) zero s = refl
@@ -210,6 +221,17 @@ all-clear e = record { sized = clear-lengths SIZES; is = e ∙ sym (clear-joined
 length-joined : (ls : List (List Float)) (e : List Float) → length (joined ls e) ≡ total (map length ls) + length e
 length-joined [] e = omega arith
 length-joined (x ∷ ls) e = length-append x (joined ls e) ∙ rw (length-joined ls e) (sym (add-assoc (length x) (total (map length ls)) (length e)))
+
+module _ {ls : List (List Float)} {a : List Float} (h : Slots ls a) where
+  pub slots-length : length a ≡ 8000
+  slots-length =
+      ap length (h .is) ∙ length-joined ls (zeros SPARE) ∙ ap₂ (λ (ns : List ℕ) (n : ℕ). total ns + n) (h .sized)
+      (length-clear SPARE)
+
+  pub spare-read : (j : ℕ) → getD a (startOf SIZES 9 + j) nan ≡ getD (zeros SPARE) j nan
+  spare-read j =
+      let m : length ls ≡ 9 = sym (length-map ls (length {A = Float})) ∙ ap (length {A = ℕ}) (h .sized) in
+      rw (h .is, ← h .sized, ← m) (read-end ls (zeros SPARE) j nan)
 
 -- all behind a first part
 clear-behind : (x : List Float) (ls : List (List Float)) (ns : List ℕ) (base n : ℕ) {a b : List Float} → length x ≡ base → map length ls ≡ ns → a ≡ x ++ joined ls (zeros n) → b ≡ written a base (zeros (total ns + n))

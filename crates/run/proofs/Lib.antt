@@ -8,6 +8,7 @@ pub mod CurvatureLaws
 pub mod CorrectionLaws
 pub mod Booleans
 pub mod Slots
+pub mod Remainders
 pub mod Yields
 pub mod Growths
 pub mod ExactLaws
@@ -40,3 +41,5 @@ pub mod FollowLaws
 pub mod LeaveLaws
 pub mod SearchCalls
 pub mod ReplyLaws
+pub mod Tidied
+pub mod Cleared

@@ -89,6 +89,12 @@ unchanged st a k = record { state = st; answer = answer.Refused k; area = a }
 abbrev pub leftBy : Outcome → Left
 leftBy o = record { state = o .state; answer = o .answer; area = areaOf (o .memory) }
 
+-- a refusal by 1 to 4: by a check, before anything is worked out
+abbrev pub refusedByCheck : Answer → Bool
+refusedByCheck (answer.Question k t s) = false
+refusedByCheck (answer.Finish s i t n) = false
+refusedByCheck (answer.Refused k) = leb k 4
+
 -- a check of the number k, and what follows
 abbrev pub checks : Bool → ℕ → (ℕ → Left) → Left → Left
 checks true k back next = next

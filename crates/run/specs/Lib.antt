@@ -13,5 +13,6 @@ pub mod Area
 pub mod Search
 pub mod Run
 pub mod Calls
+pub mod Cleared
 pub mod Demand
 pub mod Pieces

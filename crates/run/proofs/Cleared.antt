@@ -1,0 +1,222 @@
+-- After a call the area is +0 wherever no number is in use, whatever the contents of the run: what a call reads of the
+-- area has +0 behind the numbers in use, and all that follows keeps that. A refusal by 1 to 4 leaves state and area as
+-- they were.
+use Prim.Native.Nat.{ℕ, zero, suc, _+_, _-_, _*_, _<_, _≤_, zero-le}
+use mathlib.Core.Bool.{Bool, true, false, true≢false, _&&_}
+use mathlib.Core.Path.{_≡_, refl, sym, ap, _∙_}
+use mathlib.Core.List.{List, [], _∷_}
+use native.Mathlib.Nat.{not-suc-le-zero, le-of-suc-le-suc}
+use native.Mathlib.Omega.{arith}
+use borrow.Author.Tests.{le-leb, eqb-true}
+use lib.Dec.{eqb}
+use lib.Ieee.{Float, nan}
+use lib.ListN.{length, take, drop, getD, length-take, getD-replicate}
+use lib.Seq.{getD-drop, getD-take}
+use Rattle.interval.specs.declared.Scalar.{Scalar}
+use Rattle.interval.specs.Scalar.{zero64}
+use Rattle.run.specs.Rows.{rowNumbers}
+use Rattle.run.specs.Area.{POINT, ROWS, CURVATURE, FILTER, SPARE, AREA, SIZES, Memory, areaOf, memoryOf}
+use Rattle.run.specs.Area.{begunMemory, slotsOf, startOf, usedIn, usedOf, isOpen, isTried, isCorrected}
+use Rattle.run.specs.Run.{Outcome, answered, answeredNone}
+use Rattle.run.specs.Calls.{Left, unchanged, leftBy, checks, sizesFit, allInDomain, stepFits, valid, noRun}
+use Rattle.run.specs.Calls.{begunOf, beginOf, Accepted, replyOpen, replyOf, noneOpen, replyNoneOf}
+use Rattle.run.specs.Cleared.{Cleared, Replied}
+use Rattle.run.specs.declared.state.Phase.{Phase}
+use Rattle.run.specs.declared.state.Phase.the-variants.{Open, Over}
+use Rattle.run.specs.declared.state.Sizes.{Sizes}
+use Rattle.run.specs.declared.state.State.{State}
+use Rattle.run.proofs.AreaSlots.{Slots, slots-of, slot-read, slots-length, spare-read, cons-eq}
+use Rattle.run.proofs.Booleans.{and-left, and-right}
+use Rattle.run.proofs.CheckLaws.{Bounds, bounds, SizeBounds, size-bounds}
+use Rattle.run.proofs.Remainders.{Tidy, tidy-zeros, tidy-padded}
+use Rattle.run.proofs.RowLaws.{few}
+use Rattle.run.proofs.Slots.{rows-fit}
+use Rattle.run.proofs.Tidied.{TidyMemory, Working, Kept, answered-kept, answered-none-kept}
+
+-- ---- the area of a tidy memory
+
+-- a place inside a list reads the same whatever is read beyond it
+read-inside : (xs : List Float) (j : ℕ) (d e : Float) → j < length xs → getD xs j d ≡ getD xs j e
+read-inside [] j d e h = absurd (not-suc-le-zero h)
+read-inside (x ∷ xs) zero d e h = refl
+read-inside (x ∷ xs) (suc j) d e h = read-inside xs j d e (le-of-suc-le-suc h)
+
+module _ (used : List ℕ) (w : Memory) (t : TidyMemory used w) where
+  slot-tidy : (k : ℕ) → k < 9 → Tidy (getD SIZES k 0) (getD used k 0) (getD (slotsOf w) k [])
+  slot-tidy zero h = t .standing
+  slot-tidy (suc zero) h = t .landed
+  slot-tidy (suc (suc zero)) h = t .asked
+  slot-tidy (suc (suc (suc zero))) h = t .standing-rows
+  slot-tidy (suc (suc (suc (suc zero)))) h = t .landed-rows
+  slot-tidy (suc (suc (suc (suc (suc zero))))) h = t .step
+  slot-tidy (suc (suc (suc (suc (suc (suc zero)))))) h = t .multipliers
+  slot-tidy (suc (suc (suc (suc (suc (suc (suc zero))))))) h = t .curvature
+  slot-tidy (suc (suc (suc (suc (suc (suc (suc (suc zero)))))))) h = t .filter
+  slot-tidy (suc (suc (suc (suc (suc (suc (suc (suc (suc k))))))))) h = absurd (omega arith)
+
+  area-slots : Slots (slotsOf w) (areaOf w)
+  area-slots =
+      slots-of
+      (record {
+        sized = cons-eq (t .standing .long)
+            (cons-eq (t .landed .long)
+            (cons-eq (t .asked .long)
+            (cons-eq (t .standing-rows .long)
+            (cons-eq (t .landed-rows .long)
+            (cons-eq (t .step .long)
+            (cons-eq (t .multipliers .long) (cons-eq (t .curvature .long) (cons-eq (t .filter .long) refl))))))));
+        is = refl;
+      })
+
+  slot-cleared : (k j : ℕ) → k < 9 → getD used k 0 ≤ j → j < getD SIZES k 0
+      → getD (areaOf w) (startOf SIZES k + j) nan ≡ zero64
+  slot-cleared k j h u l =
+      let s = startOf SIZES k in
+      let n = getD SIZES k 0 in
+      let x = slot-tidy k h in
+      sym (getD-drop s (areaOf w) j nan) ∙ sym (getD-take n (drop s (areaOf w)) j nan l)
+      ∙ ap (λ (xs : List Float). getD xs j nan) (slot-read area-slots k h)
+      ∙ read-inside (getD (slotsOf w) k []) j nan zero64 (omega (arith, x .long))
+      ∙ x .rest j u
+
+  spare-cleared : (i : ℕ) → AREA - SPARE ≤ i → i < AREA → getD (areaOf w) i nan ≡ zero64
+  unfolding startOf
+  spare-cleared i h l =
+      let j = i - 3080 in
+      let e : i ≡ 3080 + j = omega arith in
+      ap (λ (p : ℕ). getD (areaOf w) p nan) e ∙ spare-read area-slots j
+      ∙ getD-replicate SPARE j zero64 nan (omega arith)
+
+tidy-cleared : (st : State) (w : Memory) → TidyMemory (usedIn st) w → Cleared st (areaOf w)
+tidy-cleared st w t =
+    record {
+      whole = slots-length (area-slots (usedIn st) w t);
+      remainders = slot-cleared (usedIn st) w t;
+      spare = spare-cleared (usedIn st) w t;
+    }
+
+-- ---- what a call reads
+
+used-tidy : (a : List Float) (base size : ℕ) (inUse : Bool) (count : ℕ) → count ≤ size
+    → Tidy size count (usedOf a base size inUse count)
+used-tidy a base size true count h =
+    let l = length-take count (drop base a) in
+    tidy-padded size count (take count (drop base a)) (omega arith) (omega arith)
+used-tidy a base size false count h = tidy-padded size count [] zero-le zero-le
+
+reads-tidy : (st : State) (a : List Float) → Bounds st → Working st (memoryOf st a)
+unfolding memoryOf
+reads-tidy st a b =
+    let z = st .sizes in
+    let s = b .sizes in
+    let point : 2 * z .n ≤ POINT = omega (arith, s .n) in
+    let rows = rows-fit z s in
+    let entries : 2 * (z .n * z .n) ≤ CURVATURE = omega (arith, few {m = z .n} {n = z .n} (s .n) (s .n)) in
+    let pairs : 4 * st .counts .iterations ≤ FILTER = omega (arith, s .limit, b .iterations) in
+    let tried = isTried (st .phase) in
+    let corrected = isCorrected (st .phase) in
+    record {
+      standing = used-tidy a 0 POINT true (2 * z .n) point;
+      landed = used-tidy a 24 POINT corrected (2 * z .n) point;
+      asked = used-tidy a 48 POINT (isOpen (st .phase)) (2 * z .n) point;
+      standing-rows = used-tidy a 72 ROWS tried (rowNumbers (z .n) (z .m) (z .s)) rows;
+      landed-rows = used-tidy a 1008 ROWS corrected (rowNumbers (z .n) (z .m) (z .s)) rows;
+      step = used-tidy a 1944 POINT tried (2 * z .n) point;
+      multipliers = used-tidy a 1968 POINT tried (2 * z .m) (omega (arith, s .m));
+      curvature = used-tidy a 1992 CURVATURE tried (2 * (z .n * z .n)) entries;
+      filter = used-tidy a 2280 FILTER tried (4 * st .counts .iterations) pairs;
+    }
+
+-- ---- the replies
+
+module _ (st : State) (a : List Float) where
+  refused-replied : (k : ℕ) → k ≤ 4 → Replied st a (unchanged st a k)
+  refused-replied k h =
+      record {
+        sizes-kept = refl;
+        cleared = λ e. absurd (true≢false (sym (le-leb k 4 h) ∙ e));
+        unchanged = λ e. (refl, refl);
+      }
+
+  kept-replied : (o : Outcome) → Kept (st .sizes) o → Replied st a (leftBy o)
+  kept-replied o k =
+      record {
+        sizes-kept = k .sizes-kept;
+        cleared = λ e. tidy-cleared (o .state) (o .memory) (k .tidy);
+        unchanged = λ e. absurd (true≢false (sym e ∙ k .past-checks));
+      }
+
+  checks-replied : (b : Bool) (k : ℕ) (next : Left) → k ≤ 4 → (b ≡ true → Replied st a next)
+      → Replied st a (checks b k (unchanged st a) next)
+  checks-replied true k next l h = h refl
+  checks-replied false k next l h = refused-replied k l
+
+pub reply-leaves : (st : State) (a rows : List Float) → Replied st a (replyOf st a rows)
+unfolding replyOf
+reply-leaves st a rows = checks-replied st a (valid st) 4 _ (omega arith) (λ v. opened (bounds st v) (st .phase))
+  where
+    opened : Bounds st → (p : Phase) → Replied st a (replyOpen st a rows p)
+    opened b Over = refused-replied st a 4 (omega arith)
+    opened b (Open k) =
+        let z = st .sizes in
+        let many = eqb (length rows) (rowNumbers (z .n) (z .m) (z .s)) in
+        checks-replied st a (eqb (length a) AREA && many) 2 _ (omega arith)
+        (λ e.
+        checks-replied st a (allInDomain rows ((z .m + z .s) * (z .n + 1))) 3 _ (omega arith)
+        (λ d.
+        let l = eqb-true _ _ (and-right (eqb (length a) AREA) many e) in
+        kept-replied st a (answered k st (memoryOf st a) rows)
+        (answered-kept st (memoryOf st a) (reads-tidy st a b) rows
+        (record { many = l; fit = omega (arith, l, rows-fit z (b .sizes)) }) k)))
+
+pub reply-none-leaves : (st : State) (a : List Float) → Replied st a (replyNoneOf st a)
+unfolding replyNoneOf
+reply-none-leaves st a = checks-replied st a (valid st) 4 _ (omega arith) (λ v. opened (bounds st v) (st .phase))
+  where
+    opened : Bounds st → (p : Phase) → Replied st a (noneOpen st a p)
+    opened b Over = refused-replied st a 4 (omega arith)
+    opened b (Open k) =
+        checks-replied st a (eqb (length a) AREA) 2 _ (omega arith)
+        (λ e.
+        kept-replied st a (answeredNone k st (memoryOf st a))
+        (answered-none-kept st (memoryOf st a) (reads-tidy st a b) k))
+
+-- ---- begin
+
+begun-tidy : (z : Sizes) (start : List Float) (max : Scalar) → SizeBounds z → length start ≡ 2 * z .n
+    → TidyMemory (usedIn (begunOf z start max .state)) (begunMemory start)
+begun-tidy z start max b e =
+    let point = tidy-padded POINT (2 * z .n) start (omega arith) (omega (arith, b .n)) in
+    record {
+      standing = point;
+      landed = tidy-zeros POINT 0;
+      asked = point;
+      standing-rows = tidy-zeros ROWS 0;
+      landed-rows = tidy-zeros ROWS 0;
+      step = tidy-zeros POINT 0;
+      multipliers = tidy-zeros POINT 0;
+      curvature = tidy-zeros CURVATURE 0;
+      filter = tidy-zeros FILTER 0;
+    }
+
+abbrev Begun : Left → Type 0
+Begun l = Accepted l → Cleared (l .state) (l .area)
+
+checks-begun : (a : List Float) (b : Bool) (k : ℕ) (next : Left) → (b ≡ true → Begun next)
+    → Begun (checks b k (unchanged noRun a) next)
+checks-begun a true k next h = h refl
+checks-begun a false k next h = λ e. absurd (let z : _≡_ {A = ℕ} 0 1 = cc in omega arith)
+
+pub begin-cleared : (z : Sizes) (start : List Float) (max : Scalar) (a : List Float) → Accepted (beginOf z start max a)
+    → Cleared (beginOf z start max a .state) (beginOf z start max a .area)
+unfolding beginOf
+begin-cleared z start max a =
+    let full = eqb (length start) (2 * z .n) in
+    checks-begun a (sizesFit z) 1 _
+    (λ p.
+    checks-begun a (full && eqb (length a) AREA) 2 _
+    (λ q.
+    checks-begun a (allInDomain start (z .n) && stepFits max) 3 _
+    (λ r e.
+    tidy-cleared (begunOf z start max .state) (begunMemory start)
+    (begun-tidy z start max (size-bounds z p) (eqb-true _ _ (and-left full (eqb (length a) AREA) q))))))

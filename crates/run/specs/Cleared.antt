@@ -1,0 +1,26 @@
+-- What a call leaves of the run besides its answer (document 01, "Area" and the table of refusals): an area that is +0
+-- wherever no number is in use or, on a refusal by 1 to 4, the state and the area that were handed in.
+use Prim.Native.Nat.{ℕ, _+_, _-_, _<_, _≤_}
+use mathlib.Core.Bool.{true, false}
+use mathlib.Core.List.{List}
+use mathlib.Core.Path.{_≡_}
+use lib.Ieee.{Float, nan}
+use lib.ListN.{length, getD}
+use Rattle.interval.specs.Scalar.{zero64}
+use Rattle.run.specs.Area.{AREA, SPARE, SIZES, usedIn, startOf}
+use Rattle.run.specs.Calls.{Left, refusedByCheck}
+use Rattle.run.specs.declared.state.State.{State}
+
+-- the area of a run in this state: +0 in slot k behind its numbers in use, which is all of a slot not in use, and +0 in
+-- the last numbers
+pub record Cleared (st : State) (a : List Float) : Type 0 where
+  pub whole : length a ≡ AREA
+  pub remainders : (k j : ℕ) → k < length SIZES → getD (usedIn st) k 0 ≤ j → j < getD SIZES k 0
+      → getD a (startOf SIZES k + j) nan ≡ zero64
+  pub spare : (i : ℕ) → AREA - SPARE ≤ i → i < AREA → getD a i nan ≡ zero64
+
+-- what a reply to a run leaves, where the run is the state st and the area a
+pub record Replied (st : State) (a : List Float) (l : Left) : Type 0 where
+  pub sizes-kept : l .state .sizes ≡ st .sizes
+  pub cleared : refusedByCheck (l .answer) ≡ false → Cleared (l .state) (l .area)
+  pub unchanged : refusedByCheck (l .answer) ≡ true → (l .state ≡ st) × (l .area ≡ a)
