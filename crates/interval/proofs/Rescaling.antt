@@ -5,10 +5,8 @@ use mathlib.Core.Path.{_≡_, sym, ap, _∙_, subst}
 use Prim.Native.Nat.{ℕ, _-_, _*_, _^_, _≤_}
 use native.Mathlib.Nat.{mul-comm}
 use native.Mathlib.Omega.{arith}
-use lib.Dec.{T}
 use lib.Pow.{pow-add}
 use lib.IntN.{ℤ, pos, _*ℤ_}
-use lib.Signed.{leZ}
 use lib.Ieee.{binary64, low}
 use Rattle.interval.specs.declared.Scalar.{Scalar}
 use Rattle.interval.specs.Enclosure.{unitsOf, HoldsQ, Holds, rescaled, Encloses, EnclosesEach}
