@@ -1,26 +1,99 @@
--- Demand 3 of what `play` leaves: run's theorem at the list of calls that the codes name, and, read at its end, the claim of the last call.
-use Prim.Native.Nat.{ℕ, _≤_}
+-- Demand 3 of what `play` leaves: run's theorem at the list of calls that the codes name, and, read at its end, what holds
+-- there and the claim of the last call.
+use Prim.Native.Nat.{ℕ, _≤_, _%_}
+use mathlib.Core.Bool.{Bool, true, false}
+use mathlib.Core.Logic.{inl}
 use mathlib.Core.Path.{_≡_, refl, sym, ap, _∙_, subst}
 use mathlib.Core.List.{List, [], _∷_, _++_}
-use lib.Dec.{T}
+use native.Mathlib.Omega.{arith}
+use lib.Dec.{T, eqb}
 use lib.Ieee.{Float, binary64, fits, nan}
 use lib.ListN.{length, getD, take, drop}
 use Rattle.interval.specs.declared.Scalar.{Scalar}
+use Rattle.interval.specs.Scalar.{pick}
 use Rattle.run.specs.Calls.{Left, leftOf, beginOf, Accepted}
-use Rattle.run.specs.Demand.{Floats, Call, Run, runOf, Played, played, Ledger, entered, begun, Claim, Along}
+use Rattle.run.specs.Demand.{
+  same,
+  Floats,
+  Call,
+  rows,
+  none,
+  Allowed,
+  runOf,
+  Played,
+  played,
+  History,
+  entered,
+  begun,
+  Between,
+  Claim,
+  Along,
+}
 use Rattle.run.specs.declared.state.Out.{Out}
 use Rattle.run.specs.declared.state.Sizes.{Sizes}
 use Rattle.run.proofs.Demand.{demand3}
-use Rattle.call_list.specs.CallList.{countOf, callOf, floats-take, floats-drop, callsOf, playedOf, playedTo, playedFrom, ledgerTo, ledgerFrom, Clear, LastClaim, Plays}
+use Rattle.call_list.specs.CallList.{
+  noArea,
+  isNone,
+  countOf,
+  callOf,
+  floats-take,
+  floats-drop,
+  callsOf,
+  playedOf,
+  playedTo,
+  playedFrom,
+  historyTo,
+  historyFrom,
+  Clear,
+  LastClaim,
+  Plays,
+  AllAllowed,
+}
 use Rattle.call_list.proofs.FoldLaws.{Playing, floats-of, play-all}
 
--- the claim along a list, at its last call
-at-last : (z : Sizes) (l : Ledger) (p : Played) (cs : List Call) (c : Call) → Along z l (p .run) (cs ++ (c ∷ [])) → Clear (p .run) (cs ++ (c ∷ [])) → Claim z (ledgerTo l (p .run) cs) (ledgerTo l (p .run) (cs ++ (c ∷ []))) (playedTo p cs .run) (playedTo p (cs ++ (c ∷ [])) .run) (playedTo p (cs ++ (c ∷ [])) .answer)
-unfolding Along Clear ledgerTo playedTo
-at-last z l p [] c along clear = along (clear .0) .0
-at-last z l p (d ∷ ds) c along clear =
+-- ---- each call that a code names is allowed: an area of no numbers is refused
+
+code-allowed : (z : Sizes) (code : ℕ) (xs : List Float) (f : Floats xs) → Allowed z (callOf code xs f)
+code-allowed z code xs f = by (isNone code) (eqb (code % 2) 0)
+  where
+    by : (b e : Bool) → Allowed z (pick b (none (pick e same noArea)) (rows (pick e same noArea) xs f))
+    by true true = tt
+    by true false = λ e. absurd (omega (arith, e))
+    by false true = tt
+    by false false = inl (λ e. absurd (omega (arith, e)))
+
+calls-allowed : (z : Sizes) (codes : List ℕ) (xs : List Float) (f : Floats xs) → AllAllowed z (callsOf codes xs f)
+unfolding callsOf
+calls-allowed z [] xs f = tt
+calls-allowed z (code ∷ codes) xs f =
+    let k = countOf code in
+    (code-allowed z code (take k xs) (floats-take k xs f), calls-allowed z codes (drop k xs) (floats-drop k xs f))
+
+-- ---- demand 3 at the end of a list
+
+at-end :
+    (z : Sizes) (h : History) (p : Played) (cs : List Call) →
+    Along z h (p .run) cs →
+    AllAllowed z cs → Clear (p .run) cs → Between z (historyTo h (p .run) cs) (playedTo p cs .run)
+unfolding Along Clear historyTo playedTo
+at-end z h p [] along free clear = along
+at-end z h p (d ∷ ds) along free clear =
     let q = played (p .run) d in
-    at-last z (entered l d (q .answer)) q ds c (along (clear .0) .1) (clear .1)
+    at-end z (entered h (p .run) d q) q ds (along .1 (free .0) (clear .0) .1) (free .1) (clear .1)
+
+at-last :
+    (z : Sizes) (h : History) (p : Played) (cs : List Call) (c : Call) →
+    let ds = cs ++ (c ∷ []) in
+    Along z h (p .run) ds →
+    AllAllowed z ds →
+    Clear (p .run) ds →
+    Claim z (historyTo h (p .run) cs) (historyTo h (p .run) ds) (playedTo p cs .run) (playedTo p ds)
+unfolding Along Clear historyTo playedTo
+at-last z h p [] c along free clear = along .1 (free .0) (clear .0) .0
+at-last z h p (d ∷ ds) c along free clear =
+    let q = played (p .run) d in
+    at-last z (entered h (p .run) d q) q ds c (along .1 (free .0) (clear .0) .1) (free .1) (clear .1)
 
 -- one more code is one more call
 pub record Snoc (before : List ℕ) (code : ℕ) (xs : List Float) (f : Floats xs) : Type 0 where
@@ -42,18 +115,37 @@ module _ (z : Sizes) (start : List Float) (max : Scalar) (a : List Float) where
   abbrev Last : List Call → List Call → Type 0
   Last before calls = LastClaim z b before calls (playedFrom b calls)
 
-  last : (before : List ℕ) (code : ℕ) (xs : List Float) (f : Floats xs) → Accepted b → Last (callsOf before xs f) (callsOf (before ++ (code ∷ [])) xs f)
+  last :
+      (before : List ℕ) (code : ℕ) (xs : List Float) (f : Floats xs) →
+      Accepted b → Last (callsOf before xs f) (callsOf (before ++ (code ∷ [])) xs f)
   unfolding playedTo
   last before code xs f ok =
       let s = snoc before code xs f in
-      subst (Last (callsOf before xs f)) (sym (s .calls-are)) (λ clear. at-last z begun (playedFrom b []) (callsOf before xs f) (s .call) (demand3 z start max a ok (callsOf before xs f ++ (s .call ∷ []))) clear)
+      let free = subst (AllAllowed z) (s .calls-are) (calls-allowed z (before ++ (code ∷ [])) xs f) in
+      subst (Last (callsOf before xs f)) (sym (s .calls-are))
+      (λ clear.
+      at-last z (begun (runOf b)) (playedFrom b []) (callsOf before xs f) (s .call)
+      (demand3 z start max a ok (callsOf before xs f ++ (s .call ∷ []))) free clear)
 
-  plays : (codes : List ℕ) (xs : List Float) (p : Played) (f : Floats xs) → p ≡ playedFrom b (callsOf codes xs f) → Plays z start max a codes xs p
+  between :
+      (codes : List ℕ) (xs : List Float) (f : Floats xs) →
+      Accepted b →
+      Clear (runOf b) (callsOf codes xs f) →
+      Between z (historyFrom b (callsOf codes xs f)) (playedFrom b (callsOf codes xs f) .run)
+  unfolding playedTo
+  between codes xs f ok clear =
+      at-end z (begun (runOf b)) (playedFrom b []) (callsOf codes xs f) (demand3 z start max a ok (callsOf codes xs f))
+      (calls-allowed z codes xs f) clear
+
+  plays :
+      (codes : List ℕ) (xs : List Float) (p : Played) (f : Floats xs) →
+      p ≡ playedFrom b (callsOf codes xs f) → Plays z start max a codes xs p
   plays codes xs p f e =
       record {
         floats = f;
         is-fold = e;
         along = λ ok. demand3 z start max a ok (callsOf codes xs f);
+        between = λ ok clear. rw e (between codes xs f ok clear);
         last = λ ok before code codes-are. rw (e, codes-are) (last before code xs f ok);
       }
 

@@ -1,7 +1,8 @@
--- Every list of calls is played by some codes and numbers: a call over an area of another length is refused as one over no numbers is, and rows of k numbers are code 2 k + 2 or 2 k + 3 with them in front.
+-- Every list of calls is played by some codes and numbers: a call that is refused for its length is refused as one over no
+-- numbers is, and rows of k numbers are code 2 k + 2 or 2 k + 3 with them in front.
 use Prim.Native.Nat.{ℕ, _+_, _*_, _%_}
 use mathlib.Core.Path.{_≡_, refl, sym, ap, _∙_, subst}
-use mathlib.Core.Logic.{_≢_}
+use mathlib.Core.Logic.{_⊎_, _≢_, inl, inr}
 use mathlib.Core.Bool.{Bool, true, false, _&&_}
 use mathlib.Core.List.{List, [], _∷_, _++_}
 use native.Mathlib.Omega.{arith}
@@ -12,35 +13,65 @@ use lib.ListN.{length, take, drop}
 use lib.Seq.{take-append-seam, drop-append-seam}
 use Rattle.run.specs.Area.{AREA}
 use Rattle.run.specs.Calls.{replyOpen, replyOf, noneOpen, replyNoneOf, valid, checks, unchanged}
-use Rattle.run.specs.Demand.{same, other, Floats, Call, rows, none, Run, Played, playedBy, played}
+use Rattle.run.specs.Demand.{same, other, Floats, Call, rows, none, Allowed, Run, Played, playedBy, played}
+use Rattle.run.specs.Rows.{rowNumbers}
 use Rattle.run.specs.declared.state.Phase.{Phase}
 use Rattle.run.specs.declared.state.Phase.the-variants.{Open, Over}
+use Rattle.run.specs.declared.state.Sizes.{Sizes}
 use Rattle.run.specs.declared.state.State.{State}
-use Rattle.call_list.specs.CallList.{noArea, countOf, callOf, floats-take, floats-drop, callsOf, playedTo, Named, EveryList}
+use Rattle.run.proofs.Cleared.{demand1}
+use Rattle.call_list.specs.CallList.{
+  noArea,
+  countOf,
+  callOf,
+  floats-take,
+  floats-drop,
+  callsOf,
+  playedTo,
+  Named,
+  EveryList,
+}
 
--- ---- areas of another length
+-- ---- a call that is refused for its length
 
-module _ (st : State) (a own : List Float) (x : length a ≢ AREA) where
-  wrong : eqb (length a) AREA ≡ false
-  wrong = ne-eqb (length a) AREA x
+module _ (st : State) (a own : List Float) where
+  none-refused :
+      length a ≢ AREA →
+      (v : Bool) (p : Phase) →
+      playedBy (checks v 4 (unchanged st a) (noneOpen st a p)) own
+      ≡ playedBy (checks v 4 (unchanged st []) (noneOpen st [] p)) own
+  none-refused x false p = refl
+  none-refused x true Over = refl
+  none-refused x true (Open k) = rw (ne-eqb (length a) AREA x) refl
 
-  none-refused : (v : Bool) (p : Phase) → playedBy (checks v 4 (unchanged st a) (noneOpen st a p)) own ≡ playedBy (checks v 4 (unchanged st []) (noneOpen st [] p)) own
-  none-refused false p = refl
-  none-refused true Over = refl
-  none-refused true (Open k) = rw wrong refl
+  -- the area or the rows have another length
+  lengths : (xs : List Float) (count : ℕ) → (length a ≢ AREA) ⊎ (length xs ≢ count) → (eqb (length a) AREA && eqb (length xs) count) ≡ false
+  lengths xs count (inl x) = rw (ne-eqb (length a) AREA x)
+  lengths xs count (inr x) = rw (ne-eqb (length xs) count x) (and-false (eqb (length a) AREA))
+    where
+      and-false : (b : Bool) → (b && false) ≡ false
+      and-false true = refl
+      and-false false = refl
 
-  rows-refused : (xs : List Float) (v : Bool) (p : Phase) → playedBy (checks v 4 (unchanged st a) (replyOpen st a xs p)) own ≡ playedBy (checks v 4 (unchanged st []) (replyOpen st [] xs p)) own
-  rows-refused xs false p = refl
-  rows-refused xs true Over = refl
-  rows-refused xs true (Open k) = rw wrong refl
+  rows-refused :
+      (xs : List Float) →
+      (length a ≢ AREA) ⊎ (length xs ≢ rowNumbers (st .sizes .n) (st .sizes .m) (st .sizes .s)) →
+      (v : Bool) (p : Phase) →
+      playedBy (checks v 4 (unchanged st a) (replyOpen st a xs p)) own
+      ≡ playedBy (checks v 4 (unchanged st []) (replyOpen st [] xs p)) own
+  rows-refused xs x false p = refl
+  rows-refused xs x true Over = refl
+  rows-refused xs x true (Open k) = rw (lengths xs (rowNumbers (st .sizes .n) (st .sizes .m) (st .sizes .s)) x) refl
 
-none-other : (r : Run) (a : List Float) (x : length a ≢ AREA) → played r (none noArea) ≡ played r (none (other a x))
+none-other : (r : Run) (a : List Float) → length a ≢ AREA → played r (none noArea) ≡ played r (none (other a))
 unfolding replyNoneOf
 none-other r a x = sym (none-refused (r .state) a (r .area) x (valid (r .state)) (r .state .phase))
 
-rows-other : (r : Run) (a : List Float) (x : length a ≢ AREA) (xs : List Float) (f g : Floats xs) → played r (rows noArea xs g) ≡ played r (rows (other a x) xs f)
+rows-other :
+    (r : Run) (a xs : List Float) (f g : Floats xs) →
+    Allowed (r .state .sizes) (rows (other a) xs f) → played r (rows noArea xs g) ≡ played r (rows (other a) xs f)
 unfolding replyOf
-rows-other r a x xs f g = sym (rows-refused (r .state) a (r .area) x xs (valid (r .state)) (r .state .phase))
+rows-other r a xs f g x = sym (rows-refused (r .state) a (r .area) xs x (valid (r .state)) (r .state .phase))
 
 -- ---- one call in front
 
@@ -48,9 +79,21 @@ floats-append : (xs ys : List Float) → Floats xs → Floats ys → Floats (xs 
 floats-append [] ys f g = g
 floats-append (x ∷ xs) ys f g = (f .0, floats-append xs ys (f .1) g)
 
-front : (code : ℕ) (c : Call) (cs : List Call) (xs : List Float) → Floats xs → countOf code ≡ length xs → ((r : Run) (f : Floats xs) → played r (callOf code xs f) ≡ played r c) → Named cs → Named (c ∷ cs)
+-- a call keeps the sizes of the run
+played-sizes : (r : Run) (c : Call) → played r c .run .state .sizes ≡ r .state .sizes
+played-sizes r (rows same xs f) = demand1 .replied (r .state) (r .area) xs .sizes-kept
+played-sizes r (rows (other a) xs f) = demand1 .replied (r .state) a xs .sizes-kept
+played-sizes r (none same) = demand1 .replied-none (r .state) (r .area) .sizes-kept
+played-sizes r (none (other a)) = demand1 .replied-none (r .state) a .sizes-kept
+
+front :
+    (z : Sizes) (code : ℕ) (c : Call) (cs : List Call) (xs : List Float) →
+    Floats xs →
+    countOf code ≡ length xs →
+    ((r : Run) (f : Floats xs) → r .state .sizes ≡ z → played r (callOf code xs f) ≡ played r c) →
+    Named z cs → Named z (c ∷ cs)
 unfolding playedTo callsOf
-front code c cs xs g count-is call-is n =
+front z code c cs xs g count-is call-is n =
     record { codes = code ∷ n .codes; numbers = ys; floats = floats-append xs (n .numbers) g (n .floats); leaves = leaves }
   where
     ys : List Float
@@ -59,14 +102,29 @@ front code c cs xs g count-is call-is n =
     k : ℕ
     k = countOf code
 
-    first : (r : Run) (f : Floats (take k ys)) → played r (callOf code (take k ys) f) ≡ played r c
-    first r = subst (λ (l : List Float). (f : Floats l) → played r (callOf code l f) ≡ played r c) (sym (ap (λ (j : ℕ). take j ys) count-is ∙ take-append-seam xs (n .numbers))) (call-is r)
+    first :
+        (r : Run) (f : Floats (take k ys)) → r .state .sizes ≡ z → played r (callOf code (take k ys) f) ≡ played r c
+    first r =
+        subst
+        (λ (l : List Float). (f : Floats l) → r .state .sizes ≡ z → played r (callOf code l f) ≡ played r c)
+        (sym (ap (λ (j : ℕ). take j ys) count-is ∙ take-append-seam xs (n .numbers))) (call-is r)
 
-    rest : (p : Played) (f : Floats (drop k ys)) → playedTo p (callsOf (n .codes) (drop k ys) f) ≡ playedTo p cs
-    rest p = subst (λ (l : List Float). (f : Floats l) → playedTo p (callsOf (n .codes) l f) ≡ playedTo p cs) (sym (ap (λ (j : ℕ). drop j ys) count-is ∙ drop-append-seam xs (n .numbers))) (λ f. n .leaves f p)
+    rest :
+        (p : Played) (f : Floats (drop k ys)) →
+        p .run .state .sizes ≡ z → playedTo p (callsOf (n .codes) (drop k ys) f) ≡ playedTo p cs
+    rest p =
+        subst
+        (λ (l : List Float).
+        (f : Floats l) → p .run .state .sizes ≡ z → playedTo p (callsOf (n .codes) l f) ≡ playedTo p cs)
+        (sym (ap (λ (j : ℕ). drop j ys) count-is ∙ drop-append-seam xs (n .numbers))) (λ f. n .leaves f p)
 
-    leaves : (f : Floats ys) (p : Played) → playedTo p (callsOf (code ∷ n .codes) ys f) ≡ playedTo p (c ∷ cs)
-    leaves f p = rest (played (p .run) (callOf code (take k ys) (floats-take k ys f))) (floats-drop k ys f) ∙ ap (λ (q : Played). playedTo q cs) (first (p .run) (floats-take k ys f))
+    leaves :
+        (f : Floats ys) (p : Played) →
+        p .run .state .sizes ≡ z → playedTo p (callsOf (code ∷ n .codes) ys f) ≡ playedTo p (c ∷ cs)
+    leaves f p e =
+        ap (λ (q : Played). playedTo q (callsOf (n .codes) (drop k ys) (floats-drop k ys f)))
+        (first (p .run) (floats-take k ys f) e)
+        ∙ rest (played (p .run) c) (floats-drop k ys f) (played-sizes (p .run) c ∙ e)
 
 -- ---- the codes of rows
 
@@ -88,12 +146,18 @@ module _ (n : ℕ) where
 
 pub every-list : EveryList
 unfolding playedTo callsOf
-every-list [] = record { codes = []; numbers = []; floats = tt; leaves = λ f p. refl }
-every-list (none same ∷ cs) = front 0 (none same) cs [] tt refl (λ r f. refl) (every-list cs)
-every-list (none (other a x) ∷ cs) = front 1 (none (other a x)) cs [] tt refl (λ r f. none-other r a x) (every-list cs)
-every-list (rows same xs g ∷ cs) =
+every-list z [] x = record { codes = []; numbers = []; floats = tt; leaves = λ f p e. refl }
+every-list z (none same ∷ cs) x = front z 0 (none same) cs [] tt refl (λ r f e. refl) (every-list z cs (x .1))
+every-list z (none (other a) ∷ cs) x =
+    front z 1 (none (other a)) cs [] tt refl (λ r f e. none-other r a (x .0)) (every-list z cs (x .1))
+every-list z (rows same xs g ∷ cs) x =
     let n = length xs in
-    front (2 * n + 2 + 0) (rows same xs g) cs xs g (count-even n) (λ r f. rw (is-rows n 0, even n) refl) (every-list cs)
-every-list (rows (other a x) xs g ∷ cs) =
+    front z (2 * n + 2 + 0) (rows same xs g) cs xs g (count-even n) (λ r f e. rw (is-rows n 0, even n) refl)
+    (every-list z cs (x .1))
+every-list z (rows (other a) xs g ∷ cs) x =
     let n = length xs in
-    front (2 * n + 2 + 1) (rows (other a x) xs g) cs xs g (count-odd n) (λ r f. rw (is-rows n 1, odd n) (rows-other r a x xs g f)) (every-list cs)
+    front z (2 * n + 2 + 1) (rows (other a) xs g) cs xs g (count-odd n)
+    (λ r f e.
+    let allowed = subst (λ (y : Sizes). Allowed y (rows (other a) xs g)) (sym e) (x .0) in
+    rw (is-rows n 1, odd n) (rows-other r a xs g f allowed))
+    (every-list z cs (x .1))

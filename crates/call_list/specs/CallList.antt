@@ -4,14 +4,34 @@ use Prim.Native.Nat.{ℕ, zero, suc, _-_, _/_, _%_}
 use mathlib.Core.Path.{_≡_}
 use mathlib.Core.Bool.{Bool, false}
 use mathlib.Core.List.{List, [], _∷_, _++_}
-use native.Mathlib.Omega.{arith}
 use lib.Dec.{ltb, eqb}
 use lib.Ieee.{Float}
 use lib.ListN.{take, drop}
 use Rattle.interval.specs.declared.Scalar.{Scalar}
 use Rattle.interval.specs.Scalar.{pick}
 use Rattle.run.specs.Calls.{Left, Accepted, beginOf}
-use Rattle.run.specs.Demand.{Lent, same, other, Floats, Call, rows, none, Run, runOf, Played, playedBy, played, isArithmetic, Ledger, entered, begun, Claim, Along}
+use Rattle.run.specs.Demand.{
+  Lent,
+  same,
+  other,
+  Floats,
+  Call,
+  rows,
+  none,
+  Allowed,
+  Run,
+  runOf,
+  Played,
+  playedBy,
+  played,
+  isArithmetic,
+  History,
+  entered,
+  begun,
+  Between,
+  Claim,
+  Along,
+}
 use Rattle.run.specs.declared.state.Out.{Out}
 use Rattle.run.specs.declared.state.Sizes.{Sizes}
 
@@ -19,7 +39,7 @@ use Rattle.run.specs.declared.state.Sizes.{Sizes}
 
 -- an area of no numbers, which refuses the call
 abbrev pub noArea : Lent
-noArea = other [] (λ e. absurd (omega (arith, e)))
+noArea = other []
 
 -- a code is even over the area that the call before left, and odd over an area of no numbers
 abbrev pub lentOf : ℕ → Lent
@@ -74,14 +94,14 @@ abbrev pub playedFrom : Left → List Call → Played
 playedFrom b cs = playedTo (playedBy b (b .area)) cs
 
 -- what is read off their answers
-unfoldable pub ledgerTo : Ledger → Run → List Call → Ledger
-ledgerTo l r [] = l
-ledgerTo l r (c ∷ cs) =
+unfoldable pub historyTo : History → Run → List Call → History
+historyTo h r [] = h
+historyTo h r (c ∷ cs) =
     let p = played r c in
-    ledgerTo (entered l c (p .answer)) (p .run) cs
+    historyTo (entered h r c p) (p .run) cs
 
-abbrev pub ledgerFrom : Left → List Call → Ledger
-ledgerFrom b cs = ledgerTo begun (runOf b) cs
+abbrev pub historyFrom : Left → List Call → History
+historyFrom b cs = historyTo (begun (runOf b)) (runOf b) cs
 
 -- none of them is refused by 5 or 6
 unfoldable pub Clear : Run → List Call → Type 0
@@ -94,25 +114,41 @@ Clear r (c ∷ cs) =
 
 -- demand 3 of the last of the calls, before which the run was what the calls before it leave
 abbrev pub LastClaim : Sizes → Left → List Call → List Call → Played → Type 0
-LastClaim z b before calls p = Clear (runOf b) calls → Claim z (ledgerFrom b before) (ledgerFrom b calls) (playedFrom b before .run) (p .run) (p .answer)
+LastClaim z b before calls p =
+    Clear (runOf b) calls → Claim z (historyFrom b before) (historyFrom b calls) (playedFrom b before .run) p
 
 pub record ListPlayed (z : Sizes) (b : Left) (codes : List ℕ) (xs : List Float) (p : Played) : Type 0 where
   pub floats : Floats xs
   pub is-fold : p ≡ playedFrom b (callsOf codes xs floats)
-  pub along : Accepted b → Along z begun (runOf b) (callsOf codes xs floats)  -- demand 3 of all the calls
-  pub last : Accepted b → (before : List ℕ) (code : ℕ) → codes ≡ before ++ (code ∷ []) → LastClaim z b (callsOf before xs floats) (callsOf codes xs floats) p
+  -- demand 3 of the begin and all the calls
+  pub along : Accepted b → Along z (begun (runOf b)) (runOf b) (callsOf codes xs floats)
+  -- and of what is left, by any number of calls, also by none
+  pub between :
+      Accepted b →
+      Clear (runOf b) (callsOf codes xs floats) → Between z (historyFrom b (callsOf codes xs floats)) (p .run)
+  pub last :
+      Accepted b →
+      (before : List ℕ) (code : ℕ) →
+      codes ≡ before ++ (code ∷ []) → LastClaim z b (callsOf before xs floats) (callsOf codes xs floats) p
 
 abbrev pub Plays : Sizes → List Float → Scalar → List Float → List ℕ → List Float → Played → Type 0
 Plays z start max a codes xs p = ListPlayed z (beginOf z start max a) codes xs p
 
 -- ---- every list of demand 3 can be played
 
--- codes and numbers whose calls leave what the calls cs leave
-pub record Named (cs : List Call) : Type 0 where
+-- another area is lent only to a call that is refused for its length
+abbrev pub AllAllowed : Sizes → List Call → Type 0
+AllAllowed z [] = Unit
+AllAllowed z (c ∷ cs) = Allowed z c × AllAllowed z cs
+
+-- codes and numbers whose calls leave what the calls cs leave, from a run of these sizes
+pub record Named (z : Sizes) (cs : List Call) : Type 0 where
   pub codes : List ℕ
   pub numbers : List Float
   pub floats : Floats numbers
-  pub leaves : (f : Floats numbers) (p : Played) → playedTo p (callsOf codes numbers f) ≡ playedTo p cs
+  pub leaves :
+      (f : Floats numbers) (p : Played) →
+      p .run .state .sizes ≡ z → playedTo p (callsOf codes numbers f) ≡ playedTo p cs
 
 abbrev pub EveryList : Type 0
-EveryList = (cs : List Call) → Named cs
+EveryList = (z : Sizes) (cs : List Call) → AllAllowed z cs → Named z cs

@@ -28,14 +28,17 @@ use Rattle.run.proofs.Landings.{Landing, judge-after}
 
 -- ---- corrections
 
-abbrev asked-consistent : (S : CallContext) (z : Sizes) (k : Counts) (last : Last) (w : Memory) (next : List Float) → Long POINT next → Consistent S z k last w → Consistent S z k last (withAsked w next)
-asked-consistent S z k last w next e v =
+abbrev asked-consistent :
+    (S : CallContext) (z : Sizes) (k : Counts) (last : Last) (mu : Scalar) (w : Memory) (next : List Float) →
+    Long POINT next → Consistent S z k last mu w → Consistent S z k last mu (withAsked w next)
+asked-consistent S z k last mu w next e v =
     record {
       before = v .before;
       way = v .way;
       before-many = v .before-many;
       below = v .below;
       stands = record { slot = v .stands .slot; pairs = v .stands .pairs };
+      point = v .point;
       sized = record {
         standing-size = v .sized .standing-size;
         landed-size = v .sized .landed-size;
@@ -61,7 +64,11 @@ unfolding correct
 correct-after law S st w L few theta theta-is =
     or-refuse-after S (st .sizes) st w (shiftFrom (st .moving) (landedAt st w .constraints) (w .landed)) _ (shifted-yields (st .moving) (landedAt st w .constraints) (w .landed))
     (λ s. elim s [
-      | to next ↦ λ e size. correction-after S st (withAsked w next) (asked-consistent S (st .sizes) (st .counts) (st .last) w next size (L .consistent)) (L .count-bounds) (L .below-limit) few (L .landed-slot) (L .landed-asked) (below-landed S st w (1 + st .counts .corrections) L)
+      | to next ↦ λ e size.
+          correction-after S st (withAsked w next) (S .history .mu)
+          (asked-consistent S (st .sizes) (st .counts) (st .last) (S .history .mu) w next size (L .consistent))
+          (L .count-bounds) (L .below-limit) few (L .landed-slot) (L .landed-point) (L .landed-asked)
+          (below-landed S st w (1 + st .counts .corrections) L)
       | stay ↦ λ e u. judge-after law S st w (1 + st .counts .corrections) L (omega arith) theta theta-is
     ])
 

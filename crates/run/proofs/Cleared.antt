@@ -19,8 +19,8 @@ use Rattle.run.specs.Area.{POINT, ROWS, CURVATURE, FILTER, SPARE, AREA, 
 use Rattle.run.specs.Area.{begunMemory, slotsOf, startOf, usedIn, usedOf, isOpen, isTried, isCorrected}
 use Rattle.run.specs.Run.{Outcome, answered, answeredNone}
 use Rattle.run.specs.Calls.{Left, unchanged, leftBy, checks, sizesFit, allInDomain, stepFits, valid, noRun}
-use Rattle.run.specs.Calls.{begunOf, beginOf, Accepted, replyOpen, replyOf, noneOpen, replyNoneOf}
-use Rattle.run.specs.Cleared.{Cleared, Replied}
+use Rattle.run.specs.Calls.{refusedByCheck, begunOf, beginOf, Accepted, replyOpen, replyOf, noneOpen, replyNoneOf}
+use Rattle.run.specs.Cleared.{Cleared, Replied, Demand1}
 use Rattle.run.specs.declared.state.Phase.{Phase}
 use Rattle.run.specs.declared.state.Phase.the-variants.{Open, Over}
 use Rattle.run.specs.declared.state.Sizes.{Sizes}
@@ -220,3 +220,29 @@ begin-cleared z start max a =
     (λ r e.
     tidy-cleared (begunOf z start max .state) (begunMemory start)
     (begun-tidy z start max (size-bounds z p) (eqb-true _ _ (and-left full (eqb (length a) AREA) q))))))
+
+-- a refused begin leaves the area; an accepted one is no refusal
+begin-unchanged :
+    (z : Sizes) (start : List Float) (max : Scalar) (a : List Float) →
+    let b = beginOf z start max a in
+    refusedByCheck (b .answer) ≡ true → b .area ≡ a
+unfolding beginOf
+begin-unchanged z start max a =
+    kept (sizesFit z) 1 _
+    (kept (eqb (length start) (2 * z .n) && eqb (length a) AREA) 2 _
+    (kept (allInDomain start (z .n) && stepFits max) 3 _ (λ e. absurd (true≢false (sym e)))))
+  where
+    Kept′ : Left → Type 0
+    Kept′ l = refusedByCheck (l .answer) ≡ true → l .area ≡ a
+
+    kept : (b : Bool) (k : ℕ) (next : Left) → Kept′ next → Kept′ (checks b k (unchanged noRun a) next)
+    kept true k next h = h
+    kept false k next h = λ e. refl
+
+pub demand1 : Demand1
+demand1 = record {
+  begun = begin-cleared;
+  not-begun = begin-unchanged;
+  replied = reply-leaves;
+  replied-none = reply-none-leaves;
+}

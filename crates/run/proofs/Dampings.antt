@@ -21,7 +21,7 @@ use Rattle.run.specs.declared.state.Search.{Search}
 use Rattle.run.specs.declared.state.Stop.the-variants as stop
 use Rattle.run.proofs.Growths.{Growth, growth-new, growth-few, growth-more, growth-third, growth-positive}
 
-started : (mu : Scalar) → Fits mu → isPositive mu ≡ true → Growth mu 0
+started : (mu : Scalar) → Fits mu → isPositive mu ≡ true → Growth mu mu 0
 started mu t h = growth-new (positive-of mu t (yes h))
 
 -- x with another radius and rejection, grown
@@ -30,7 +30,8 @@ grownFor x radius r = grown (rejectedFor (withRadius x radius) r)
 
 module _ (S : Standing) (max : Scalar) where
   -- two searches that agree on what has grown once more
-  module _ (g : ℕ) (x : Search) (w : Growth (x .mu) g) (on on′ : Search → Found) (same : (y : Search) → Growth (y .mu) (suc g) → on y ≡ on′ y) where
+  module _ (first : Scalar) (g : ℕ) (x : Search) (w : Growth first (x .mu) g) (on on′ : Search → Found)
+      (same : (y : Search) → Growth first (y .mu) (suc g) → on y ≡ on′ y) where
     damped-same : (radius : Scalar) (r : Rejection) → damped on (λ y s. stops y s) (rejectedFor (withRadius x radius) r) ≡ damped on′ (λ y s. stops y s) (rejectedFor (withRadius x radius) r)
     damped-same radius r = go (isFinite (quadrupled (x .mu))) refl
       where
@@ -46,17 +47,21 @@ module _ (S : Standing) (max : Scalar) where
     follow-same m (ok unresolved) = damped-same max why.Unresolved
     follow-same m (ok notPositive) = damped-same (x .radius) why.NotPositive
 
-  enough : (t t′ g : ℕ) (x : Search) → Growth (x .mu) g → 1049 ≤ t + g → 1049 ≤ t′ + g → searchTo t S max x ≡ searchTo t′ S max x
+  enough :
+      (t t′ g : ℕ) (first : Scalar) (x : Search) →
+      Growth first (x .mu) g → 1049 ≤ t + g → 1049 ≤ t′ + g → searchTo t S max x ≡ searchTo t′ S max x
   unfolding searchTo
-  enough zero t′ g x w h k = absurd (omega (arith, growth-few w))
-  enough (suc t) zero g x w h k = absurd (omega (arith, growth-few w))
-  enough (suc t) (suc t′) g x w h k =
-      follow-same g x w (λ y. searchTo t S max y) (λ y. searchTo t′ S max y) (λ y v. enough t t′ (suc g) y v (omega arith) (omega arith)) (S .e .constraints .count) (proposalOf S (x .mu) (x .radius))
+  enough zero t′ g first x w h k = absurd (omega (arith, growth-few w))
+  enough (suc t) zero g first x w h k = absurd (omega (arith, growth-few w))
+  enough (suc t) (suc t′) g first x w h k =
+      follow-same first g x w (λ y. searchTo t S max y) (λ y. searchTo t′ S max y)
+      (λ y v. enough t t′ (suc g) first y v (omega arith) (omega arith)) (S .e .constraints .count)
+      (proposalOf S (x .mu) (x .radius))
 
 -- from a positive damping, to allow more changes nothing
 pub search-enough : (t : ℕ) (S : Standing) (max : Scalar) (x : Search) → Fits (x .mu) → isPositive (x .mu) ≡ true → 1049 ≤ t → searchTo t S max x ≡ searchOf S max x
 unfolding searchOf
-search-enough t S max x f h k = enough S max t DAMPINGS 0 x (started (x .mu) f h) (omega arith) (omega arith)
+search-enough t S max x f h k = enough S max t DAMPINGS 0 (x .mu) x (started (x .mu) f h) (omega arith) (omega arith)
 
 -- so the search goes on until a question, a stop or a refusal
 pub search-follows : (S : Standing) (max : Scalar) (x : Search) → Fits (x .mu) → isPositive (x .mu) ≡ true → searchOf S max x ≡ follow (λ y. searchOf S max y) (S .e .constraints .count) max x (proposalOf S (x .mu) (x .radius))

@@ -13,11 +13,18 @@ use Rattle.interval.proofs.Given.{yes}
 use Rattle.run.specs.Rows.{Rows, constraintsOf, sumOf, sumSquared, violationOf}
 use Rattle.run.specs.Scratch.{allTo}
 use Rattle.run.specs.Judgement.{sumChange, rises, indefinite, beatsTo, filterSum, filterViolation}
-use Rattle.run.specs.Demand.{In, Lower, Undecided}
+use Rattle.run.specs.Demand.{In, Evaluated, hasRows, OfRows, LowerRows, Lower, UndecidedRows}
 use Rattle.run.specs.declared.state.Sizes.{Sizes}
 use Rattle.run.proofs.Booleans.{and-left, and-right, or-either}
 use Rattle.run.proofs.ExactLaws.{Good, ExactLaws}
-use Rattle.run.proofs.Invariant.{Pairs}
+use Rattle.run.proofs.Invariant.{Rowed, Pairs}
+
+-- of the rows that two questions were answered with
+pub of-rows :
+    (P : List Float → List Float → Type 0) {x y : Evaluated} {xs ys : List Float} →
+    x ≡ hasRows xs → y ≡ hasRows ys → P xs ys → OfRows P x y
+of-rows P {x} {y} {xs} {ys} e e′ p =
+    subst (λ (g : Evaluated). OfRows P g y) (sym e) (subst (λ (g : Evaluated). OfRows P (hasRows xs) g) (sym e′) p)
 
 -- the sum's rows and the constraints' of an answer
 abbrev pub sums : Sizes → List Float → Rows
@@ -28,7 +35,7 @@ constraints z xs = constraintsOf (z .n) (z .m) xs
 
 module _ (law : ExactLaws) (z : Sizes) (xs ys : List Float) (gx : Good z xs) (gy : Good z ys) (theta theta′ : Scalar) (e : violationOf (constraints z xs) ≡ ok theta) (e′ : violationOf (constraints z ys) ≡ ok theta′) where
   -- the sum change or the fall of the violation is definite
-  pub lower-definite : (rises (sumChange (sums z xs) (sums z ys)) || rises (subOf theta theta′)) ≡ true → Lower z xs ys
+  pub lower-definite : (rises (sumChange (sums z xs) (sums z ys)) || rises (subOf theta theta′)) ≡ true → LowerRows z xs ys
   lower-definite h =
       let a = rises (sumChange (sums z xs) (sums z ys)) in
       let b = rises (subOf theta theta′) in
@@ -37,7 +44,7 @@ module _ (law : ExactLaws) (z : Sizes) (xs ys : List Float) (gx : Good z xs) (gy
       (or-either a b h)
 
   -- f or the violation is definitely less
-  lower-less : (definitelyLess (sumSquared (sums z ys)) (sumSquared (sums z xs)) || definitelyLess theta′ theta) ≡ true → Lower z xs ys
+  lower-less : (definitelyLess (sumSquared (sums z ys)) (sumSquared (sums z xs)) || definitelyLess theta′ theta) ≡ true → LowerRows z xs ys
   lower-less h =
       let a = definitelyLess (sumSquared (sums z ys)) (sumSquared (sums z xs)) in
       let b = definitelyLess theta′ theta in
@@ -45,24 +52,33 @@ module _ (law : ExactLaws) (z : Sizes) (xs ys : List Float) (gx : Good z xs) (gy
       (λ r. inr (law .violation-less (constraints z xs) (constraints z ys) (gx .constraints-finite) (gy .constraints-finite) theta theta′ e e′ (yes r)))
       (or-either a b h)
 
-  pub undecided-rows : (indefinite (sumChange (sums z xs) (sums z ys)) && indefinite (subOf theta theta′)) ≡ true → Undecided z xs ys
+  pub undecided-rows : (indefinite (sumChange (sums z xs) (sums z ys)) && indefinite (subOf theta theta′)) ≡ true → UndecidedRows z xs ys
   undecided-rows h =
       let a = indefinite (sumChange (sums z xs) (sums z ys)) in
       let b = indefinite (subOf theta theta′) in
       record { before = theta; after = theta′; before-is = e; after-is = e′; sum-undecided = yes (and-left a b h); violation-undecided = yes (and-right a b h) }
 
 -- against the points that stood before, by their pairs
-module _ (law : ExactLaws) (z : Sizes) (rows : ℕ → List Float) (filter ys : List Float) (gy : Good z ys) (theta′ : Scalar) (e′ : violationOf (constraints z ys) ≡ ok theta′) where
+module _ (law : ExactLaws) (z : Sizes) (rows : ℕ → Evaluated) (filter : List Float) (y : Evaluated) (r : Rowed z y)
+    (theta′ : Scalar) (e′ : violationOf (constraints z (r .rows)) ≡ ok theta′) where
   beats : List ℕ → Bool
-  beats es = beatsTo filter (sumSquared (sums z ys)) theta′ (length es)
+  beats es = beatsTo filter (sumSquared (sums z (r .rows))) theta′ (length es)
 
   one : List ℕ → Bool
-  one es = definitelyLess (sumSquared (sums z ys)) (filterSum filter (length es)) || definitelyLess theta′ (filterViolation filter (length es))
+  one es =
+      definitelyLess (sumSquared (sums z (r .rows))) (filterSum filter (length es))
+      || definitelyLess theta′ (filterViolation filter (length es))
 
-  pub lower-pairs : (es : List ℕ) → Pairs z rows filter es → beatsTo filter (sumSquared (sums z ys)) theta′ (length es) ≡ true → (e : ℕ) → In e es → Lower z (rows e) ys
+  pub lower-pairs :
+      (es : List ℕ) →
+      Pairs z rows filter es →
+      beatsTo filter (sumSquared (sums z (r .rows))) theta′ (length es) ≡ true → (e : ℕ) → In e es → Lower z (rows e) y
   unfolding beatsTo allTo In beats one
   lower-pairs [] p b e i = absurd i
   lower-pairs (d ∷ es) p b e (inl q) =
-      subst (λ (k : ℕ). Lower z (rows k) ys) (sym q)
-      (lower-less law z (rows d) ys (p .0 .good) gy (filterViolation filter (length es)) theta′ (p .0 .pair-violation) e′ (rw (← p .0 .pair-sum) (and-right (beats es) (one es) b)))
+      let own = p .0 .rowed in
+      subst (λ (k : ℕ). Lower z (rows k) y) (sym q)
+      (of-rows (LowerRows z) (own .given-is) (r .given-is)
+      (lower-less law z (own .rows) (r .rows) (own .good) (r .good) (filterViolation filter (length es)) theta′
+      (p .0 .pair-violation) e′ (rw (← p .0 .pair-sum) (and-right (beats es) (one es) b))))
   lower-pairs (d ∷ es) p b e (inr i) = lower-pairs es (p .1) (and-left (beats es) (one es) b) e i

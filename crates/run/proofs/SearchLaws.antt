@@ -69,7 +69,7 @@ growths from x = x .«turned_down» - from .«turned_down»
 -- the search from x is the search that began at `from`, with the dampings that are left
 pub record Seeking (S : Standing) (max : Scalar) (from x : Search) : Type 0 where
   pub later : from .«turned_down» ≤ x .«turned_down»
-  pub growth : Growth (x .mu) (growths from x)
+  pub growth : Growth (from .mu) (x .mu) (growths from x)
   pub same : searchTo (DAMPINGS - growths from x) S max x ≡ searchTo DAMPINGS S max from
 
 module _ (S : Standing) (max : Scalar) (from : Search) where

@@ -1,4 +1,5 @@
--- What a call reads of the area that the call before it left: each slot in its place, and behind a slot's used numbers +0. Rows with +0 behind them read as the rows do.
+-- What a call reads of the area that the call before it left: each slot in its place, and behind a slot's used numbers
+-- +0. Rows with +0 behind them read as the rows do, and a point reads as it was written.
 use Prim.Native.Nat.{ℕ, _+_, _-_, _*_, _≤_, _<_, zero-le}
 use mathlib.Core.Bool.{Bool, true, false}
 use mathlib.Core.Path.{_≡_, refl, sym, ap, ap₂, _∙_}
@@ -6,7 +7,7 @@ use mathlib.Core.List.{List, []}
 use native.Mathlib.Nat.{mul-le-mul-left, add-mul}
 use native.Mathlib.Omega.{arith}
 use lib.Ieee.{Float}
-use lib.ListN.{length, take, drop, getD, length-take}
+use lib.ListN.{length, take, drop, getD, length-take, length-drop}
 use lib.Seq.{take-at, take-take}
 use Rattle.interval.specs.declared.Scalar.{Scalar}
 use Rattle.interval.specs.Scalar.{zeroS, pick, addOf, subOf}
@@ -16,10 +17,29 @@ use Rattle.linear.proofs.Agree.{Agree, dotTo-ext, normOf-ext}
 use Rattle.linear.proofs.Lists.{at-append}
 use Rattle.run.specs.Rows.{rowNumbers, valueAt, constraintsOf, sumOf, linearizedAt, squaredOf, sumSquared, violationOf}
 use Rattle.run.specs.Judgement.{sumChange}
-use Rattle.run.specs.Area.{POINT, ROWS, CURVATURE, FILTER, SIZES, Memory, Holds, areaOf, memoryOf, slotsOf, startOf, padded, usedOf, isTried, isCorrected, isOpen}
+use Rattle.run.specs.Area.{
+  POINT,
+  ROWS,
+  CURVATURE,
+  FILTER,
+  AREA,
+  ASKED,
+  SIZES,
+  Memory,
+  Holds,
+  areaOf,
+  memoryOf,
+  slotsOf,
+  startOf,
+  padded,
+  usedOf,
+  isTried,
+  isCorrected,
+  isOpen,
+}
 use Rattle.run.specs.declared.state.Sizes.{Sizes}
 use Rattle.run.specs.declared.state.State.{State}
-use Rattle.run.proofs.AreaSlots.{length-padded, cons-eq, slots-of, slot-read}
+use Rattle.run.proofs.AreaSlots.{length-padded, cons-eq, slots-of, slot-read, slots-length}
 use Rattle.run.proofs.CheckLaws.{SizeBounds, few-scalars}
 use Rattle.run.proofs.RowLaws.{few}
 use Rattle.run.proofs.ScratchLaws.{at-take}
@@ -88,6 +108,31 @@ module _ (w : Memory) (f : Sized w) where
   -- the first c numbers of slot k
   slot-part : (k c : ℕ) → k < 9 → c ≤ getD SIZES k 0 → take c (drop (startOf SIZES k) (areaOf w)) ≡ take c (getD (slotsOf w) k [])
   slot-part k c l h = sym (take-take c (getD SIZES k 0) (drop (startOf SIZES k) (areaOf w)) h) ∙ ap (take c) (slot-read (slots-of held) k l)
+
+  pub area-long : length (areaOf w) ≡ AREA
+  area-long = slots-length (slots-of held)
+
+  -- the three points, each in its slot
+  pub standing-part : (c : ℕ) → c ≤ POINT → take c (areaOf w) ≡ take c (w .standing)
+  unfolding startOf
+  standing-part c h = slot-part 0 c (omega arith) h
+
+  pub landed-part : (c : ℕ) → c ≤ POINT → take c (drop 24 (areaOf w)) ≡ take c (w .landed)
+  unfolding startOf
+  landed-part c h = slot-part 1 c (omega arith) h
+
+  pub asked-part : (c : ℕ) → c ≤ POINT → take c (drop ASKED (areaOf w)) ≡ take c (w .asked)
+  unfolding startOf
+  asked-part c h = slot-part 2 c (omega arith) h
+
+-- ---- what is read of a slot in use is what stands in the area from its start
+pub used-part :
+    (a : List Float) (base size count : ℕ) (inUse : Bool) →
+    inUse ≡ true → base + count ≤ length a → take count (usedOf a base size inUse count) ≡ take count (drop base a)
+used-part a base size count inUse u h =
+    let xs = take count (drop base a) in
+    let e : length xs ≡ count = omega (arith, length-take count (drop base a), length-drop base a) in
+    rw u (take-at xs (zeros (size - length xs)) count e)
 
 -- ---- what is read back
 

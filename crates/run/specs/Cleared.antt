@@ -6,9 +6,11 @@ use mathlib.Core.List.{List}
 use mathlib.Core.Path.{_≡_}
 use lib.Ieee.{Float, nan}
 use lib.ListN.{length, getD}
+use Rattle.interval.specs.declared.Scalar.{Scalar}
 use Rattle.interval.specs.Scalar.{zero64}
 use Rattle.run.specs.Area.{AREA, SPARE, SIZES, usedIn, startOf}
-use Rattle.run.specs.Calls.{Left, refusedByCheck}
+use Rattle.run.specs.Calls.{Left, Accepted, refusedByCheck, beginOf, replyOf, replyNoneOf}
+use Rattle.run.specs.declared.state.Sizes.{Sizes}
 use Rattle.run.specs.declared.state.State.{State}
 
 -- the area of a run in this state: +0 in slot k behind its numbers in use, which is all of a slot not in use, and +0 in
@@ -24,3 +26,16 @@ pub record Replied (st : State) (a : List Float) (l : Left) : Type 0 where
   pub sizes-kept : l .state .sizes ≡ st .sizes
   pub cleared : refusedByCheck (l .answer) ≡ false → Cleared (l .state) (l .area)
   pub unchanged : refusedByCheck (l .answer) ≡ true → (l .state ≡ st) × (l .area ≡ a)
+
+-- demand 1 of the memory (document 01): what every call leaves, on all contents
+pub record Demand1 : Type 0 where
+  pub begun :
+      (z : Sizes) (start : List Float) (max : Scalar) (a : List Float) →
+      let b = beginOf z start max a in
+      Accepted b → Cleared (b .state) (b .area)
+  pub not-begun :
+      (z : Sizes) (start : List Float) (max : Scalar) (a : List Float) →
+      let b = beginOf z start max a in
+      refusedByCheck (b .answer) ≡ true → b .area ≡ a
+  pub replied : (st : State) (a rows : List Float) → Replied st a (replyOf st a rows)
+  pub replied-none : (st : State) (a : List Float) → Replied st a (replyNoneOf st a)

@@ -1,5 +1,6 @@
--- Demand 3 (document 01): one claim about a run from its begin over every list of calls. It speaks of what the calls answer and of the rows they were given; lengths and damping are those that demand
--- 2's definition (specs/Calls.antt) has for begin's numbers and the replies.
+-- Demand 3 (document 01): one claim about a run from its begin over every list of calls. It speaks of what the calls
+-- answer, of the points they asked and of the rows they were given; lengths and damping are those that demand 2's
+-- definition (specs/Calls.antt) has for begin's numbers and the replies.
 use Prim.Native.Nat.{ℕ, _+_, _*_, _≤_}
 use mathlib.Core.Path.{_≡_}
 use mathlib.Core.Logic.{_⊎_, _≢_}
@@ -8,16 +9,29 @@ use mathlib.Core.List.{List, [], _∷_}
 use lib.Dec.{T, eqb}
 use lib.Ieee.{Float, binary64, fits}
 use lib.IntN.{ℤ}
-use lib.ListN.{length}
+use lib.ListN.{length, take}
 use lib.Signed.{ltZ}
 use Rattle.interval.specs.declared.Scalar.{Scalar}
 use Rattle.interval.specs.Result.{ok}
-use Rattle.interval.specs.Scalar.{subOf}
+use Rattle.interval.specs.Scalar.{zeroS, pick, subOf, definitelyGreater}
+use Rattle.interval.specs.Scaling.{third}
 use Rattle.linear.specs.Squares.{squaresTo, ChosenEach, rescaledAll}
-use Rattle.run.specs.Rows.{Rows, valueAt, constraintsOf, sumOf, violationOf}
+use Rattle.run.specs.Rows.{Rows, rowNumbers, valueAt, constraintsOf, sumOf, violationOf}
 use Rattle.run.specs.Judgement.{sumChange, indefinite, contracts}
 use Rattle.run.specs.Area.{AREA}
-use Rattle.run.specs.Calls.{Left, Accepted, beginOf, replyOf, replyNoneOf, valid, TURN-DOWNS, QUESTIONS}
+use Rattle.run.specs.Calls.{
+  Left,
+  Accepted,
+  allInDomain,
+  beginOf,
+  replyOf,
+  replyNoneOf,
+  pointOf,
+  valid,
+  firstMu,
+  TURN-DOWNS,
+  QUESTIONS,
+}
 use Rattle.run.specs.declared.state.Answer.{Answer}
 use Rattle.run.specs.declared.state.Answer.the-variants.{Question, Finish, Refused}
 use Rattle.run.specs.declared.state.Last.{Last}
@@ -28,10 +42,10 @@ use Rattle.run.specs.declared.state.Stop.{Stop}
 
 -- ---- a list of calls
 
--- the area that a call is lent: the one that the call before left, or one of another length, which refuses the call
+-- the area that a call is lent: the one that the call before left, or any other
 pub data Lent : Type 0 where
   same : Lent
-  other : (a : List Float) → length a ≢ AREA → Lent
+  other : List Float → Lent
 
 -- each number is one of binary64, as those of a slice of f64 are
 abbrev pub Floats : List Float → Type 0
@@ -42,6 +56,13 @@ Floats (x ∷ xs) = T (fits binary64 x) × Floats xs
 pub data Call : Type 0 where
   rows : Lent → (xs : List Float) → Floats xs → Call
   none : Lent → Call
+
+-- another area is lent only to a call that is refused for its length, that of the area or that of the rows
+abbrev pub Allowed : Sizes → Call → Type 0
+Allowed z (rows same xs f) = Unit
+Allowed z (rows (other a) xs f) = (length a ≢ AREA) ⊎ (length xs ≢ rowNumbers (z .n) (z .m) (z .s))
+Allowed z (none same) = Unit
+Allowed z (none (other a)) = length a ≢ AREA
 
 -- state and area, as the caller holds them
 pub record Run : Type 0 where
@@ -60,9 +81,9 @@ playedBy l area = record { answer = l .answer; run = record { state = l .state; 
 
 abbrev pub played : Run → Call → Played
 played r (rows same xs f) = let l = replyOf (r .state) (r .area) xs in playedBy l (l .area)
-played r (rows (other a x) xs f) = playedBy (replyOf (r .state) a xs) (r .area)
+played r (rows (other a) xs f) = playedBy (replyOf (r .state) a xs) (r .area)
 played r (none same) = let l = replyNoneOf (r .state) (r .area) in playedBy l (l .area)
-played r (none (other a x)) = playedBy (replyNoneOf (r .state) a) (r .area)
+played r (none (other a)) = playedBy (replyNoneOf (r .state) a) (r .area)
 
 -- ---- what the answers tell
 
@@ -84,48 +105,98 @@ askedBy (Question k t s) before = k
 askedBy (Finish e i t s) before = before
 askedBy (Refused k) before = before
 
+-- the points asked so far, each under its question's number; the newest is the one that `point` hands out
+abbrev pub pointsBy : Answer → Run → (ℕ → List Float) → ℕ → List Float
+pointsBy (Question k t s) r before = λ e. cond (eqb e k) (pointOf (r .state) (r .area)) (before e)
+pointsBy (Finish e i t s) r before = before
+pointsBy (Refused k) r before = before
+
 abbrev pub isRefused : Answer → Bool
 isRefused (Question k t s) = false
 isRefused (Finish e i t s) = false
 isRefused (Refused k) = true
+
+-- what a question was answered: rows that were accepted, or none
+pub data Evaluated : Type 0 where
+  noRows : Evaluated
+  hasRows : List Float → Evaluated
 
 -- the rows that a call brought, where it was not refused
 abbrev pub accepted : Call → Answer → Bool
 accepted (rows l xs f) a = not (isRefused a)
 accepted (none l) a = false
 
-abbrev pub rowsOf : Call → List Float
-rowsOf (rows l xs f) = xs
-rowsOf (none l) = []
+abbrev pub evaluatedBy : Call → Evaluated
+evaluatedBy (rows l xs f) = hasRows xs
+evaluatedBy (none l) = noRows
 
--- read off the answers so far: the standing number, the last question's, how often standing changed, every number that stood (the present one first), and the rows accepted for each question
-pub record Ledger : Type 0 where
+-- the damping that an iteration begins with, after a step taken with the damping mu
+abbrev pub nextMu : Scalar → Scalar
+nextMu mu = pick (definitelyGreater (third mu) zeroS) (third mu) mu
+
+-- Read off the calls so far: the standing number, the last question's, how often standing changed, every number that
+-- stood (the present one first), the rows accepted for each question, the point that it asked for, and the damping that
+-- the present iteration began with.
+pub record History : Type 0 where
   pub standing : ℕ
   pub asked : ℕ
   pub changes : ℕ
   pub stood : List ℕ
-  pub rows : ℕ → List Float
+  pub rows : ℕ → Evaluated
+  pub points : ℕ → List Float
+  pub mu : Scalar
 
 -- standing changes where a question or finish names another number than the last did
-abbrev pub changed : Ledger → Answer → Bool
-changed l a = not (eqb (standingBy a (l .standing)) (l .standing))
+abbrev pub changed : History → Answer → Bool
+changed h a = not (eqb (standingBy a (h .standing)) (h .standing))
 
-abbrev pub entered : Ledger → Call → Answer → Ledger
-entered l c a = record {
-  standing = standingBy a (l .standing);
-  asked = askedBy a (l .asked);
-  changes = l .changes + cond (changed l a) 1 0;
-  stood = cond (changed l a) (standingBy a (l .standing) ∷ l .stood) (l .stood);
-  rows = λ k. cond (accepted c a && eqb k (l .asked)) (rowsOf c) (l .rows k);
+abbrev pub rowsBy : History → Call → Answer → ℕ → Evaluated
+rowsBy h c a = λ k. cond (accepted c a && eqb k (h .asked)) (evaluatedBy c) (h .rows k)
+
+-- after the call c from the run r, which left p
+abbrev pub entered : History → Run → Call → Played → History
+entered h r c p = record {
+  standing = standingBy (p .answer) (h .standing);
+  asked = askedBy (p .answer) (h .asked);
+  changes = h .changes + cond (changed h (p .answer)) 1 0;
+  stood = cond (changed h (p .answer)) (standingBy (p .answer) (h .standing) ∷ h .stood) (h .stood);
+  rows = rowsBy h c (p .answer);
+  points = pointsBy (p .answer) (p .run) (h .points);
+  mu = cond (changed h (p .answer)) (nextMu (r .state .search .mu)) (h .mu);
 }
 
--- after an accepted begin: question 0 is asked, and its point stands
-abbrev pub begun : Ledger
-begun = record { standing = 0; asked = 0; changes = 0; stood = 0 ∷ []; rows = λ k. [] }
+-- after an accepted begin, which left r: question 0 is asked, and its point stands
+abbrev pub begun : Run → History
+begun r = record {
+  standing = 0;
+  asked = 0;
+  changes = 0;
+  stood = 0 ∷ [];
+  rows = λ k. noRows;
+  points = λ k. cond (eqb k 0) (pointOf (r .state) (r .area)) [];
+  mu = firstMu;
+}
 
 unfoldable pub In : ℕ → List ℕ → Type 0
 In e [] = ⊥
 In e (x ∷ xs) = (e ≡ x) ⊎ In e xs
+
+-- ---- a point that stands was answered with rows
+
+-- rows of the right length, with every end in the domain
+pub record Fitting (z : Sizes) (xs : List Float) : Type 0 where
+  pub length-is : length xs ≡ rowNumbers (z .n) (z .m) (z .s)
+  pub in-domain : allInDomain xs ((z .m + z .s) * (z .n + 1)) ≡ true
+
+abbrev pub Answered : Sizes → Evaluated → Type 0
+Answered z noRows = ⊥
+Answered z (hasRows xs) = Fitting z xs
+
+-- two questions had rows, and P holds of them
+abbrev pub OfRows : (List Float → List Float → Type 0) → Evaluated → Evaluated → Type 0
+OfRows P (hasRows xs) (hasRows ys) = P xs ys
+OfRows P (hasRows xs) noRows = ⊥
+OfRows P noRows y = ⊥
 
 -- ---- exact progress
 
@@ -134,21 +205,27 @@ In e (x ∷ xs) = (e ≡ x) ⊎ In e xs
 abbrev pub Falls : Rows → Rows → Type 0
 Falls e e′ =
     (p q : ℕ → ℤ) (j k : ℕ → ℕ) (c : ℕ) →
-    ChosenEach (valueAt e) (e .count) p j c → ChosenEach (valueAt e′) (e′ .count) q k c →
+    ChosenEach (valueAt e) (e .count) p j c →
+    ChosenEach (valueAt e′) (e′ .count) q k c →
     T (ltZ (squaresTo (rescaledAll q k c) (e′ .count)) (squaresTo (rescaledAll p j c) (e .count)))
 
 -- one and the same of a point's two sums is lower
-abbrev pub Lower : Sizes → List Float → List Float → Type 0
-Lower z xs ys = Falls (sumOf (z .n) (z .m) (z .s) xs) (sumOf (z .n) (z .m) (z .s) ys) ⊎ Falls (constraintsOf (z .n) (z .m) xs) (constraintsOf (z .n) (z .m) ys)
+abbrev pub LowerRows : Sizes → List Float → List Float → Type 0
+LowerRows z xs ys =
+    Falls (sumOf (z .n) (z .m) (z .s) xs) (sumOf (z .n) (z .m) (z .s) ys)
+    ⊎ Falls (constraintsOf (z .n) (z .m) xs) (constraintsOf (z .n) (z .m) ys)
+
+abbrev pub Lower : Sizes → Evaluated → Evaluated → Type 0
+Lower z = OfRows (LowerRows z)
 
 -- against the point it replaced, which is the first of those that stood, and against every one before
-abbrev pub Progress : Sizes → Ledger → Ledger → Type 0
-Progress z l l′ = (e : ℕ) → In e (l .stood) → Lower z (l′ .rows e) (l′ .rows (l′ .standing))
+abbrev pub Progress : Sizes → History → History → Type 0
+Progress z h h′ = (e : ℕ) → In e (h .stood) → Lower z (h′ .rows e) (h′ .rows (h′ .standing))
 
 -- ---- an undecided step that halves
 
 -- neither the sum's change nor the violation's fall is definite: each interval holds 0
-pub record Undecided (z : Sizes) (xs ys : List Float) : Type 0 where
+pub record UndecidedRows (z : Sizes) (xs ys : List Float) : Type 0 where
   pub before : Scalar
   pub after : Scalar
   pub before-is : violationOf (constraintsOf (z .n) (z .m) xs) ≡ ok before
@@ -156,40 +233,60 @@ pub record Undecided (z : Sizes) (xs ys : List Float) : Type 0 where
   pub sum-undecided : T (indefinite (sumChange (sumOf (z .n) (z .m) (z .s) xs) (sumOf (z .n) (z .m) (z .s) ys)))
   pub violation-undecided : T (indefinite (subOf before after))
 
+abbrev pub Undecided : Sizes → Evaluated → Evaluated → Type 0
+Undecided z = OfRows (UndecidedRows z)
+
 -- twice the length of the last step is definitely less than the length of the one before
 abbrev pub halves : Last → Last → Bool
 halves before (last.Taken length) = contracts before length
 halves before last.NoneYet = false
 
 -- r and r′ are the run before and after the call that changed standing
-pub record Halving (z : Sizes) (l l′ : Ledger) (r r′ : Run) : Type 0 where
-  pub not-damped : r .state .search .first ≡ true  -- its iteration's damping had not grown
-  pub undecided : Undecided z (l′ .rows (l .standing)) (l′ .rows (l′ .standing))
+pub record Halving (z : Sizes) (h h′ : History) (r r′ : Run) : Type 0 where
+  pub not-damped : r .state .search .mu ≡ h .mu  -- the damping is the one that its iteration began with
+  pub undecided : Undecided z (h′ .rows (h .standing)) (h′ .rows (h′ .standing))
   pub shorter : T (halves (r .state .last) (r′ .state .last))
 
 -- ---- the claim
 
--- of one call in the list: l and r before it, l′ and r′ after it, a its answer
-pub record Claim (z : Sizes) (l l′ : Ledger) (r r′ : Run) (a : Answer) : Type 0 where
-  pub counted : r′ .state .counts .iterations ≡ l′ .changes  -- iterations are the changes of standing
-  pub reported : (e : Stop) (i t s : ℕ) → a ≡ Finish e i t s → (i ≡ l′ .changes) × (t ≡ r′ .state .search .«turned_down»)  -- as the finish reports them
-  pub limited : l′ .changes ≤ z .limit  -- at most the limit
-  pub few-turn-downs : r′ .state .search .«turned_down» ≤ TURN-DOWNS * (l′ .changes + 1)  -- at most 1,100 (iterations + 1)
-  pub few-questions : r′ .state .counts .question ≤ QUESTIONS * z .limit  -- question numbers within 5,500 times the limit
-  pub sound : valid (r′ .state) ≡ true  -- never refused by number 4 as altered
-  pub forward : T (changed l a) → Progress z l l′ ⊎ Halving z l l′ r r′  -- each change is exact progress or halves
+-- between two calls: after the begin, and after every call
+pub record Between (z : Sizes) (h : History) (r : Run) : Type 0 where
+  -- iterations are the changes of standing, at most the limit
+  pub counted : r .state .counts .iterations ≡ h .changes
+  pub limited : h .changes ≤ z .limit
+  -- at most 1,100 (iterations + 1) turn-downs, and question numbers within 5,500 times the limit
+  pub few-turn-downs : r .state .search .«turned_down» ≤ TURN-DOWNS * (h .changes + 1)
+  pub few-questions : r .state .counts .question ≤ QUESTIONS * z .limit
+  -- number 4 does not refuse the run as altered
+  pub sound : valid (r .state) ≡ true
+  -- the standing slot holds the point that was asked under the standing number
+  pub standing-point : take (2 * z .n) (r .area) ≡ h .points (h .standing)
 
--- of every call up to the first arithmetic refusal
-unfoldable pub Along : Sizes → Ledger → Run → List Call → Type 0
-Along z l r [] = Unit
-Along z l r (c ∷ cs) =
+-- of one call in the list: h and r before it, h′ after it, p what it left
+pub record Claim (z : Sizes) (h h′ : History) (r : Run) (p : Played) : Type 0 where
+  -- the finish reports the counts, and `point` then gives the standing point
+  pub reported :
+      (e : Stop) (i t s : ℕ) →
+      p .answer ≡ Finish e i t s → (i ≡ h′ .changes) × (t ≡ p .run .state .search .«turned_down»)
+  pub finish-point :
+      (e : Stop) (i t s : ℕ) →
+      p .answer ≡ Finish e i t s → pointOf (p .run .state) (p .run .area) ≡ h′ .points (h′ .standing)
+  -- at a change every point that stood, the new one first, was answered with rows
+  pub answered : T (changed h (p .answer)) → (e : ℕ) → In e (h′ .stood) → Answered z (h′ .rows e)
+  -- each change is exact progress or halves
+  pub forward : T (changed h (p .answer)) → Progress z h h′ ⊎ Halving z h h′ r (p .run)
+
+-- after the begin, and of every call up to the first arithmetic refusal
+unfoldable pub Along : Sizes → History → Run → List Call → Type 0
+Along z h r [] = Between z h r
+Along z h r (c ∷ cs) =
     let p = played r c in
-    let l′ = entered l c (p .answer) in
-    isArithmetic (p .answer) ≡ false → Claim z l l′ r (p .run) (p .answer) × Along z l′ (p .run) cs
+    let h′ = entered h r c p in
+    Between z h r × (Allowed z c → isArithmetic (p .answer) ≡ false → Claim z h h′ r p × Along z h′ (p .run) cs)
 
 -- demand 3: from every accepted begin, over all lists of calls
 abbrev pub Demand3 : Type 0
 Demand3 =
     (z : Sizes) (start : List Float) (max : Scalar) (a : List Float) →
     let b = beginOf z start max a in
-    Accepted b → (cs : List Call) → Along z begun (runOf b) cs
+    Accepted b → (cs : List Call) → Along z (begun (runOf b)) (runOf b) cs
