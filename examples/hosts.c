@@ -91,6 +91,9 @@ int main(void)
     expect("point", area[yadzvego_point_place(run, YADZVEGO_AREA) + 3] == 2, 1);
     expect_refused("rows short", run, YADZVEGO_AREA, 17, 2);
     expect_refused("area short", run, YADZVEGO_AREA - 1, 18, 2);
+    YadzvegoRun unread = run;
+    unread.last_length.hi = 7;
+    expect_refused("a length that is not read", unread, YADZVEGO_AREA, 17, 2);
     expect_altered(run);
     run = yadzvego_reply(run, area, YADZVEGO_AREA, rows, 18).run;
     expect("trial", run.phase == YADZVEGO_TRIAL_OPEN && run.question == 1 && run.first && !run.plain, 1);

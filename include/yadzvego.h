@@ -28,7 +28,9 @@ typedef struct {
  *
  * Rows of n variables, m constraints and s sum rows are 2 (m + s) (n + 1) numbers: the constraints' values, their slopes row by row, the sum rows' values, their slopes row by row. Limits: n
  * and m to 12, s to 24, `limit` (the most iterations) to 200; every end in `start` and `rows` is finite with magnitude at most 2^400, and lo <= hi; so is max_step, with lo > 0. `start` has 2 n
- * numbers, `area` has YADZVEGO_AREA. `start` and `rows` are only read. A call that is refused by 1 to 4 leaves run and area as they were, and an open question open; 5 and 6 end the run. */
+ * numbers, `area` has YADZVEGO_AREA. `start` and `rows` are only read. A reply that is refused by 1 to 4 returns the
+ * run that was handed in, with every field as it was, and leaves the area as it was and an open question open. A begin
+ * that is refused leaves the area as it was too, and returns a run that is over. 5 and 6 end the run. */
 
 /* How many numbers an area has. */
 #define YADZVEGO_AREA 8000
@@ -56,7 +58,7 @@ typedef struct {
     YadzvegoScalar predicted;
     YadzvegoScalar tried;
     YadzvegoScalar max_step;
-    YadzvegoScalar last_length; /* of the last step taken; where last is 0 it is 0, and not read */
+    YadzvegoScalar last_length; /* of the last step taken; where last is 0, not read, and 0 after an accepted call */
     uint8_t phase;
     uint8_t rejected;
     uint8_t last; /* 0 none taken yet, 1 taken */

@@ -1,6 +1,6 @@
 //! Calls that no honest caller makes: runs and areas altered between calls, wrong lengths, numbers outside the domain, replies out
-//! of turn. Each call must end, be refused with the number of document 01's table and change nothing then, and leave a canonical
-//! area else.
+//! of turn. Each call must end, be refused with the number of document 01's table and then change not one bit of run
+//! and area, and leave a canonical area else.
 
 mod altered;
 mod begins;

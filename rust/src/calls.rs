@@ -63,7 +63,7 @@ pub enum Answer {
     Refused(GeopError),
 }
 
-/// The run after a call, and its answer.
+/// The run after a call, and its answer. A reply that is refused by 1 to 4 has the run that was handed in.
 #[derive(Clone, Copy, Debug, PartialEq)]
 pub struct Reply {
     pub run: Run,

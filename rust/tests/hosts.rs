@@ -39,6 +39,8 @@ fn wrong_lengths() {
         let reply = begin(1, 1, 1, 5, start, Scalar::ONE, &mut area);
         assert_eq!(reply.answer, Answer::Refused(WrongLength));
     }
+    let unread = Run { last_length: Scalar::ONE, ..run };
+    assert_refused(unread, &area, &ROWS[..7], WrongLength);
     assert_eq!(point(run, &area), START);
 }
 

@@ -3,7 +3,7 @@
 use crate::archive::{Run, RunAnswer, yadzvego_point_length, yadzvego_point_place};
 use crate::hostile::rule;
 use crate::runs::area::is_canonical;
-use crate::runs::rattle::{self, run_words};
+use crate::runs::rattle::{self, run_bits};
 
 /// What is wrong.
 pub type Fault = String;
@@ -38,7 +38,7 @@ fn fault(
         Some(number) if refused != Some(number) => {
             Some(format!("{told:?} where {number} refuses it"))
         }
-        Some(number) if run_words(left) != run_words(run) => {
+        Some(number) if run_bits(left) != run_bits(run) => {
             Some(format!("refused by {number}, and the run is altered"))
         }
         Some(number) if !same_bits(after, area) => {

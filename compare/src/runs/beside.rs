@@ -5,7 +5,7 @@ use crate::interval::operands::Random;
 use crate::runs::answers::Answer;
 use crate::runs::area::{self, Stood};
 use crate::runs::problem::{MOST, Sizes};
-use crate::runs::rattle::{self, AREA, bits, run_words};
+use crate::runs::rattle::{self, AREA, bits, run_bits};
 use crate::runs::rust::Played;
 use crate::runs::text;
 
@@ -102,7 +102,7 @@ impl Compared {
                 format!("a reply to be refused by {number}: {}", answer.line()),
             );
         }
-        if run_words(&run) != run_words(&held.run) || bits(&held.area) != before {
+        if run_bits(&run) != run_bits(&held.run) || bits(&held.area) != before {
             self.differ(
                 at,
                 format!("a reply refused by {number} changed the run or the area"),
@@ -129,7 +129,7 @@ impl Compared {
     fn after_the_end(&mut self, held: &mut Held, played: &Played) {
         let before = bits(&held.area);
         let (run, told) = rattle::reply(held.run, &mut held.area, None);
-        let same = run_words(&run) == run_words(&held.run) && bits(&held.area) == before;
+        let same = run_bits(&run) == run_bits(&held.run) && bits(&held.area) == before;
         let answer = rattle::answer(run, &held.area, told);
         self.tell(|| text::reply(&None), &Answer::Refused(4), &answer);
         if answer != Answer::Refused(4) || !same {

@@ -6,7 +6,7 @@ use crate::archive::{
 };
 use crate::runs::answers::{Answer, Finish, Moment, Question};
 use crate::runs::problem::Sizes;
-use crate::words::{word, words};
+use crate::words::words;
 use geop_core_math::scalars::Scalar;
 
 /// How many numbers an area has.
@@ -88,12 +88,8 @@ pub fn answer(run: Run, area: &[f64], told: RunAnswer) -> Answer {
     }
 }
 
-/// Every number of a run as a word. The last length is a part of the run only where a step was taken.
-pub fn run_words(run: &Run) -> Vec<u64> {
-    let mut last_length = run.last_length;
-    if run.last == 0 {
-        last_length = archive::Scalar { lo: 0.0, hi: 0.0 };
-    }
+/// The bits of a run, those of a NaN too: a reply that is refused by 1 to 4 returns the run that was handed in.
+pub fn run_bits(run: &Run) -> Vec<u64> {
     let counts = [
         run.n,
         run.m,
@@ -112,10 +108,10 @@ pub fn run_words(run: &Run) -> Vec<u64> {
         run.predicted,
         run.tried,
         run.max_step,
-        last_length,
+        run.last_length,
     ];
     let mut all: Vec<u64> = counts.iter().map(|&count| count as u64).collect();
-    all.extend(scalars.iter().flat_map(|x| [word(x.lo), word(x.hi)]));
+    all.extend(scalars.iter().flat_map(|x| [x.lo.to_bits(), x.hi.to_bits()]));
     all.extend([run.phase, run.rejected, run.last].map(u64::from));
     all.extend([run.first, run.plain].map(u64::from));
     all.extend(run.moving.map(u64::from));

@@ -1,21 +1,24 @@
--- The calls of a run as C and Rust make them: each is the call of run beneath it, over the state that the mirror holds (document 01, "A run by question and reply"). A mirror with a number that is none of
--- an enum's cases is refused by number 4 and handed back with all as it was; it has no point.
+-- The calls of a run as C and Rust make them: each is the call of run beneath it, over the state that the mirror holds
+-- (document 01, "A run by question and reply"). A refusal by 1 to 4 hands back the mirror that was handed in, not the
+-- mirror of the state read from it, which has no length where no step was taken. A mirror with a number that is none of
+-- an enum's cases is refused by number 4; it has no point.
 use Prim.Native.Nat.{ℕ, _*_}
 use mathlib.Core.Bool.{Bool, _&&_}
 use mathlib.Core.List.{List, []}
-use lib.Dec.{eqb}
+use lib.Dec.{eqb, leb}
 use lib.Ieee.{Float}
 use Rattle.interval.specs.declared.Scalar.{Scalar}
 use Rattle.interval.specs.Result.{Res, ok, refused}
 use Rattle.interval.specs.Scalar.{pick}
 use Rattle.run.specs.Area.{AREA}
-use Rattle.run.specs.Calls.{Left, valid, beginOf, replyOf, replyNoneOf, pointAt, pointOf}
+use Rattle.run.specs.Calls.{Left, refusedByCheck, valid, beginOf, replyOf, replyNoneOf, pointAt, pointOf}
 use Rattle.run.specs.declared.state.Answer.{Answer}
 use Rattle.run.specs.declared.state.Out.{Out}
 use Rattle.run.specs.declared.state.Sizes.{Sizes}
 use Rattle.run.specs.declared.state.State.{State}
 use Rattle.yadzvego.specs.Mirror.{mirrorOf, numbersFit, stateAt, stateOf}
 use Rattle.yadzvego.specs.Answers.{asked, numbersOf}
+use Rattle.yadzvego.specs.declared.answers.AnswerNumbers.{AnswerNumbers}
 use Rattle.yadzvego.specs.declared.answers.Reply.{Reply}
 use Rattle.yadzvego.specs.declared.mirror.Run.{Run}
 
@@ -37,13 +40,27 @@ replyFrom o = replyWith (o .state) (o .answer)
 abbrev pub handedBy : Left → Handed
 handedBy l = handed (replyWith (l .state) (l .answer)) (l .area)
 
+-- what a call over the mirror r leaves
+abbrev pub runAfter : Run → State → Answer → Run
+runAfter r st a = pick (refusedByCheck a) r (mirrorOf st)
+
+abbrev pub replyAfter : Run → State → Answer → Reply
+replyAfter r st a = record { run = runAfter r st a; answer = numbersOf a }
+
+abbrev pub handedAfter : Run → Left → Handed
+handedAfter r l = handed (replyAfter r (l .state) (l .answer)) (l .area)
+
+-- a refusal by 1 to 4, as numbers
+abbrev pub byCheck : AnswerNumbers → Bool
+byCheck a = eqb (a .which) 2 && leb (a .number) 4
+
 -- refused, with all as it was
 abbrev pub refusedWith : Run → ℕ → Reply
 refusedWith r k = record { run = r; answer = asked 2 0 k 0 }
 
 -- a call over the state, if the mirror holds one
 abbrev pub calledWith : Run → List Float → (State → Left) → Res State → Handed
-calledWith r a call (ok st) = handedBy (call st)
+calledWith r a call (ok st) = handedAfter r (call st)
 calledWith r a call (refused k) = handed (refusedWith r k) a
 
 unfoldable pub beginExport : Sizes → List Float → Scalar → List Float → Handed

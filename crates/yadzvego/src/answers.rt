@@ -1,13 +1,15 @@
 // What a call answers, as numbers. The cases are numbered in specs/Answers.antt; a number that an answer does not tell is 0.
 ghost use mathlib.Core.Path.{_≡_};
 ghost use Rattle.yadzvego.specs.Answers.{ended, endingOf, asked, finished, numbersOf};
-ghost use Rattle.yadzvego.specs.Exports.{replyFrom, refusedWith};
+ghost use Rattle.run.specs.Calls.{refusedByCheck};
+ghost use Rattle.yadzvego.specs.Exports.{replyFrom, refusedWith, runAfter, replyAfter};
 use crate::mirror::Run;
 use crate::mirror::kind_number;
 use crate::mirror::mirror_of;
 use crate::mirror::rejection_number;
 use run::Answer;
 use run::Out;
+use run::State;
 use run::Stop;
 
 #[repr(C)]
@@ -117,6 +119,39 @@ pub fn reply_of(o: Out) -> Reply
     let answer = o.answer;
     Reply {
         run: mirror_of(state),
+        answer: numbers_of(answer),
+    }
+}
+
+// Whether an answer is a refusal by 1 to 4.
+fn refused_by_check(a: Answer) -> bool
+    ensures { λ r. ⌜ r ≡ refusedByCheck a ⌝ }
+{
+    match a {
+        Answer::Question(_, _, _) => false,
+        Answer::Finish(_, _, _, _) => false,
+        Answer::Refused(number) => number <= 4,
+    }
+}
+
+// The run after a call over it: every bit as it was handed in where it is refused by 1 to 4.
+fn run_after(run: Run, state: State, answer: Answer) -> Run
+    ensures { λ r. ⌜ r ≡ runAfter run state answer ⌝ }
+{
+    if refused_by_check(answer) {
+        return run;
+    }
+    mirror_of(state)
+}
+
+// The reply to a call over a run.
+pub fn reply_after(run: Run, o: Out) -> Reply
+    ensures { λ r. ⌜ r ≡ replyAfter run (o .state) (o .answer) ⌝ }
+{
+    let state = o.state;
+    let answer = o.answer;
+    Reply {
+        run: run_after(run, state, answer),
         answer: numbers_of(answer),
     }
 }

@@ -9,6 +9,7 @@ mod mirror;
 pub mod scalars;
 
 use crate::answers::altered;
+use crate::answers::reply_after;
 use crate::answers::reply_of;
 use crate::mirror::numbers_fit;
 use crate::mirror::state_at;
@@ -42,7 +43,7 @@ pub extern "C" fn yadzvego_reply(run: Run, area: &mut [f64], rows: &[f64]) -> Re
     if !numbers_fit(run) {
         return altered(run);
     }
-    reply_of(run::reply(state_at(run), area, rows))
+    reply_after(run, run::reply(state_at(run), area, rows))
 }
 
 // Answers the open question with none: the point cannot be evaluated.
@@ -53,7 +54,7 @@ pub extern "C" fn yadzvego_reply_none(run: Run, area: &mut [f64]) -> Reply
     if !numbers_fit(run) {
         return altered(run);
     }
-    reply_of(run::reply_none(state_at(run), area))
+    reply_after(run, run::reply_none(state_at(run), area))
 }
 
 fn phase_place(p: Phase) -> usize

@@ -4,7 +4,7 @@ use mathlib.Core.Path.{_∙_, sym, ap}
 use borrow.Author.Tests.{not-true, not-false}
 use Rattle.run.specs.Calls.{replyOf}
 use Rattle.run.specs.declared.state.State.{State}
-use Rattle.yadzvego.specs.Exports.{handedBy, replyExport}
+use Rattle.yadzvego.specs.Exports.{handedAfter, replyExport}
 use Rattle.yadzvego.proofs.ExportLaws.{called, not-called}
 use borrow.Author.Needs.{needs}
 use Rattle.yadzvego.proofs.yadzvego_reply.Statement.{statement}
@@ -26,15 +26,23 @@ state-at-requires c κs = search needs
 reply-requires : tie.Need-reply-requires
 reply-requires c κs = search needs
 
-reply-of-requires : tie.Need-reply-of-requires
-reply-of-requires c κs = search needs
+reply-after-requires : tie.Need-reply-after-requires
+reply-after-requires c κs = search needs
 
 same-length : tie.Need-same-length
 same-length c = search needs
 
 returns-2 : tie.Need-returns-2
 unfolding replyExport
-returns-2 c = let a = c .before .before .before .before .before .before .before .before .before .before .args in rw (c .reply-of .ensures) (ap handedBy (c .before .before .before .reply .ensures) ∙ ap (λ (st : State). handedBy (replyOf st (now (a .area)) (now (a .rows)))) (c .before .before .before .before .before .state-at .ensures) ∙ sym (called _ _ _ (sym (c .before .before .before .before .before .before .before .numbers-fit .ensures) ∙ not-false _ (c .before .before .before .before .before .before .if1 .left))))
+returns-2 c =
+    let made = c .before .before .before in
+    let read = made .before .before in
+    let a = read .before .before .before .before .before .args in
+    let fits = sym (read .before .before .numbers-fit .ensures) ∙ not-false _ (read .before .if1 .left) in
+    rw (c .reply-after .ensures)
+    (ap (handedAfter (a .run)) (made .reply .ensures)
+    ∙ ap (λ (st : State). handedAfter (a .run) (replyOf st (now (a .area)) (now (a .rows)))) (read .state-at .ensures)
+    ∙ sym (called _ _ _ fits))
 
 pub yadzvego-reply-spec : {M : Type 1} → statement M
 yadzvego-reply-spec =
@@ -45,6 +53,6 @@ yadzvego-reply-spec =
     returns
     state-at-requires
     reply-requires
-    reply-of-requires
+    reply-after-requires
     same-length
     returns-2)
