@@ -1,5 +1,5 @@
--- Demand 3 of what `play` leaves: run's theorem at the list of calls that the codes name, and, read at its end, what holds
--- there and the claim of the last call.
+-- Demand 3 of what `play` leaves: run's theorem at the list of calls that the codes name, and, read at its end, what
+-- holds there and the claim of the last call.
 use Prim.Native.Nat.{ℕ, _≤_, _%_}
 use mathlib.Core.Bool.{Bool, true, false}
 use mathlib.Core.Logic.{inl}

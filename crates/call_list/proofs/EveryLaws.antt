@@ -1,5 +1,5 @@
--- Every list of calls is played by some codes and numbers: a call that is refused for its length is refused as one over no
--- numbers is, and rows of k numbers are code 2 k + 2 or 2 k + 3 with them in front.
+-- Every list of calls is played by some codes and numbers: a call that is refused for its length is refused as one over
+-- no numbers is, and rows of k numbers are code 2 k + 2 or 2 k + 3 with them in front.
 use Prim.Native.Nat.{ℕ, _+_, _*_, _%_}
 use mathlib.Core.Path.{_≡_, refl, sym, ap, _∙_, subst}
 use mathlib.Core.Logic.{_⊎_, _≢_, inl, inr}
@@ -45,7 +45,9 @@ module _ (st : State) (a own : List Float) where
   none-refused x true (Open k) = rw (ne-eqb (length a) AREA x) refl
 
   -- the area or the rows have another length
-  lengths : (xs : List Float) (count : ℕ) → (length a ≢ AREA) ⊎ (length xs ≢ count) → (eqb (length a) AREA && eqb (length xs) count) ≡ false
+  lengths :
+      (xs : List Float) (count : ℕ) →
+      (length a ≢ AREA) ⊎ (length xs ≢ count) → (eqb (length a) AREA && eqb (length xs) count) ≡ false
   lengths xs count (inl x) = rw (ne-eqb (length a) AREA x)
   lengths xs count (inr x) = rw (ne-eqb (length xs) count x) (and-false (eqb (length a) AREA))
     where

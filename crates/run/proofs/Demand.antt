@@ -1,5 +1,5 @@
--- Demand 3: begin makes the invariant true, each call keeps it and makes its claim, so the claim holds along every list of
--- calls. A call that is refused by number changes nothing.
+-- Demand 3: begin makes the invariant true, each call keeps it and makes its claim, so the claim holds along every list
+-- of calls. A call that is refused by number changes nothing.
 use Prim.Native.Nat.{ℕ, _+_, _*_, _≤_, zero-le}
 use mathlib.Core.Bool.{Bool, true, false, not, cond, _&&_}
 use mathlib.Core.Logic.{⊎-elim}
@@ -277,7 +277,8 @@ begun-sized start e =
       filter-size = length-replicate FILTER zero64;
     }
 
-module _ (z : Sizes) (start : List Float) (max : Scalar) (fit : sizesFit z ≡ true) (size : length start ≡ 2 * z .n) where
+module _ (z : Sizes) (start : List Float) (max : Scalar) (fit : sizesFit z ≡ true)
+    (size : length start ≡ 2 * z .n) where
   abbrev begins : Run
   begins = record { state = stateWith z firstMu max (Open kind.Start); area = areaOf (begunMemory start) }
 
@@ -298,9 +299,10 @@ module _ (z : Sizes) (start : List Float) (max : Scalar) (fit : sizesFit z ≡ t
       let n2 : 2 * z .n ≤ POINT = omega (arith, size-bounds z fit .n) in
       let sized = begun-sized start (omega (arith, size, n2)) in
       let w = begunMemory start in
+      let valid-begun = sound-valid (begins .state) begun-sound in
       standing-part w sized (2 * z .n) n2
       ∙ sym (asked-part w sized (2 * z .n) n2)
-      ∙ sym (point-given (begins .state) (areaOf w) ASKED (sound-valid (begins .state) begun-sound) (area-long w sized) refl)
+      ∙ sym (point-given (begins .state) (areaOf w) ASKED valid-begun (area-long w sized) refl)
 
   begun-holds : Inv z (begun begins) begins
   begun-holds =
@@ -315,7 +317,13 @@ module _ (z : Sizes) (start : List Float) (max : Scalar) (fit : sizesFit z ≡ t
           standing-is = refl;
           stood-is = refl;
           own-standing = refl;
-          count-bounds = record { growths = 0; growth = growth-begin; fresh = λ e. refl; turned = zero-le; few = zero-le };
+          count-bounds = record {
+            growths = 0;
+            growth = growth-begin;
+            fresh = λ e. refl;
+            turned = zero-le;
+            few = zero-le;
+          };
         };
       }
 

@@ -227,7 +227,8 @@ module _ (mu : Scalar) where
   unfolding searchTo
   search-leaves zero S max x g w = stays mu x g w
   search-leaves (suc t) S max x g w =
-      follow-leaves (λ y. searchTo t S max y) (λ y g v. search-leaves t S max y g v) (S .e .constraints .count) max x g w
+      follow-leaves (λ y. searchTo t S max y) (λ y g v. search-leaves t S max y g v) (S .e .constraints .count) max x g
+      w
       (proposalOf S (x .mu) (x .radius)) (proposal-yields S (x .mu) (x .radius))
 
   pub search-left :

@@ -108,8 +108,8 @@ pub record Sound (st : State) : Type 0 where
   pub few-corrections : st .counts .corrections ≤ 4
   pub phase-fits : phaseFits st (st .phase) ≡ true
 
--- A trial or correction is open, with so many questions since the last turn-down or iteration; the numbers that stood are
--- below `top`.
+-- A trial or correction is open, with so many questions since the last turn-down or iteration; the numbers that stood
+-- are below `top`.
 pub record Tried (h : History) (r : Run) (since top : ℕ) : Type 0 where
   pub before : List ℕ
   pub asked-is : h .asked ≡ r .state .counts .question

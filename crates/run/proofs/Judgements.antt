@@ -35,7 +35,8 @@ constraints z xs = constraintsOf (z .n) (z .m) xs
 
 module _ (law : ExactLaws) (z : Sizes) (xs ys : List Float) (gx : Good z xs) (gy : Good z ys) (theta theta′ : Scalar) (e : violationOf (constraints z xs) ≡ ok theta) (e′ : violationOf (constraints z ys) ≡ ok theta′) where
   -- the sum change or the fall of the violation is definite
-  pub lower-definite : (rises (sumChange (sums z xs) (sums z ys)) || rises (subOf theta theta′)) ≡ true → LowerRows z xs ys
+  pub lower-definite :
+      (rises (sumChange (sums z xs) (sums z ys)) || rises (subOf theta theta′)) ≡ true → LowerRows z xs ys
   lower-definite h =
       let a = rises (sumChange (sums z xs) (sums z ys)) in
       let b = rises (subOf theta theta′) in
@@ -44,7 +45,9 @@ module _ (law : ExactLaws) (z : Sizes) (xs ys : List Float) (gx : Good z xs) (gy
       (or-either a b h)
 
   -- f or the violation is definitely less
-  lower-less : (definitelyLess (sumSquared (sums z ys)) (sumSquared (sums z xs)) || definitelyLess theta′ theta) ≡ true → LowerRows z xs ys
+  lower-less :
+      (definitelyLess (sumSquared (sums z ys)) (sumSquared (sums z xs)) || definitelyLess theta′ theta) ≡ true →
+      LowerRows z xs ys
   lower-less h =
       let a = definitelyLess (sumSquared (sums z ys)) (sumSquared (sums z xs)) in
       let b = definitelyLess theta′ theta in
@@ -52,7 +55,9 @@ module _ (law : ExactLaws) (z : Sizes) (xs ys : List Float) (gx : Good z xs) (gy
       (λ r. inr (law .violation-less (constraints z xs) (constraints z ys) (gx .constraints-finite) (gy .constraints-finite) theta theta′ e e′ (yes r)))
       (or-either a b h)
 
-  pub undecided-rows : (indefinite (sumChange (sums z xs) (sums z ys)) && indefinite (subOf theta theta′)) ≡ true → UndecidedRows z xs ys
+  pub undecided-rows :
+      (indefinite (sumChange (sums z xs) (sums z ys)) && indefinite (subOf theta theta′)) ≡ true →
+      UndecidedRows z xs ys
   undecided-rows h =
       let a = indefinite (sumChange (sums z xs) (sums z ys)) in
       let b = indefinite (subOf theta theta′) in

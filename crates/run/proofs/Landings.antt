@@ -20,7 +20,21 @@ use Rattle.run.specs.Rows.{sumSquared, violationOf}
 use Rattle.run.specs.Area.{CURVATURE, Memory, withTaken}
 use Rattle.run.specs.Curvature.{updateCurvature}
 use Rattle.run.specs.Judgement.{sumChange, rises, indefinite, beatsTo, contracts, Judged, judgedBy, judgeOf}
-use Rattle.run.specs.Run.{standingAt, landedAt, curvatureOf, linearOf, shrunk, reachOf, standingOn, filterWith, take, notLower, wasTaken, decide, judge}
+use Rattle.run.specs.Run.{
+  standingAt,
+  landedAt,
+  curvatureOf,
+  linearOf,
+  shrunk,
+  reachOf,
+  standingOn,
+  filterWith,
+  take,
+  notLower,
+  wasTaken,
+  decide,
+  judge,
+}
 use Rattle.linear.specs.Norm.{normOf}
 use Rattle.run.specs.Demand.{
   In,
@@ -44,7 +58,19 @@ use Rattle.run.proofs.Slots.{violation-padded, squared-padded, change-p
 use Rattle.run.proofs.Yields.{Long, div-yields, judge-yields, linear-yields, curvature-yields}
 use Rattle.run.proofs.Growths.{growth-none, growth-third, next-mu-is}
 use Rattle.run.proofs.ExactLaws.{ExactLaws}
-use Rattle.run.proofs.Invariant.{Rowed, Slot, Pairs, CountBounds, CallContext, Halves, Forward, Way, moved, Consistent, After}
+use Rattle.run.proofs.Invariant.{
+  Rowed,
+  Slot,
+  Pairs,
+  CountBounds,
+  CallContext,
+  Halves,
+  Forward,
+  Way,
+  moved,
+  Consistent,
+  After,
+}
 use Rattle.run.proofs.Outcomes.{pairs-filter, either-after, or-refuse-after, finish-after}
 use Rattle.run.proofs.TurnLaws.{bounds-few, iterate-after, not-lower-after}
 use Rattle.run.proofs.Judgements.{of-rows, sums, constraints, lower-definite, undecided-rows, lower-pairs}
@@ -144,7 +170,10 @@ module _ (S : CallContext) (st : State) (w : Memory) (since : ℕ) (L : Landing 
 
   taken-new : st .counts .landed ≢ S .history .standing
   unfolding In
-  taken-new e = let h = L .newer (S .history .standing) (subst (In (S .history .standing)) (sym (S .stood-is)) (inl refl)) in omega arith
+  taken-new e =
+      let k = S .history .standing in
+      let h = L .newer k (subst (In k) (sym (S .stood-is)) (inl refl)) in
+      omega arith
 
   taken-below : (e : ℕ) → In e (st .counts .landed ∷ (st .counts .standing ∷ L .consistent .before)) → e ≤ st .counts .question
   unfolding In
@@ -162,8 +191,8 @@ module _ (S : CallContext) (st : State) (w : Memory) (since : ℕ) (L : Landing 
       (length mu radius : Scalar) →
       mu ≡ nextMu (S .run .state .search .mu) →
       Forward S (st .sizes) (st .counts .landed) (last.Taken length) →
-      Way S (st .sizes) (standingOn st length mu radius .counts .standing) (st .counts .standing ∷ L .consistent .before)
-      (last.Taken length) mu
+      Way S (st .sizes) (standingOn st length mu radius .counts .standing)
+      (st .counts .standing ∷ L .consistent .before) (last.Taken length) mu
   taken-way length mu radius next f =
       moved taken-new (ap₂ (λ (e : ℕ) (es : List ℕ). e ∷ es) (L .still) (L .still-before)) next f
 
@@ -224,7 +253,8 @@ module _ (S : CallContext) (st : State) (w : Memory) (since : ℕ) (L : Landing 
       or-refuse-after S z st w (divOf mu (degenerate three64)) _ (div-yields mu (degenerate three64))
       (λ third is-third v.
       let radius = reachOf length (st .search .radius) (st .«max_step») linear in
-      let next : shrunk mu third ≡ nextMu (S .run .state .search .mu) = next-mu-is mu third is-third ∙ ap nextMu (sym (L .mu-same)) in
+      let next : shrunk mu third ≡ nextMu (S .run .state .search .mu) =
+      next-mu-is mu third is-third ∙ ap nextMu (sym (L .mu-same)) in
       or-refuse-after S z st w
       (updateCurvature (z .n) (curvatureOf st w) (w .step) (standingAt st w) (landedAt st w) (w .multipliers)) _
       (curvature-yields CURVATURE (z .n) (curvatureOf st w) (w .step) (standingAt st w) (landedAt st w) (w .multipliers)
@@ -305,7 +335,8 @@ module _ (law : ExactLaws) (S : CallContext) (st : State) (w : Memory) (since : 
       beaten :
           beatsTo (w .filter) (sumSquared (sums z (y .rows))) new (lib.ListN.length (L .consistent .before)) ≡ true
       beaten =
-          rw (L .consistent .before-many, ← slot-squared z (S .rows (st .counts .landed)) (w .landedRows) (L .landed-slot))
+          let squared = slot-squared z (S .rows (st .counts .landed)) (w .landedRows) (L .landed-slot) in
+          rw (L .consistent .before-many, ← squared)
           (and-right (rises change || rises (subOf theta new)) beats h)
 
       by : In e (S .history .standing ∷ S .before) → Lower z (S .rows e) (S .rows (st .counts .landed))
@@ -326,7 +357,8 @@ module _ (law : ExactLaws) (S : CallContext) (st : State) (w : Memory) (since : 
       let c = contracts (st .last) length in
       let f = st .search .first in
       let fu : (f && u) ≡ true = and-left (f && u) c h in
-      let open-sum : (indefinite (sumChange (sums z (x .rows)) (sums z (y .rows))) && indefinite (subOf theta new)) ≡ true =
+      let d = sumChange (sums z (x .rows)) (sums z (y .rows)) in
+      let open-sum : (indefinite d && indefinite (subOf theta new)) ≡ true =
       ap (λ (v : Scalar). indefinite v && indefinite (subOf theta new)) (sym change-is) ∙ and-right f u fu in
       record {
         not-damped =
@@ -374,8 +406,8 @@ pub judge-after :
 unfolding judge judgeOf
 judge-after law S st w since L few theta theta-is =
     or-refuse-after S (st .sizes) st w
-    (judgeOf (st .sizes .n) (standingAt st w) (landedAt st w) theta (w .filter) (st .counts .iterations) (st .last) (w .step))
-    _
+    (judgeOf (st .sizes .n) (standingAt st w) (landedAt st w) theta (w .filter) (st .counts .iterations) (st .last)
+    (w .step)) _
     (judge-yields (st .sizes .n) (standingAt st w) (landedAt st w) theta (w .filter) (st .counts .iterations) (st .last)
     (w .step))
     (λ j e u.

@@ -1,5 +1,5 @@
--- An open question and its answer: what the invariant says of a start, a trial or a correction is what the run between two
--- questions begins with.
+-- An open question and its answer: what the invariant says of a start, a trial or a correction is what the run between
+-- two questions begins with.
 use Prim.Native.Nat.{ℕ, _+_, _*_, _≤_, _<_, zero-le}
 use mathlib.Core.Bool.{true, false, cond}
 use mathlib.Core.Logic.{inl, inr}
@@ -138,7 +138,8 @@ standing-read :
     length a ≡ AREA → take (2 * st .sizes .n) (memoryOf st a .standing) ≡ take (2 * st .sizes .n) a
 unfolding memoryOf
 standing-read st a sound long =
-    used-part a 0 POINT (2 * st .sizes .n) true refl (omega (arith, size-bounds (st .sizes) (sound .sizes-fit) .n, long))
+    let small = size-bounds (st .sizes) (sound .sizes-fit) in
+    used-part a 0 POINT (2 * st .sizes .n) true refl (omega (arith, small .n, long))
 
 -- ---- a trial or correction is open
 

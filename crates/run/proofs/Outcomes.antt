@@ -1,5 +1,5 @@
--- How a call ends: a finish, a question or a refusal, each with the invariant for the history that it is entered in, and
--- the claim.
+-- How a call ends: a finish, a question or a refusal, each with the invariant for the history that it is entered in,
+-- and the claim.
 use Prim.Native.Nat.{ℕ, suc, _+_, _*_, _≤_, _<_, zero-le}
 use mathlib.Core.Bool.{Bool, true, false, not, _||_}
 use mathlib.Core.Logic.{_⊎_, inl, inr}
@@ -131,7 +131,10 @@ pub pairs-rows :
     ((e : ℕ) → In e es → rows e ≡ rows′ e) → Pairs z rows f es → Pairs z rows′ f es
 unfolding In
 pairs-rows z rows rows′ f [] h p = tt
-pairs-rows z rows rows′ f (e ∷ es) h p = (subst (λ (x : Evaluated). Pair z x f (length es)) (h e (inl refl)) (p .0), pairs-rows z rows rows′ f es (λ d i. h d (inr i)) (p .1))
+pairs-rows z rows rows′ f (e ∷ es) h p = (
+  subst (λ (x : Evaluated). Pair z x f (length es)) (h e (inl refl)) (p .0),
+  pairs-rows z rows rows′ f es (λ d i. h d (inr i)) (p .1),
+)
 
 -- ---- one more than the other
 
@@ -193,11 +196,13 @@ module _ (S : CallContext) (z : Sizes) (p : Played) (accepts : isRefused (p .ans
   rows-entered = sym (S .enters (p .answer) accepts)
 
   goes-forward :
-      Forward S z now (p .run .state .last) → Progress z (S .history) after ⊎ Halving z (S .history) after (S .run) (p .run)
+      Forward S z now (p .run .state .last) →
+      Progress z (S .history) after ⊎ Halving z (S .history) after (S .run) (p .run)
   goes-forward f = by (f .exact)
     where
       by :
-          ((e : ℕ) → In e (S .history .stood) → Lower z (S .rows e) (S .rows now)) ⊎ Halves S z now (p .run .state .last)
+          ((e : ℕ) → In e (S .history .stood) → Lower z (S .rows e) (S .rows now))
+          ⊎ Halves S z now (p .run .state .last)
           → Progress z (S .history) after ⊎ Halving z (S .history) after (S .run) (p .run)
       by (inl f) = inl (λ e i. subst (λ (rows : ℕ → Evaluated). Lower z (rows e) (rows now)) rows-entered (f e i))
       by (inr h) =
@@ -220,7 +225,8 @@ module _ (S : CallContext) (z : Sizes) (p : Played) (accepts : isRefused (p .ans
 -- the point that `point` gives, of a run that number 4 lets pass
 pub point-given :
     (st : State) (a : List Float) (base : ℕ) →
-    valid st ≡ true → length a ≡ AREA → pointAt (st .phase) ≡ base → pointOf st a ≡ take (2 * st .sizes .n) (drop base a)
+    valid st ≡ true →
+    length a ≡ AREA → pointAt (st .phase) ≡ base → pointOf st a ≡ take (2 * st .sizes .n) (drop base a)
 unfolding pointOf
 point-given st a base v l e = rw (v, eq-eqb _ _ l, e)
 
@@ -270,14 +276,20 @@ finish-counts S st w s mu E q =
     let small = size-bounds z (E .sound .sizes-fit) in
     let n2 : 2 * z .n ≤ POINT = omega (arith, small .n) in
     let d = enter S z (st .counts .standing) (E .before) (st .last) mu (E .way) p refl in
-    let counted : st .counts .iterations ≡ entered (S .history) (S .run) (S .call) p .changes = sym (d .changes-are ∙ E .before-many) in
-    let point : take (2 * z .n) (areaOf (onlyStanding w)) ≡ S .history .points (st .counts .standing) = standing-part (onlyStanding w) sized (2 * z .n) n2 ∙ E .point in
-    let given : pointOf (over st) (areaOf (onlyStanding w)) ≡ S .history .points (st .counts .standing) =
-    point-given (over st) (areaOf (onlyStanding w)) 0 (sound-valid (over st) (E .sound)) (area-long (onlyStanding w) sized) refl ∙ point in (
+    let counted : st .counts .iterations ≡ entered (S .history) (S .run) (S .call) p .changes =
+    sym (d .changes-are ∙ E .before-many) in
+    let a = areaOf (onlyStanding w) in
+    let own = S .history .points (st .counts .standing) in
+    let point : take (2 * z .n) a ≡ own = standing-part (onlyStanding w) sized (2 * z .n) n2 ∙ E .point in
+    let sound = sound-valid (over st) (E .sound) in
+    let given : pointOf (over st) a ≡ own =
+    point-given (over st) a 0 sound (area-long (onlyStanding w) sized) refl ∙ point in (
       record { sizes-are = refl; sound = E .sound; counted = counted; point = point; phased = tt },
       record {
-        reported = λ e i t n q.
-            (let i-is : i ≡ st .counts .iterations = cc in i-is ∙ counted, let t-is : t ≡ st .search .«turned_down» = cc in t-is);
+        reported = λ e i t n q. (
+          let i-is : i ≡ st .counts .iterations = cc in i-is ∙ counted,
+          let t-is : t ≡ st .search .«turned_down» = cc in t-is,
+        );
         finish-point = λ e i t n q. given;
         answered = λ c. was-answered S z p refl (d .forward c) (d .new-stood c);
         forward = λ c. goes-forward S z p refl (d .forward c);
@@ -398,7 +410,8 @@ module _ (S : CallContext) (st : State) (w : Memory) (k : Kind) (corrections sin
       } in
       let pairs : Pairs z (S .rows) (memoryOf st′ (areaOf w) .filter) (v .before) =
       pairs-filter z (S .rows) (w .filter) (memoryOf st′ (areaOf w) .filter) (v .before)
-      (λ i l. filter-back st′ w (v .sized) small tried (v .within) i (let m = v .before-many in omega arith)) (s .pairs) in
+      (λ i l. filter-back st′ w (v .sized) small tried (v .within) i (let m = v .before-many in omega arith))
+      (s .pairs) in
       record {
         before = v .before;
         asked-is = refl;
@@ -418,7 +431,8 @@ module _ (S : CallContext) (st : State) (w : Memory) (k : Kind) (corrections sin
   unfolding p st′ h′ older
   asked-after sound phased q =
       let z = st .sizes in
-      let counted : st .counts .iterations ≡ entered (S .history) (S .run) (S .call) p .changes = sym (entry .changes-are ∙ v .before-many) in
+      let counted : st .counts .iterations ≡ entered (S .history) (S .run) (S .call) p .changes =
+      sym (entry .changes-are ∙ v .before-many) in
       let old = older (st .counts .standing) (v .below (st .counts .standing) (unfold In in inl refl)) in (
         record {
           sizes-are = refl;
@@ -442,13 +456,16 @@ pub trial-after :
     st .counts .iterations < st .sizes .limit → After S (st .sizes) (question st w kind.Trial 0)
 trial-after S st w mu v count-bounds lim =
     unfold st′ p h′ in
-    let sound = asked-sound S st w kind.Trial 0 0 mu v count-bounds lim zero-le zero-le (rw (lt-ltb _ _ lim) (growth-positive (count-bounds .growth))) in
+    let sound =
+    asked-sound S st w kind.Trial 0 0 mu v count-bounds lim zero-le zero-le
+    (rw (lt-ltb _ _ lim) (growth-positive (count-bounds .growth))) in
     asked-after S st w kind.Trial 0 0 mu v count-bounds lim sound
     (asked-tried S st w kind.Trial 0 0 mu v count-bounds lim 1 (st .counts .question + 1) sound refl (omega arith)
     (λ e i. let h = v .below e i in omega arith))
 
 pub correction-after :
-    (S : CallContext) (st : State) (w : Memory) (mu : Scalar) (v : Consistent S (st .sizes) (st .counts) (st .last) mu w) →
+    (S : CallContext) (st : State) (w : Memory) (mu : Scalar)
+    (v : Consistent S (st .sizes) (st .counts) (st .last) mu w) →
     CountBounds mu (st .counts) (st .search) (1 + st .counts .corrections) →
     st .counts .iterations < st .sizes .limit →
     st .counts .corrections ≤ 3 →
@@ -479,11 +496,13 @@ correction-after S st w mu v count-bounds lim few slot point asked below =
     (rw (lt-ltb _ _ lim) (growth-positive (count-bounds .growth))) in
     asked-after S st w kind.Correction n (1 + n) mu v count-bounds lim sound
     (record {
-      tried = asked-tried S st w kind.Correction n (1 + n) mu v count-bounds lim (2 + n) k sound refl (omega arith) below;
+      tried =
+          asked-tried S st w kind.Correction n (1 + n) mu v count-bounds lim (2 + n) k sound refl (omega arith) below;
       landed-below = omega arith;
       few = few;
       landed-slot =
-          subst (λ (rows : ℕ → Evaluated). Slot z (rows k) (memoryOf (asking st kind.Correction n) (areaOf w) .landedRows))
+          subst
+          (λ (rows : ℕ → Evaluated). Slot z (rows k) (memoryOf (asking st kind.Correction n) (areaOf w) .landedRows))
           (sym rows-back) back;
       landed-point = landed-back (asking st kind.Correction n) w (v .sized) n2 refl ∙ point ∙ sym old;
     })

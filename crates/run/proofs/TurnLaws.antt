@@ -83,7 +83,8 @@ grown-bounds mu k x y since d p g w =
     }
 
 -- A call goes on from the state st and its memory w, in an iteration that began with the damping mu.
-module _ (S : CallContext) (st : State) (w : Memory) (mu : Scalar) (v : Consistent S (st .sizes) (st .counts) (st .last) mu w) where
+module _ (S : CallContext) (st : State) (w : Memory) (mu : Scalar)
+    (v : Consistent S (st .sizes) (st .counts) (st .last) mu w) where
   left-after :
       (p : CountBounds mu (st .counts) (st .search) 0) →
       st .counts .iterations < st .sizes .limit →
@@ -112,7 +113,8 @@ module _ (S : CallContext) (st : State) (w : Memory) (mu : Scalar) (v : Consiste
   pub iterate-after : CountBounds mu (st .counts) (st .search) 0 → After S (st .sizes) (iterate st w)
   unfolding iterate
   iterate-after p =
-      either-after S (st .sizes) (leb (st .sizes .limit) (st .counts .iterations)) (finish st w stop.Budget) (search st w)
+      either-after S (st .sizes) (leb (st .sizes .limit) (st .counts .iterations)) (finish st w stop.Budget)
+      (search st w)
       (λ e. finish-after S st w stop.Budget mu v (omega (arith, bounds-few mu (st .counts) (st .search) 0 p)))
       (λ e. search-after p (leb-false _ _ e))
 
