@@ -233,18 +233,34 @@ module _ {ls : List (List Float)} {a : List Float} (h : Slots ls a) where
       let m : length ls ≡ 9 = sym (length-map ls (length {A = Float})) ∙ ap (length {A = ℕ}) (h .sized) in
       rw (h .is, ← h .sized, ← m) (read-end ls (zeros SPARE) j nan)
 
--- all behind a first part
-clear-behind : (x : List Float) (ls : List (List Float)) (ns : List ℕ) (base n : ℕ) {a b : List Float} → length x ≡ base → map length ls ≡ ns → a ≡ x ++ joined ls (zeros n) → b ≡ written a base (zeros (total ns + n))
-    → b ≡ x ++ joined (map zeros ns) (zeros n)
+-- the parts, and behind them the end
+joined-end : (ls : List (List Float)) (e : List Float) → joined ls e ≡ joined ls [] ++ e
+joined-end [] e = refl
+joined-end (x ∷ ls) e = ap (λ (u : List Float). x ++ u) (joined-end ls e) ∙ sym (append-assoc x (joined ls []) e)
+
+-- all parts behind a first one, where what is behind them is clear already
+clear-behind :
+    (x : List Float) (ls : List (List Float)) (ns : List ℕ) (base n : ℕ) {a b : List Float} →
+    length x ≡ base →
+    map length ls ≡ ns →
+    a ≡ x ++ joined ls (zeros n) → b ≡ written a base (zeros (total ns)) → b ≡ x ++ joined (map zeros ns) (zeros n)
 clear-behind x ls ns base n {a} {b} lx e ea q =
     let r : List Float = joined ls (zeros n) in
-    let z : List Float = zeros (total ns + n) in
-    let k : total (map length ls) + length (zeros n) ≡ total ns + n = rw (e, length-replicate) in
-    let l : length z ≡ length r = length-replicate _ _ ∙ sym (length-joined ls (zeros n) ∙ k) in
+    let z : List Float = zeros (total ns) in
+    let k : length (joined ls []) ≡ total ns = length-joined ls [] ∙ rw e (add-zero (total ns)) in
+    let l : length z ≡ length (joined ls []) = length-replicate _ _ ∙ sym k in
     let o : base + 0 ≡ base = add-zero base in
-    q ∙ ap (λ (u : List Float). written u base z) ea ∙ (rw o at (written-past x r base 0 z lx)) ∙ ap (λ (u : List Float). x ++ u) (written-whole r z l ∙ sym (clear-joined ns n))
+    let over : written r 0 z ≡ z ++ zeros n =
+    ap (λ (u : List Float). written u 0 z) (joined-end ls (zeros n)) ∙ written-first (joined ls []) (zeros n) z l in
+    let clear : z ++ zeros n ≡ joined (map zeros ns) (zeros n) = rw replicate-append-replicate (sym (clear-joined ns n)) in
+    q
+    ∙ ap (λ (u : List Float). written u base z) ea
+    ∙ (rw o at (written-past x r base 0 z lx))
+    ∙ ap (λ (u : List Float). x ++ u) (over ∙ clear)
 
-pub first-left : (x : List Float) (ls : List (List Float)) {a b : List Float} → Slots (x ∷ ls) a → b ≡ written a 24 (zeros 7976) → Slots (x ∷ map zeros (drop 1 SIZES)) b
+pub first-left :
+    (x : List Float) (ls : List (List Float)) {a b : List Float} →
+    Slots (x ∷ ls) a → b ≡ written a 24 (zeros 3056) → Slots (x ∷ map zeros (drop 1 SIZES)) b
 first-left x ls {a} {b} h q =
     let l : length x ≡ 24 = ap (λ (ns : List ℕ). getD ns 0 0) (h .sized) in
     record {

@@ -170,12 +170,13 @@ pub fn begun(area: &mut [f64], start: &[f64])
     slot(area, ASKED, POINT, start);
 }
 
-// After a finish, or refusal 5 or 6: only the standing point.
+// After a finish, or refusal 5 or 6: only the standing point. The last numbers are +0 already, and at the smallest
+// drawings clearing is most of a call's time.
 pub fn only_standing(area: &mut [f64])
     requires { ⌜ length (now area) ≡ 8000 ⌝ }
     ensures { λ _. ⌜ ((w : Memory) → Holds w (now (area .entry)) → Holds (onlyStanding w) (now (area .exit))) ⌝ }
 {
-    clear_from(area, LANDED, AREA - LANDED);
+    clear_from(area, LANDED, SPARE - LANDED);
 }
 
 // A start's answer.

@@ -1,4 +1,4 @@
--- `only_standing` meets its contract: all behind the first slot is clear.
+-- `only_standing` meets its contract: the slots behind the first are cleared, and what is behind them was clear.
 use borrow.Author.Needs.{needs}
 use Rattle.run.specs.Area.{onlyStanding}
 use Rattle.run.proofs.AreaSlots.{slots-of, holds-of, first-left}
