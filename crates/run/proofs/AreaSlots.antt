@@ -14,7 +14,29 @@ use Rattle.interval.specs.declared.Scalar.{Scalar}
 use Rattle.interval.specs.Scalar.{pick}
 use Rattle.linear.specs.Flat.{put, zeros}
 use Rattle.linear.proofs.FlatLaws.{length-put}
-use Rattle.run.specs.Area.{Memory, areaOf, memoryOf, isOpen, isTried, isCorrected, slotsOf, SIZES, SPARE, Holds, written, padded, startOf, tidiedTo, usedIn}
+use Rattle.run.specs.Area.{
+  POINT,
+  ROWS,
+  SIZES,
+  SPARE,
+  Memory,
+  areaOf,
+  memoryOf,
+  withStart,
+  isOpen,
+  isTried,
+  isCorrected,
+  slotsOf,
+  Holds,
+  OnlyPoints,
+  written,
+  padded,
+  startOf,
+  tidiedTo,
+  usedIn,
+}
+use Rattle.run.specs.declared.state.Kind.the-variants as kind
+use Rattle.run.specs.declared.state.Phase.the-variants.{Open}
 use Rattle.run.specs.Run.{filterWith}
 use Rattle.run.specs.declared.state.State.{State}
 
@@ -267,6 +289,43 @@ first-left x ls {a} {b} h q =
       sized = rw (l, clear-lengths (drop 1 SIZES));
       is = clear-behind x ls (drop 1 SIZES) 24 SPARE l (ap (λ (ns : List ℕ). drop 1 ns) (h .sized)) (h .is) q;
     }
+
+-- ---- before a start's answer
+
+pub only-points : (st : State) (a : List Float) → st .phase ≡ Open kind.Start → OnlyPoints (memoryOf st a)
+unfolding memoryOf
+only-points st a e =
+    rw e
+    (record {
+      no-landed = refl;
+      no-standing-rows = refl;
+      no-landed-rows = refl;
+      no-step = refl;
+      no-multipliers = refl;
+      no-curvature = refl;
+      no-filter = refl;
+    })
+
+start-slots :
+    (w : Memory) (rows : List Float) →
+    OnlyPoints w → set (set (slotsOf w) 2 (zeros POINT)) 3 (padded ROWS rows) ≡ slotsOf (withStart w rows)
+start-slots w rows p =
+    rw (p .no-landed, p .no-landed-rows, p .no-step, p .no-multipliers, p .no-curvature, p .no-filter) refl
+
+-- the asked point is cleared, and the rows take their slot's place
+pub start-holds :
+    (w : Memory) (rows : List Float) {a b c : List Float} →
+    Holds w a →
+    OnlyPoints w →
+    length rows ≤ ROWS →
+    b ≡ written a 48 (zeros POINT) → c ≡ written b 72 (padded ROWS rows) → Holds (withStart w rows) c
+unfolding startOf
+start-holds w rows {a} {b} {c} h p l eb ec =
+    let cleared : Slots (set (slotsOf w) 2 (zeros POINT)) b =
+    wrote (slots-of h) 2 (zeros POINT) (omega arith) (length-clear POINT) eb in
+    let filled : Slots (set (set (slotsOf w) 2 (zeros POINT)) 3 (padded ROWS rows)) c =
+    wrote cleared 3 (padded ROWS rows) (omega arith) (length-padded ROWS rows l) ec in
+    holds-of (withStart w rows) (subst (λ (ls : List (List Float)). Slots ls c) (start-slots w rows p) filled)
 
 -- ---- an area made tidy
 

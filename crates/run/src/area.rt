@@ -4,7 +4,7 @@ ghost use mathlib.Core.List.{_++_};
 ghost use Prim.Native.Nat.{ℕ, _+_, _<_, _≤_};
 ghost use lib.ListN.{length, take, drop, getD};
 ghost use Rattle.linear.specs.Flat.{zeros};
-ghost use Rattle.run.specs.Area.{Memory, padded, written, Holds, startOf, tidiedTo, usedIn, memoryOf, begunMemory, onlyStanding, withStart, withTrial, withLanded, withTaken};
+ghost use Rattle.run.specs.Area.{Memory, padded, written, Holds, OnlyPoints, startOf, tidiedTo, usedIn, memoryOf, begunMemory, onlyStanding, withStart, withTrial, withLanded, withTaken};
 ghost use Rattle.run.specs.Proposal.{movedOf};
 ghost use Rattle.run.specs.Run.{filterWith};
 use crate::points::moved;
@@ -179,12 +179,13 @@ pub fn only_standing(area: &mut [f64])
     clear_from(area, LANDED, SPARE - LANDED);
 }
 
-// A start's answer.
+// A start's answer. Before it only the two points are in use, so all else is +0 already.
 pub fn with_start(area: &mut [f64], rows: &[f64])
     requires { ⌜ (length (now area) ≡ 8000) × (length (now rows) ≤ 936) ⌝ }
-    ensures { λ _. ⌜ ((w : Memory) → Holds w (now (area .entry)) → Holds (withStart w (now (rows .entry))) (now (area .exit))) ⌝ }
+    ensures { λ _. ⌜ ((w : Memory) → Holds w (now (area .entry)) → OnlyPoints w →
+        Holds (withStart w (now (rows .entry))) (now (area .exit))) ⌝ }
 {
-    only_standing(area);
+    clear_from(area, ASKED, POINT);
     slot(area, STANDING_ROWS, ROWS, rows);
 }
 

@@ -5,7 +5,7 @@ ghost use Prim.Native.Nat.{_*_, _≤_};
 ghost use lib.ListN.{length};
 ghost use Rattle.interval.specs.Scalar.{pick};
 ghost use Rattle.linear.specs.Answers.{resultOf};
-ghost use Rattle.run.specs.Area.{Memory, Holds};
+ghost use Rattle.run.specs.Area.{Memory, Holds, OnlyPoints};
 ghost use Rattle.run.specs.Calls.{phaseFits};
 ghost use Rattle.run.specs.Rows.{rowNumbers, constraintsOf, violationOf};
 ghost use Rattle.run.specs.Run.{Leaves, Bounded, Underway, judge, correct, keep, landTrial, landCorrection, nearerOf, nearerResult, fromStanding, started, answered, answeredNone};
@@ -147,7 +147,8 @@ fn land_correction(st: State, area: &mut [f64], rows: &[f64], theta: Scalar) -> 
 // A start's rows: what they say moves, and the first iteration.
 fn started(st: State, area: &mut [f64], rows: &[f64]) -> Out
     requires { ⌜ (length (now area) ≡ 8000) × ((length (now rows) ≤ 936) × Bounded 1073741824 st) ⌝ }
-    ensures { λ r. ⌜ ((w : Memory) → Holds w (now (area .entry)) → Leaves (started st w (now (rows .entry))) r (now (area .exit))) ⌝ }
+    ensures { λ r. ⌜ ((w : Memory) → Holds w (now (area .entry)) → OnlyPoints w →
+        Leaves (started st w (now (rows .entry))) r (now (area .exit))) ⌝ }
 {
     let moving = rows::moving(rows, st.sizes.n, st.sizes.m, st.sizes.s);
     area::with_start(area, rows);
@@ -213,7 +214,8 @@ fn correction_none(st: State, area: &mut [f64]) -> Out
 // What follows an accepted answer with rows.
 pub fn answered(kind: Kind, st: State, area: &mut [f64], rows: &[f64]) -> Out
     requires { ⌜ (length (now area) ≡ 8000) × ((length (now rows) ≡ rowNumbers (st .sizes .n) (st .sizes .m) (st .sizes .s)) × (Bounded 1073741824 st × ((st .counts .corrections ≤ 4) × (phaseFits st (Open kind) ≡ true)))) ⌝ }
-    ensures { λ r. ⌜ ((w : Memory) → Holds w (now (area .entry)) → Leaves (answered kind st w (now (rows .entry))) r (now (area .exit))) ⌝ }
+    ensures { λ r. ⌜ ((w : Memory) → Holds w (now (area .entry)) → (kind ≡ kinds.Start → OnlyPoints w) →
+        Leaves (answered kind st w (now (rows .entry))) r (now (area .exit))) ⌝ }
 {
     match kind {
         Kind::Start => {

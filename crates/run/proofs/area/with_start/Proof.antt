@@ -1,13 +1,11 @@
--- `with_start` meets its contract: the rows take their slot's place in what is else clear.
-use native.Mathlib.Omega.{arith}
+-- `with_start` meets its contract: the asked point is cleared and the rows take their slot's place in what is else clear.
 use borrow.Author.Needs.{needs}
-use Rattle.run.specs.Area.{startOf, padded, withStart}
-use Rattle.run.proofs.AreaSlots.{slots-of, holds-of, wrote, length-padded}
+use Rattle.run.proofs.AreaSlots.{start-holds}
 use Rattle.run.proofs.area.with_start.Statement.{statement}
 use Rattle.run.proofs.area.with_start.Tie as tie
 
-only-standing-requires : tie.Need-only-standing-requires
-only-standing-requires c κs = search needs
+clear-from-requires : tie.Need-clear-from-requires
+clear-from-requires c κs = search needs
 
 slot-requires : tie.Need-slot-requires
 slot-requires c κs = search needs
@@ -16,10 +14,10 @@ same-length : tie.Need-same-length
 same-length c = search needs
 
 returns : tie.Need-returns
-unfolding startOf
-returns c w h =
-    let a = c .before .before .before .before .before .before .before .before .before .before .args in
-    holds-of (withStart w (a .rows .now)) (wrote (slots-of (c .before .before .before .before .before .before .only-standing .ensures w h)) 3 (padded 936 (a .rows .now)) (omega arith) (length-padded 936 (a .rows .now) (c .before .before .before .before .before .before .before .before .before .before .pre .1)) (c .before .before .slot .ensures))
+returns c w h points =
+    let s = c .before .before .before .before .before .before .before .before .before .before in
+    start-holds w (s .args .rows .now) h points (s .pre .1)
+    (c .before .before .before .before .before .before .clear-from .ensures) (c .before .before .slot .ensures)
 
 pub with-start-spec : {M : Type 1} → statement M
-with-start-spec = tie.close (tie.spec only-standing-requires slot-requires same-length returns)
+with-start-spec = tie.close (tie.spec clear-from-requires slot-requires same-length returns)

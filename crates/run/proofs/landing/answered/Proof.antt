@@ -15,7 +15,7 @@ same-length : tie.Need-same-length
 same-length c = search needs
 
 returns : tie.Need-returns
-returns c w h = let a = c .before .before .before .before .before .before .before .before .args in answered-as (a .st) w (c .before .before .before .before .enum-told .given .1) (a .rows .now) (c .before .before .started .ensures w h)
+returns c w h points = let a = c .before .before .before .before .before .before .before .before .args in answered-as (a .st) w (c .before .before .before .before .enum-told .given .1) (a .rows .now) (c .before .before .started .ensures w h (points (c .before .before .before .before .enum-told .given .1)))
 
 enum-told-2 : tie.Need-enum-told-2
 enum-told-2 c = search needs
@@ -27,7 +27,7 @@ same-length-2 : tie.Need-same-length-2
 same-length-2 c = search needs
 
 returns-2 : tie.Need-returns-2
-returns-2 c w h = let a = c .before .before .before .before .before .before .before .before .args in answered-as (a .st) w (c .before .before .before .before .enum-told2 .given .1) (a .rows .now) (c .before .before .land .ensures w h)
+returns-2 c w h points = let a = c .before .before .before .before .before .before .before .before .args in answered-as (a .st) w (c .before .before .before .before .enum-told2 .given .1) (a .rows .now) (c .before .before .land .ensures w h)
 
 enum-told-3 : tie.Need-enum-told-3
 enum-told-3 c = search needs
@@ -39,7 +39,7 @@ same-length-3 : tie.Need-same-length-3
 same-length-3 c = search needs
 
 returns-3 : tie.Need-returns-3
-returns-3 c w h = let a = c .before .before .before .before .before .before .before .before .args in answered-as (a .st) w (c .before .before .before .before .enum-told3 .given .1) (a .rows .now) (c .before .before .land2 .ensures w h)
+returns-3 c w h points = let a = c .before .before .before .before .before .before .before .before .args in answered-as (a .st) w (c .before .before .before .before .enum-told3 .given .1) (a .rows .now) (c .before .before .land2 .ensures w h)
 
 pub answered-spec : {M : Type 1} → statement M
 answered-spec =

@@ -25,9 +25,9 @@ same-length : tie.Need-same-length
 same-length c = search needs
 
 returns : tie.Need-returns
-returns c w h =
+returns c w h points =
     let a = c .before .before .before .before .before .before .before .before .before .before .before .before .args in
-    started-known (a .st) w (a .rows .now) (c .before .before .before .before .with-moving .ensures) (c .before .before .before .before .before .before .before .before .before .moving .ensures) (c .before .before .iterate .ensures (withStart w (a .rows .now)) (c .before .before .before .before .before .before .before .with-start .ensures w h))
+    started-known (a .st) w (a .rows .now) (c .before .before .before .before .with-moving .ensures) (c .before .before .before .before .before .before .before .before .before .moving .ensures) (c .before .before .iterate .ensures (withStart w (a .rows .now)) (c .before .before .before .before .before .before .before .with-start .ensures w h points))
 
 pub started-spec : {M : Type 1} → statement M
 started-spec =

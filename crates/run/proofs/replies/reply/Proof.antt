@@ -1,8 +1,10 @@
 -- `reply` meets its contract: what the check refuses is left as it was, and what it accepts is answered over the tidied area.
-use mathlib.Core.Path.{sym, _∙_}
+use mathlib.Core.Path.{sym, ap, _∙_}
 use native.Mathlib.Omega.{arith}
 use lib.ListN.{length}
 use Rattle.run.specs.Area.{memoryOf}
+use Rattle.run.specs.declared.state.Phase.the-variants.{Open}
+use Rattle.run.proofs.AreaSlots.{only-points}
 use Rattle.run.proofs.CheckLaws.{bounds, accepted-rows, rows-refused, rows-accepted}
 use Rattle.run.proofs.ReplyLaws.{leaves-left, reply-phase, reply-bounded}
 use borrow.Author.Needs.{needs}
@@ -40,8 +42,15 @@ same-length c = search needs
 
 returns-2 : tie.Need-returns-2
 returns-2 c =
-    let a = c .before .before .before .before .before .before .before .before .before .before .before .before .before .before .args in
-    leaves-left _ _ _ (c .before .before .answered .ensures (memoryOf (a .st) (a .area .now)) (c .before .before .before .before .before .before .tidy .ensures)) ∙ sym (rows-accepted (a .st) (a .area .now) (a .rows .now) _ (sym (c .before .before .before .before .before .before .before .before .before .before .before .check-rows .ensures) ∙ c .before .before .before .before .before .before .before .before .before .kind .given .1))
+    let read = c .before .before .before .before .before .before .before .before .before in
+    let a = read .before .before .before .before .before .args in
+    let is = sym (read .before .before .check-rows .ensures) ∙ read .kind .given .1 in
+    let opened = accepted-rows (a .st) (length (a .area .now)) (a .rows .now) _ is .reply .opened in
+    leaves-left _ _ _
+    (c .before .before .answered .ensures (memoryOf (a .st) (a .area .now))
+    (c .before .before .before .before .before .before .tidy .ensures)
+    (λ e. only-points (a .st) (a .area .now) (opened ∙ ap Open e)))
+    ∙ sym (rows-accepted (a .st) (a .area .now) (a .rows .now) _ is)
 
 pub reply-spec : {M : Type 1} → statement M
 reply-spec =
