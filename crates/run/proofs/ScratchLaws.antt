@@ -18,7 +18,8 @@ use Rattle.linear.specs.Norm.{normOf}
 pub use Rattle.linear.proofs.FillLaws.{fill-turn, at-fill-other, at-fill-ahead}
 use Rattle.linear.proofs.FlatLaws.{at-inside, length-put, at-put-same, at-put-other}
 use Rattle.linear.proofs.Lists.{listTo-none, listTo-more, length-listTo, is-listTo}
-use Rattle.linear.proofs.Agree.{Agree, normOf-ext}
+use Rattle.linear.specs.Dot.{dotTo}
+use Rattle.linear.proofs.Agree.{Agree, dotTo-ext, normOf-ext}
 use Rattle.run.specs.Scratch.{fillTo, fillRows, allTo, anyTo}
 
 module _ (xs : List Float) (base : ℕ) (f : ℕ → Scalar) where
@@ -62,13 +63,16 @@ module _ (xs : List Float) (f : ℕ → Scalar) where
   pub at-next : {s : List Float} (i : ℕ) → s ≡ fillTo xs 0 f i → at s i ≡ at xs i
   at-next i es = let m : 0 + i ≡ i = omega arith in rw es (rw m at (at-fill-ahead xs 0 f i i (le-refl i)))
 
-  -- the norm of those that are filled
+  -- those that are filled, their norm and their sum of squares
+  filled : (k : ℕ) → 2 * k ≤ length xs → Agree (at (fillTo xs 0 f k)) f k
+  filled k h i l = let m : 0 + i ≡ i = omega arith in rw m at (at-fill-in xs 0 f k i l (omega arith))
+
   pub norm-fill : (k : ℕ) → 2 * k ≤ length xs → normOf (at (fillTo xs 0 f k)) k ≡ normOf f k
-  norm-fill k h =
-      normOf-ext (at (fillTo xs 0 f k)) f k
-      (λ i l.
-      let m : 0 + i ≡ i = omega arith in
-      rw m at (at-fill-in xs 0 f k i l (omega arith)))
+  norm-fill k h = normOf-ext (at (fillTo xs 0 f k)) f k (filled k h)
+
+  pub squares-fill : (k : ℕ) → 2 * k ≤ length xs → dotTo (at (fillTo xs 0 f k)) (at (fillTo xs 0 f k)) k ≡ dotTo f f k
+  squares-fill k h =
+      dotTo-ext (at (fillTo xs 0 f k)) f (at (fillTo xs 0 f k)) f k (filled k h) (filled k h)
 
   pub prefix-fill : (k : ℕ) → 2 * k ≤ length xs → take (2 * k) (fillTo xs 0 f k) ≡ listTo f k
   prefix-fill k h = rw (fill-is k h, ← length-listTo f k, take-append-seam)

@@ -14,6 +14,7 @@ use interval::Scalar;
 use linear::Answer;
 use linear::at;
 use linear::choose;
+use linear::plus_dot;
 use linear::put;
 
 // Rows of one kind: `count` values from the place `values` on, and n slopes for each from the place `slopes` on.
@@ -65,13 +66,10 @@ pub fn squared(xs: &[f64], e: RowSet, delta: &[f64], d: usize) -> Scalar
     requires { ⌜ Small e ⌝ }
     ensures { λ r. ⌜ r ≡ squaredOf (rowsIn (now (xs .entry)) e) (now (delta .entry)) d ⌝ }
 {
-    let mut total = Scalar::ZERO;
     let count = e.count;
-    for i in 0..count {
-        let r = linearized_at(xs, e, delta, d, i);
-        total = total.add(r.mul(r));
-    }
-    total
+    let mut out = [0.0; 48];
+    linearized(xs, e, delta, d, &mut out);
+    plus_dot(&out, 0, 1, &out, 0, 1, Scalar::ZERO, count)
 }
 
 // The slopes by variable j, each times its weight.

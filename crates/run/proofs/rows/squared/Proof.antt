@@ -1,61 +1,47 @@
--- `squared` meets its contract: the sum is that of the rows so far.
-use borrow.Author.Needs.{needs}
-use mathlib.Core.Path.{_≡_, refl}
-use Prim.Native.Nat.{_≤_, _-_}
-use native.Mathlib.Nat.{le-antisymm}
+-- `squared` meets its contract: the scalars that are filled are the rows linearized.
+use mathlib.Core.Path.{_≡_, _∙_}
+use Prim.Native.Nat.{_*_, _≤_}
 use native.Mathlib.Omega.{arith}
+use borrow.Author.Needs.{needs}
 use lib.Ieee.{ofBits}
-use Rattle.linear.specs.Dot.{plusTo, dotTo}
-use Rattle.linear.proofs.Sums.{plusTo-more}
+use Rattle.linear.proofs.Sums.{along-start}
 use Rattle.run.specs.Rows.{rowsIn, linearizedAt, squaredOf}
+use Rattle.run.proofs.ScratchLaws.{squares-fill}
 use Rattle.run.proofs.rows.squared.Statement.{statement}
 use Rattle.run.proofs.rows.squared.Tie as tie
 
-abbrev Inv-loop : tie.InvT-loop
-Inv-loop xs e delta d total₀ count i₀ total i = (i ≤ count) × (total ≡ dotTo (linearizedAt (rowsIn xs e) delta d) (linearizedAt (rowsIn xs e) delta d) i)
+slice-aggregate-linearized : tie.Need-slice-aggregate-linearized
+slice-aggregate-linearized c = search needs
 
-abbrev μ-loop : tie.MeasureT-loop
-μ-loop xs e delta d total₀ count i₀ total i = count - i
+linearized-requires : tie.Need-linearized-requires
+linearized-requires c κs = search needs
 
-loop-holds : tie.Need-loop-holds Inv-loop μ-loop
-unfolding plusTo ofBits
-loop-holds c = (search needs, refl)
+slice-aggregate-plus-dot : tie.Need-slice-aggregate-plus-dot
+slice-aggregate-plus-dot c = search needs
 
-linearized-at-requires : tie.Need-linearized-at-requires Inv-loop μ-loop
-linearized-at-requires c κs = (c .before .before .before .before .pre, omega (arith, c .before .before .before .before .pre .few-rows))
+slice-aggregate-plus-dot-2 : tie.Need-slice-aggregate-plus-dot-2
+slice-aggregate-plus-dot-2 c = search needs
 
-mul-requires : tie.Need-mul-requires Inv-loop μ-loop
-mul-requires c κs = search needs
+plus-dot-requires : tie.Need-plus-dot-requires
+plus-dot-requires c κs = search needs
 
-add-requires : tie.Need-add-requires Inv-loop μ-loop
-add-requires c κs = search needs
-
-add-i : tie.Need-add-i Inv-loop μ-loop
-add-i c = search needs
-
-loop-less : tie.Need-loop-less Inv-loop μ-loop
-loop-less c = search needs
-
-loop-again : tie.Need-loop-again Inv-loop μ-loop
-loop-again c =
-    let l = c .before .before .before .before .loop in
-    (search needs, plusTo-more _ _ _ (l .i) (l .inv .1) (c .before .before .linearized-at .ensures) (c .before .before .linearized-at .ensures) (c .before .mul .ensures .value) (c .add .ensures .value))
-
-returns : tie.Need-returns Inv-loop μ-loop
-unfolding squaredOf
-returns c = rw (le-antisymm (c .before .loop .inv .0) (c .loop-test .left)) at (c .before .loop .inv .1)
+returns : tie.Need-returns
+unfolding squaredOf ofBits
+returns c =
+    let s = c .before .before .before .before .before .before .before .before in
+    let a = s .args in
+    let h : 2 * a .e .count ≤ 48 = omega (arith, s .pre .few-rows) in
+    c .plus-dot .ensures
+    ∙ rw (along-start, c .before .before .before .before .linearized .ensures)
+    (squares-fill _ (linearizedAt (rowsIn (a .xs .now) (a .e)) (a .delta .now) (a .d)) (a .e .count) h)
 
 pub squared-spec : {M : Type 1} → statement M
 squared-spec =
     tie.close
     (tie.spec
-    Inv-loop
-    μ-loop
-    loop-holds
-    linearized-at-requires
-    mul-requires
-    add-requires
-    add-i
-    loop-less
-    loop-again
+    slice-aggregate-linearized
+    linearized-requires
+    slice-aggregate-plus-dot
+    slice-aggregate-plus-dot-2
+    plus-dot-requires
     returns)
