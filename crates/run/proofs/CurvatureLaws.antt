@@ -2,7 +2,7 @@
 use Prim.Native.Nat.{ℕ, _*_, _≤_, _+_}
 use mathlib.Core.Bool.{Bool, true, false}
 use mathlib.Core.List.{List}
-use mathlib.Core.Path.{_≡_, _∙_}
+use mathlib.Core.Path.{_≡_, refl, _∙_}
 use native.Mathlib.Omega.{arith}
 use lib.Ieee.{Float}
 use lib.ListN.{length, take}
@@ -21,12 +21,25 @@ use Rattle.linear.specs.Solved.{minusSolvedOf}
 use Rattle.linear.specs.declared.answers.Done.{Done}
 use Rattle.linear.specs.declared.answers.Done.the-variants as done
 use Rattle.linear.specs.declared.answers.LinearError.{LinearError}
+use Rattle.linear.proofs.Agree.{dotTo-ext}
 use Rattle.linear.proofs.Lists.{length-listTo}
+use Rattle.linear.proofs.Sums.{along-start}
 use Rattle.run.specs.Scratch.{vector, fillTo, chosenOf}
 use Rattle.run.specs.Rows.{Rows, Evaluation, constraintSet, constraintsOf}
 use Rattle.run.specs.declared.rows.RowSet.{RowSet}
-use Rattle.run.specs.Curvature.{alongOf, turnedAt, turnedOf, rankOneOf, bentBy, correctedBy, updatedBy, updateCurvature}
-use Rattle.run.proofs.ScratchLaws.{fill-ext, fill-whole, prefix-list}
+use Rattle.run.specs.Curvature.{
+  alongOf,
+  turnedAt,
+  turnedOf,
+  rankOneOf,
+  curvatureRow,
+  bentBy,
+  correctedBy,
+  updatedBy,
+  updateCurvature,
+}
+use Rattle.run.specs.Proposal.{bentOf}
+use Rattle.run.proofs.ScratchLaws.{filled, fill-ext, fill-whole, prefix-list}
 use Rattle.run.proofs.LinearCalls.{minus-solved-result}
 
 module _ (n m : ℕ) (xs v jc rhs out : List Float) (hn : n ≤ 12) (hm : m ≤ 12) (hv : 2 * n ≤ length v) where
@@ -84,6 +97,18 @@ bent-is : (n : ℕ) (b s : List Float) {bs₀ bs : List Float} → bs₀ ≡ vec
 bent-is n b s e₀ e =
     let same : (j : ℕ) → j * n + 0 ≡ j * n = λ j. omega arith in
     rw (e, e₀) (fill-ext vector 0 _ _ n (λ j h. rw (same j)))
+
+-- sᵀ B s, from B s
+pub bent-products :
+    (n : ℕ) (b s : List Float) {bs₀ bs : List Float} →
+    n ≤ 12 →
+    bs₀ ≡ vector →
+    bs ≡ fillTo bs₀ 0 (λ i. dotTo (along b (i * n) 1) (at s) n) n →
+    dotTo (along s 0 1) (along bs 0 1) n ≡ bentOf n b s
+bent-products n b s {bs₀} {bs} h e₀ e =
+    rw (along-start s, along-start bs, bent-is n b s e₀ e)
+    (dotTo-ext (at s) (at s) (at (bentBy n b s)) (λ i. dotTo (curvatureRow n b i) (at s) n) n (λ i l. refl)
+    (filled vector (λ i. dotTo (curvatureRow n b i) (at s) n) n (omega arith)))
 
 module _ (n : ℕ) (c : Rows) (b y s : List Float) {bs₀ bs : List Float} {p q d : Scalar} {t : Bool}
     (e₀ : bs₀ ≡ vector) (eb : bs ≡ fillTo bs₀ 0 (λ i. dotTo (along b (i * n) 1) (at s) n) n)

@@ -64,7 +64,7 @@ module _ (xs : List Float) (f : ℕ → Scalar) where
   at-next i es = let m : 0 + i ≡ i = omega arith in rw es (rw m at (at-fill-ahead xs 0 f i i (le-refl i)))
 
   -- those that are filled, their norm and their sum of squares
-  filled : (k : ℕ) → 2 * k ≤ length xs → Agree (at (fillTo xs 0 f k)) f k
+  pub filled : (k : ℕ) → 2 * k ≤ length xs → Agree (at (fillTo xs 0 f k)) f k
   filled k h i l = let m : 0 + i ≡ i = omega arith in rw m at (at-fill-in xs 0 f k i l (omega arith))
 
   pub norm-fill : (k : ℕ) → 2 * k ≤ length xs → normOf (at (fillTo xs 0 f k)) k ≡ normOf f k

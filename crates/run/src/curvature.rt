@@ -58,7 +58,7 @@ fn dot_of(a: &[f64], b: &[f64], n: usize) -> Scalar
 }
 
 // The first k rows of n, each times v, from the start of `out` on.
-fn products(n: usize, k: usize, rows: &[f64], v: &[f64], out: &mut [f64])
+pub fn products(n: usize, k: usize, rows: &[f64], v: &[f64], out: &mut [f64])
     requires { ⌜ (n ≤ 12) × (k ≤ 12) ⌝ }
     ensures { λ _. ⌜ now (out .exit) ≡ fillTo (now (out .entry)) 0 (λ i. dotTo (along (now (rows .entry)) (i * n) 1) (at (now (v .entry))) n) k ⌝ }
 {

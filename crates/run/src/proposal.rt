@@ -13,6 +13,7 @@ ghost use Rattle.linear.specs.Results.{bind};
 ghost use Rattle.run.specs.Proposal.{ask, movedOf, bentOf, expectsOf, trialOf, triedOf, cutOf, shortenedOf, withinOf, proposalOf, standingFor, stillFor, modelFor, pointOf, expectedResult, proposalResult};
 ghost use Rattle.run.specs.Rows.{constraintsOf, evaluationOf};
 ghost use Rattle.run.specs.Step.{PreparedFor};
+use crate::curvature::products;
 use crate::points::moved;
 use crate::points::same;
 use crate::rows::predicted;
@@ -64,13 +65,9 @@ fn bent(n: usize, b: &[f64], delta: &[f64]) -> Scalar
     requires { ⌜ n ≤ 12 ⌝ }
     ensures { λ r. ⌜ r ≡ bentOf n (now (b .entry)) (now (delta .entry)) ⌝ }
 {
-    let mut total = Scalar::ZERO;
-    for i in 0..n {
-        let d = at(delta, i);
-        let row = plus_dot(b, i * n, 1, delta, 0, 1, Scalar::ZERO, n);
-        total = total.add(d.mul(row));
-    }
-    total
+    let mut rows = [0.0; 24];
+    products(n, n, b, delta, &mut rows);
+    plus_dot(delta, 0, 1, &rows, 0, 1, Scalar::ZERO, n)
 }
 
 // Whether the violation falls, from what it is to what is predicted.
