@@ -33,7 +33,7 @@ struct Begun {
     done: usize,
 }
 
-fn are_points(x: Scalar, y: Scalar) -> bool
+pub fn are_points(x: Scalar, y: Scalar) -> bool
     ensures { λ r. ⌜ r ≡ (isSharp x && isSharp y) ⌝ }
 {
     x.is_sharp() && y.is_sharp()

@@ -1,5 +1,6 @@
 // A run of scalars less a multiple of another, each chosen.
 ghost use mathlib.Core.Path.{_≡_};
+ghost use Prim.Native.Nat.{_≤_};
 ghost use lib.Dec.{T};
 ghost use lib.ListN.{length};
 ghost use Rattle.interval.specs.Scalar.{degenerate, subOf, mulOf};
@@ -10,8 +11,10 @@ ghost use Rattle.linear.specs.Scaled.{minusScaled};
 use crate::bounds::Bounds;
 use crate::bounds::bounds_of;
 use crate::bounds::is_proper;
+use crate::bounds::minus_points;
 use crate::bounds::minus_product;
 use crate::choices::choose;
+use crate::dots::are_points;
 use crate::flat::ahead;
 use crate::flat::at;
 use crate::flat::at_inside;
@@ -44,12 +47,40 @@ fn minus_chosen(z: Scalar, x: Scalar, y: Scalar) -> Scalar
     choose(z.sub(x.mul(y)))
 }
 
+// minus_scaled where every place is inside, up to the first term whose factors are not both points or whose start is
+// not proper; how many terms are done.
+fn scaled_points_inside(
+    v: &mut [f64],
+    v0: usize,
+    a: Scalar,
+    w: &[f64],
+    w0: usize,
+    k: usize,
+) -> usize
+    requires { ⌜ Inside v0 1 k (length (now v)) × Inside w0 1 k (length (now w)) ⌝ }
+    ensures { λ r. ⌜ (r ≤ k) × (now (v .exit) ≡ minusScaled (now (v .entry)) v0 a (now (w .entry)) w0 r) ⌝ }
+{
+    for p in 0..k {
+        let z = bounds_of(at_inside(v, v0 + p));
+        let y = at_inside(w, w0 + p);
+        if !are_points(a, y) {
+            return p;
+        }
+        if !is_proper(z) {
+            return p;
+        }
+        put_inside(v, v0 + p, Scalar::degenerate(chosen(minus_points(z, a, y))));
+    }
+    k
+}
+
 // minus_scaled where every place is inside.
 fn scaled_inside(v: &mut [f64], v0: usize, a: Scalar, w: &[f64], w0: usize, k: usize)
     requires { ⌜ Inside v0 1 k (length (now v)) × Inside w0 1 k (length (now w)) ⌝ }
     ensures { λ _. ⌜ now (v .exit) ≡ minusScaled (now (v .entry)) v0 a (now (w .entry)) w0 k ⌝ }
 {
-    for p in 0..k {
+    let done = scaled_points_inside(v, v0, a, w, w0, k);
+    for p in done..k {
         let x = minus_chosen(at_inside(v, v0 + p), a, at_inside(w, w0 + p));
         put_inside(v, v0 + p, x);
     }
