@@ -1,5 +1,6 @@
-//! How long the Rattle takes beside the Rust, in one process: scalars, list functions, and whole runs on a fixed corpus of frames.
-//! Each task is done by both in turn, round after round, and the least time of each counts. Both must give the same words.
+//! How long the Rattle takes beside the Rust, in one process: scalars, list functions, and whole runs on fixed corpora of
+//! frames. Each task is done by both in turn, round after round, and the least time of each counts. Both must give the
+//! same words. What one call takes is timed of the Rattle alone.
 
 mod lists;
 mod scalars;
@@ -66,11 +67,14 @@ fn line(task: &mut Task) -> String {
 pub fn print() {
     println!("| What | Rust, ns | Rattle, ns | Ratio | Goal |");
     println!("|---|---|---|---|---|");
-    let (lists, settled) = (lists::Lists::drawn(), settled::Corpus::drawn());
+    let (lists, settled) = (lists::Lists::drawn(), settled::Corpora::drawn());
     let mut tasks = scalars::tasks();
     tasks.extend(lists.tasks());
-    tasks.push(settled.task());
+    tasks.extend(settled.tasks());
     for mut task in tasks {
         println!("{}", line(&mut task));
+    }
+    for (name, time) in settled.calls() {
+        println!("| {name} |  | {:.1} |  |  |", time.as_nanos() as f64);
     }
 }
