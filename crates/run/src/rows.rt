@@ -197,20 +197,16 @@ pub fn in_domain(x: Scalar) -> bool
     ensures { λ r. ⌜ r ≡ inDomain x ⌝ }
 {
     let most = f64::from_bits(0x58F0000000000000);
-    if -most <= x.lo {
-        return x.lo <= x.hi && x.hi <= most;
-    }
-    false
+    (-most <= x.lo) & ((x.lo <= x.hi) & (x.hi <= most))
 }
 
-// Whether the first `count` are in the domain.
+// Whether the first `count` are in the domain. Nearly always all are, so none is left out by a branch.
 pub fn all_in_domain(xs: &[f64], count: usize) -> bool
     ensures { λ r. ⌜ r ≡ allInDomain (now (xs .entry)) count ⌝ }
 {
+    let mut inside = true;
     for i in 0..count {
-        if !in_domain(at(xs, i)) {
-            return false;
-        }
+        inside = inside & in_domain(at(xs, i));
     }
-    true
+    inside
 }

@@ -1,22 +1,19 @@
--- `all_in_domain` meets its contract: all so far are in the domain.
+-- `all_in_domain` meets its contract: whether all so far are in the domain.
 use borrow.Author.Needs.{needs}
-use mathlib.Core.Path.{_≡_, refl, sym}
-use mathlib.Core.Bool.{true}
+use mathlib.Core.Path.{_≡_, refl}
 use Prim.Native.Nat.{_≤_, _-_}
 use native.Mathlib.Nat.{le-antisymm}
-use borrow.Author.Tests.{not-true, not-false}
+use native.Mathlib.Numerals.{add-one}
 use Rattle.run.specs.Calls.{allInDomain}
-use Rattle.linear.specs.Flat.{at}
 use Rattle.run.specs.Scratch.{allTo}
-use Rattle.run.proofs.ScratchLaws.{all-turn, all-broke}
 use Rattle.run.proofs.rows.all_in_domain.Statement.{statement}
 use Rattle.run.proofs.rows.all_in_domain.Tie as tie
 
 abbrev Inv-loop : tie.InvT-loop
-Inv-loop xs count i₀ i = (i ≤ count) × (allInDomain xs i ≡ true)
+Inv-loop xs count inside₀ i₀ inside i = (i ≤ count) × (inside ≡ allInDomain xs i)
 
 abbrev μ-loop : tie.MeasureT-loop
-μ-loop xs count i₀ i = count - i
+μ-loop xs count inside₀ i₀ inside i = count - i
 
 loop-holds : tie.Need-loop-holds Inv-loop μ-loop
 unfolding allTo
@@ -28,11 +25,6 @@ at-requires c κs = search needs
 in-domain-requires : tie.Need-in-domain-requires Inv-loop μ-loop
 in-domain-requires c κs = search needs
 
-returns : tie.Need-returns Inv-loop μ-loop
-returns c =
-    let l = c .before .before .before .before .loop in
-    sym (all-broke _ (l .i) _ (c .before .before .before .loop-test .taken) (l .inv .1) (rw (← c .before .before .at .ensures, ← c .before .in-domain .ensures) (not-true _ (c .if1 .taken))))
-
 add-i : tie.Need-add-i Inv-loop μ-loop
 add-i c = search needs
 
@@ -40,12 +32,13 @@ loop-less : tie.Need-loop-less Inv-loop μ-loop
 loop-less c = search needs
 
 loop-again : tie.Need-loop-again Inv-loop μ-loop
+unfolding allTo
 loop-again c =
-    let l = c .before .before .before .before .loop in
-    (search needs, all-turn _ (l .i) (l .inv .1) (rw (← c .before .before .at .ensures, ← c .before .in-domain .ensures) (not-false _ (c .if1 .left))))
+    let l = c .before .before .before .loop in
+    (search needs, rw (add-one, c .in-domain .ensures, c .before .at .ensures, l .inv .1))
 
-returns-2 : tie.Need-returns-2 Inv-loop μ-loop
-returns-2 c = sym (rw (le-antisymm (c .before .loop .inv .0) (c .loop-test .left)) at (c .before .loop .inv .1))
+returns : tie.Need-returns Inv-loop μ-loop
+returns c = rw (le-antisymm (c .before .loop .inv .0) (c .loop-test .left)) at (c .before .loop .inv .1)
 
 pub all-in-domain-spec : {M : Type 1} → statement M
 all-in-domain-spec =
@@ -56,8 +49,7 @@ all-in-domain-spec =
     loop-holds
     at-requires
     in-domain-requires
-    returns
     add-i
     loop-less
     loop-again
-    returns-2)
+    returns)
