@@ -8,7 +8,7 @@ use borrow.Author.Tests.{le-ltb}
 use lib.Arith.{digits-lt, digits-div, digits-mod}
 use lib.Ieee.{Float}
 use Rattle.interval.specs.declared.Scalar.{Scalar}
-use Rattle.linear.specs.Flat.{at, along, listTo}
+use Rattle.linear.specs.Flat.{along, listTo}
 use Rattle.linear.specs.Dot.{dotTo, minusTo}
 use Rattle.linear.specs.Cholesky.{rowTo, pivotAt, markAt, factorAt, refusedTo, entry, marksTo, choleskyOf}
 use Rattle.linear.specs.Solved.{gramOf, gramAt, lowerGramOf}
@@ -71,16 +71,20 @@ cholesky-lower n a b same =
           (λ p h. factor-same (entry n a) (entry n b) n same (p / n) (p % n) (place-row h)),
     )
 
--- the products of the lower triangle have the factor of all products
-module _ (m n : ℕ) (jc : List Float) where
-  lower-entry : SameBelow (entry m (lowerGramOf m n jc)) (entry m (gramOf m n jc)) m
-  unfolding lowerGramOf gramOf gramAt
-  lower-entry i j h l =
-      let k : j < m = omega arith in
-      let inside : i * m + j < m * m = digits-lt {q = i} {m = m} {r = j} {c = m} h k in
-      let lower : at (listTo (λ p. gramAt n jc (p / m) (p % m)) (m * m)) (i * m + j) ≡ dotTo (along jc (i * n) 1) (along jc (j * n) 1) n = at-listTo (λ p. gramAt n jc (p / m) (p % m)) (m * m) (i * m + j) inside ∙ rw (digits-div i k, digits-mod i k, le-ltb i j l) in
-      let all : at (listTo (λ p. dotTo (along jc (p / m * n) 1) (along jc (p % m * n) 1) n) (m * m)) (i * m + j) ≡ dotTo (along jc (i * n) 1) (along jc (j * n) 1) n = at-listTo (λ p. dotTo (along jc (p / m * n) 1) (along jc (p % m * n) 1) n) (m * m) (i * m + j) inside ∙ rw (digits-div i k, digits-mod i k) in
-      lower ∙ sym all
+-- the same of matrices that are written entry by entry
+module _ (n : ℕ) (f g : ℕ → ℕ → Scalar) (same : SameBelow f g n) where
+  entry-of : (h : ℕ → ℕ → Scalar) (i j : ℕ) → i < n → j < n → entry n (listTo (λ p. h (p / n) (p % n)) (n * n)) i j ≡ h i j
+  entry-of h i j l k = at-listTo (λ p. h (p / n) (p % n)) (n * n) (i * n + j) (digits-lt {q = i} {m = n} {r = j} {c = n} l k) ∙ rw (digits-div i k, digits-mod i k)
 
-  pub cholesky-gram : choleskyOf m (lowerGramOf m n jc) ≡ choleskyOf m (gramOf m n jc)
-  cholesky-gram = cholesky-lower m (lowerGramOf m n jc) (gramOf m n jc) lower-entry
+  entries-same : SameBelow (entry n (listTo (λ p. f (p / n) (p % n)) (n * n))) (entry n (listTo (λ p. g (p / n) (p % n)) (n * n))) n
+  entries-same i j h l =
+      let k : j < n = omega arith in
+      entry-of f i j h k ∙ same i j h l ∙ sym (entry-of g i j h k)
+
+  pub cholesky-entries : choleskyOf n (listTo (λ p. f (p / n) (p % n)) (n * n)) ≡ choleskyOf n (listTo (λ p. g (p / n) (p % n)) (n * n))
+  cholesky-entries = cholesky-lower n (listTo (λ p. f (p / n) (p % n)) (n * n)) (listTo (λ p. g (p / n) (p % n)) (n * n)) entries-same
+
+-- the products of the lower triangle have the factor of all products
+pub cholesky-gram : (m n : ℕ) (jc : List Float) → choleskyOf m (lowerGramOf m n jc) ≡ choleskyOf m (gramOf m n jc)
+unfolding lowerGramOf gramOf gramAt
+cholesky-gram m n jc = cholesky-entries m (gramAt n jc) (λ i j. dotTo (along jc (i * n) 1) (along jc (j * n) 1) n) (λ i j h l. rw (le-ltb i j l))

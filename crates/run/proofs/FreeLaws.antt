@@ -5,6 +5,7 @@ use mathlib.Core.Path.{_≡_, refl, _∙_}
 use mathlib.Core.List.{List, [], _∷_}
 use mathlib.Core.Logic.{⊎-elim}
 use native.Mathlib.Omega.{arith}
+use borrow.Author.Tests.{le-ltb}
 use denote.Enum.Declared.{tagOf}
 use types.Run.{OneOf}
 use lib.Ieee.{Float}
@@ -25,10 +26,11 @@ use Rattle.linear.specs.declared.answers.Done.the-variants as done
 use Rattle.linear.specs.declared.answers.LinearError.{LinearError}
 use Rattle.linear.specs.Substitution.{solveOf}
 use Rattle.run.specs.Scratch.{vector, matrix, row, fillRows, anyTo, combinedTo}
+use Rattle.linear.proofs.LowerTriangle.{cholesky-entries}
 use Rattle.run.proofs.LinearCalls.{solve-result}
 use Rattle.run.specs.Model.{Problem}
 use Rattle.run.specs.Directions.{Directions}
-use Rattle.run.specs.Step.{forceOf, reducedOf, againstOf, Weights, weights, none, weightsOf, curved, spanned, alongOf, solvedWith, addedTo, freePart}
+use Rattle.run.specs.Step.{forceOf, reducedOf, againstOf, Weights, weights, none, weightsOf, curved, spanned, lowerAt, alongOf, solvedWith, addedTo, freePart}
 use Rattle.run.specs.declared.free.Along.{Along}
 use Rattle.run.specs.declared.free.Along.the-variants as a
 use Rattle.run.proofs.free.Along.{the-type}
@@ -75,25 +77,26 @@ pub solve-fronts : (r : Done) (n : ℕ) (l : List Float) (left : List Bool) (b y
     → n ≤ 24 → length l ≡ 2 * (n * n) → length left ≡ n → length b ≡ 2 * n → length y ≡ 2 * n → l′ ≡ l → left′ ≡ left → replied r x ≡ solveReply n l′ left′ b y → doneOf r x ≡ solveOf n l left b
 solve-fronts r n l left b y x h ll lf lb ly kl kf e = solve-result r n l left b y x h ll lf lb ly (rw (kl, kf) at e)
 
-module _ (k count : ℕ) (h z : List Float) where
-  -- the weights from what is written for them
-  pub weighed : (force : List Float) {hz a rhs : List Float} {r : Res Weights}
-      → hz ≡ fillRows matrix (λ t i. chooseOf (dotTo (row h i) (row z t) k)) k count
-      → a ≡ listTo (λ p. chooseOf (dotTo (row z (p / count)) (row hz (p % count)) k)) (count * count)
-      → rhs ≡ listTo (λ t. chooseOf (negOf (dotTo (row z t) (at force) k))) count
-      → r ≡ solvedWith count a rhs
-      → r ≡ solvedWith count (reducedOf (curved k h vector) (spanned count z)) (againstOf (curved k h vector) (spanned count z) force)
-  unfolding reducedOf againstOf
-  weighed force eh ea eb er = er ∙ rw (ea, eh, eb)
+-- the weights for a reduced matrix, from its lower triangle
+pub lower-solved : (k count : ℕ) (z hz rhs : List Float)
+    → solvedWith count (listTo (λ p. lowerAt k z hz (p / count) (p % count)) (count * count)) rhs
+    ≡ solvedWith count (listTo (λ p. chooseOf (dotTo (row z (p / count)) (row hz (p % count)) k)) (count * count)) rhs
+unfolding solvedWith lowerAt
+lower-solved k count z hz rhs =
+    let whole : ℕ → ℕ → Scalar = λ i j. chooseOf (dotTo (row z i) (row hz j) k) in
+    rw (cholesky-entries count (lowerAt k z hz) whole (λ i j h l. rw (le-ltb i j l)))
 
-  -- the same where a′ is the front of the array that a was written to
+module _ (k count : ℕ) (h z : List Float) where
+  -- the weights from what is written for them; a′ is the front of the array that a was written to
   pub weighed-front : (force : List Float) {hz a a′ rhs : List Float} {r : Res Weights}
       → hz ≡ fillRows matrix (λ t i. chooseOf (dotTo (row h i) (row z t) k)) k count
-      → a ≡ listTo (λ p. chooseOf (dotTo (row z (p / count)) (row hz (p % count)) k)) (count * count)
+      → a ≡ listTo (λ p. lowerAt k z hz (p / count) (p % count)) (count * count)
       → rhs ≡ listTo (λ t. chooseOf (negOf (dotTo (row z t) (at force) k))) count
       → a′ ≡ a → r ≡ solvedWith count a′ rhs
       → r ≡ solvedWith count (reducedOf (curved k h vector) (spanned count z)) (againstOf (curved k h vector) (spanned count z) force)
-  weighed-front force eh ea eb ka er = weighed force eh ea eb (rw ka at er)
+  unfolding reducedOf againstOf
+  weighed-front force {hz} {a} {a′} {rhs} eh ea eb ka er =
+      er ∙ rw (ka, ea) (lower-solved k count z hz rhs ∙ rw (eh, eb))
 
   -- the step from the weights
   pub parted : (g delta : List Float) {f : List Float} {x : Res Weights}

@@ -4,11 +4,12 @@ use Prim.Native.Nat.{ℕ, _*_, _/_, _%_, _≤_}
 use mathlib.Core.Bool.{Bool, false, _&&_}
 use mathlib.Core.List.{List}
 use mathlib.Core.Path.{_≡_}
+use lib.Dec.{ltb}
 use lib.Ieee.{Float}
 use lib.ListN.{length, getD, take, drop}
 use Rattle.interval.specs.declared.Scalar.{Scalar}
 use Rattle.interval.specs.Result.{Res, ok, refused}
-use Rattle.interval.specs.Scalar.{pick, negOf, addOf}
+use Rattle.interval.specs.Scalar.{zeroS, pick, negOf, addOf}
 use Rattle.linear.specs.Answers.{numberOf}
 use Rattle.linear.specs.Flat.{at, listTo}
 use Rattle.linear.specs.Results.{bind}
@@ -113,6 +114,10 @@ curved k h g = record { k = k; m = 0; c = at g; wide = matrix; jc = matrix; h = 
 
 abbrev pub spanned : ℕ → List Float → Directions
 spanned count z = directionsIn count z matrix
+
+-- an entry of the reduced matrix, from the directions and H times each; +0 above the diagonal, where no factor reads it
+unfoldable pub lowerAt : ℕ → List Float → List Float → ℕ → ℕ → Scalar
+lowerAt k z hz i j = pick (ltb i j) zeroS (chooseOf (dotTo (row z i) (row hz j) k))
 
 abbrev pub alongOf : Along → List Float → Res Weights
 alongOf a.Found w = ok (weights w)

@@ -10,7 +10,7 @@ ghost use Rattle.linear.specs.Cholesky.{factorOf};
 ghost use Rattle.linear.specs.Dot.{dotTo};
 ghost use Rattle.linear.specs.Flat.{at, along, listTo};
 ghost use Rattle.run.specs.Scratch.{vector, matrix, row, fillTo, fillRows, anyTo};
-ghost use Rattle.run.specs.Step.{bentAt, forceOf, pullOf, reducedOf, againstOf, weights, weightsOf, curved, spanned, alongOf, solvedWith, freePart};
+ghost use Rattle.run.specs.Step.{bentAt, forceOf, pullOf, reducedOf, againstOf, weights, weightsOf, curved, spanned, lowerAt, alongOf, solvedWith, freePart};
 use crate::scratch::combine;
 use interval::Scalar;
 use linear::Done;
@@ -83,16 +83,25 @@ fn bent_rows(k: usize, count: usize, h: &[f64], z: &[f64], hz: &mut [f64])
     }
 }
 
-// The products of the directions and of H times each, packed, chosen.
+// The product of direction i and of H times direction j, chosen; zero above the diagonal, where no factor reads it.
+fn reduced_at(k: usize, z: &[f64], hz: &[f64], i: usize, j: usize) -> Scalar
+    requires { ⌜ (i < 12) × (j < 12) ⌝ }
+    ensures { λ r. ⌜ r ≡ lowerAt k (now (z .entry)) (now (hz .entry)) i j ⌝ }
+{
+    if i < j {
+        return Scalar::ZERO;
+    }
+    choose(plus_dot(z, 12 * i, 1, hz, 12 * j, 1, Scalar::ZERO, k))
+}
+
+// The products of the directions and of H times each, packed, the lower triangle.
 fn reduced(k: usize, count: usize, z: &[f64], hz: &[f64], out: &mut [f64])
     requires { ⌜ (count ≤ 12) × (length (now out) ≡ 2 * (count * count)) ⌝ }
-    ensures { λ _. ⌜ now (out .exit) ≡ listTo (λ p. chooseOf (dotTo (row (now (z .entry)) (p / count)) (row (now (hz .entry)) (p % count)) k)) (count * count) ⌝ }
+    ensures { λ _. ⌜ now (out .exit) ≡ listTo (λ p. lowerAt k (now (z .entry)) (now (hz .entry)) (p / count) (p % count)) (count * count) ⌝ }
 {
     let q = count * count;
     for p in 0..q {
-        let x = 12 * (p / count);
-        let y = 12 * (p % count);
-        put(out, p, choose(plus_dot(z, x, 1, hz, y, 1, Scalar::ZERO, k)));
+        put(out, p, reduced_at(k, z, hz, p / count, p % count));
     }
 }
 
