@@ -13,8 +13,8 @@ use Rattle.interval.specs.Scalar.{one64, zeroS, degenerate, pick, sqrtOf, sharp
 use Rattle.interval.proofs.Results.{refused-ok, ok-inj}
 use Rattle.linear.specs.Flat.{put}
 use Rattle.linear.specs.Results.{bind}
-use Rattle.run.specs.Scratch.{row, fillTo, unitAt}
-use Rattle.run.specs.Directions.{partOff, leftAfter, remaindersTo, withoutTo, squareOf, longestTo, longestIn, Directions, directionsIn, More, more, enough, takeLongest, goOn, directionsTo, directionsOf, Turn, on, last, turned, turnOf}
+use Rattle.run.specs.Scratch.{matrix, row, fillTo, unitAt}
+use Rattle.run.specs.Directions.{partOff, leftAfter, remaindersTo, withoutTo, squareOf, longestTo, longestIn, Directions, directionsIn, More, more, enough, takeLongest, goOn, directionsTo, directionsOf, spanOf}
 use Rattle.run.specs.declared.directions.Remainder.{Remainder}
 
 module _ (k : ℕ) {s : List Float} where
@@ -61,44 +61,40 @@ module _ (k : ℕ) (left : List Float) where
   pub longest-root : (p : ℕ) {best : Remainder} {r : Res Scalar} → best ≡ longestIn k left p → r ≡ sqrtOf (best .square) → sqrtOf (squareOf k left (best .place)) ≡ r
   longest-root p e h = rw (h, e)
 
--- one more direction
-module _ (k : ℕ) (d : Directions) {best : ℕ} (eb : best ≡ longestTo k (d .left) (k - 1)) where
-  pub turn-refused : {e : ℕ} → sqrtOf (squareOf k (d .left) best) ≡ refused e → refused e ≡ turnOf k d
-  unfolding turnOf takeLongest bind
-  turn-refused er = rw (← eb, er)
+-- one more direction, and at most t after it
+module _ (k : ℕ) {n t : ℕ} (d : Directions) {best : ℕ} (en : n ≡ suc t) (eb : best ≡ longestTo k (d .left) (k - 1)) where
+  pub turn-refused : {e : ℕ} → sqrtOf (squareOf k (d .left) best) ≡ refused e → refused e ≡ spanOf (directionsTo k n d)
+  unfolding spanOf directionsTo takeLongest bind
+  turn-refused er = rw (en, ← eb, er)
 
-  module _ {l length : Scalar} {longer : Bool} (el : sqrtOf (squareOf k (d .left) best) ≡ ok l) (es : length ≡ sharpen l) (eg : longer ≡ definitelyGreater length zeroS) where
-    pub turn-last : longer ≡ false → ok (last d) ≡ turnOf k d
-    unfolding turnOf takeLongest bind
-    turn-last e = let h : definitelyGreater (sharpen l) zeroS ≡ false = ap (λ x. definitelyGreater x zeroS) (sym es) ∙ sym eg ∙ e in rw (← eb, el, h)
+  module _ {l length : Scalar} {longer : Bool}
+      (el : sqrtOf (squareOf k (d .left) best) ≡ ok l) (es : length ≡ sharpen l) (eg : longer ≡ definitelyGreater length zeroS) where
+    test : definitelyGreater (sharpen l) zeroS ≡ longer
+    test = ap (λ x. definitelyGreater x zeroS) (sym es) ∙ sym eg
 
-    pub turn-on : {z left : List Float}
-        → longer ≡ true → z ≡ fillTo (d .z) (12 * d .count) (unitAt (row (d .left) best) length) k → left ≡ withoutTo k z (d .count) (d .left) k
-        → ok (on (directionsIn (d .count + 1) z left)) ≡ turnOf k d
-    unfolding turnOf takeLongest bind
-    turn-on e ez ew = let h : definitelyGreater (sharpen l) zeroS ≡ true = ap (λ x. definitelyGreater x zeroS) (sym es) ∙ sym eg ∙ e in rw (← eb, el, h, ← rw es at ez, ← ew)
+    pub turn-last : longer ≡ false → ok (directionsIn (d .count) (d .z) matrix) ≡ spanOf (directionsTo k n d)
+    unfolding spanOf directionsTo takeLongest bind
+    turn-last e = rw (en, ← eb, el, test, e)
 
--- what is still to be taken, after a turn
-abbrev pub settle : (Directions → Res Directions) → Res Turn → Res Directions
-settle f (ok (on d)) = f d
-settle f (ok (last d)) = ok d
-settle f (refused e) = refused e
+    module _ {z : List Float} (e : longer ≡ true) (ez : z ≡ fillTo (d .z) (12 * d .count) (unitAt (row (d .left) best) length) k) where
+      pub turn-on : {left : List Float} → left ≡ withoutTo k z (d .count) (d .left) k
+          → spanOf (directionsTo k t (directionsIn (d .count + 1) z left)) ≡ spanOf (directionsTo k n d)
+      unfolding directionsTo takeLongest bind
+      turn-on ew = rw (en, ← eb, el, test, e, ← rw es at ez, ← ew)
 
-settles : (f : Directions → Res Directions) (d : Directions) (r : Res More) → bind r (goOn f d) ≡ settle f (bind r (λ m. ok (turned d m)))
-unfolding bind
-settles f d (ok (more x)) = refl
-settles f d (ok enough) = refl
-settles f d (refused e) = refl
+      -- where none follows, whatever is left
+      pub turn-full : (left : List Float) → t ≡ 0
+          → spanOf (directionsTo k t (directionsIn (d .count + 1) z left)) ≡ spanOf (directionsTo k n d)
+      unfolding spanOf directionsTo bind
+      turn-full left f =
+          let left′ : List Float = withoutTo k z (d .count) (d .left) k in
+          let s : spanOf (directionsTo k t (directionsIn (d .count + 1) z left)) ≡ spanOf (directionsTo k t (directionsIn (d .count + 1) z left′)) = rw f in
+          s ∙ turn-on refl
 
-pub directions-turn : (k most count : ℕ) (d : Directions) {t : Res Turn} → count < most → t ≡ turnOf k d → directionsTo k (most - count) d ≡ settle (λ x. directionsTo k (most - (count + 1)) x) t
-unfolding directionsTo turnOf
-directions-turn k most count d h e =
-    let m : most - count ≡ suc (most - (count + 1)) = omega arith in
-    rw (m, e) (settles (λ x. directionsTo k (most - (count + 1)) x) d (takeLongest k d))
-
-pub directions-none : (k most : ℕ) (d : Directions) → directionsTo k (most - most) d ≡ ok d
-unfolding directionsTo
-directions-none k most d = let m : most - most ≡ 0 = omega arith in rw m
+pub directions-none : (k most count : ℕ) (z left : List Float)
+    → spanOf (directionsTo k (most - most) (directionsIn count z left)) ≡ ok (directionsIn count z matrix)
+unfolding spanOf directionsTo bind
+directions-none k most count z left = let m : most - most ≡ 0 = omega arith in rw m
 
 -- at most so many more, so no more than there are variables
 module _ (d x : Directions) (n : ℕ) (f : Directions → Res Directions) where
@@ -127,6 +123,12 @@ module _ (k : ℕ) where
       (λ l q. few t (taken d l) x q)
       e
 
-  pub directions-few : (r : ℕ) (q : List Float) {d : Directions} → ok d ≡ directionsOf k r q → d .count ≤ k
+  span-few : (n : ℕ) (x : Res Directions) {d : Directions}
+      → ((y : Directions) → x ≡ ok y → y .count ≤ n) → ok d ≡ spanOf x → d .count ≤ n
+  unfolding spanOf bind
+  span-few n (ok y) {d} h e = let c : d .count ≡ y .count = ap (λ z. z .count) (ok-inj e) in omega (arith, c, h y refl)
+  span-few n (refused e) h q = absurd (refused-ok (sym q))
+
+  pub directions-few : (r : ℕ) (q : List Float) {d : Directions} → ok d ≡ spanOf (directionsOf k r q) → d .count ≤ k
   unfolding directionsOf
-  directions-few r q {d} e = omega (arith, few (k - r) _ d (sym e))
+  directions-few r q e = span-few k (directionsOf k r q) (λ y h. omega (arith, few (k - r) _ y h)) e

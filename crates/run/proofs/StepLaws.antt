@@ -27,7 +27,7 @@ use Rattle.run.specs.declared.step.Prepared.{Prepared}
 use Rattle.run.specs.declared.step.Prepared.the-variants as prepared
 use Rattle.run.specs.declared.directions.Found.{Found}
 use Rattle.run.specs.declared.directions.Found.the-variants as found
-use Rattle.run.specs.Directions.{Directions, directionsOf, directionsIn, foundOf}
+use Rattle.run.specs.Directions.{Directions, directionsOf, spanOf, foundOf}
 use Rattle.run.specs.Step.{Stepped, notPositive, forceOf, pullOf, reducedOf, againstOf, Weights, weights, none, weightsOf, steppedBy, alongZ, freeStep, keptStep, spreadStep, stepOf, curved, spanned, solvedWith, addedTo, freePart, withMultipliers, endOf, spreadEnd, basisFor, correctedStep, basedStep, testedStep, rankOf, Few, readyOf, readyStep, framedStep, dampedStep, preparedStep}
 use Rattle.run.proofs.BasisLaws.{basis-reads, rank-small}
 use Rattle.run.proofs.DirectionLaws.{directions-few}
@@ -96,13 +96,16 @@ module _ (P : Problem) (b : Basis) (kept : List Float) {pull : List Float} {fini
 
 -- from the correction on
 module _ (P : Problem) (b : Basis) (delta : List Float) where
-  pub corrected-refused : {e : ℕ} → refused e ≡ directionsOf (P .k) (b .rank) (b .q) → refused e ≡ correctedStep P b delta
-  unfolding correctedStep bind
-  corrected-refused e = rw (← e)
+  span-read : (x : Res Directions)
+      → bind (spanOf x) (λ d. freeStep (curved (P .k) (P .h) (P .g)) (basisFor (b .rank) (b .q) (b .coefficients) (b .order)) delta d) ≡ bind x (λ d. freeStep P b delta d)
+  unfolding bind spanOf
+  span-read (ok d) = free-read P b delta d
+  span-read (refused e) = refl
 
-  pub corrected-on : {d : Directions} {x : Res Stepped} → ok d ≡ directionsOf (P .k) (b .rank) (b .q) → x ≡ freeStep P b delta d → x ≡ correctedStep P b delta
-  unfolding correctedStep bind
-  corrected-on e ex = rw (← e) ex
+  pub corrected-by : {x : Res Directions} → x ≡ spanOf (directionsOf (P .k) (b .rank) (b .q))
+      → bind x (λ d. freeStep (curved (P .k) (P .h) (P .g)) (basisFor (b .rank) (b .q) (b .coefficients) (b .order)) delta d) ≡ correctedStep P b delta
+  unfolding correctedStep
+  corrected-by e = rw e (span-read (directionsOf (P .k) (b .rank) (b .q)))
 
   each-read : (x : Res Directions)
       → bind x (λ d. freeStep (curved (P .k) (P .h) (P .g)) (basisFor (b .rank) (b .q) (b .coefficients) (b .order)) delta d) ≡ bind x (λ d. freeStep P b delta d)
@@ -176,28 +179,29 @@ framed-is x P order frame q c delta z lq lc ld lz e =
     rw (first-of-four frame q c delta z lq lc ld lz e, second-of-four frame q c delta z lq lc ld lz e, third-of-four frame q c delta z lq lc ld lz e, fourth-of-four frame q c delta z lq lc ld lz e)
 
 -- the step from it, as the correction and the directions ended
-module _ (P : Problem) (b : Basis) (delta z left : List Float) where
-  ready-is : (d : Done) (f : Found) → doneOf d delta ≡ correctionOf P b → foundOf f z left ≡ directionsOf (P .k) (b .rank) (b .q)
+module _ (P : Problem) (b : Basis) (delta z : List Float) where
+  ready-is : (d : Done) (f : Found) → doneOf d delta ≡ correctionOf P b → foundOf f z ≡ spanOf (directionsOf (P .k) (b .rank) (b .q))
       → readyStep (readyOf d f (b .rank)) (curved (P .k) (P .h) (P .g)) (b .q) (b .coefficients) (b .order) delta z ≡ basedStep P b
-  ready-is done.Finished (found.Of count) ec ef = based-on P b ec (corrected-on P b delta ef (free-read P b delta (directionsIn count z left)))
-  ready-is done.Finished (found.Refused e) ec ef = based-on P b ec (corrected-refused P b delta ef)
+  unfolding bind
+  ready-is done.Finished (found.Of count) ec ef = based-on P b ec (corrected-by P b delta ef)
+  ready-is done.Finished (found.Refused e) ec ef = based-on P b ec (corrected-by P b delta ef)
   ready-is (done.Refused e) f ec ef = based-refused P b ec
 
   pub ready-framed : {x : Prepared} (frame : List Float) (d : Done) (f : Found) → length (b .q) ≡ 288 → length (b .coefficients) ≡ 288 → length delta ≡ 24 → length z ≡ 288 → frame ≡ b .q ++ (b .coefficients ++ (delta ++ z))
-      → x ≡ readyOf d f (b .rank) → doneOf d delta ≡ correctionOf P b → foundOf f z left ≡ directionsOf (P .k) (b .rank) (b .q) → framedStep x (curved (P .k) (P .h) (P .g)) (b .order) frame ≡ basedStep P b
+      → x ≡ readyOf d f (b .rank) → doneOf d delta ≡ correctionOf P b → foundOf f z ≡ spanOf (directionsOf (P .k) (b .rank) (b .q)) → framedStep x (curved (P .k) (P .h) (P .g)) (b .order) frame ≡ basedStep P b
   ready-framed {x} frame d f lq lc ld lz e ex ec ef =
       framed-is x (curved (P .k) (P .h) (P .g)) (b .order) frame (b .q) (b .coefficients) delta z lq lc ld lz e
       ∙ ap (λ (y : Prepared). readyStep y (curved (P .k) (P .h) (P .g)) (b .q) (b .coefficients) (b .order) delta z) ex
       ∙ ready-is d f ec ef
 
 -- at most twelve of each
-module _ (k r : ℕ) (q z left : List Float) (hk : k ≤ 12) (hr : r ≤ 12) where
-  few-found : (d : Done) (f : Found) → foundOf f z left ≡ directionsOf k r q → Few (readyOf d f r)
+module _ (k r : ℕ) (q z : List Float) (hk : k ≤ 12) (hr : r ≤ 12) where
+  few-found : (d : Done) (f : Found) → foundOf f z ≡ spanOf (directionsOf k r q) → Few (readyOf d f r)
   few-found done.Finished (found.Of count) e = record { independent = hr; free = omega (arith, directions-few k r q e, hk) }
   few-found done.Finished (found.Refused o) e = record { independent = omega arith; free = omega arith }
   few-found (done.Refused o) f e = record { independent = omega arith; free = omega arith }
 
-  pub ready-few : {x : Prepared} (d : Done) (f : Found) → x ≡ readyOf d f r → foundOf f z left ≡ directionsOf k r q → Few x
+  pub ready-few : {x : Prepared} (d : Done) (f : Found) → x ≡ readyOf d f r → foundOf f z ≡ spanOf (directionsOf k r q) → Few x
   ready-few d f ex e = rw ex (few-found d f e)
 
 -- the step from it, where the correction is copied, or the refusal

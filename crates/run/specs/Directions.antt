@@ -86,24 +86,17 @@ directionsIn count z left = record { count = count; z = z; left = left }
 abbrev pub longestIn : ℕ → List Float → ℕ → Remainder
 longestIn k left p = let best = longestTo k left p in record { place = best; square = squareOf k left best }
 
--- the directions after a turn, and whether it was the last
-pub data Turn : Type 0 where
-  on : Directions → Turn
-  last : Directions → Turn
-
-abbrev pub turned : Directions → More → Turn
-turned d (more d′) = on d′
-turned d enough = last d
-
-unfoldable pub turnOf : ℕ → Directions → Res Turn
+-- the directions alone: nothing reads what is left after the last
+unfoldable pub spanOf : Res Directions → Res Directions
 unfolding bind
-turnOf k d = bind (takeLongest k d) (λ m. ok (turned d m))
+spanOf x = bind x (λ d. ok (directionsIn (d .count) (d .z) matrix))
 
-abbrev pub nextOf : Next → ℕ → List Float → List Float → Res Turn
-nextOf n.Taken count z left = ok (on (directionsIn (count + 1) z left))
-nextOf n.Enough count z left = ok (last (directionsIn count z left))
-nextOf (n.Refused e) count z left = refused (numberOf e)
+-- where one more was asked for, and at most t after it
+abbrev pub nextOf : ℕ → ℕ → Next → ℕ → List Float → List Float → Res Directions
+nextOf k t n.Taken count z left = spanOf (directionsTo k t (directionsIn (count + 1) z left))
+nextOf k t n.Enough count z left = ok (directionsIn count z matrix)
+nextOf k t (n.Refused e) count z left = refused (numberOf e)
 
-abbrev pub foundOf : Found → List Float → List Float → Res Directions
-foundOf (f.Of count) z left = ok (directionsIn count z left)
-foundOf (f.Refused e) z left = refused (numberOf e)
+abbrev pub foundOf : Found → List Float → Res Directions
+foundOf (f.Of count) z = ok (directionsIn count z matrix)
+foundOf (f.Refused e) z = refused (numberOf e)

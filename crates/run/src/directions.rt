@@ -4,7 +4,7 @@ ghost use Prim.Native.Nat.{_+_, _*_, _-_, _<_, _≤_};
 ghost use lib.ListN.{length};
 ghost use Rattle.interval.specs.Result as scalar;
 ghost use Rattle.interval.specs.Scalar.{pick, sqrtOf, definitelyGreater};
-ghost use Rattle.run.specs.Directions.{partOff, leftAfter, remaindersTo, withoutTo, squareOf, longestTo, longestIn, directionsTo, directionsOf, directionsIn, turnOf, nextOf, foundOf};
+ghost use Rattle.run.specs.Directions.{partOff, leftAfter, remaindersTo, withoutTo, squareOf, longestTo, longestIn, directionsTo, directionsOf, directionsIn, spanOf, nextOf, foundOf};
 use crate::scratch::unit;
 use interval::Scalar;
 use interval::ScalarResult;
@@ -107,10 +107,10 @@ fn longest(k: usize, left: &[f64]) -> Remainder
     best
 }
 
-// The longest remainder as one more direction.
-fn take_longest(k: usize, count: usize, z: &mut [f64], left: &mut [f64]) -> Next
-    requires { ⌜ (k ≤ 12) × (count < 12) ⌝ }
-    ensures { λ r. ⌜ nextOf r count (now (z .exit)) (now (left .exit)) ≡ turnOf k (directionsIn count (now (z .entry)) (now (left .entry))) ⌝ }
+// The longest remainder as one more direction, of at most `most`.
+fn take_longest(k: usize, count: usize, most: usize, z: &mut [f64], left: &mut [f64]) -> Next
+    requires { ⌜ (k ≤ 12) × ((count < most) × (most ≤ 12)) ⌝ }
+    ensures { λ r. ⌜ nextOf k (most - (count + 1)) r count (now (z .exit)) (now (left .exit)) ≡ spanOf (directionsTo k (most - count) (directionsIn count (now (z .entry)) (now (left .entry)))) ⌝ }
 {
     let best = longest(k, left);
     match best.square.sqrt() {
@@ -118,6 +118,9 @@ fn take_longest(k: usize, count: usize, z: &mut [f64], left: &mut [f64]) -> Next
             let length = l.sharpen();
             if length.definitely_greater(Scalar::ZERO) {
                 unit(left, 12 * best.place, length, k, z, 12 * count);
+                if count + 1 == most {
+                    return Next::Taken;
+                }
                 without(k, z, count, left);
                 return Next::Taken;
             }
@@ -142,13 +145,13 @@ fn less(k: usize, r: usize) -> usize
 // Z, from the first r rows of Q over k variables; `left` is scratch.
 pub fn free_directions(k: usize, r: usize, q: &[f64], z: &mut [f64], left: &mut [f64]) -> Found
     requires { ⌜ (k ≤ 12) × ((r ≤ 12) × ((length (now z) ≡ 288) × (length (now left) ≡ 288))) ⌝ }
-    ensures { λ d. ⌜ foundOf d (now (z .exit)) (now (left .exit)) ≡ directionsOf k r (now (q .entry)) ⌝ }
+    ensures { λ d. ⌜ foundOf d (now (z .exit)) ≡ spanOf (directionsOf k r (now (q .entry))) ⌝ }
 {
     let most = less(k, r);
     clear(z);
     remainders(k, r, q, left);
     for count in 0..most {
-        match take_longest(k, count, z, left) {
+        match take_longest(k, count, most, z, left) {
             Next::Taken => {}
             Next::Enough => {
                 return Found::Of(count);

@@ -5,14 +5,14 @@ use native.Mathlib.Nat.{le-antisymm}
 use native.Mathlib.Omega.{arith}
 use borrow.Author.Needs.{needs}
 use lib.ListN.{length}
-use Rattle.run.specs.Directions.{directionsIn, directionsTo, directionsOf}
-use Rattle.run.proofs.DirectionLaws.{directions-turn, directions-none}
+use Rattle.run.specs.Directions.{directionsIn, directionsTo, directionsOf, spanOf}
+use Rattle.run.proofs.DirectionLaws.{directions-none}
 use Rattle.run.proofs.directions.free_directions.Statement.{statement}
 use Rattle.run.proofs.directions.free_directions.Tie as tie
 
 abbrev Inv-loop : tie.InvT-loop
 Inv-loop k r q z₀ left₀ most count₀ z left count =
-    (count ≤ most) × (length z ≡ length z₀) × (length left ≡ length left₀) × (directionsTo k (most - count) (directionsIn count z left) ≡ directionsOf k r q) × (most ≤ 12)
+    (count ≤ most) × (length z ≡ length z₀) × (length left ≡ length left₀) × (spanOf (directionsTo k (most - count) (directionsIn count z left)) ≡ spanOf (directionsOf k r q)) × (most ≤ 12)
 
 abbrev μ-loop : tie.MeasureT-loop
 μ-loop k r q z₀ left₀ most count₀ z left count = most - count
@@ -53,7 +53,7 @@ same-length-2 c = search needs
 returns : tie.Need-returns Inv-loop μ-loop
 returns c =
     let e = rw (c .enum-told2 .given .1) at (c .before .before .before .before .before .before .take-longest .ensures) in
-    sym (directions-turn _ _ _ _ (c .before .before .before .before .before .before .before .before .before .loop-test .taken) e) ∙ c .before .before .before .before .before .before .before .before .before .before .loop .inv .3
+    e ∙ c .before .before .before .before .before .before .before .before .before .before .loop .inv .3
 
 enum-known-e : tie.Need-enum-known-e Inv-loop μ-loop
 enum-known-e c = search needs
@@ -67,7 +67,7 @@ same-length-4 c = search needs
 returns-2 : tie.Need-returns-2 Inv-loop μ-loop
 returns-2 c =
     let e = rw (c .before .e .given .1) at (c .before .before .before .before .before .before .before .take-longest .ensures) in
-    sym (directions-turn _ _ _ _ (c .before .before .before .before .before .before .before .before .before .before .loop-test .taken) e) ∙ c .before .before .before .before .before .before .before .before .before .before .before .loop .inv .3
+    e ∙ c .before .before .before .before .before .before .before .before .before .before .before .loop .inv .3
 
 add-count : tie.Need-add-count Inv-loop μ-loop
 add-count c = search needs
@@ -78,7 +78,7 @@ loop-less c = search needs
 loop-again : tie.Need-loop-again Inv-loop μ-loop
 loop-again c =
     let e = rw (c .enum-told .given .1) at (c .before .before .before .before .before .before .take-longest .ensures) in
-    (search needs, search needs, search needs, sym (directions-turn _ _ _ _ (c .before .before .before .before .before .before .before .before .before .loop-test .taken) e) ∙ c .before .before .before .before .before .before .before .before .before .before .loop .inv .3, c .before .before .before .before .before .before .before .before .before .before .loop .inv .4)
+    (search needs, search needs, search needs, e ∙ c .before .before .before .before .before .before .before .before .before .before .loop .inv .3, c .before .before .before .before .before .before .before .before .before .before .loop .inv .4)
 
 same-length-5 : tie.Need-same-length-5 Inv-loop μ-loop
 same-length-5 c = search needs
@@ -89,7 +89,7 @@ same-length-6 c = search needs
 returns-3 : tie.Need-returns-3 Inv-loop μ-loop
 returns-3 c =
     let e = rw (le-antisymm (c .before .loop .inv .0) (c .loop-test .left)) at (c .before .loop .inv .3) in
-    sym (directions-none _ _ _) ∙ e
+    sym (directions-none _ _ _ _ _) ∙ e
 
 pub free-directions-spec : {M : Type 1} → statement M
 free-directions-spec =

@@ -1,11 +1,16 @@
 -- `take_longest` meets its contract: the root decides, then the test on the length, and each arm is the definition's.
-use Prim.Native.Nat.{_-_, _<_}
+use mathlib.Core.Path.{_≡_}
+use Prim.Native.Nat.{suc, _+_, _-_, _<_}
 use native.Mathlib.Omega.{arith}
 use lib.Ieee.{ofBits}
-use Rattle.run.proofs.DirectionLaws.{longest-place, longest-root, longest-low, turn-refused, turn-last, turn-on}
+use Rattle.run.proofs.DirectionLaws.{longest-place, longest-root, longest-low, turn-refused, turn-last, turn-on, turn-full}
 use borrow.Author.Needs.{needs}
 use Rattle.run.proofs.directions.take_longest.Statement.{statement}
 use Rattle.run.proofs.directions.take_longest.Tie as tie
+
+-- how many may follow this one, and one more
+after : (s : tie.Start) → s .args .most - s .args .count ≡ suc (s .args .most - (s .args .count + 1))
+after s = omega (arith, s .pre .1 .0)
 
 -- the remainder's row
 near : (k : tie.After-longest) → k .longest .result .place < 12
@@ -35,8 +40,8 @@ mul-unit-2 c = search needs
 unit-requires : tie.Need-unit-requires
 unit-requires c κs = (omega (arith, near (c .before .before .before .before .before .before .before .before .before .before)), (omega (arith, (c .before .before .before .before .before .before .before .before .before .before .before .before .before .before) .pre), omega (arith, (c .before .before .before .before .before .before .before .before .before .before .before .before .before .before) .pre)))
 
-without-requires : tie.Need-without-requires
-without-requires c κs = search needs
+add-if2 : tie.Need-add-if2
+add-if2 c = search needs
 
 same-length : tie.Need-same-length
 same-length c = search needs
@@ -47,31 +52,47 @@ same-length-2 c = search needs
 returns : tie.Need-returns
 unfolding ofBits
 returns c =
-    let b = c .before .before .before .before .before .before .before .before .before .before .before .before .before .before .before .before .before .before .longest .ensures in
-    let r = rw (c .before .before .before .before .before .before .before .before .before .before .before .before .before .before .before .l .given .1) at (c .before .before .before .before .before .before .before .before .before .before .before .before .before .before .before .before .before .sqrt .ensures .value) in
-    turn-on _ _ (longest-place _ _ _ b) (longest-root _ _ _ b r) (c .before .before .before .before .before .before .before .before .before .before .before .before .before .sharpen .ensures) (c .before .before .before .before .before .before .before .before .before .before .before .before .definitely-greater .ensures) (c .before .before .before .before .before .before .before .before .before .before .before .if1 .taken) (c .before .before .before .before .before .before .before .unit .ensures) (c .before .before .without .ensures)
+    let b = c .before .before .before .before .before .before .before .before .before .before .before .before .before .before .longest .ensures in
+    let r = rw (c .before .before .before .before .before .before .before .before .before .before .before .l .given .1) at (c .before .before .before .before .before .before .before .before .before .before .before .before .before .sqrt .ensures .value) in
+    turn-full _ _ (after (c .before .before .before .before .before .before .before .before .before .before .before .before .before .before .before .before .before .before)) (longest-place _ _ _ b) (longest-root _ _ _ b r) (c .before .before .before .before .before .before .before .before .before .sharpen .ensures) (c .before .before .before .before .before .before .before .before .definitely-greater .ensures) (c .before .before .before .before .before .before .before .if1 .taken) (c .before .before .before .unit .ensures) _ (omega (arith, c .if2 .taken))
+
+without-requires : tie.Need-without-requires
+without-requires c κs = search needs
 
 same-length-3 : tie.Need-same-length-3
 same-length-3 c = search needs
 
+same-length-4 : tie.Need-same-length-4
+same-length-4 c = search needs
+
 returns-2 : tie.Need-returns-2
 unfolding ofBits
 returns-2 c =
+    let b = c .before .before .before .before .before .before .before .before .before .before .before .before .before .before .before .before .before .before .before .longest .ensures in
+    let r = rw (c .before .before .before .before .before .before .before .before .before .before .before .before .before .before .before .before .l .given .1) at (c .before .before .before .before .before .before .before .before .before .before .before .before .before .before .before .before .before .before .sqrt .ensures .value) in
+    turn-on _ _ (after (c .before .before .before .before .before .before .before .before .before .before .before .before .before .before .before .before .before .before .before .before .before .before .before)) (longest-place _ _ _ b) (longest-root _ _ _ b r) (c .before .before .before .before .before .before .before .before .before .before .before .before .before .before .sharpen .ensures) (c .before .before .before .before .before .before .before .before .before .before .before .before .before .definitely-greater .ensures) (c .before .before .before .before .before .before .before .before .before .before .before .before .if1 .taken) (c .before .before .before .before .before .before .before .before .unit .ensures) (c .before .before .without .ensures)
+
+same-length-5 : tie.Need-same-length-5
+same-length-5 c = search needs
+
+returns-3 : tie.Need-returns-3
+unfolding ofBits
+returns-3 c =
     let b = c .before .before .before .before .before .before .before .longest .ensures in
     let r = rw (c .before .before .before .before .l .given .1) at (c .before .before .before .before .before .before .sqrt .ensures .value) in
-    turn-last _ _ (longest-place _ _ _ b) (longest-root _ _ _ b r) (c .before .before .sharpen .ensures) (c .before .definitely-greater .ensures) (c .if1 .left)
+    turn-last _ _ (after (c .before .before .before .before .before .before .before .before .before .before .before)) (longest-place _ _ _ b) (longest-root _ _ _ b r) (c .before .before .sharpen .ensures) (c .before .definitely-greater .ensures) (c .if1 .left)
 
 enum-known-e : tie.Need-enum-known-e
 enum-known-e c = search needs
 
-same-length-4 : tie.Need-same-length-4
-same-length-4 c = search needs
+same-length-6 : tie.Need-same-length-6
+same-length-6 c = search needs
 
-returns-3 : tie.Need-returns-3
-returns-3 c =
+returns-4 : tie.Need-returns-4
+returns-4 c =
     let b = c .before .before .before .before .longest .ensures in
     let r = rw (c .before .e .given .1) at (c .before .before .before .sqrt .ensures .value) in
-    turn-refused _ _ (longest-place _ _ _ b) (longest-root _ _ _ b r)
+    turn-refused _ _ (after (c .before .before .before .before .before .before .before .before)) (longest-place _ _ _ b) (longest-root _ _ _ b r)
 
 pub take-longest-spec : {M : Type 1} → statement M
 take-longest-spec =
@@ -85,12 +106,16 @@ take-longest-spec =
     mul-unit
     mul-unit-2
     unit-requires
-    without-requires
+    add-if2
     same-length
     same-length-2
     returns
+    without-requires
     same-length-3
-    returns-2
-    enum-known-e
     same-length-4
-    returns-3)
+    returns-2
+    same-length-5
+    returns-3
+    enum-known-e
+    same-length-6
+    returns-4)

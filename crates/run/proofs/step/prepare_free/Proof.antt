@@ -80,8 +80,8 @@ returns c =
     let b = basisBy (a .r) (a .q .now) [] (a .coefficients .now) (a .dependent .now) (a .order .now) in (
       (λ h g.
           let Q = problemIn (a .k) (a .m) (valueAt (rowsIn (a .xs .now) (a .c))) [] [] h g in
-          ready-framed Q b t z (f .last .1 .1 .1 .1 .0) _ (k .correction .result) (f .result) (p .1 .1 .1 .0) (p .1 .1 .1 .1 .0) (corrected k) lz e (c .ready .ensures) (k .correction .ensures ∙ correction-reads Q b) (f .ensures)),
-      ready-few (a .k) (a .r) (a .q .now) z (f .last .1 .1 .1 .1 .0) (p .0) (p .1 .1 .0) (k .correction .result) (f .result) (c .ready .ensures) (f .ensures),
+          ready-framed Q b t z _ (k .correction .result) (f .result) (p .1 .1 .1 .0) (p .1 .1 .1 .1 .0) (corrected k) lz e (c .ready .ensures) (k .correction .ensures ∙ correction-reads Q b) (f .ensures)),
+      ready-few (a .k) (a .r) (a .q .now) z (p .0) (p .1 .1 .0) (k .correction .result) (f .result) (c .ready .ensures) (f .ensures),
     )
 
 pub prepare-free-spec : {M : Type 1} → statement M
