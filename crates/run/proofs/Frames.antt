@@ -4,10 +4,12 @@ use mathlib.Core.List.{List, _++_, append-assoc}
 use Prim.Native.Nat.{ℕ, _+_, _-_, _≤_}
 use native.Mathlib.Omega.{arith}
 use lib.Ieee.{Float}
-use lib.ListN.{length, take, drop, length-append, length-drop}
+use lib.ListN.{length, take, drop, length-append, length-drop, replicate-append-replicate}
 use lib.Seq.{take-length, length-take-le, take-at, drop-at, drop-drop}
+use Rattle.interval.specs.Scalar.{zero64}
+use Rattle.linear.specs.Flat.{zeros}
 use Rattle.run.specs.Area.{written}
-use Rattle.run.proofs.AreaSlots.{written-twice}
+use Rattle.run.proofs.AreaSlots.{written-twice, length-clear}
 use Rattle.run.proofs.LeaveLaws.{written-all}
 
 -- one more list, right behind those that are written
@@ -42,14 +44,32 @@ module _ (a u d g : List Float) (lu : length u ≡ 288) (ld : length d ≡ 24) (
     pub third-of-three : take 24 (drop 312 a) ≡ g
     third-of-three = let s : drop 312 a ≡ g = sym (drop-drop 24 288 a) ∙ ap (drop 24) after-first ∙ drop-at d g 24 ld in rw s (take-whole g lg)
 
+module _ (a q c d : List Float) (lq : length q ≡ 288) (lc : length c ≡ 288) (ld : length d ≡ 24) where
+  three-long : length ((q ++ c) ++ d) ≡ 600
+  three-long = length-both (q ++ c) d (length-both q c lq lc) ld
+
+  module _ {a₁ a₂ a₃ : List Float} (e₁ : a₁ ≡ written a 0 q) (e₂ : a₂ ≡ written a₁ 288 c) (e₃ : a₃ ≡ written a₂ 576 d) where
+    three-written : length a ≡ 888 → a₃ ≡ written a 0 ((q ++ c) ++ d)
+    three-written la =
+        let l₂ : length (q ++ c) ≡ 576 = length-both q c lq lc in
+        let w₂ = behind a q c 288 e₁ (sym lq) (omega (arith, lq, lc, la)) e₂ in
+        behind a (q ++ c) d 576 w₂ (sym l₂) (omega (arith, l₂, ld, la)) e₃
+
+    -- a list that was clear is still clear behind them
+    pub fourth-clear : a ≡ zeros 888 → take 288 (drop 600 a₃) ≡ zeros 288
+    fourth-clear e =
+        let s : List Float = (q ++ c) ++ d in
+        let m : 0 + length s ≡ 600 = omega (arith, three-long) in
+        let w : a₃ ≡ s ++ drop 600 a = rw m at (three-written (ap length e ∙ length-clear 888)) in
+        let r : drop 600 (zeros 888) ≡ zeros 288 = ap (drop 600) (sym (replicate-append-replicate 600 288 zero64)) ∙ drop-at (zeros 600) (zeros 288) 600 (length-clear 600) in
+        rw (w, drop-at s (drop 600 a) 600 three-long, e, r) (take-whole (zeros 288) (length-clear 288))
+
 module _ (a q c d z : List Float) (lq : length q ≡ 288) (lc : length c ≡ 288) (ld : length d ≡ 24) (lz : length z ≡ 288) where
   pub four-written : {a₁ a₂ a₃ a₄ : List Float} → length a ≡ 888 → a₁ ≡ written a 0 q → a₂ ≡ written a₁ 288 c → a₃ ≡ written a₂ 576 d → a₄ ≡ written a₃ 600 z → a₄ ≡ q ++ (c ++ (d ++ z))
   four-written la e₁ e₂ e₃ e₄ =
-      let l₂ : length (q ++ c) ≡ 576 = length-both q c lq lc in
-      let l₃ : length ((q ++ c) ++ d) ≡ 600 = length-both (q ++ c) d l₂ ld in
+      let l₃ : length ((q ++ c) ++ d) ≡ 600 = three-long a q c d lq lc ld in
       let l₄ : length (((q ++ c) ++ d) ++ z) ≡ 888 = length-both ((q ++ c) ++ d) z l₃ lz in
-      let w₂ = behind a q c 288 e₁ (sym lq) (omega (arith, lq, lc, la)) e₂ in
-      let w₃ = behind a (q ++ c) d 576 w₂ (sym l₂) (omega (arith, l₂, ld, la)) e₃ in
+      let w₃ = three-written a q c d lq lc ld e₁ e₂ e₃ la in
       behind a ((q ++ c) ++ d) z 600 w₃ (sym l₃) (omega (arith, l₃, lz, la)) e₄
       ∙ written-all a (((q ++ c) ++ d) ++ z) (omega (arith, l₄, la))
       ∙ append-assoc (q ++ c) d z

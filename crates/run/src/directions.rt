@@ -1,16 +1,15 @@
 // Z, an orthonormal basis of what the constraints leave free. Matrices have rows of 12.
 ghost use mathlib.Core.Path.{_≡_};
 ghost use Prim.Native.Nat.{_+_, _*_, _-_, _<_, _≤_};
-ghost use lib.ListN.{length};
 ghost use Rattle.interval.specs.Result as scalar;
 ghost use Rattle.interval.specs.Scalar.{pick, sqrtOf, definitelyGreater};
 ghost use Rattle.run.specs.Directions.{partOff, leftAfter, remaindersTo, withoutTo, squareOf, longestTo, longestIn, directionsTo, directionsOf, directionsIn, spanOf, nextOf, foundOf};
+ghost use Rattle.run.specs.Scratch.{matrix};
 use crate::scratch::unit;
 use interval::Scalar;
 use interval::ScalarResult;
 use linear::LinearError;
 use linear::choose;
-use linear::clear;
 use linear::minus_scaled;
 use linear::plus_dot;
 use linear::put;
@@ -53,12 +52,11 @@ fn left_after(k: usize, r: usize, q: &[f64], left: &mut [f64], p: usize)
     }
 }
 
-// The unit directions, with what is left of them after Q.
+// The unit directions, with what is left of them after Q, into a clear matrix.
 fn remainders(k: usize, r: usize, q: &[f64], left: &mut [f64])
-    requires { ⌜ (k ≤ 12) × ((r ≤ 12) × (length (now left) ≡ 288)) ⌝ }
+    requires { ⌜ (k ≤ 12) × ((r ≤ 12) × (now left ≡ matrix)) ⌝ }
     ensures { λ _. ⌜ now (left .exit) ≡ remaindersTo k r (now (q .entry)) k ⌝ }
 {
-    clear(left);
     for p in 0..k {
         put(left, 12 * p + p, Scalar::ONE);
         left_after(k, r, q, left, p);
@@ -142,13 +140,12 @@ fn less(k: usize, r: usize) -> usize
     0
 }
 
-// Z, from the first r rows of Q over k variables; `left` is scratch.
+// Z, from the first r rows of Q over k variables, into a clear matrix; `left` is scratch, clear too.
 pub fn free_directions(k: usize, r: usize, q: &[f64], z: &mut [f64], left: &mut [f64]) -> Found
-    requires { ⌜ (k ≤ 12) × ((r ≤ 12) × ((length (now z) ≡ 288) × (length (now left) ≡ 288))) ⌝ }
+    requires { ⌜ (k ≤ 12) × ((r ≤ 12) × ((now z ≡ matrix) × (now left ≡ matrix))) ⌝ }
     ensures { λ d. ⌜ foundOf d (now (z .exit)) ≡ spanOf (directionsOf k r (now (q .entry))) ⌝ }
 {
     let most = less(k, r);
-    clear(z);
     remainders(k, r, q, left);
     for count in 0..most {
         match take_longest(k, count, most, z, left) {

@@ -21,7 +21,6 @@ use interval::Scalar;
 use linear::along;
 use linear::at;
 use linear::choose;
-use linear::clear;
 use linear::plus_dot;
 use linear::put;
 
@@ -138,12 +137,11 @@ fn undamped_row(
     }
 }
 
-// J_rᵀ J_r + B over the kept variables, at the start of a curve that is clear behind it.
+// J_rᵀ J_r + B over the kept variables, at the start of a clear curve.
 fn undamped(n: usize, index: &[usize], k: usize, jr: &[f64], s: usize, b: &[f64], curve: &mut [f64])
-    requires { ⌜ (k ≤ 12) × ((length (now index) ≡ 12) × (length (now curve) ≡ 336)) ⌝ }
+    requires { ⌜ (k ≤ 12) × ((length (now index) ≡ 12) × (now curve ≡ zeros 336)) ⌝ }
     ensures { λ _. ⌜ now (curve .exit) ≡ fillRows (zeros 336) (λ i j. undampedAt (now (jr .entry)) s (curvatureAt n (now (b .entry)) (getD (now (index .entry)) i 0) (getD (now (index .entry)) j 0)) i j) k k ⌝ }
 {
-    clear(curve);
     for i in 0..k {
         undamped_row(n, index, k, jr, s, b, curve, i);
     }
@@ -173,12 +171,11 @@ fn damped_row(k: usize, curve: &[f64], mu: Scalar, h: &mut [f64], i: usize)
     }
 }
 
-// H = J_rᵀ J_r + B + mu D, from a curve.
+// H = J_rᵀ J_r + B + mu D, from a curve, into a clear matrix.
 pub fn damped(k: usize, curve: &[f64], mu: Scalar, h: &mut [f64])
-    requires { ⌜ (k ≤ 12) × ((length (now curve) ≡ 336) × (length (now h) ≡ 288)) ⌝ }
+    requires { ⌜ (k ≤ 12) × ((length (now curve) ≡ 336) × (now h ≡ matrix)) ⌝ }
     ensures { λ _. ⌜ now (h .exit) ≡ dampedCurve k (now (curve .entry)) mu ⌝ }
 {
-    clear(h);
     for i in 0..k {
         damped_row(k, curve, mu, h, i);
     }
@@ -213,7 +210,7 @@ fn slopes(xs: &[f64], e: RowSet, index: &[usize], k: usize, wide: &mut [f64], na
     chosen(wide, 0, 12 * e.count, narrow);
 }
 
-// The curve: J_rᵀ J_r + B, D and the gradient, from the slopes chosen.
+// The curve: J_rᵀ J_r + B, D and the gradient, from the slopes chosen, into a clear slice.
 fn fill_curve(
     n: usize,
     m: usize,
@@ -226,7 +223,7 @@ fn fill_curve(
     jc: &[f64],
     curve: &mut [f64],
 )
-    requires { ⌜ Small e × ((k ≤ 12) × ((length (now index) ≡ 12) × (((p : ℕ) → getD (now index) p 0 < 65536) × (length (now curve) ≡ 336)))) ⌝ }
+    requires { ⌜ Small e × ((k ≤ 12) × ((length (now index) ≡ 12) × (((p : ℕ) → getD (now index) p 0 < 65536) × (now curve ≡ zeros 336)))) ⌝ }
     ensures { λ _. ⌜ now (curve .exit) ≡ undampedOf n (keptBy k (now (index .entry))) (now (jr .entry)) (e .count) (now (b .entry)) ++ (scalingsOf k (now (jr .entry)) (e .count) (now (jc .entry)) m ++ gradientOf (keptBy k (now (index .entry))) (rowsIn (now (xs .entry)) e)) ⌝ }
 {
     undamped(n, index, k, jr, e.count, b, curve);
@@ -234,7 +231,8 @@ fn fill_curve(
     gradient(xs, e, index, k, curve);
 }
 
-// The problem over the k kept variables, from an answer's rows, before it is damped: the constraints' slopes, into clear slices, the same chosen, and the curve.
+// The problem over the k kept variables, from an answer's rows, before it is damped: the constraints' slopes, the same
+// chosen, and the curve, into clear slices.
 pub fn problem(
     n: usize,
     m: usize,
@@ -247,7 +245,7 @@ pub fn problem(
     jc: &mut [f64],
     curve: &mut [f64],
 )
-    requires { ⌜ (n ≤ 12) × ((m ≤ 12) × ((s ≤ 24) × ((k ≤ 12) × ((length (now index) ≡ 12) × (((p : ℕ) → getD (now index) p 0 < 65536) × ((now wide ≡ matrix) × ((now jc ≡ matrix) × (length (now curve) ≡ 336)))))))) ⌝ }
+    requires { ⌜ (n ≤ 12) × ((m ≤ 12) × ((s ≤ 24) × ((k ≤ 12) × ((length (now index) ≡ 12) × (((p : ℕ) → getD (now index) p 0 < 65536) × ((now wide ≡ matrix) × ((now jc ≡ matrix) × (now curve ≡ zeros 336)))))))) ⌝ }
     ensures { λ _. ⌜ ((mu : Scalar) → problemIn k m (valueAt (constraintsOf n m (now (xs .entry)))) (now (wide .exit)) (now (jc .exit)) (dampedCurve k (now (curve .exit)) mu) (gradientIn (now (curve .exit))) ≡ problemOf n (keptBy k (now (index .entry))) (evaluationOf n m s (now (xs .entry))) (now (b .entry)) mu) ⌝ }
 {
     let e = sum(n, m, s);

@@ -6,6 +6,7 @@ ghost use Prim.Native.Nat.{_≤_};
 ghost use lib.Ieee.{Float};
 ghost use lib.ListN.{length, take, drop, replicate};
 ghost use Rattle.linear.specs.Answers.{doneOf};
+ghost use Rattle.linear.specs.Flat.{zeros};
 ghost use Rattle.run.specs.Basis.{basisBy};
 ghost use Rattle.run.specs.Model.{problemIn};
 ghost use Rattle.run.specs.Rows.{rowsIn, evaluationOf, valueAt};
@@ -134,7 +135,8 @@ fn ready(end: Done, found: Found, r: usize) -> Prepared
     }
 }
 
-// A frame, from the basis on: Q, the coefficients, the correction and the free directions, one behind the other.
+// A frame, clear at first, from the basis on: Q, the coefficients, the correction and the free directions, one behind
+// the other.
 fn prepare_free(
     k: usize,
     m: usize,
@@ -147,7 +149,7 @@ fn prepare_free(
     c: RowSet,
     frame: &mut [f64],
 ) -> Prepared
-    requires { ⌜ (k ≤ 12) × ((m ≤ 12) × ((r ≤ 12) × ((length (now q) ≡ 288) × ((length (now coefficients) ≡ 288) × ((length (now order) ≡ 24) × (length (now frame) ≡ 888)))))) ⌝ }
+    requires { ⌜ (k ≤ 12) × ((m ≤ 12) × ((r ≤ 12) × ((length (now q) ≡ 288) × ((length (now coefficients) ≡ 288) × ((length (now order) ≡ 24) × (now frame ≡ zeros 888)))))) ⌝ }
     ensures { λ x. ⌜ ((h g : List Float) → framedStep x (curved k h g) (now (order .entry)) (now (frame .exit)) ≡ basedStep (problemIn k m (valueAt (rowsIn (now (xs .entry)) c)) [] [] h g) (basisBy r (now (q .entry)) [] (now (coefficients .entry)) (now (dependent .entry)) (now (order .entry)))) × Few x ⌝ }
 {
     let mut left = [0.0; 288];
@@ -180,7 +182,7 @@ fn prepare_kept(
     order: &mut [usize],
     frame: &mut [f64],
 ) -> Prepared
-    requires { ⌜ (k ≤ 12) × ((m ≤ 12) × ((now order ≡ replicate 24 0) × (length (now frame) ≡ 888))) ⌝ }
+    requires { ⌜ (k ≤ 12) × ((m ≤ 12) × ((now order ≡ replicate 24 0) × (now frame ≡ zeros 888))) ⌝ }
     ensures { λ x. ⌜ ((h g : List Float) → framedStep x (curved k h g) (now (order .exit)) (now (frame .exit)) ≡ keptStep (problemIn k m (valueAt (rowsIn (now (xs .entry)) c)) (now (wide .entry)) (now (jc .entry)) h g)) × Few x ⌝ }
 {
     let mut q = [0.0; 288];
@@ -207,7 +209,8 @@ fn prepare_kept(
     }
 }
 
-// What no damping changes of the step from an answer's rows and the curvature b, over the variables that move; the order is clear.
+// What no damping changes of the step from an answer's rows and the curvature b, over the variables that move, into
+// clear slices.
 pub fn prepare(
     n: usize,
     m: usize,
@@ -219,7 +222,7 @@ pub fn prepare(
     curve: &mut [f64],
     frame: &mut [f64],
 ) -> Prepared
-    requires { ⌜ (n ≤ 12) × ((m ≤ 12) × ((s ≤ 24) × ((length (now moving) ≡ 12) × ((now order ≡ replicate 24 0) × ((length (now curve) ≡ 336) × (length (now frame) ≡ 888)))))) ⌝ }
+    requires { ⌜ (n ≤ 12) × ((m ≤ 12) × ((s ≤ 24) × ((length (now moving) ≡ 12) × ((now order ≡ replicate 24 0) × ((now curve ≡ zeros 336) × (now frame ≡ zeros 888)))))) ⌝ }
     ensures { λ x. ⌜ PreparedFor n (evaluationOf n m s (now (rows .entry))) (now (b .entry)) (now (moving .entry)) x (now (order .exit)) (now (curve .exit)) (now (frame .exit)) ⌝ }
 {
     let mut index = [0; 12];

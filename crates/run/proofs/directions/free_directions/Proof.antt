@@ -20,20 +20,16 @@ abbrev μ-loop : tie.MeasureT-loop
 less-requires : tie.Need-less-requires Inv-loop μ-loop
 less-requires c κs = search needs
 
-clear-requires : tie.Need-clear-requires Inv-loop μ-loop
-clear-requires c κs = search needs
-
 remainders-requires : tie.Need-remainders-requires Inv-loop μ-loop
 remainders-requires c κs = search needs
 
 loop-holds : tie.Need-loop-holds Inv-loop μ-loop
 unfolding directionsOf
 loop-holds c =
-    let s = c .before .before .before .before .before .before .before .before .before .before .before .before in
-    let l = c .before .before .before .before .before .before .before .before .less in
+    let s = c .before .before .before .before .before .before .before .before in
+    let l = c .before .before .before .before .less in
     let m : l .result - 0 ≡ l .result = omega arith in
-    let z = rw (s .pre .1 .1 .0) at (c .before .before .before .before .before .before .clear .ensures) in
-    (search needs, search needs, search needs, rw (m, ← c .before .before .remainders .ensures, ← z, ← l .ensures), omega (arith, l .ensures, s .pre .0))
+    (search needs, search needs, search needs, rw (m, ← c .before .before .remainders .ensures, ← s .pre .1 .1 .0, ← l .ensures), omega (arith, l .ensures, s .pre .0))
 
 take-longest-requires : tie.Need-take-longest-requires Inv-loop μ-loop
 take-longest-requires c κs = search needs
@@ -98,7 +94,6 @@ free-directions-spec =
     Inv-loop
     μ-loop
     less-requires
-    clear-requires
     remainders-requires
     loop-holds
     take-longest-requires

@@ -16,12 +16,9 @@ Inv-loop k r q left₀ p₀ left p = (p ≤ k) × (length left ≡ length left�
 abbrev μ-loop : tie.MeasureT-loop
 μ-loop k r q left₀ p₀ left p = k - p
 
-clear-requires : tie.Need-clear-requires Inv-loop μ-loop
-clear-requires c κs = search needs
-
 loop-holds : tie.Need-loop-holds Inv-loop μ-loop
 unfolding remaindersTo
-loop-holds c = (search needs, search needs, rw (c .before .before .before .before .before .before .pre .1 .1) at (c .before .before .clear .ensures))
+loop-holds c = (search needs, search needs, c .before .before .pre .1 .1)
 
 mul-put : tie.Need-mul-put Inv-loop μ-loop
 mul-put c = search needs
@@ -59,7 +56,6 @@ remainders-spec =
     (tie.spec
     Inv-loop
     μ-loop
-    clear-requires
     loop-holds
     mul-put
     add-put

@@ -18,12 +18,9 @@ Inv-loop k curve mu h₀ i₀ h i = (i ≤ k) × (length h ≡ length h₀) × (
 abbrev μ-loop : tie.MeasureT-loop
 μ-loop k curve mu h₀ i₀ h i = k - i
 
-clear-requires : tie.Need-clear-requires Inv-loop μ-loop
-clear-requires c κs = search needs
-
 loop-holds : tie.Need-loop-holds Inv-loop μ-loop
 unfolding fillRows
-loop-holds c = (search needs, search needs, rw (c .before .before .before .before .before .before .pre .1 .1) at (c .before .before .clear .ensures))
+loop-holds c = (search needs, search needs, c .before .before .pre .1 .1)
 
 damped-row-requires : tie.Need-damped-row-requires Inv-loop μ-loop
 damped-row-requires c κs = search needs
@@ -41,7 +38,7 @@ same-length : tie.Need-same-length Inv-loop μ-loop
 same-length c = search needs
 
 returns : tie.Need-returns Inv-loop μ-loop
-returns c = let s = c .before .before .before .before .before .before .before .before in rw (le-antisymm (c .before .loop .inv .0) (c .loop-test .left)) at (c .before .loop .inv .2) ∙ damped-read (s .args .k) (s .args .curve .now) (s .args .mu) (s .pre .0) (s .pre .1 .0)
+returns c = let s = c .before .before .before .before in rw (le-antisymm (c .before .loop .inv .0) (c .loop-test .left)) at (c .before .loop .inv .2) ∙ damped-read (s .args .k) (s .args .curve .now) (s .args .mu) (s .pre .0) (s .pre .1 .0)
 
 pub damped-spec : {M : Type 1} → statement M
 damped-spec =
@@ -49,7 +46,6 @@ damped-spec =
     (tie.spec
     Inv-loop
     μ-loop
-    clear-requires
     loop-holds
     damped-row-requires
     add-i

@@ -18,12 +18,9 @@ Inv-loop n index k jr s b curve₀ i₀ curve i = (i ≤ k) × (length curve ≡
 abbrev μ-loop : tie.MeasureT-loop
 μ-loop n index k jr s b curve₀ i₀ curve i = k - i
 
-clear-requires : tie.Need-clear-requires Inv-loop μ-loop
-clear-requires c κs = search needs
-
 loop-holds : tie.Need-loop-holds Inv-loop μ-loop
 unfolding fillRows
-loop-holds c = (search needs, search needs, rw (c .before .before .before .before .before .before .before .before .pre .1 .1) at (c .before .before .clear .ensures))
+loop-holds c = (search needs, search needs, c .before .before .before .before .pre .1 .1)
 
 undamped-row-requires : tie.Need-undamped-row-requires Inv-loop μ-loop
 undamped-row-requires c κs = search needs
@@ -49,7 +46,6 @@ undamped-spec =
     (tie.spec
     Inv-loop
     μ-loop
-    clear-requires
     loop-holds
     undamped-row-requires
     add-i

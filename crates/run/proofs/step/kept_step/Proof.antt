@@ -1,5 +1,6 @@
 -- `kept_step` meets its contract: H is damped into a clear array, then the test decides.
 use mathlib.Core.Path.{refl}
+use lib.Ieee.{ofBits}
 use Rattle.run.proofs.StepLaws.{damped-not, damped-on}
 use borrow.Author.Needs.{needs}
 use Rattle.run.proofs.step.kept_step.Statement.{statement}
@@ -9,6 +10,7 @@ slice-aggregate-damped : tie.Need-slice-aggregate-damped
 slice-aggregate-damped c = search needs
 
 damped-requires : tie.Need-damped-requires
+unfolding ofBits
 damped-requires c κs = let p = c .before .before .before .before .before .before .pre in (p .0, (p .1 .0 .curve-length, refl))
 
 slice-aggregate-all-finite : tie.Need-slice-aggregate-all-finite

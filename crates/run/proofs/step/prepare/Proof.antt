@@ -3,6 +3,7 @@ use mathlib.Core.Path.{refl, ap, _∙_}
 use native.Mathlib.Omega.{arith}
 use lib.Ieee.{ofBits}
 use lib.ListN.{length}
+use Rattle.run.proofs.AreaSlots.{length-clear}
 use Rattle.run.proofs.ModelLaws.{kept-few, kept-near}
 use Rattle.run.proofs.StepLaws.{prepared-is}
 use borrow.Author.Needs.{needs}
@@ -61,7 +62,7 @@ returns c =
     let q = c .before .before .before .before .before .before .before .before .before .before .before .before .before .before .problem in
     let f = c .before .before .before .before .prepare-kept in
     record {
-      framed = record { few = f .ensures .1; order-length = f .kept .1 .1 .1 .1 .1 .1 .0 ∙ ap length (p .1 .1 .1 .1 .0); curve-length = q .kept .1 .1 .1 .1 .1 .1 .1 .1 .1 .0 ∙ p .1 .1 .1 .1 .1 .0; frame-length = f .kept .1 .1 .1 .1 .1 .1 .1 .0 ∙ p .1 .1 .1 .1 .1 .1 };
+      framed = record { few = f .ensures .1; order-length = f .kept .1 .1 .1 .1 .1 .1 .0 ∙ ap length (p .1 .1 .1 .1 .0); curve-length = q .kept .1 .1 .1 .1 .1 .1 .1 .1 .1 .0 ∙ ap length (p .1 .1 .1 .1 .1 .0) ∙ length-clear 336; frame-length = f .kept .1 .1 .1 .1 .1 .1 .1 .0 ∙ ap length (p .1 .1 .1 .1 .1 .1) ∙ length-clear 888 };
       steps = λ mu. prepared-is _ _ _ _ _ _ mu (k .ensures) _ _ _ _ _ _ (q .ensures mu) (rw (c .before .before .before .before .before .before .before .constraints .ensures) at (f .ensures .0));
     }
 

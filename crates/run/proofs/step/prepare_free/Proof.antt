@@ -1,23 +1,27 @@
 -- `prepare_free` meets its contract: Q and the coefficients are copied, the correction and the directions are written behind them, and how these two ended decides.
-use mathlib.Core.Path.{_≡_, _∙_}
+use mathlib.Core.Path.{_≡_, refl, ap, _∙_}
 use native.Mathlib.Omega.{arith}
 use mathlib.Core.List.{[], _++_}
+use lib.Ieee.{ofBits}
 use lib.ListN.{length, take, drop}
 use Rattle.run.specs.Basis.{basisBy}
 use Rattle.run.specs.Model.{problemIn}
 use Rattle.run.specs.Rows.{rowsIn, valueAt}
-use Rattle.run.proofs.AreaSlots.{part-back}
+use Rattle.run.proofs.AreaSlots.{part-back, length-clear}
 use Rattle.run.proofs.BasisLaws.{correction-reads}
-use Rattle.run.proofs.Frames.{length-lent, four-written}
+use Rattle.run.proofs.Frames.{length-lent, four-written, fourth-clear}
 use Rattle.run.proofs.LeaveLaws.{cut-length}
 use Rattle.run.proofs.StepLaws.{ready-framed, ready-few}
 use borrow.Author.Needs.{needs}
 use Rattle.run.proofs.step.prepare_free.Statement.{statement}
 use Rattle.run.proofs.step.prepare_free.Tie as tie
 
+clear-long : (s : tie.Start) → length (s .args .frame .now) ≡ 888
+clear-long s = ap length (s .pre .1 .1 .1 .1 .1 .1) ∙ length-clear 888
+
 -- the frame before the correction is written in it, and the correction
 copied : (k : tie.After-correction) → length (k .before .before .before .before .place2 .last .0) ≡ 888
-copied k = k .before .before .before .before .place2 .kept .0 ∙ k .before .before .before .before .before .before .before .before .place .kept .0 ∙ k .before .before .before .before .before .before .before .before .before .before .before .before .before .before .before .before .pre .1 .1 .1 .1 .1 .1
+copied k = k .before .before .before .before .place2 .kept .0 ∙ k .before .before .before .before .before .before .before .before .place .kept .0 ∙ clear-long (k .before .before .before .before .before .before .before .before .before .before .before .before .before .before .before .before)
 
 corrected : (k : tie.After-correction) → length (k .correction .last .1 .1 .1 .1 .1 .1 .1 .1 .1 .0) ≡ 24
 corrected k = k .correction .kept .1 .1 .1 .1 .1 .1 .1 .1 .1 .0 ∙ cut-length 24 576 (k .before .before .before .before .place2 .last .0) (omega (arith, copied k))
@@ -26,10 +30,10 @@ whole : (k : tie.After-correction) → let a = k .before .before .before .before
 whole k = length-lent (k .before .before .before .before .place2 .last .0) (k .correction .last .1 .1 .1 .1 .1 .1 .1 .1 .1 .0) 576 24 (corrected k) (omega (arith, copied k)) ∙ copied k
 
 place-requires : tie.Need-place-requires
-place-requires c κs = search needs
+place-requires c κs = let s = c .before .before .before .before .before .before .before in omega (arith, clear-long s, s .pre .1 .1 .1 .0)
 
 place-requires-2 : tie.Need-place-requires-2
-place-requires-2 c κs = search needs
+place-requires-2 c κs = let s = c .before .before .before .before .before .before .before .before .before .before .before in omega (arith, clear-long s, c .before .before .before .place .kept .0, s .pre .1 .1 .1 .1 .0)
 
 sub-correction : tie.Need-sub-correction
 sub-correction c = search needs
@@ -38,7 +42,7 @@ part-correction-start : tie.Need-part-correction-start
 part-correction-start c = search needs
 
 part-correction-end : tie.Need-part-correction-end
-part-correction-end c = search needs
+part-correction-end c = omega (arith, clear-long (c .before .before .before .before .before .before .before .before .before .before .before .before .before .before), c .before .before .before .before .before .before .place .kept .0, c .before .before .place2 .kept .0)
 
 correction-requires : tie.Need-correction-requires
 correction-requires c κs = search needs
@@ -56,7 +60,15 @@ slice-aggregate-free-directions : tie.Need-slice-aggregate-free-directions
 slice-aggregate-free-directions c = search needs
 
 free-directions-requires : tie.Need-free-directions-requires
-free-directions-requires c κs = search needs
+unfolding ofBits
+free-directions-requires c κs =
+    let k = c .before .before .before .before in
+    let s = c .before .before .before .before .before .before .before .before .before .before .before .before .before .before .before .before .before .before .before .before in
+    let p = s .pre in
+    let x = k .before .before .before .before .place2 .last .0 in
+    let t = k .correction .last .1 .1 .1 .1 .1 .1 .1 .1 .1 .0 in
+    let e = fourth-clear (s .args .frame .now) (s .args .q .now) (s .args .coefficients .now) t (p .1 .1 .1 .0) (p .1 .1 .1 .1 .0) (corrected k) (k .before .before .before .before .before .before .before .before .place .ensures) (k .before .before .before .before .place2 .ensures) (part-back x t 576 24 (corrected k)) (p .1 .1 .1 .1 .1 .1) in
+    (p .0, (p .1 .1 .0, (e, refl)))
 
 ready-requires : tie.Need-ready-requires
 ready-requires c κs = search needs
@@ -75,7 +87,7 @@ returns c =
     let y = take 576 x ++ (t ++ drop 24 (drop 576 x)) in
     let z = c .before .before .before .before .free-directions .last .1 .1 .1 .0 in
     let lz : length z ≡ 288 = c .before .before .before .before .free-directions .kept .1 .1 .1 .0 ∙ cut-length 288 600 y (omega (arith, whole k)) in
-    let e = four-written (a .frame .now) (a .q .now) (a .coefficients .now) t z (p .1 .1 .1 .0) (p .1 .1 .1 .1 .0) (corrected k) lz (p .1 .1 .1 .1 .1 .1) (c .before .before .before .before .before .before .before .before .before .before .before .before .before .before .before .before .before .place .ensures) (c .before .before .before .before .before .before .before .before .before .before .before .before .before .place2 .ensures) (part-back x t 576 24 (corrected k)) (part-back y z 600 288 lz) in
+    let e = four-written (a .frame .now) (a .q .now) (a .coefficients .now) t z (p .1 .1 .1 .0) (p .1 .1 .1 .1 .0) (corrected k) lz (clear-long s) (c .before .before .before .before .before .before .before .before .before .before .before .before .before .before .before .before .before .place .ensures) (c .before .before .before .before .before .before .before .before .before .before .before .before .before .place2 .ensures) (part-back x t 576 24 (corrected k)) (part-back y z 600 288 lz) in
     let f = c .before .before .before .before .free-directions in
     let b = basisBy (a .r) (a .q .now) [] (a .coefficients .now) (a .dependent .now) (a .order .now) in (
       (λ h g.
