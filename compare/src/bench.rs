@@ -1,6 +1,6 @@
-//! How long the Rattle takes beside the Rust, in one process: scalars, list functions, and whole runs on fixed corpora of
-//! frames. Each task is done by both in turn, round after round, and the least time of each counts. Both must give the
-//! same words. What one call takes is timed of the Rattle alone.
+//! How long the Rattle takes beside the Rust, in one process: scalars, list functions, and whole runs on fixed corpora
+//! of frames. Each task is done by both in turn, round after round, and the least time of each counts. Both must give
+//! the same words. What one call takes is timed of the Rattle alone.
 
 mod lists;
 mod scalars;

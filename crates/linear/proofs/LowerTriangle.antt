@@ -72,19 +72,26 @@ cholesky-lower n a b same =
     )
 
 -- the same of matrices that are written entry by entry
-module _ (n : ℕ) (f g : ℕ → ℕ → Scalar) (same : SameBelow f g n) where
-  entry-of : (h : ℕ → ℕ → Scalar) (i j : ℕ) → i < n → j < n → entry n (listTo (λ p. h (p / n) (p % n)) (n * n)) i j ≡ h i j
-  entry-of h i j l k = at-listTo (λ p. h (p / n) (p % n)) (n * n) (i * n + j) (digits-lt {q = i} {m = n} {r = j} {c = n} l k) ∙ rw (digits-div i k, digits-mod i k)
+abbrev pub matrixOf : ℕ → (ℕ → ℕ → Scalar) → List Float
+matrixOf n f = listTo (λ p. f (p / n) (p % n)) (n * n)
 
-  entries-same : SameBelow (entry n (listTo (λ p. f (p / n) (p % n)) (n * n))) (entry n (listTo (λ p. g (p / n) (p % n)) (n * n))) n
+entry-of : (n : ℕ) (f : ℕ → ℕ → Scalar) (i j : ℕ) → i < n → j < n → entry n (matrixOf n f) i j ≡ f i j
+entry-of n f i j h k =
+    let inside : i * n + j < n * n = digits-lt {q = i} {m = n} {r = j} {c = n} h k in
+    at-listTo (λ p. f (p / n) (p % n)) (n * n) (i * n + j) inside ∙ rw (digits-div i k, digits-mod i k)
+
+module _ (n : ℕ) (f g : ℕ → ℕ → Scalar) (same : SameBelow f g n) where
+  entries-same : SameBelow (entry n (matrixOf n f)) (entry n (matrixOf n g)) n
   entries-same i j h l =
       let k : j < n = omega arith in
-      entry-of f i j h k ∙ same i j h l ∙ sym (entry-of g i j h k)
+      entry-of n f i j h k ∙ same i j h l ∙ sym (entry-of n g i j h k)
 
-  pub cholesky-entries : choleskyOf n (listTo (λ p. f (p / n) (p % n)) (n * n)) ≡ choleskyOf n (listTo (λ p. g (p / n) (p % n)) (n * n))
-  cholesky-entries = cholesky-lower n (listTo (λ p. f (p / n) (p % n)) (n * n)) (listTo (λ p. g (p / n) (p % n)) (n * n)) entries-same
+  pub cholesky-entries : choleskyOf n (matrixOf n f) ≡ choleskyOf n (matrixOf n g)
+  cholesky-entries = cholesky-lower n (matrixOf n f) (matrixOf n g) entries-same
 
 -- the products of the lower triangle have the factor of all products
 pub cholesky-gram : (m n : ℕ) (jc : List Float) → choleskyOf m (lowerGramOf m n jc) ≡ choleskyOf m (gramOf m n jc)
 unfolding lowerGramOf gramOf gramAt
-cholesky-gram m n jc = cholesky-entries m (gramAt n jc) (λ i j. dotTo (along jc (i * n) 1) (along jc (j * n) 1) n) (λ i j h l. rw (le-ltb i j l))
+cholesky-gram m n jc =
+    let all : ℕ → ℕ → Scalar = λ i j. dotTo (along jc (i * n) 1) (along jc (j * n) 1) n in
+    cholesky-entries m (gramAt n jc) all (λ i j h l. rw (le-ltb i j l))

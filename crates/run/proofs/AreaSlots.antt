@@ -274,7 +274,8 @@ clear-behind x ls ns base n {a} {b} lx e ea q =
     let o : base + 0 ≡ base = add-zero base in
     let over : written r 0 z ≡ z ++ zeros n =
     ap (λ (u : List Float). written u 0 z) (joined-end ls (zeros n)) ∙ written-first (joined ls []) (zeros n) z l in
-    let clear : z ++ zeros n ≡ joined (map zeros ns) (zeros n) = rw replicate-append-replicate (sym (clear-joined ns n)) in
+    let clear : z ++ zeros n ≡ joined (map zeros ns) (zeros n) =
+    rw replicate-append-replicate (sym (clear-joined ns n)) in
     q
     ∙ ap (λ (u : List Float). written u base z) ea
     ∙ (rw o at (written-past x r base 0 z lx))

@@ -62,13 +62,14 @@ module _ (k : ℕ) (left : List Float) where
   longest-root p e h = rw (h, e)
 
 -- one more direction, and at most t after it
-module _ (k : ℕ) {n t : ℕ} (d : Directions) {best : ℕ} (en : n ≡ suc t) (eb : best ≡ longestTo k (d .left) (k - 1)) where
+module _ (k : ℕ) {n t : ℕ} (d : Directions) {best : ℕ}
+    (en : n ≡ suc t) (eb : best ≡ longestTo k (d .left) (k - 1)) where
   pub turn-refused : {e : ℕ} → sqrtOf (squareOf k (d .left) best) ≡ refused e → refused e ≡ spanOf (directionsTo k n d)
   unfolding spanOf directionsTo takeLongest bind
   turn-refused er = rw (en, ← eb, er)
 
-  module _ {l length : Scalar} {longer : Bool}
-      (el : sqrtOf (squareOf k (d .left) best) ≡ ok l) (es : length ≡ sharpen l) (eg : longer ≡ definitelyGreater length zeroS) where
+  module _ {l length : Scalar} {longer : Bool} (el : sqrtOf (squareOf k (d .left) best) ≡ ok l)
+      (es : length ≡ sharpen l) (eg : longer ≡ definitelyGreater length zeroS) where
     test : definitelyGreater (sharpen l) zeroS ≡ longer
     test = ap (λ x. definitelyGreater x zeroS) (sym es) ∙ sym eg
 
@@ -76,7 +77,8 @@ module _ (k : ℕ) {n t : ℕ} (d : Directions) {best : ℕ} (en : n ≡ suc t) 
     unfolding spanOf directionsTo takeLongest bind
     turn-last e = rw (en, ← eb, el, test, e)
 
-    module _ {z : List Float} (e : longer ≡ true) (ez : z ≡ fillTo (d .z) (12 * d .count) (unitAt (row (d .left) best) length) k) where
+    module _ {z : List Float} (e : longer ≡ true)
+        (ez : z ≡ fillTo (d .z) (12 * d .count) (unitAt (row (d .left) best) length) k) where
       pub turn-on : {left : List Float} → left ≡ withoutTo k z (d .count) (d .left) k
           → spanOf (directionsTo k t (directionsIn (d .count + 1) z left)) ≡ spanOf (directionsTo k n d)
       unfolding directionsTo takeLongest bind
@@ -88,7 +90,8 @@ module _ (k : ℕ) {n t : ℕ} (d : Directions) {best : ℕ} (en : n ≡ suc t) 
       unfolding spanOf directionsTo bind
       turn-full left f =
           let left′ : List Float = withoutTo k z (d .count) (d .left) k in
-          let s : spanOf (directionsTo k t (directionsIn (d .count + 1) z left)) ≡ spanOf (directionsTo k t (directionsIn (d .count + 1) z left′)) = rw f in
+          let on : List Float → Res Directions = λ x. spanOf (directionsTo k t (directionsIn (d .count + 1) z x)) in
+          let s : on left ≡ on left′ = rw f in
           s ∙ turn-on refl
 
 pub directions-none : (k most count : ℕ) (z left : List Float)

@@ -48,7 +48,8 @@ module _ (a q c d : List Float) (lq : length q ≡ 288) (lc : length c ≡ 288) 
   three-long : length ((q ++ c) ++ d) ≡ 600
   three-long = length-both (q ++ c) d (length-both q c lq lc) ld
 
-  module _ {a₁ a₂ a₃ : List Float} (e₁ : a₁ ≡ written a 0 q) (e₂ : a₂ ≡ written a₁ 288 c) (e₃ : a₃ ≡ written a₂ 576 d) where
+  module _ {a₁ a₂ a₃ : List Float}
+      (e₁ : a₁ ≡ written a 0 q) (e₂ : a₂ ≡ written a₁ 288 c) (e₃ : a₃ ≡ written a₂ 576 d) where
     three-written : length a ≡ 888 → a₃ ≡ written a 0 ((q ++ c) ++ d)
     three-written la =
         let l₂ : length (q ++ c) ≡ 576 = length-both q c lq lc in
@@ -61,7 +62,9 @@ module _ (a q c d : List Float) (lq : length q ≡ 288) (lc : length c ≡ 288) 
         let s : List Float = (q ++ c) ++ d in
         let m : 0 + length s ≡ 600 = omega (arith, three-long) in
         let w : a₃ ≡ s ++ drop 600 a = rw m at (three-written (ap length e ∙ length-clear 888)) in
-        let r : drop 600 (zeros 888) ≡ zeros 288 = ap (drop 600) (sym (replicate-append-replicate 600 288 zero64)) ∙ drop-at (zeros 600) (zeros 288) 600 (length-clear 600) in
+        let both : zeros 600 ++ zeros 288 ≡ zeros 888 = replicate-append-replicate 600 288 zero64 in
+        let part : drop 600 (zeros 600 ++ zeros 288) ≡ zeros 288 = drop-at (zeros 600) _ 600 (length-clear 600) in
+        let r : drop 600 (zeros 888) ≡ zeros 288 = ap (drop 600) (sym both) ∙ part in
         rw (w, drop-at s (drop 600 a) 600 three-long, e, r) (take-whole (zeros 288) (length-clear 288))
 
 module _ (a q c d z : List Float) (lq : length q ≡ 288) (lc : length c ≡ 288) (ld : length d ≡ 24) (lz : length z ≡ 288) where

@@ -180,7 +180,8 @@ framed-is x P order frame q c delta z lq lc ld lz e =
 
 -- the step from it, as the correction and the directions ended
 module _ (P : Problem) (b : Basis) (delta z : List Float) where
-  ready-is : (d : Done) (f : Found) → doneOf d delta ≡ correctionOf P b → foundOf f z ≡ spanOf (directionsOf (P .k) (b .rank) (b .q))
+  ready-is : (d : Done) (f : Found) → doneOf d delta ≡ correctionOf P b
+      → foundOf f z ≡ spanOf (directionsOf (P .k) (b .rank) (b .q))
       → readyStep (readyOf d f (b .rank)) (curved (P .k) (P .h) (P .g)) (b .q) (b .coefficients) (b .order) delta z ≡ basedStep P b
   unfolding bind
   ready-is done.Finished (found.Of count) ec ef = based-on P b ec (corrected-by P b delta ef)
@@ -201,7 +202,8 @@ module _ (k r : ℕ) (q z : List Float) (hk : k ≤ 12) (hr : r ≤ 12) where
   few-found done.Finished (found.Refused o) e = record { independent = omega arith; free = omega arith }
   few-found (done.Refused o) f e = record { independent = omega arith; free = omega arith }
 
-  pub ready-few : {x : Prepared} (d : Done) (f : Found) → x ≡ readyOf d f r → foundOf f z ≡ spanOf (directionsOf k r q) → Few x
+  pub ready-few : {x : Prepared} (d : Done) (f : Found)
+      → x ≡ readyOf d f r → foundOf f z ≡ spanOf (directionsOf k r q) → Few x
   ready-few d f ex e = rw ex (few-found d f e)
 
 -- the step from it, where the correction is copied, or the refusal

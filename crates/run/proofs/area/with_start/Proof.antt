@@ -1,4 +1,4 @@
--- `with_start` meets its contract: the asked point is cleared and the rows take their slot's place in what is else clear.
+-- `with_start` meets its contract: the asked point is cleared and the rows take their slot's place in what is clear.
 use borrow.Author.Needs.{needs}
 use Rattle.run.proofs.AreaSlots.{start-holds}
 use Rattle.run.proofs.area.with_start.Statement.{statement}

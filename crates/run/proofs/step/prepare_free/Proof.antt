@@ -67,7 +67,10 @@ free-directions-requires c κs =
     let p = s .pre in
     let x = k .before .before .before .before .place2 .last .0 in
     let t = k .correction .last .1 .1 .1 .1 .1 .1 .1 .1 .1 .0 in
-    let e = fourth-clear (s .args .frame .now) (s .args .q .now) (s .args .coefficients .now) t (p .1 .1 .1 .0) (p .1 .1 .1 .1 .0) (corrected k) (k .before .before .before .before .before .before .before .before .place .ensures) (k .before .before .before .before .place2 .ensures) (part-back x t 576 24 (corrected k)) (p .1 .1 .1 .1 .1 .1) in
+    let a = s .args in
+    let one = k .before .before .before .before .before .before .before .before .place .ensures in
+    let two = k .before .before .before .before .place2 .ensures in
+    let e = fourth-clear (a .frame .now) (a .q .now) (a .coefficients .now) t (p .1 .1 .1 .0) (p .1 .1 .1 .1 .0) (corrected k) one two (part-back x t 576 24 (corrected k)) (p .1 .1 .1 .1 .1 .1) in
     (p .0, (p .1 .1 .0, (e, refl)))
 
 ready-requires : tie.Need-ready-requires
