@@ -1,5 +1,5 @@
 -- Directions taken one at a time: one turn more of each loop, the bound of the longest remainder, and what a turn does to the directions that are still to be taken.
-use Prim.Native.Nat.{ℕ, zero, suc, _+_, _*_, _-_, _<_, _≤_}
+use Prim.Native.Nat.{ℕ, zero, suc, _+_, _*_, _-_, _≤_}
 use mathlib.Core.Bool.{Bool, true, false}
 use mathlib.Core.Path.{_≡_, refl, sym, ap, _∙_}
 use mathlib.Core.List.{List}
@@ -14,7 +14,7 @@ use Rattle.interval.proofs.Results.{refused-ok, ok-inj}
 use Rattle.linear.specs.Flat.{put}
 use Rattle.linear.specs.Results.{bind}
 use Rattle.run.specs.Scratch.{matrix, row, fillTo, unitAt}
-use Rattle.run.specs.Directions.{partOff, leftAfter, remaindersTo, withoutTo, squareOf, longestTo, longestIn, Directions, directionsIn, More, more, enough, takeLongest, goOn, directionsTo, directionsOf, spanOf}
+use Rattle.run.specs.Directions.{partOff, leftAfter, remaindersTo, withoutTo, squareOf, longestTo, longestIn, Directions, directionsIn, more, enough, takeLongest, goOn, directionsTo, directionsOf, spanOf}
 use Rattle.run.specs.declared.directions.Remainder.{Remainder}
 
 module _ (k : ℕ) {s : List Float} where

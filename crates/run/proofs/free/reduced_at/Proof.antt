@@ -1,5 +1,4 @@
 -- `reduced_at` meets its contract: zero above the diagonal, the sum of products, chosen, below.
-use native.Mathlib.Omega.{arith}
 use borrow.Author.Needs.{needs}
 use borrow.Author.Tests.{lt-ltb, le-ltb}
 use lib.Ieee.{ofBits}
