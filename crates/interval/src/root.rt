@@ -71,8 +71,9 @@ fn pattern_of(c: u64) -> u64
     c + 4602678819172646912
 }
 
-// About the root of c: a quadratic start and two steps of Heron's rule. The sum rounds to the nearest whole number:
-// with a half taken off it is rarely above the root, so the branches of the loops that correct it are predicted.
+// About the root of c: a quadratic start y0 and two steps of Heron's rule, doubled and then doubled again, which needs no
+// halving. The sum rounds to the nearest whole number: with a half taken off it is rarely above the root, so the branches
+// of the loops that correct it are predicted.
 fn estimate(c: u64) -> u64
     requires { ⌜ (2 ^ 52 ≤ c) × (c < 2 ^ 54) ⌝ }
     ensures { λ q. ⌜ q < 2 ^ 28 ⌝ }
@@ -80,9 +81,9 @@ fn estimate(c: u64) -> u64
     let m = pattern_of(c);
     let z = f64::from_bits(m);
     let y0 = (0.5260096847824647 - z * 0.03954011134266244) * z + 0.5185546318243788;
-    let y1 = (y0 + z / y0) * 0.5;
-    let y2 = (y1 + z / y1) * 0.5;
-    let w = (y2 * 67108864.0 - 0.5) + 4503599627370496.0;
+    let y1 = y0 + z / y0;
+    let y2 = y1 + z * 4.0 / y1;
+    let w = y2 * 16777216.0 + 4503599627370495.5;
     if w == w {
         return f64::to_bits(w) % 268435456;
     }
