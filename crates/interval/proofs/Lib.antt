@@ -1,5 +1,6 @@
 pub mod Given
 pub mod Results
+pub mod Division
 pub mod Integers
 pub mod Corners
 pub mod Patterns

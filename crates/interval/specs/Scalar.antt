@@ -69,6 +69,10 @@ holdsZero y = le (y .lo) zero64 && le zero64 (y .hi)
 abbrev pub inverse : Scalar → Scalar
 inverse y = outward (div binary64 one64 (y .hi)) (div binary64 one64 (y .lo))
 
+-- the inverse, refused where the interval could be zero
+unfoldable pub inverseOf : Scalar → Res Scalar
+inverseOf y = pick (holdsZero y) (refused 6) (ok (inverse y))
+
 unfoldable pub divOf : Scalar → Scalar → Res Scalar
 divOf x y = pick (holdsZero y) (refused 6) (ok (mulOf x (inverse y)))
 

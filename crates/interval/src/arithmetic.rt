@@ -2,7 +2,8 @@
 ghost use mathlib.Core.Path.{_≡_};
 ghost use lib.IntN.{_+ℤ_, _-ℤ_};
 ghost use Rattle.interval.specs.Enclosure.{Gives, GivesResult, Encloses, EnclosesProduct, EnclosesNegation, EnclosesQuotient, EnclosesSize, EnclosesRoot};
-ghost use Rattle.interval.specs.Scalar.{addOf, subOf, mulOf, negOf, divOf, absOf, sqrtOf, spread, holdsZero, inverse, clamped};
+ghost use Rattle.interval.specs.Result.{resultOf};
+ghost use Rattle.interval.specs.Scalar.{addOf, subOf, mulOf, negOf, divOf, absOf, sqrtOf, spread, holdsZero, inverseOf, clamped};
 use crate::GeopError;
 use crate::Scalar;
 use crate::ScalarResult;
@@ -78,24 +79,27 @@ impl Scalar {
         self.lo <= 0.0 && self.hi >= 0.0
     }
 
-    // The reciprocals of the ends, exchanged and stepped outward.
-    fn inverse_of(self) -> Scalar
-        ensures { λ r. ⌜ r ≡ inverse self ⌝ }
+    // The reciprocals of the ends, exchanged and stepped outward. Refused where the interval could be zero.
+    pub fn inverse(self) -> ScalarResult
+        ensures { λ r. ⌜ resultOf r ≡ inverseOf self ⌝ }
     {
-        Scalar {
+        if self.holds_zero() {
+            return ScalarResult::Refused(GeopError::DivisorContainsZero);
+        }
+        ScalarResult::Value(Scalar {
             lo: next_down(1.0 / self.hi),
             hi: next_up(1.0 / self.lo),
-        }
+        })
     }
 
-    // Refused where the divisor could be zero.
+    // The product with the divisor's inverse. Refused where the divisor could be zero.
     pub fn div(self, other: Scalar) -> ScalarResult
         ensures { λ r. ⌜ GivesResult (divOf self other) (EnclosesQuotient self other) r ⌝ }
     {
-        if other.holds_zero() {
-            return ScalarResult::Refused(GeopError::DivisorContainsZero);
+        match other.inverse() {
+            ScalarResult::Value(i) => ScalarResult::Value(self.mul(i)),
+            ScalarResult::Refused(e) => ScalarResult::Refused(e),
         }
-        ScalarResult::Value(self.mul(other.inverse_of()))
     }
 
     pub fn abs(self) -> Scalar

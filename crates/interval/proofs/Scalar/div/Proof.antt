@@ -1,44 +1,53 @@
--- `div` meets its contract: the test decides the refusal, and else the product with the inverse encloses the quotient.
+-- `div` meets its contract: the divisor's inverse decides the refusal, and else the product with it encloses the quotient.
 use mathlib.Core.Path.{sym, _∙_, ap, subst}
 use Prim.Native.Nat.{_^_}
 use borrow.Author.Needs.{needs}
-use Rattle.interval.specs.Scalar.{divOf, mulOf}
-use Rattle.interval.specs.Result.{ok}
+use Rattle.interval.specs.Scalar.{mulOf}
+use Rattle.interval.specs.Result.{ok, resultOf}
 use Rattle.interval.specs.Enclosure.{EnclosesQuotient}
 use Rattle.interval.proofs.Scalar.div.Statement.{statement}
 use Rattle.interval.proofs.Scalar.div.Tie as tie
 use Rattle.interval.proofs.Given.{yes}
 use Rattle.interval.proofs.Results.{refused-ok, ok-inj}
+use Rattle.interval.proofs.Division.{inverse-value, div-value, div-refused}
 use Rattle.interval.proofs.Enclosure.Div.{div-holds}
 
-holds-zero-requires : tie.Need-holds-zero-requires
-holds-zero-requires c κs = search needs
+inverse-requires : tie.Need-inverse-requires
+inverse-requires c κs = search needs
 
-returns : tie.Need-returns
-unfolding divOf
-returns c = record { value = simp (sym (c .before .holds-zero .ensures) ∙ c .if1 .taken); encloses = λ x e. absurd (refused-ok e) }
-
-inverse-of-requires : tie.Need-inverse-of-requires
-inverse-of-requires c κs = search needs
+enum-known-i : tie.Need-enum-known-i
+enum-known-i c = search needs
 
 mul-requires : tie.Need-mul-requires
 mul-requires c κs = search needs
 
-returns-2 : tie.Need-returns-2
-unfolding divOf
-returns-2 c =
-    let s = c .before .before .before .before in
+enum-known-e : tie.Need-enum-known-e
+enum-known-e c = search needs
+
+returns : tie.Need-returns
+returns c =
+    let k = c .before .before in
+    let s = k .before .before .before in
     let x = s .args .self in
     let y = s .args .other in
     let g = s .good .0 .1 .1 in
     let h = s .good .1 .0 .1 .1 in
-    let z = sym (c .before .before .before .holds-zero .ensures) ∙ c .before .before .if1 .left in
-    let m = c .mul .ensures .value ∙ ap (mulOf x) (c .before .inverse-of .ensures) in
+    let i = sym (k .before .before .inverse .ensures) ∙ ap resultOf (k .i .given .1) in
+    let v = inverse-value y _ i in
+    let m = c .mul .ensures .value ∙ ap (mulOf x) (v .1) in
     record {
-      value = simp z (ap ok m);
-      encloses = λ r e. subst (EnclosesQuotient x y) (sym m ∙ ok-inj e) (λ fx fy fr p q j k a b. div-holds x y (yes (g .0 .1), yes (g .1 .0 .1)) (yes (h .0 .1), yes (h .1 .0 .1)) fx fy z fr p q (2 ^ j) (2 ^ k) a b);
+      value = ap ok (c .mul .ensures .value) ∙ sym (div-value x y _ i);
+      encloses = λ r e. subst (EnclosesQuotient x y) (sym m ∙ ok-inj e)
+          (λ fx fy fr p q j k a b. div-holds x y (yes (g .0 .1), yes (g .1 .0 .1)) (yes (h .0 .1), yes (h .1 .0 .1))
+          fx fy (v .0) fr p q (2 ^ j) (2 ^ k) a b);
     }
 
+returns-2 : tie.Need-returns-2
+returns-2 c =
+    let k = c .before in
+    let s = k .before .before .before in
+    let i = sym (k .before .before .inverse .ensures) ∙ ap resultOf (k .e .given .1) in
+    record { value = sym (div-refused (s .args .self) (s .args .other) _ i); encloses = λ x e. absurd (refused-ok e) }
+
 pub div-spec : {M : Type 1} → statement M
-div-spec =
-    tie.close (tie.spec holds-zero-requires returns inverse-of-requires mul-requires returns-2)
+div-spec = tie.close (tie.spec inverse-requires enum-known-i mul-requires enum-known-e returns returns-2)
