@@ -6,6 +6,7 @@ pub mod Replied
 pub mod Walks
 pub mod Sums
 pub mod BoundLaws
+pub mod SumBounds
 pub mod FillLaws
 pub mod Agree
 pub mod Cells

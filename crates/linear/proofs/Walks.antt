@@ -47,3 +47,6 @@ cut-size e h = rw h e
 pub inside-reach : (base step k len : ℕ) → base < len / 2 - (k - 1) * step → Inside base step k len
 inside-reach base step k len h t l =
     let m : t * step ≤ (k - 1) * step = mul-le-mul (omega (arith, l)) (le-refl step) in omega (arith, h, m)
+
+pub inside-row : (base k len : ℕ) → k ≤ len / 2 → base ≤ len / 2 - k → Inside base 1 k len
+inside-row base k len h l t m = omega (arith, h, l, m)

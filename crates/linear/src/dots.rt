@@ -2,6 +2,7 @@
 // product for each term as long as both factors are points; the tests before it and the walk that is cut off at the slice's end give the same for every start, base, step and count.
 ghost use mathlib.Core.Bool.{true, _&&_};
 ghost use mathlib.Core.Path.{_≡_};
+ghost use Prim.Native.Nat.{_≤_};
 ghost use lib.Dec.{T};
 ghost use lib.ListN.{length};
 ghost use Rattle.interval.specs.Scalar.{isSharp};
@@ -25,6 +26,7 @@ use crate::flat::ahead;
 use crate::flat::at;
 use crate::flat::at_inside;
 use crate::flat::both_inside;
+use crate::flat::is_row_inside;
 use interval::Scalar;
 
 // The bounds of the first terms of a sum, and how many they are.
@@ -265,11 +267,175 @@ pub fn rows_minus(l: &[f64], i0: usize, j0: usize, z: Scalar, k: usize) -> Scala
     minus_dot(l, i0, 1, l, j0, 1, z, k)
 }
 
+// The terms of row_dot up to the first whose factors are not both points.
+fn row_points_inside(a: &[f64], a0: usize, b: &[f64], b0: usize, k: usize) -> Begun
+    requires { ⌜ Inside a0 1 k (length (now a)) × Inside b0 1 k (length (now b)) ⌝ }
+    ensures { λ r. ⌜ (r .done ≤ k)
+        × Bounding (dotTo (along (now (a .entry)) a0 1) (along (now (b .entry)) b0 1) (r .done)) (r .sum) ⌝ }
+{
+    let mut sum = bounds_of(Scalar::ZERO);
+    for t in 0..k {
+        let x = at_inside(a, a0 + t);
+        let y = at_inside(b, b0 + t);
+        if !are_points(x, y) {
+            return Begun { sum, done: t };
+        }
+        sum = plus_points(sum, x, y);
+    }
+    Begun { sum, done: k }
+}
+
+// row_dot where every place is inside.
+fn row_inside(a: &[f64], a0: usize, b: &[f64], b0: usize, k: usize) -> Scalar
+    requires { ⌜ Inside a0 1 k (length (now a)) × Inside b0 1 k (length (now b)) ⌝ }
+    ensures { λ r. ⌜ r ≡ dotTo (along (now (a .entry)) a0 1) (along (now (b .entry)) b0 1) k ⌝ }
+{
+    let begun = row_points_inside(a, a0, b, b0, k);
+    let mut sum = begun.sum;
+    let done = begun.done;
+    for t in done..k {
+        sum = plus_product(sum, at_inside(a, a0 + t), at_inside(b, b0 + t));
+    }
+    scalar_of(sum)
+}
+
+// k products of a row of a, from a0 on, and one of b: plus_dot from zero by steps of 1, with a loop of its own, since most
+// sums are such.
+pub fn row_dot(a: &[f64], a0: usize, b: &[f64], b0: usize, k: usize) -> Scalar
+    ensures { λ r. ⌜ r ≡ dotTo (along (now (a .entry)) a0 1) (along (now (b .entry)) b0 1) k ⌝ }
+{
+    if is_row_inside(a0, k, a.len()) && is_row_inside(b0, k, b.len()) {
+        return row_inside(a, a0, b, b0, k);
+    }
+    plus_cut(a, a0, 1, b, b0, 1, Scalar::ZERO, k)
+}
+
+// Two sums.
+pub struct Two {
+    pub first: Scalar,
+    pub second: Scalar,
+}
+
+// The bounds of the first terms of two sums, and how many they are.
+struct BegunTwo {
+    first: Bounds,
+    second: Bounds,
+    done: usize,
+}
+
+fn are_three_points(x: Scalar, y: Scalar, z: Scalar) -> bool
+    ensures { λ r. ⌜ r ≡ (isSharp x && (isSharp y && isSharp z)) ⌝ }
+{
+    if x.is_sharp() {
+        return are_points(y, z);
+    }
+    false
+}
+
+// The terms of two sums with the same second factors, up to the first term whose factors are not all points.
+fn two_points_inside(
+    a: &[f64],
+    a0: usize,
+    a1: usize,
+    sa: usize,
+    b: &[f64],
+    b0: usize,
+    y: Bounds,
+    z: Bounds,
+    k: usize,
+) -> BegunTwo
+    requires { ⌜ Inside a0 sa k (length (now a)) × Inside a1 sa k (length (now a)) × Inside b0 1 k (length (now b))
+        × T (isProper y) × T (isProper z) ⌝ }
+    ensures { λ r. ⌜ (r .done ≤ k)
+        × Bounding (plusTo (along (now (a .entry)) a0 sa) (along (now (b .entry)) b0 1) (scalarOf y) (r .done)) (r .first)
+        × Bounding (plusTo (along (now (a .entry)) a1 sa) (along (now (b .entry)) b0 1) (scalarOf z) (r .done)) (r .second) ⌝ }
+{
+    let mut first = y;
+    let mut second = z;
+    for t in 0..k {
+        let u = at_inside(a, a0 + t * sa);
+        let v = at_inside(a, a1 + t * sa);
+        let w = at_inside(b, b0 + t);
+        if !are_three_points(u, v, w) {
+            return BegunTwo {
+                first,
+                second,
+                done: t,
+            };
+        }
+        first = plus_points(first, u, w);
+        second = plus_points(second, v, w);
+    }
+    BegunTwo {
+        first,
+        second,
+        done: k,
+    }
+}
+
+// y and z, and k products of two runs of a with a row of b, where every place is inside: the factors of the row are read
+// once, and neither sum waits for the other.
+fn two_inside(
+    a: &[f64],
+    a0: usize,
+    a1: usize,
+    sa: usize,
+    b: &[f64],
+    b0: usize,
+    y: Bounds,
+    z: Bounds,
+    k: usize,
+) -> Two
+    requires { ⌜ Inside a0 sa k (length (now a)) × Inside a1 sa k (length (now a)) × Inside b0 1 k (length (now b))
+        × T (isProper y) × T (isProper z) ⌝ }
+    ensures { λ r. ⌜ (r .first ≡ plusTo (along (now (a .entry)) a0 sa) (along (now (b .entry)) b0 1) (scalarOf y) k)
+        × (r .second ≡ plusTo (along (now (a .entry)) a1 sa) (along (now (b .entry)) b0 1) (scalarOf z) k) ⌝ }
+{
+    let begun = two_points_inside(a, a0, a1, sa, b, b0, y, z, k);
+    let mut first = begun.first;
+    let mut second = begun.second;
+    let done = begun.done;
+    for t in done..k {
+        let w = at_inside(b, b0 + t);
+        first = plus_product(first, at_inside(a, a0 + t * sa), w);
+        second = plus_product(second, at_inside(a, a1 + t * sa), w);
+    }
+    Two {
+        first: scalar_of(first),
+        second: scalar_of(second),
+    }
+}
+
+// Whether k places of two rows of a and of one of b are inside.
+fn are_rows_inside(a0: usize, a1: usize, a: usize, b0: usize, b: usize, k: usize) -> bool
+    ensures { λ r. ⌜ (r ≡ true → Inside a0 1 k a × Inside a1 1 k a × Inside b0 1 k b) ⌝ }
+{
+    if is_row_inside(a0, k, a) && is_row_inside(a1, k, a) {
+        return is_row_inside(b0, k, b);
+    }
+    false
+}
+
+// row_dot of two rows of a with one of b.
+pub fn two_rows(a: &[f64], a0: usize, a1: usize, b: &[f64], b0: usize, k: usize) -> Two
+    ensures { λ r. ⌜ (r .first ≡ dotTo (along (now (a .entry)) a0 1) (along (now (b .entry)) b0 1) k)
+        × (r .second ≡ dotTo (along (now (a .entry)) a1 1) (along (now (b .entry)) b0 1) k) ⌝ }
+{
+    if are_rows_inside(a0, a1, a.len(), b0, b.len(), k) {
+        let zero = bounds_of(Scalar::ZERO);
+        return two_inside(a, a0, a1, 1, b, b0, zero, zero, k);
+    }
+    Two {
+        first: plus_cut(a, a0, 1, b, b0, 1, Scalar::ZERO, k),
+        second: plus_cut(a, a1, 1, b, b0, 1, Scalar::ZERO, k),
+    }
+}
+
 // The first n products.
 pub fn dot_of(a: &[f64], b: &[f64], n: usize) -> Scalar
     ensures { λ r. ⌜ r ≡ dotTo (at (now (a .entry))) (at (now (b .entry))) n ⌝ }
 {
-    plus_dot(a, 0, 1, b, 0, 1, Scalar::ZERO, n)
+    row_dot(a, 0, b, 0, n)
 }
 
 // Σ a b, folded from zero.

@@ -63,6 +63,17 @@ pub fn both_inside(a0: usize, sa: usize, a: usize, b0: usize, sb: usize, b: usiz
     false
 }
 
+// Whether k scalars from base on are inside len numbers: a step of 1 needs no product.
+pub fn is_row_inside(base: usize, k: usize, len: usize) -> bool
+    ensures { λ r. ⌜ (r ≡ true → Inside base 1 k len) ⌝ }
+{
+    let half = len / 2;
+    if k <= half {
+        return base <= half - k;
+    }
+    false
+}
+
 // i + step, or len where that is beyond it.
 pub fn ahead(i: usize, step: usize, len: usize) -> usize
     ensures { λ r. ⌜ r ≡ min (i + step) len ⌝ }

@@ -15,7 +15,7 @@ use crate::answers::LinearError;
 use crate::choices::choose;
 use crate::dots::dot_of;
 use crate::dots::minus_dot;
-use crate::dots::plus_dot;
+use crate::dots::row_dot;
 use crate::factor::unmark;
 use crate::flat::at;
 use crate::flat::clear;
@@ -84,7 +84,7 @@ fn normal(x: &mut [f64], length: Scalar)
 fn reflect(v: &[f64], vv: Scalar, n: usize, base: usize, cols: &mut [f64]) -> Done
     ensures { λ r. ⌜ doneOf r (now (cols .exit)) ≡ reflectStep (now (v .entry)) vv n base (now (cols .entry)) ⌝ }
 {
-    let s = plus_dot(v, 0, 1, cols, base, 1, Scalar::ZERO, n);
+    let s = row_dot(v, 0, cols, base, n);
     let q = s.mul(Scalar::TWO).div(vv);
     match q {
         ScalarResult::Value(f) => {

@@ -11,7 +11,7 @@ use crate::answers::Done;
 use crate::answers::LinearError;
 use crate::choices::choose;
 use crate::dots::minus_dot;
-use crate::dots::plus_dot;
+use crate::dots::row_dot;
 use crate::factor::factor_sized;
 use crate::flat::at;
 use crate::flat::put;
@@ -27,7 +27,7 @@ fn gram_at(n: usize, jc: &[f64], i: usize, j: usize) -> Scalar
     if i < j {
         return Scalar::ZERO;
     }
-    plus_dot(jc, i * n, 1, jc, j * n, 1, Scalar::ZERO, n)
+    row_dot(jc, i * n, jc, j * n, n)
 }
 
 // The products of the rows, the lower triangle.

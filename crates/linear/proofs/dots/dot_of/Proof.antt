@@ -5,12 +5,12 @@ use Rattle.linear.proofs.Sums.{along-start}
 use Rattle.linear.proofs.dots.dot_of.Statement.{statement}
 use Rattle.linear.proofs.dots.dot_of.Tie as tie
 
-plus-dot-requires : tie.Need-plus-dot-requires
-plus-dot-requires c κs = tt
+row-dot-requires : tie.Need-row-dot-requires
+row-dot-requires c κs = tt
 
 returns : tie.Need-returns
 unfolding ofBits
-returns c = rw (along-start, along-start) at (c .plus-dot .ensures)
+returns c = rw (along-start, along-start) at (c .row-dot .ensures)
 
 pub dot-of-spec : {M : Type 1} → statement M
-dot-of-spec = tie.close (tie.spec plus-dot-requires returns)
+dot-of-spec = tie.close (tie.spec row-dot-requires returns)

@@ -6,8 +6,8 @@ use Rattle.linear.proofs.Reflections.{reflect-ok, reflect-refused}
 use Rattle.linear.proofs.householder.reflect.Statement.{statement}
 use Rattle.linear.proofs.householder.reflect.Tie as tie
 
-plus-dot-requires : tie.Need-plus-dot-requires
-plus-dot-requires c κs = tt
+row-dot-requires : tie.Need-row-dot-requires
+row-dot-requires c κs = tt
 
 mul-requires : tie.Need-mul-requires
 mul-requires c κs = search needs
@@ -31,7 +31,7 @@ returns : tie.Need-returns
 unfolding ofBits
 returns c =
     let q = rw (c .before .before .before .before .before .q .given .1) at (c .before .before .before .before .before .before .before .div .ensures .value) in
-    reflect-ok _ _ _ _ _ (rw along-start at (c .before .before .before .before .before .before .before .before .before .plus-dot .ensures)) (c .before .before .before .before .before .before .before .before .mul .ensures .value) q (c .before .before .minus-scaled .ensures)
+    reflect-ok _ _ _ _ _ (rw along-start at (c .before .before .before .before .before .before .before .before .before .row-dot .ensures)) (c .before .before .before .before .before .before .before .before .mul .ensures .value) q (c .before .before .minus-scaled .ensures)
 
 same-length-2 : tie.Need-same-length-2
 same-length-2 c = search needs
@@ -40,13 +40,13 @@ returns-2 : tie.Need-returns-2
 unfolding ofBits
 returns-2 c =
     let q = rw (c .before .q2 .given .1) at (c .before .before .before .div .ensures .value) in
-    reflect-refused _ _ _ _ _ (rw along-start at (c .before .before .before .before .before .plus-dot .ensures)) (c .before .before .before .before .mul .ensures .value) q
+    reflect-refused _ _ _ _ _ (rw along-start at (c .before .before .before .before .before .row-dot .ensures)) (c .before .before .before .before .mul .ensures .value) q
 
 pub reflect-spec : {M : Type 1} → statement M
 reflect-spec =
     tie.close
     (tie.spec
-    plus-dot-requires
+    row-dot-requires
     mul-requires
     div-requires
     enum-known-q

@@ -12,18 +12,18 @@ returns : tie.Need-returns
 unfolding gramAt ofBits
 returns c = rw (lt-ltb _ _ (c .if1 .taken))
 
-mul-plus-dot : tie.Need-mul-plus-dot
-mul-plus-dot c = let a = c .before .before .args in omega (arith, product-small {i = a .i} {n = a .n} (omega arith) (omega arith))
+mul-row-dot : tie.Need-mul-row-dot
+mul-row-dot c = let a = c .before .before .args in omega (arith, product-small {i = a .i} {n = a .n} (omega arith) (omega arith))
 
-mul-plus-dot-2 : tie.Need-mul-plus-dot-2
-mul-plus-dot-2 c = let a = c .before .before .args in omega (arith, product-small {i = a .j} {n = a .n} (omega arith) (omega arith))
+mul-row-dot-2 : tie.Need-mul-row-dot-2
+mul-row-dot-2 c = let a = c .before .before .args in omega (arith, product-small {i = a .j} {n = a .n} (omega arith) (omega arith))
 
-plus-dot-requires : tie.Need-plus-dot-requires
-plus-dot-requires c κs = tt
+row-dot-requires : tie.Need-row-dot-requires
+row-dot-requires c κs = tt
 
 returns-2 : tie.Need-returns-2
 unfolding gramAt ofBits
-returns-2 c = rw (le-ltb _ _ (c .before .if1 .left)) (c .plus-dot .ensures)
+returns-2 c = rw (le-ltb _ _ (c .before .if1 .left)) (c .row-dot .ensures)
 
 pub gram-at-spec : {M : Type 1} → statement M
-gram-at-spec = tie.close (tie.spec returns mul-plus-dot mul-plus-dot-2 plus-dot-requires returns-2)
+gram-at-spec = tie.close (tie.spec returns mul-row-dot mul-row-dot-2 row-dot-requires returns-2)

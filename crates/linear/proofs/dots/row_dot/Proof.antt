@@ -1,0 +1,38 @@
+-- `row_dot` meets its contract: both ways give the sum.
+use borrow.Author.Needs.{needs}
+use lib.Ieee.{ofBits}
+use Rattle.linear.proofs.dots.row_dot.Statement.{statement}
+use Rattle.linear.proofs.dots.row_dot.Tie as tie
+
+is-row-inside-requires : tie.Need-is-row-inside-requires
+is-row-inside-requires c κs = search needs
+
+is-row-inside-requires-2 : tie.Need-is-row-inside-requires-2
+is-row-inside-requires-2 c κs = search needs
+
+row-inside-requires : tie.Need-row-inside-requires
+row-inside-requires c κs = (
+  c .before .before .before .is-row-inside .ensures (c .before .before .if1 .taken),
+  c .before .is-row-inside2 .ensures (c .if2 .taken),
+)
+
+returns : tie.Need-returns
+returns c = c .row-inside .ensures
+
+plus-cut-requires : tie.Need-plus-cut-requires
+plus-cut-requires c κs = tt
+
+returns-2 : tie.Need-returns-2
+unfolding ofBits
+returns-2 c = c .plus-cut .ensures
+
+pub row-dot-spec : {M : Type 1} → statement M
+row-dot-spec =
+    tie.close
+    (tie.spec
+    is-row-inside-requires
+    is-row-inside-requires-2
+    row-inside-requires
+    returns
+    plus-cut-requires
+    returns-2)
