@@ -1,6 +1,6 @@
 -- What a loop that fills places of a list leaves: one place more, what other places hold, and its first scalars as a list. And loops that ask all or any.
 use Prim.Native.Nat.{ℕ, zero, suc, _+_, _*_, _-_, _<_, _≤_}
-use mathlib.Core.Bool.{Bool, true, false}
+use mathlib.Core.Bool.{Bool, true, false, and-true}
 use mathlib.Core.Logic.{⊎-elim, _≢_}
 use mathlib.Core.Path.{_≡_, refl, sym, _∙_}
 use mathlib.Core.List.{List, _++_}
@@ -9,11 +9,12 @@ use native.Mathlib.Numerals.{add-one}
 use native.Mathlib.Omega.{arith}
 use borrow.Author.Tests.{lt-ltb, le-leb, eq-eqb}
 use lib.Ieee.{Float, nan}
-use lib.ListN.{length, take, drop, length-take}
+use lib.ListN.{length, take, drop, length-take, length-replicate, getD-replicate}
 use lib.Seq.{take-append-seam, getD-take, length-take-le, take-length}
 use Rattle.interval.specs.declared.Scalar.{Scalar}
 use Rattle.linear.specs.Calls.{normReply}
-use Rattle.linear.specs.Flat.{at, put, listTo}
+use Rattle.interval.specs.Scalar.{zero64, zeroS}
+use Rattle.linear.specs.Flat.{at, put, zeros, listTo}
 use Rattle.linear.specs.Norm.{normOf}
 pub use Rattle.linear.proofs.FillLaws.{fill-turn, at-fill-other, at-fill-ahead}
 use Rattle.linear.proofs.FlatLaws.{at-inside, length-put, at-put-same, at-put-other}
@@ -114,6 +115,25 @@ fill-rows-ext xs f g k zero h = refl
 fill-rows-ext xs f g k (suc i) h =
     rw (fill-rows-ext xs f g k i (λ t j l. h t j (omega arith))) (fill-ext (fillRows xs g k i) (12 * i) (f i) (g i) k (λ j l. h i j (lt-suc-self i) l))
 
+-- one behind them
+pub at-rows-behind : (xs : List Float) (f : ℕ → ℕ → Scalar) (k r p : ℕ) → k ≤ 12 → 12 * r ≤ p →
+    at (fillRows xs f k r) p ≡ at xs p
+unfolding fillRows
+at-rows-behind xs f k zero p hk h = refl
+at-rows-behind xs f k (suc r) p hk h =
+    at-fill-other (fillRows xs f k r) (12 * r) (f r) k p (λ t l e. omega arith)
+    ∙ at-rows-behind xs f k r p hk (omega arith)
+
+pub at-clear : (n i : ℕ) → 2 * i + 1 < n → at (zeros n) i ≡ zeroS
+at-clear n i h =
+    let l : 2 * i + 1 < length (zeros n) = rw length-replicate h in
+    let h₀ : 2 * i < n = omega arith in
+    rw (
+      at-inside (zeros n) i (lt-ltb _ _ l),
+      getD-replicate n (2 * i) zero64 nan h₀,
+      getD-replicate n (2 * i + 1) zero64 nan h,
+    )
+
 -- an entry of the first rows
 pub at-fill-rows : (xs : List Float) (f : ℕ → ℕ → Scalar) (k r i j : ℕ) → k ≤ 12 → i < r → j < k → 24 * r ≤ length xs → at (fillRows xs f k r) (12 * i + j) ≡ f i j
 unfolding fillRows
@@ -142,6 +162,14 @@ module _ (p : ℕ → Bool) where
       let b : allTo p (suc i) ≡ false = rw (e, h) in
       let m : (k - suc i) + suc i ≡ k = omega arith in
       rw m at (all-stays (k - suc i) (suc i) b)
+
+  -- those behind the first i are
+  pub all-behind : (d i : ℕ) → ((t : ℕ) → i ≤ t → t < d + i → p t ≡ true) → allTo p (d + i) ≡ allTo p i
+  unfolding allTo
+  all-behind zero i h = let m : 0 + i ≡ i = omega arith in rw m
+  all-behind (suc d) i h =
+      let m : suc d + i ≡ suc (d + i) = omega arith in
+      rw (m, h (d + i) (omega arith) (omega arith), and-true) (all-behind d i (λ t a b. h t a (omega arith)))
 
   pub any-turn : (i : ℕ) → anyTo p i ≡ false → p i ≡ false → anyTo p (i + 1) ≡ false
   unfolding anyTo

@@ -1,5 +1,5 @@
 -- The step, put together from its parts: along what is left free, with its multipliers, over the kept variables, and over all.
-use Prim.Native.Nat.{ℕ, _≤_}
+use Prim.Native.Nat.{ℕ, _+_, _*_, _-_, _≤_}
 use mathlib.Core.Bool.{Bool, true, false, _&&_}
 use mathlib.Core.Path.{_≡_, refl, sym, ap, _∙_}
 use mathlib.Core.List.{List, [], _++_}
@@ -8,16 +8,17 @@ use lib.Ieee.{Float}
 use lib.ListN.{length, take, drop}
 use Rattle.interval.specs.declared.Scalar.{Scalar}
 use Rattle.interval.specs.Result.{Res, ok, refused}
-use Rattle.interval.specs.Scalar.{zeroS, pick}
+use Rattle.interval.specs.Scalar.{zeroS, pick, isFinite}
+use Rattle.linear.specs.Flat.{at}
 use Rattle.linear.specs.Answers.{numberOf, doneOf}
 use Rattle.linear.specs.Results.{bind}
 use Rattle.linear.specs.declared.answers.Done.{Done}
 use Rattle.linear.specs.declared.answers.Done.the-variants as done
 use Rattle.linear.specs.declared.answers.LinearError.{LinearError}
 use Rattle.linear.specs.Cholesky.{Factor, choleskyOf}
-use Rattle.run.specs.Scratch.{allFinite, spreadTo}
+use Rattle.run.specs.Scratch.{matrix, allFinite, spreadTo}
 use Rattle.run.specs.Rows.{Evaluation}
-use Rattle.run.specs.Model.{Kept, keptTo, Problem, problemOf, problemIn, dampedCurve, gradientIn}
+use Rattle.run.specs.Model.{Kept, keptTo, Problem, problemOf, problemIn, dampedBy, dampedCurve, gradientIn}
 use Rattle.run.specs.Basis.{Basis, basisOf, correctionOf, multiplierStep, multipliersOf, basisBy, problemBy, rankedOf}
 use Rattle.run.specs.declared.basis.Rank.{Rank}
 use Rattle.run.specs.declared.basis.Rank.the-variants as rank
@@ -31,6 +32,7 @@ use Rattle.run.specs.Directions.{Directions, directionsOf, spanOf, found
 use Rattle.run.specs.Step.{Stepped, notPositive, forceOf, pullOf, reducedOf, againstOf, Weights, weights, none, weightsOf, steppedBy, alongZ, freeStep, keptStep, spreadStep, stepOf, curved, spanned, solvedWith, addedTo, freePart, withMultipliers, endOf, spreadEnd, basisFor, correctedStep, basedStep, testedStep, rankOf, Few, readyOf, readyStep, framedStep, dampedStep, preparedStep}
 use Rattle.run.proofs.BasisLaws.{basis-reads, rank-small}
 use Rattle.run.proofs.DirectionLaws.{directions-few}
+use Rattle.run.proofs.ScratchLaws.{at-rows-behind, at-clear, all-behind}
 use Rattle.run.proofs.Frames.{first-of-four, second-of-four, third-of-four, fourth-of-four}
 
 -- the kept step, once its part along Z is added
@@ -215,15 +217,29 @@ module _ {x : Prepared} (P : Problem) (order : List ℕ) (frame : List Float) wh
   pub ready-refused : {e : LinearError} → x ≡ prepared.Refused e → refused (numberOf e) ≡ framedStep x P order frame
   ready-refused ex = rw ex
 
+-- H is finite where its first k rows are: behind them it is clear
+rows-finite : (k : ℕ) (curve : List Float) (mu : Scalar) → k ≤ 12 →
+    allFinite (dampedCurve k curve mu) 144 ≡ allFinite (dampedCurve k curve mu) (12 * k)
+unfolding dampedBy
+rows-finite k curve mu h =
+    let m : (144 - 12 * k) + 12 * k ≡ 144 = omega (arith, h) in
+    rw m at (all-behind (λ i. isFinite (at (dampedCurve k curve mu) i)) (144 - 12 * k) (12 * k)
+    (λ t a b. ap isFinite (at-rows-behind matrix _ k k t h a ∙ at-clear 288 t (omega (arith, b, m)))))
+
 -- where H is finite
-module _ (k : ℕ) (x : Prepared) (order : List ℕ) (curve frame : List Float) (mu : Scalar) {h : List Float} {finite : Bool} (eh : h ≡ dampedCurve k curve mu) (ef : finite ≡ allFinite h 144) where
+module _ (k : ℕ) (x : Prepared) (order : List ℕ) (curve frame : List Float) (mu : Scalar)
+    {h : List Float} {finite : Bool} (hk : k ≤ 12) (eh : h ≡ dampedCurve k curve mu)
+    (ef : finite ≡ allFinite h (12 * k)) where
+  whole : finite ≡ allFinite (dampedCurve k curve mu) 144
+  whole = rw eh at ef ∙ sym (rows-finite k curve mu hk)
+
   pub damped-not : finite ≡ false → ok notPositive ≡ dampedStep k x order curve frame mu
   unfolding dampedStep
-  damped-not q = rw (← eh, ← ef, q)
+  damped-not q = rw (← whole, q)
 
   pub damped-on : {y : Res Stepped} → finite ≡ true → y ≡ framedStep x (curved k h (gradientIn curve)) order frame → y ≡ dampedStep k x order curve frame mu
   unfolding dampedStep
-  damped-on q ey = rw (← eh, ← ef, q) ey
+  damped-on q ey = rw (← whole, q, ← eh) ey
 
 damped-tested : (k m : ℕ) (c : ℕ → Scalar) (wide jc : List Float) (x : Prepared) (order : List ℕ) (curve frame : List Float) (mu : Scalar)
     → ((h g : List Float) → framedStep x (curved k h g) order frame ≡ keptStep (problemIn k m c wide jc h g))

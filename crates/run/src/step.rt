@@ -276,7 +276,7 @@ fn kept_step(
 {
     let mut h = [0.0; 288];
     damped(k, curve, mu, &mut h);
-    if all_finite(&h, 144) {
+    if all_finite(&h, 12 * k) {
         return prepared_step(
             k,
             prepared,

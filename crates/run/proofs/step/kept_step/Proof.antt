@@ -1,5 +1,6 @@
 -- `kept_step` meets its contract: H is damped into a clear array, then the test decides.
 use mathlib.Core.Path.{refl}
+use native.Mathlib.Omega.{arith}
 use lib.Ieee.{ofBits}
 use Rattle.run.proofs.StepLaws.{damped-not, damped-on}
 use borrow.Author.Needs.{needs}
@@ -15,6 +16,9 @@ damped-requires c κs = let p = c .before .before .before .before .before .befor
 
 slice-aggregate-all-finite : tie.Need-slice-aggregate-all-finite
 slice-aggregate-all-finite c = search needs
+
+mul-all-finite : tie.Need-mul-all-finite
+mul-all-finite c = omega (arith, c .before .before .before .before .before .before .before .before .before .pre .0)
 
 all-finite-requires : tie.Need-all-finite-requires
 all-finite-requires c κs = search needs
@@ -43,10 +47,18 @@ same-length-2 : tie.Need-same-length-2
 same-length-2 c = search needs
 
 returns : tie.Need-returns
-returns c = damped-on _ _ _ _ _ _ (c .before .before .before .before .before .before .before .before .before .before .before .before .before .damped .ensures) (c .before .before .before .before .before .before .before .before .before .before .all-finite .ensures) (c .before .before .before .before .before .before .before .before .before .if1 .taken) (c .before .before .before .before .prepared-step .ensures)
+returns c =
+    let d = c .before .before .before .before .before .before .before .before .before .before in
+    damped-on _ _ _ _ _ _ (d .before .before .before .before .before .before .before .before .before .before .pre .0)
+    (d .before .before .before .damped .ensures) (d .all-finite .ensures)
+    (c .before .before .before .before .before .before .before .before .before .if1 .taken)
+    (c .before .before .before .before .prepared-step .ensures)
 
 returns-2 : tie.Need-returns-2
-returns-2 c = damped-not _ _ _ _ _ _ (c .before .before .before .before .damped .ensures) (c .before .all-finite .ensures) (c .if1 .left)
+returns-2 c =
+    let d = c .before .before .before .before in
+    damped-not _ _ _ _ _ _ (d .before .before .before .before .before .before .before .pre .0)
+    (d .damped .ensures) (c .before .all-finite .ensures) (c .if1 .left)
 
 pub kept-step-spec : {M : Type 1} → statement M
 kept-step-spec =
@@ -55,6 +67,7 @@ kept-step-spec =
     slice-aggregate-damped
     damped-requires
     slice-aggregate-all-finite
+    mul-all-finite
     all-finite-requires
     slice-aggregate-prepared-step
     sub-prepared-step
