@@ -15,29 +15,25 @@ use Rattle.interval.specs.Scalar.{pick}
 use Rattle.linear.specs.Flat.{put, zeros}
 use Rattle.linear.proofs.FlatLaws.{length-put}
 use Rattle.run.specs.Area.{
-  POINT,
-  ROWS,
   SIZES,
   SPARE,
   Memory,
   areaOf,
   memoryOf,
-  withStart,
   isOpen,
   isTried,
   isCorrected,
   slotsOf,
   Holds,
-  OnlyPoints,
   written,
   padded,
   startOf,
   tidiedTo,
   usedIn,
 }
-use Rattle.run.specs.declared.state.Kind.the-variants as kind
-use Rattle.run.specs.declared.state.Phase.the-variants.{Open}
+use Rattle.run.specs.Remainders.{Limits}
 use Rattle.run.specs.Run.{filterWith}
+use Rattle.run.specs.declared.state.Sizes.{Sizes}
 use Rattle.run.specs.declared.state.State.{State}
 
 -- ---- a run of numbers written
@@ -255,78 +251,9 @@ module _ {ls : List (List Float)} {a : List Float} (h : Slots ls a) where
       let m : length ls ≡ 9 = sym (length-map ls (length {A = Float})) ∙ ap (length {A = ℕ}) (h .sized) in
       rw (h .is, ← h .sized, ← m) (read-end ls (zeros SPARE) j nan)
 
--- the parts, and behind them the end
-joined-end : (ls : List (List Float)) (e : List Float) → joined ls e ≡ joined ls [] ++ e
-joined-end [] e = refl
-joined-end (x ∷ ls) e = ap (λ (u : List Float). x ++ u) (joined-end ls e) ∙ sym (append-assoc x (joined ls []) e)
-
--- all parts behind a first one, where what is behind them is clear already
-clear-behind :
-    (x : List Float) (ls : List (List Float)) (ns : List ℕ) (base n : ℕ) {a b : List Float} →
-    length x ≡ base →
-    map length ls ≡ ns →
-    a ≡ x ++ joined ls (zeros n) → b ≡ written a base (zeros (total ns)) → b ≡ x ++ joined (map zeros ns) (zeros n)
-clear-behind x ls ns base n {a} {b} lx e ea q =
-    let r : List Float = joined ls (zeros n) in
-    let z : List Float = zeros (total ns) in
-    let k : length (joined ls []) ≡ total ns = length-joined ls [] ∙ rw e (add-zero (total ns)) in
-    let l : length z ≡ length (joined ls []) = length-replicate _ _ ∙ sym k in
-    let o : base + 0 ≡ base = add-zero base in
-    let over : written r 0 z ≡ z ++ zeros n =
-    ap (λ (u : List Float). written u 0 z) (joined-end ls (zeros n)) ∙ written-first (joined ls []) (zeros n) z l in
-    let clear : z ++ zeros n ≡ joined (map zeros ns) (zeros n) =
-    rw replicate-append-replicate (sym (clear-joined ns n)) in
-    q
-    ∙ ap (λ (u : List Float). written u base z) ea
-    ∙ (rw o at (written-past x r base 0 z lx))
-    ∙ ap (λ (u : List Float). x ++ u) (over ∙ clear)
-
-pub first-left :
-    (x : List Float) (ls : List (List Float)) {a b : List Float} →
-    Slots (x ∷ ls) a → b ≡ written a 24 (zeros 3056) → Slots (x ∷ map zeros (drop 1 SIZES)) b
-first-left x ls {a} {b} h q =
-    let l : length x ≡ 24 = ap (λ (ns : List ℕ). getD ns 0 0) (h .sized) in
-    record {
-      sized = rw (l, clear-lengths (drop 1 SIZES));
-      is = clear-behind x ls (drop 1 SIZES) 24 SPARE l (ap (λ (ns : List ℕ). drop 1 ns) (h .sized)) (h .is) q;
-    }
-
--- ---- before a start's answer
-
-pub only-points : (st : State) (a : List Float) → st .phase ≡ Open kind.Start → OnlyPoints (memoryOf st a)
-unfolding memoryOf
-only-points st a e =
-    rw e
-    (record {
-      no-landed = refl;
-      no-standing-rows = refl;
-      no-landed-rows = refl;
-      no-step = refl;
-      no-multipliers = refl;
-      no-curvature = refl;
-      no-filter = refl;
-    })
-
-start-slots :
-    (w : Memory) (rows : List Float) →
-    OnlyPoints w → set (set (slotsOf w) 2 (zeros POINT)) 3 (padded ROWS rows) ≡ slotsOf (withStart w rows)
-start-slots w rows p =
-    rw (p .no-landed, p .no-landed-rows, p .no-step, p .no-multipliers, p .no-curvature, p .no-filter) refl
-
--- the asked point is cleared, and the rows take their slot's place
-pub start-holds :
-    (w : Memory) (rows : List Float) {a b c : List Float} →
-    Holds w a →
-    OnlyPoints w →
-    length rows ≤ ROWS →
-    b ≡ written a 48 (zeros POINT) → c ≡ written b 72 (padded ROWS rows) → Holds (withStart w rows) c
-unfolding startOf
-start-holds w rows {a} {b} {c} h p l eb ec =
-    let cleared : Slots (set (slotsOf w) 2 (zeros POINT)) b =
-    wrote (slots-of h) 2 (zeros POINT) (omega arith) (length-clear POINT) eb in
-    let filled : Slots (set (set (slotsOf w) 2 (zeros POINT)) 3 (padded ROWS rows)) c =
-    wrote cleared 3 (padded ROWS rows) (omega arith) (length-padded ROWS rows l) ec in
-    holds-of (withStart w rows) (subst (λ (ls : List (List Float)). Slots ls c) (start-slots w rows p) filled)
+-- as much of a slot as is in use lies within the area
+pub room : (base size : ℕ) {n long : ℕ} → n ≤ size → base + size ≤ 8000 → long ≡ 8000 → base + n ≤ long
+room base size h l e = omega arith
 
 -- ---- an area made tidy
 
@@ -442,27 +369,22 @@ cons-eq p q = rw (p, q)
 regroup : (a b c d e f g h i z : List Float) → [] ++ a ++ b ++ c ++ d ++ e ++ f ++ g ++ h ++ i ++ z ≡ a ++ (b ++ (c ++ (d ++ (e ++ (f ++ (g ++ (h ++ (i ++ z))))))))
 regroup a b c d e f g h i z = simp append-assoc
 
--- within the limits
-pub record Limits (st : State) : Type 0 where
-  pub n : st .sizes .n ≤ 12
-  pub m : st .sizes .m ≤ 12
-  pub s : st .sizes .s ≤ 24
-  pub iterations : st .counts .iterations ≤ 200
-
-module _ (st : State) (l : Limits st) where
-  pub rows-fit : (st .sizes .m + st .sizes .s) * (st .sizes .n + 1) ≤ 468
+module _ (z : Sizes) {iterations : ℕ} (l : Limits z iterations) where
+  pub rows-fit : (z .m + z .s) * (z .n + 1) ≤ 468
   rows-fit = let m = l .m in let s = l .s in let n = l .n in mul-le-mul {n₂ = 36} {m₂ = 13} (omega arith) (omega arith)
 
-  pub entries-fit : st .sizes .n * st .sizes .n ≤ 144
+  pub entries-fit : z .n * z .n ≤ 144
   entries-fit = mul-le-mul {n₂ = 12} {m₂ = 12} (l .n) (l .n)
 
+module _ (st : State) (l : Limits (st .sizes) (st .counts .iterations)) where
   pub used-below : Below (usedIn st) SIZES
   used-below =
       let point : 2 * st .sizes .n ≤ 24 = omega (arith, l .n) in
-      let rows : 2 * ((st .sizes .m + st .sizes .s) * (st .sizes .n + 1)) ≤ 936 = omega (arith, rows-fit) in
+      let rows : 2 * ((st .sizes .m + st .sizes .s) * (st .sizes .n + 1)) ≤ 936 = omega (arith, rows-fit (st .sizes) l)
+      in
       let multipliers : 2 * st .sizes .m ≤ 24 = omega (arith, l .m) in
-      let entries : 2 * (st .sizes .n * st .sizes .n) ≤ 288 = omega (arith, entries-fit) in
-      let pairs : 4 * st .counts .iterations ≤ 800 = omega (arith, l .iterations) in
+      let entries : 2 * (st .sizes .n * st .sizes .n) ≤ 288 = omega (arith, entries-fit (st .sizes) l) in
+      let pairs : 4 * st .counts .iterations ≤ 800 = omega (arith, l .iterations-fit) in
       let tried = isTried (st .phase) in
       let corrected = isCorrected (st .phase) in
       (point, (pick-below corrected point, (pick-below (isOpen (st .phase)) point, (pick-below tried rows, (pick-below corrected rows, (pick-below tried point, (pick-below tried multipliers, (pick-below tried entries, (pick-below tried pairs, tt)))))))))

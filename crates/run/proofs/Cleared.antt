@@ -1,7 +1,7 @@
 -- After a call the area is +0 wherever no number is in use, whatever the contents of the run: what a call reads of the
 -- area has +0 behind the numbers in use, and all that follows keeps that. A refusal by 1 to 4 leaves state and area as
 -- they were.
-use Prim.Native.Nat.{ℕ, zero, suc, _+_, _-_, _*_, _<_, _≤_, zero-le}
+use Prim.Native.Nat.{ℕ, zero, suc, _+_, _-_, _*_, _<_, _≤_}
 use mathlib.Core.Bool.{Bool, true, false, true≢false, _&&_}
 use mathlib.Core.Path.{_≡_, refl, sym, ap, _∙_}
 use mathlib.Core.List.{List, [], _∷_}
@@ -10,13 +10,13 @@ use native.Mathlib.Omega.{arith}
 use borrow.Author.Tests.{le-leb, eqb-true}
 use lib.Dec.{eqb}
 use lib.Ieee.{Float, nan}
-use lib.ListN.{length, take, drop, getD, length-take, getD-replicate}
+use lib.ListN.{length, drop, getD, getD-replicate}
 use lib.Seq.{getD-drop, getD-take}
 use Rattle.interval.specs.declared.Scalar.{Scalar}
 use Rattle.interval.specs.Scalar.{zero64}
 use Rattle.run.specs.Rows.{rowNumbers}
 use Rattle.run.specs.Area.{POINT, ROWS, CURVATURE, FILTER, SPARE, AREA, SIZES, Memory, areaOf, memoryOf}
-use Rattle.run.specs.Area.{begunMemory, slotsOf, startOf, usedIn, usedOf, isOpen, isTried, isCorrected}
+use Rattle.run.specs.Area.{begunMemory, slotsOf, startOf, usedIn}
 use Rattle.run.specs.Run.{Outcome, answered, answeredNone}
 use Rattle.run.specs.Calls.{Left, unchanged, leftBy, checks, sizesFit, allInDomain, stepFits, valid, noRun}
 use Rattle.run.specs.Calls.{refusedByCheck, begunOf, beginOf, Accepted, replyOpen, replyOf, noneOpen, replyNoneOf}
@@ -28,10 +28,10 @@ use Rattle.run.specs.declared.state.State.{State}
 use Rattle.run.proofs.AreaSlots.{Slots, slots-of, slot-read, slots-length, spare-read, cons-eq}
 use Rattle.run.proofs.Booleans.{and-left, and-right}
 use Rattle.run.proofs.CheckLaws.{Bounds, bounds, SizeBounds, size-bounds}
-use Rattle.run.proofs.Remainders.{Tidy, tidy-zeros, tidy-padded}
-use Rattle.run.proofs.RowLaws.{few}
+use Rattle.run.specs.Remainders.{Tidy, TidyMemory}
+use Rattle.run.proofs.Remainders.{tidy-zeros, tidy-padded, reads-tidy, all-tidy}
 use Rattle.run.proofs.Slots.{rows-fit}
-use Rattle.run.proofs.Tidied.{TidyMemory, Working, Kept, answered-kept, answered-none-kept}
+use Rattle.run.proofs.Tidied.{AtWork, Kept, answered-kept, answered-none-kept}
 
 -- ---- the area of a tidy memory
 
@@ -97,35 +97,12 @@ tidy-cleared st w t =
 
 -- ---- what a call reads
 
-used-tidy : (a : List Float) (base size : ℕ) (inUse : Bool) (count : ℕ) → count ≤ size
-    → Tidy size count (usedOf a base size inUse count)
-used-tidy a base size true count h =
-    let l = length-take count (drop base a) in
-    tidy-padded size count (take count (drop base a)) (omega arith) (omega arith)
-used-tidy a base size false count h = tidy-padded size count [] zero-le zero-le
-
-reads-tidy : (st : State) (a : List Float) → Bounds st → Working st (memoryOf st a)
-unfolding memoryOf
-reads-tidy st a b =
-    let z = st .sizes in
+read-tidy : (st : State) (a : List Float) → Bounds st → AtWork st (memoryOf st a)
+read-tidy st a b =
     let s = b .sizes in
-    let point : 2 * z .n ≤ POINT = omega (arith, s .n) in
-    let rows = rows-fit z s in
-    let entries : 2 * (z .n * z .n) ≤ CURVATURE = omega (arith, few {m = z .n} {n = z .n} (s .n) (s .n)) in
-    let pairs : 4 * st .counts .iterations ≤ FILTER = omega (arith, s .limit, b .iterations) in
-    let tried = isTried (st .phase) in
-    let corrected = isCorrected (st .phase) in
-    record {
-      standing = used-tidy a 0 POINT true (2 * z .n) point;
-      landed = used-tidy a 24 POINT corrected (2 * z .n) point;
-      asked = used-tidy a 48 POINT (isOpen (st .phase)) (2 * z .n) point;
-      standing-rows = used-tidy a 72 ROWS tried (rowNumbers (z .n) (z .m) (z .s)) rows;
-      landed-rows = used-tidy a 1008 ROWS corrected (rowNumbers (z .n) (z .m) (z .s)) rows;
-      step = used-tidy a 1944 POINT tried (2 * z .n) point;
-      multipliers = used-tidy a 1968 POINT tried (2 * z .m) (omega (arith, s .m));
-      curvature = used-tidy a 1992 CURVATURE tried (2 * (z .n * z .n)) entries;
-      filter = used-tidy a 2280 FILTER tried (4 * st .counts .iterations) pairs;
-    }
+    let fit : st .counts .iterations ≤ 200 = omega (arith, s .limit, b .iterations) in
+    all-tidy st (memoryOf st a)
+    (reads-tidy st a (record { n = s .n; m = s .m; s = s .s; iterations-fit = fit }))
 
 -- ---- the replies
 
@@ -166,7 +143,7 @@ reply-leaves st a rows = checks-replied st a (valid st) 4 _ (omega arith) (λ v.
         (λ d.
         let l = eqb-true _ _ (and-right (eqb (length a) AREA) many e) in
         kept-replied st a (answered k st (memoryOf st a) rows)
-        (answered-kept st (memoryOf st a) (reads-tidy st a b) rows
+        (answered-kept st (memoryOf st a) (read-tidy st a b) rows
         (record { many = l; fit = omega (arith, l, rows-fit z (b .sizes)) }) k)))
 
 pub reply-none-leaves : (st : State) (a : List Float) → Replied st a (replyNoneOf st a)
@@ -179,7 +156,7 @@ reply-none-leaves st a = checks-replied st a (valid st) 4 _ (omega arith) (λ v.
         checks-replied st a (eqb (length a) AREA) 2 _ (omega arith)
         (λ e.
         kept-replied st a (answeredNone k st (memoryOf st a))
-        (answered-none-kept st (memoryOf st a) (reads-tidy st a b) k))
+        (answered-none-kept st (memoryOf st a) (read-tidy st a b) k))
 
 -- ---- begin
 

@@ -13,11 +13,12 @@ use Rattle.interval.specs.Result.{Res, ok, refused}
 use Rattle.interval.specs.Scalar.{degenerate, pick, divOf, definitelyGreater, definitelyLess}
 use Rattle.interval.specs.Scaling.{three64}
 use Rattle.linear.specs.Results.{bind}
-use Rattle.run.specs.Area.{Memory, Holds, withStart, withAsked, withLanded, withTaken}
+use Rattle.run.specs.Area.{Memory, withStart, withAsked, withLanded, withTaken}
 use Rattle.run.specs.Calls.{phaseFits}
 use Rattle.run.specs.Correction.{CORRECTIONS, Shift, to, stay, shiftOf, shiftFrom, shiftedStep}
 use Rattle.run.specs.Curvature.{updateCurvature}
 use Rattle.run.specs.Judgement.{Judged, judgeOf}
+use Rattle.run.specs.Remainders.{Working}
 use Rattle.run.specs.Rows.{rowNumbers, movingOf, sumSquared, violationOf}
 use Rattle.run.specs.Run.{Outcome, Leaves, Bounded, Underway, finish, refuse, question, curvatureOf, standingAt, landedAt, rowsAt, linearOf, shrunk, reachOf, filterWith, standingOn, moves, landing, iterate, notLower, orRefuse, take, takenWith, wasTaken, decide, judge, correct, landTrial, keep, landCorrection, nearerOf, started, answered, answeredNone}
 use Rattle.run.specs.declared.state.Kind.{Kind}
@@ -27,6 +28,7 @@ use Rattle.run.specs.declared.state.Phase.the-variants.{Open}
 use Rattle.run.specs.declared.state.State.{State}
 use Rattle.run.specs.declared.state.Stop.the-variants as stop
 use Rattle.run.proofs.CheckLaws.{both}
+use Rattle.run.proofs.Remainders.{works-as}
 use Rattle.run.proofs.LeaveLaws.{or-next, or-refused, when, unless}
 
 -- ---- a step taken
@@ -68,11 +70,19 @@ module _ (st : State) (w : Memory) (theta length : Scalar) {o : Out} {a : List F
         → Leaves (takenWith st w theta length mu radius) o a
     learned-refused e l = or-refused st w (stands st w theta length mu radius) e l
 
-    pub stands-on : (b : List Float) {t : State} {f : Scalar} {c : List Float} → t ≡ standingOn st length mu radius → f ≡ sumSquared (standingAt st w .sum) → Holds (withTaken w b (filterWith (w .filter) (st .counts .iterations) f theta)) c
-        → ((v : Memory) → Holds v c → Leaves (iterate t v) o a) → Leaves (stands st w theta length mu radius b) o a
+    pub stands-on :
+        (b : List Float) {t : State} {f : Scalar} {c : List Float} →
+        t ≡ standingOn st length mu radius →
+        f ≡ sumSquared (standingAt st w .sum) →
+        Working (standingOn st length mu radius) (withTaken w b (filterWith (w .filter) (st .counts .iterations) f
+        theta)) c →
+        ((v : Memory) → Working t v c → Leaves (iterate t v) o a) → Leaves (stands st w theta length mu radius b) o a
     stands-on b {t} {f} {c} e q h l =
-        subst (λ (x : State). Leaves (iterate x (withTaken w b (filterWith (w .filter) (st .counts .iterations) (sumSquared (standingAt st w .sum)) theta))) o a) e
-        (l (withTaken w b (filterWith (w .filter) (st .counts .iterations) (sumSquared (standingAt st w .sum)) theta)) (subst (λ (x : Scalar). Holds (withTaken w b (filterWith (w .filter) (st .counts .iterations) x theta)) c) q h))
+        let next = standingOn st length mu radius in
+        let after : Scalar → Memory = λ x. withTaken w b (filterWith (w .filter) (st .counts .iterations) x theta) in
+        let v = after (sumSquared (standingAt st w .sum)) in
+        subst (λ (x : State). Leaves (iterate x v) o a) e
+        (l v (works-as e (subst (λ (x : Scalar). Working next (after x) c) q h)))
 
 -- ---- the judgement
 

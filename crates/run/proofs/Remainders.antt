@@ -1,25 +1,33 @@
--- Lists that are +0 from a place on: padding makes them so, and a store or a fill before that place keeps them so.
-use Prim.Native.Nat.{ℕ, zero, suc, _+_, _-_, _*_, _<_, _≤_}
+-- Lists that are +0 from a place on: padding makes them so, and a store or a fill before that place keeps them so. A
+-- run over the first numbers of such a slot takes the whole slot's place.
+use Prim.Native.Nat.{ℕ, zero, suc, _+_, _-_, _*_, _<_, _≤_, zero-le}
 use mathlib.Core.Bool.{Bool, true, false}
-use mathlib.Core.Path.{_≡_, refl, ap, _∙_}
-use mathlib.Core.List.{List, _++_}
+use mathlib.Core.Path.{_≡_, refl, sym, ap, ap₂, subst, _∙_}
+use mathlib.Core.List.{List, [], _∷_, _++_, append-assoc}
 use native.Mathlib.Nat.{lt-suc-self}
 use native.Mathlib.Omega.{arith}
 use lib.Ieee.{Float}
-use lib.ListN.{length, getD, set, length-replicate}
-use lib.Seq.{getD-append-add, getD-set-other}
+use lib.ListN.{length, take, drop, getD, set, length-replicate, length-drop, take-append-drop}
+use lib.ListN.{replicate-append-replicate, length-take}
+use lib.Seq.{getD-append-add, getD-set-other, getD-drop, length-take-le, take-take, drop-drop, drop-append-le}
 use Rattle.interval.specs.declared.Scalar.{Scalar}
 use Rattle.interval.specs.Scalar.{zero64, pick}
 use Rattle.linear.specs.Flat.{at, put, inside, zeros}
 use Rattle.linear.proofs.FlatLaws.{length-put}
 use Rattle.run.specs.Scratch.{fillTo, spreadTo}
-use Rattle.run.specs.Area.{padded}
-use Rattle.run.proofs.AreaSlots.{length-padded}
-
--- a list of a slot's length, of which only the first places may be other than +0; beyond the list +0 is read
-pub record Tidy (size used : ℕ) (xs : List Float) : Type 0 where
-  pub long : length xs ≡ size
-  pub rest : (j : ℕ) → used ≤ j → getD xs j zero64 ≡ zero64
+use Rattle.run.specs.Rows.{rowNumbers}
+use Rattle.run.specs.Curvature.{curvatureEntries}
+use Rattle.run.specs.Area.{POINT, ROWS, CURVATURE, FILTER, SIZES, Memory, padded, memoryOf, startOf, written}
+use Rattle.run.specs.Area.{Holds, withStart, slotsOf, usedIn, isOpen, isTried, isCorrected}
+use Rattle.run.specs.Remainders.{Tidy, TidyMemory, Uses, Working, Limits, allUsed, pointsUsed}
+use Rattle.run.specs.Run.{Bounded}
+use Rattle.run.specs.declared.state.Kind.the-variants as kind
+use Rattle.run.specs.declared.state.Phase.the-variants.{Open}
+use Rattle.run.specs.declared.state.Sizes.{Sizes}
+use Rattle.run.specs.declared.state.State.{State}
+use Rattle.run.proofs.AreaSlots.{Slots, holds-of, wrote, slot-read, length-padded, length-clear, used-below}
+use Rattle.run.proofs.AreaSlots.{Below, below-at, rows-fit, entries-fit}
+use Rattle.run.proofs.CheckLaws.{few-scalars}
 
 zeros-read : (n j : ℕ) → getD (zeros n) j zero64 ≡ zero64
 zeros-read zero j = refl
@@ -58,6 +66,96 @@ module _ {size used : ℕ} {xs : List Float} (t : Tidy size used xs) where
           ∙ t .rest j k
       stored j k false = t .rest j k
 
+-- nothing but +0
+only-zeros : (xs : List Float) → ((j : ℕ) → getD xs j zero64 ≡ zero64) → xs ≡ zeros (length xs)
+only-zeros [] h = refl
+only-zeros (x ∷ xs) h = ap₂ (λ (y : Float) (ys : List Float). y ∷ ys) (h 0) (only-zeros xs (λ j. h (suc j)))
+
+module _ {size used : ℕ} {xs : List Float} (t : Tidy size used xs) (fit : used ≤ size) where
+  pub tidy-behind : drop used xs ≡ zeros (size - used)
+  tidy-behind =
+      only-zeros (drop used xs) (λ j. getD-drop used xs j zero64 ∙ t .rest (used + j) (omega arith))
+      ∙ ap zeros (length-drop used xs ∙ ap (λ (n : ℕ). n - used) (t .long))
+
+  pub tidy-length : length (take used xs) ≡ used
+  tidy-length = length-take-le used xs (omega (arith, t .long))
+
+  -- its numbers in use, and +0 behind them
+  pub tidy-is : padded size (take used xs) ≡ xs
+  tidy-is =
+      ap (λ (n : ℕ). take used xs ++ zeros (size - n)) tidy-length
+      ∙ ap (λ (ys : List Float). take used xs ++ ys) (sym tidy-behind)
+      ∙ take-append-drop used xs
+
+-- a slot not in use
+clear-slot : {size : ℕ} {xs : List Float} → Tidy size 0 xs → xs ≡ zeros size
+clear-slot {xs = xs} t = only-zeros xs (λ j. t .rest j zero-le) ∙ ap zeros (t .long)
+
+-- ---- slots by their numbers in use
+
+module _ {ls : List (List Float)} {a : List Float} (h : Slots ls a) where
+  module _ (k : ℕ) (l : k < 9) where
+    slot-behind :
+        (n : ℕ) → n ≤ getD SIZES k 0 → Tidy (getD SIZES k 0) n (getD ls k []) →
+        drop (startOf SIZES k + n) a ≡ zeros (getD SIZES k 0 - n) ++ drop (startOf SIZES k + getD SIZES k 0) a
+    slot-behind n f t =
+        let base = startOf SIZES k in
+        let size = getD SIZES k 0 in
+        let xs : List Float = getD ls k [] in
+        let r : List Float = drop size (drop base a) in
+        let whole : drop base a ≡ xs ++ r =
+        sym (take-append-drop size (drop base a)) ∙ ap (λ (u : List Float). u ++ r) (slot-read h k l) in
+        sym (drop-drop n base a)
+        ∙ ap (drop n) whole
+        ∙ drop-append-le n xs r (omega (arith, t .long))
+        ∙ ap (λ (u : List Float). u ++ r) (tidy-behind t f)
+        ∙ ap (λ (u : List Float). zeros (size - n) ++ u) (drop-drop size base a)
+
+    -- a run over the first numbers of slot k, where it is +0 behind them
+    pub wrote-first :
+        (s : List Float) {b : List Float} → length s ≤ getD SIZES k 0 →
+        Tidy (getD SIZES k 0) (length s) (getD ls k []) →
+        b ≡ written a (startOf SIZES k) s → Slots (set ls k (padded (getD SIZES k 0) s)) b
+    wrote-first s {b} f t q =
+        let base = startOf SIZES k in
+        let size = getD SIZES k 0 in
+        let z : List Float = zeros (size - length s) in
+        let n : length (padded size s) ≡ size = length-padded size s f in
+        let e : b ≡ take base a ++ s ++ (z ++ drop (base + length (padded size s)) a) =
+        q
+        ∙ ap (λ (u : List Float). take base a ++ s ++ u) (slot-behind (length s) f t)
+        ∙ ap (λ (m : ℕ). take base a ++ s ++ (z ++ drop (base + m) a)) (sym n) in
+        wrote h k (padded size s) l n (e ∙ simp append-assoc)
+
+    -- and where that clears it
+    pub cleared-first :
+        (n : ℕ) {b : List Float} → n ≤ getD SIZES k 0 → Tidy (getD SIZES k 0) n (getD ls k []) →
+        b ≡ written a (startOf SIZES k) (zeros n) → Slots (set ls k (zeros (getD SIZES k 0))) b
+    cleared-first n {b} f t q =
+        let size = getD SIZES k 0 in
+        let m : length (zeros n) ≡ n = length-clear n in
+        let p : n + (size - n) ≡ size = omega arith in
+        let e : padded size (zeros n) ≡ zeros size =
+        ap (λ (i : ℕ). zeros n ++ zeros (size - i)) m
+        ∙ replicate-append-replicate n (size - n) zero64
+        ∙ ap zeros p in
+        let u = subst (λ (i : ℕ). Tidy size i (getD ls k [])) (sym m) t in
+        subst (λ (xs : List Float). Slots (set ls k xs) b) e (wrote-first (zeros n) (omega arith) u q)
+
+  -- slot j over slot i, where both are +0 behind as many numbers
+  pub copied-first :
+      (i j n : ℕ) {b : List Float} → i < 9 → j < 9 → getD SIZES j 0 ≡ getD SIZES i 0 → n ≤ getD SIZES i 0 →
+      Tidy (getD SIZES i 0) n (getD ls i []) → Tidy (getD SIZES i 0) n (getD ls j []) →
+      b ≡ written a (startOf SIZES i) (take n (drop (startOf SIZES j) a)) → Slots (set ls i (getD ls j [])) b
+  copied-first i j n {b} li lj e f t u q =
+      let xs : List Float = getD ls j [] in
+      let r : take n (drop (startOf SIZES j) a) ≡ take n xs =
+      sym (take-take n (getD SIZES j 0) (drop (startOf SIZES j) a) (omega arith)) ∙ ap (take n) (slot-read h j lj) in
+      let m = tidy-length u f in
+      let v = subst (λ (k : ℕ). Tidy (getD SIZES i 0) k (getD ls i [])) (sym m) t in
+      subst (λ (ys : List Float). Slots (set ls i ys) b) (tidy-is u f)
+      (wrote-first i li (take n xs) (omega arith) v (q ∙ ap (λ (s : List Float). written a (startOf SIZES i) s) r))
+
 pub tidy-fill : {size used : ℕ} {xs : List Float} → Tidy size used xs → (base : ℕ) (f : ℕ → Scalar) (k : ℕ)
     → 2 * (base + k) ≤ used → Tidy size used (fillTo xs base f k)
 unfolding fillTo
@@ -72,3 +170,131 @@ tidy-spread m places from zero h = tidy-zeros 24 (2 * m)
 tidy-spread m places from (suc k) h =
     let l = h k (lt-suc-self k) in
     tidy-put (tidy-spread m places from k (λ t i. h t (omega arith))) (getD places k 0) (at from k) (omega arith)
+
+-- ---- what a call reads
+
+used-tidy : (a : List Float) (base size n : ℕ) → n ≤ size → Tidy size n (padded size (take n (drop base a)))
+used-tidy a base size n h =
+    let l = length-take n (drop base a) in
+    tidy-padded size n (take n (drop base a)) (omega arith) (omega arith)
+
+pub reads-tidy :
+    (st : State) (a : List Float) → Limits (st .sizes) (st .counts .iterations) →
+    TidyMemory (usedIn st) (memoryOf st a)
+unfolding memoryOf
+reads-tidy st a l =
+    let u = used-below st l in
+    record {
+      standing = used-tidy a 0 POINT _ (u .0);
+      landed = used-tidy a 24 POINT _ (u .1 .0);
+      asked = used-tidy a 48 POINT _ (u .1 .1 .0);
+      standing-rows = used-tidy a 72 ROWS _ (u .1 .1 .1 .0);
+      landed-rows = used-tidy a 1008 ROWS _ (u .1 .1 .1 .1 .0);
+      step = used-tidy a 1944 POINT _ (u .1 .1 .1 .1 .1 .0);
+      multipliers = used-tidy a 1968 POINT _ (u .1 .1 .1 .1 .1 .1 .0);
+      curvature = used-tidy a 1992 CURVATURE _ (u .1 .1 .1 .1 .1 .1 .1 .0);
+      filter = used-tidy a 2280 FILTER _ (u .1 .1 .1 .1 .1 .1 .1 .1 .0);
+    }
+
+at-most : (b : Bool) (n : ℕ) → pick b n 0 ≤ n
+at-most true n = omega arith
+at-most false n = omega arith
+
+-- what is in use by the phase is in use while the call works
+pub all-tidy :
+    (st : State) (w : Memory) → TidyMemory (usedIn st) w →
+    TidyMemory (allUsed (st .sizes) (st .counts .iterations)) w
+all-tidy st w t =
+    let z = st .sizes in
+    let rows = rowNumbers (z .n) (z .m) (z .s) in
+    let tried = isTried (st .phase) in
+    let corrected = isCorrected (st .phase) in
+    record {
+      standing = t .standing;
+      landed = tidy-more (t .landed) (at-most corrected (2 * z .n));
+      asked = tidy-more (t .asked) (at-most (isOpen (st .phase)) (2 * z .n));
+      standing-rows = tidy-more (t .standing-rows) (at-most tried rows);
+      landed-rows = tidy-more (t .landed-rows) (at-most corrected rows);
+      step = tidy-more (t .step) (at-most tried (2 * z .n));
+      multipliers = tidy-more (t .multipliers) (at-most tried (2 * z .m));
+      curvature = tidy-more (t .curvature) (at-most tried (2 * curvatureEntries (z .n)));
+      filter = tidy-more (t .filter) (at-most tried (4 * st .counts .iterations));
+    }
+
+pub works : (st : State) {w : Memory} {a : List Float} → Uses (usedIn st) w a → Working st w a
+works st {w} u = record { holds = u .holds; tidy = all-tidy st w (u .tidy) }
+
+-- before a start's answer
+pub only-points :
+    (st : State) {w : Memory} {a : List Float} → st .phase ≡ Open kind.Start → Uses (usedIn st) w a →
+    Uses (pointsUsed (2 * st .sizes .n)) w a
+only-points st {w} {a} e u =
+    let p : usedIn st ≡ pointsUsed (2 * st .sizes .n) = rw e refl in
+    subst (λ (used : List ℕ). Uses used w a) p u
+
+start-slots :
+    (w : Memory) (rows : List Float) {point : ℕ} → TidyMemory (pointsUsed point) w →
+    set (set (slotsOf w) 2 (zeros POINT)) 3 (padded ROWS rows) ≡ slotsOf (withStart w rows)
+start-slots w rows t =
+    rw (
+      clear-slot (t .landed),
+      clear-slot (t .landed-rows),
+      clear-slot (t .step),
+      clear-slot (t .multipliers),
+      clear-slot (t .curvature),
+      clear-slot (t .filter),
+    )
+    refl
+
+-- once the asked point is cleared and the rows are in their slot
+pub started-holds :
+    (w : Memory) (rows : List Float) {point : ℕ} {a : List Float} → TidyMemory (pointsUsed point) w →
+    Slots (set (set (slotsOf w) 2 (zeros POINT)) 3 (padded ROWS rows)) a → Holds (withStart w rows) a
+started-holds w rows {a = a} t h =
+    holds-of (withStart w rows) (subst (λ (ls : List (List Float)). Slots ls a) (start-slots w rows t) h)
+
+-- ---- how many numbers are in use, as they are worked out
+
+module _ (z : Sizes) {iterations : ℕ} (l : Limits z iterations) {us : List ℕ} (e : us ≡ allUsed z iterations) where
+  all-below : Below (allUsed z iterations) SIZES
+  all-below =
+      let point : 2 * z .n ≤ POINT = omega (arith, l .n) in
+      let rows : rowNumbers (z .n) (z .m) (z .s) ≤ ROWS = omega (arith, rows-fit z l) in
+      let multipliers : 2 * z .m ≤ POINT = omega (arith, l .m) in
+      let entries : 2 * curvatureEntries (z .n) ≤ CURVATURE = omega (arith, entries-fit z l) in
+      let pairs : 4 * iterations ≤ FILTER = omega (arith, l .iterations-fit) in
+      (point, (point, (point, (rows, (rows, (point, (multipliers, (entries, (pairs, tt)))))))))
+
+  pub fits : (k : ℕ) → k < 9 → getD us k 0 ≤ getD SIZES k 0
+  fits k h =
+      subst (λ (xs : List ℕ). getD xs k 0 ≤ getD SIZES k 0) (sym e) (below-at (allUsed z iterations) SIZES all-below k
+      h)
+
+-- as many of a slot as are in use of it
+pub used-as : {us vs : List ℕ} → us ≡ vs → (k : ℕ) {size : ℕ} {xs : List Float} → Tidy size (getD vs k 0) xs
+    → Tidy size (getD us k 0) xs
+used-as e k {size} {xs} t = subst (λ (us : List ℕ). Tidy size (getD us k 0) xs) (sym e) t
+
+pub few-rows :
+    (z : Sizes) {n : ℕ} → (z .n ≤ 12) × ((z .m ≤ 12) × (z .s ≤ 24)) → n ≡ rowNumbers (z .n) (z .m) (z .s) → n ≤ ROWS
+few-rows z p e = omega (arith, e, few-scalars {n = z .n} {m = z .m} {s = z .s} (p .0) (p .1 .0) (p .1 .1))
+
+pub rows-as : {n m size : ℕ} {xs : List Float} → n ≡ m → Tidy size m xs → Tidy size n xs
+rows-as {size = size} {xs = xs} e t = subst (λ (k : ℕ). Tidy size k xs) (sym e) t
+
+-- ---- what a call hands on
+
+pub limits-of : {t : ℕ} {st : State} → Bounded t st → Limits (st .sizes) (st .counts .iterations)
+limits-of b = record {
+  n = b .few-variables;
+  m = b .few-constraints;
+  s = b .few-sums;
+  iterations-fit = omega (arith, b .within, b .few-iterations);
+}
+
+module _ {s t : State} (e : t ≡ s) where
+  pub limits-as : Limits (s .sizes) (s .counts .iterations) → Limits (t .sizes) (t .counts .iterations)
+  limits-as l = subst (λ (x : State). Limits (x .sizes) (x .counts .iterations)) (sym e) l
+
+  pub works-as : {w : Memory} {a : List Float} → Working s w a → Working t w a
+  works-as {w} {a} u = subst (λ (x : State). Working x w a) (sym e) u

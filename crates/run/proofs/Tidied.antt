@@ -3,8 +3,8 @@
 -- use; a question, a finish and a refusal each clear the slots that are not in use after them.
 use Prim.Native.Nat.{ℕ, zero, suc, _+_, _*_, _<_, _≤_}
 use mathlib.Core.Bool.{Bool, true, false, not, _&&_, _||_}
-use mathlib.Core.Path.{_≡_, refl}
-use mathlib.Core.List.{List, [], _∷_}
+use mathlib.Core.Path.{_≡_, refl, sym, subst}
+use mathlib.Core.List.{List}
 use native.Mathlib.Omega.{arith}
 use borrow.Author.Tests.{lt-leb, eqb-true}
 use lib.Dec.{T, eqb, leb}
@@ -21,12 +21,12 @@ use Rattle.run.specs.Proposal.{Standing, Trial, Proposal, noDrop, unreso
 use Rattle.run.specs.Proposal as proposal
 use Rattle.run.specs.Judgement.{Judged, judgeOf}
 use Rattle.run.specs.Correction.{CORRECTIONS, to, stay, shiftOf, shiftFrom, shiftedStep}
-use Rattle.run.specs.Area.{POINT, ROWS, CURVATURE, FILTER, Memory, usedIn, padded, onlyStanding, withStart}
+use Rattle.run.specs.Area.{POINT, ROWS, CURVATURE, FILTER, Memory, Holds, usedIn, padded, onlyStanding, withStart}
 use Rattle.run.specs.Area.{withLanded, withTaken}
 use Rattle.run.specs.Search.{DAMPINGS, Found, asks, stops, refuses, rejectedFor, withRadius, retried, grown}
 use Rattle.run.specs.Search.{damped, follow, searchTo, searchOf}
 use Rattle.run.specs.Run as run
-use Rattle.run.specs.Run.{Outcome, searching, moves, landing, standingOn, rowsAt, standingAt, landedAt}
+use Rattle.run.specs.Run.{Outcome, Bounded, searching, moves, landing, standingOn, rowsAt, standingAt, landedAt}
 use Rattle.run.specs.Run.{curvatureOf, standingOf, finish, refuse, orRefuse, leftAt, search, iterate, grow}
 use Rattle.run.specs.Run.{turnDown, notLower, linearOf, shrunk, reachOf, filterWith, wasTaken, decide, judge}
 use Rattle.run.specs.Run.{correct, landTrial, keep, landCorrection, started, answered, answeredNone}
@@ -40,36 +40,20 @@ use Rattle.run.specs.declared.state.Sizes.{Sizes}
 use Rattle.run.specs.declared.state.State.{State}
 use Rattle.run.specs.declared.state.Stop.{Stop}
 use Rattle.run.specs.declared.state.Stop.the-variants as stop
-use Rattle.run.proofs.Remainders.{Tidy, tidy-zeros, tidy-padded, tidy-put, tidy-fill, tidy-more}
-use Rattle.run.proofs.Yields.{Yields, gives, TrialTidy, ProposalTidy, div-yields, violation-yields}
+use Rattle.run.specs.Remainders.{Tidy, TidyMemory, Uses, Working, allUsed, pointsUsed}
+use Rattle.run.specs.declared.state.Phase.the-variants.{Open}
+use Rattle.run.proofs.AreaSlots.{rows-fit}
+use Rattle.run.proofs.ReadLaws.{withStep}
+use Rattle.run.proofs.Remainders.{all-tidy, only-points, limits-of}
+use Rattle.run.proofs.Remainders.{tidy-zeros, tidy-padded, tidy-put, tidy-fill, tidy-more}
+use Rattle.run.proofs.Yields.{Yields, gives, given, TrialTidy, ProposalTidy, div-yields, violation-yields}
 use Rattle.run.proofs.Yields.{proposal-tidy, judge-yields, shift-yields, shifted-tidy, curvature-tidy}
 use Rattle.run.proofs.Yields.{linear-yields}
 use Rattle.run.proofs.Yields as yields
 
--- each list in its slot, with so many numbers of each in use
-pub record TidyMemory (used : List ℕ) (w : Memory) : Type 0 where
-  pub standing : Tidy POINT (getD used 0 0) (w .standing)
-  pub landed : Tidy POINT (getD used 1 0) (w .landed)
-  pub asked : Tidy POINT (getD used 2 0) (w .asked)
-  pub standing-rows : Tidy ROWS (getD used 3 0) (w .standingRows)
-  pub landed-rows : Tidy ROWS (getD used 4 0) (w .landedRows)
-  pub step : Tidy POINT (getD used 5 0) (w .step)
-  pub multipliers : Tidy POINT (getD used 6 0) (w .multipliers)
-  pub curvature : Tidy CURVATURE (getD used 7 0) (w .curvature)
-  pub filter : Tidy FILTER (getD used 8 0) (w .filter)
-
--- every slot in use, as while a correction is open
-abbrev pub allUsed : Sizes → ℕ → List ℕ
-allUsed z iterations =
-    let rows = rowNumbers (z .n) (z .m) (z .s) in
-    let point = 2 * z .n in
-    let entries = 2 * curvatureEntries (z .n) in
-    point
-    ∷ (point ∷ (point ∷ (rows ∷ (rows ∷ (point ∷ (2 * z .m ∷ (entries ∷ (4 * iterations ∷ []))))))))
-
 -- the memory while a call works
-abbrev pub Working : State → Memory → Type 0
-Working st w = TidyMemory (allUsed (st .sizes) (st .counts .iterations)) w
+abbrev pub AtWork : State → Memory → Type 0
+AtWork st w = TidyMemory (allUsed (st .sizes) (st .counts .iterations)) w
 
 -- what a run of these sizes is left as
 pub record Kept (z : Sizes) (o : Outcome) : Type 0 where
@@ -94,7 +78,7 @@ only-standing used most w e t =
       filter = tidy-zeros FILTER (getD used 8 0);
     }
 
-module _ (st : State) (w : Memory) (t : Working st w) where
+module _ (st : State) (w : Memory) (t : AtWork st w) where
   finish-kept : (s : Stop) → Kept (st .sizes) (finish st w s)
   finish-kept s =
       record {
@@ -162,7 +146,7 @@ search-tidy (suc t) S max x =
     (S .e .constraints .count) max x
     (proposalOf S (x .mu) (x .radius)) (proposal-tidy S (x .mu) (x .radius))
 
-left-kept : (st : State) (w : Memory) → Working st w → (f : Found) → FoundTidy (st .sizes .n) (st .sizes .m) f
+left-kept : (st : State) (w : Memory) → AtWork st w → (f : Found) → FoundTidy (st .sizes .n) (st .sizes .m) f
     → Kept (st .sizes) (leftAt st w f)
 unfolding leftAt
 left-kept st w t (asks x y) h =
@@ -184,7 +168,7 @@ left-kept st w t (asks x y) h =
 left-kept st w t (stops x s) h = finish-kept (searching st x) w t s
 left-kept st w t (refuses x k) h = refuse-kept (searching st x) w t k h
 
-search-kept : (st : State) (w : Memory) → Working st w → Kept (st .sizes) (search st w)
+search-kept : (st : State) (w : Memory) → AtWork st w → Kept (st .sizes) (search st w)
 unfolding search searchOf
 search-kept st w t =
     or-refuse-kept st w t (violationOf (standingAt st w .constraints)) _
@@ -193,7 +177,7 @@ search-kept st w t =
     left-kept st w t (searchOf (standingOf st w theta) (st .«max_step») (st .search))
     (search-tidy DAMPINGS (standingOf st w theta) (st .«max_step») (st .search)))
 
-iterate-kept : (st : State) (w : Memory) → Working st w → Kept (st .sizes) (iterate st w)
+iterate-kept : (st : State) (w : Memory) → AtWork st w → Kept (st .sizes) (iterate st w)
 unfolding iterate
 iterate-kept st w t =
     either-kept (st .sizes) (leb (st .sizes .limit) (st .counts .iterations)) _ _ (finish-kept st w t stop.Budget)
@@ -201,14 +185,14 @@ iterate-kept st w t =
 
 -- ---- a step turned down
 
-grow-kept : (st : State) (w : Memory) → Working st w → Kept (st .sizes) (grow st w)
+grow-kept : (st : State) (w : Memory) → AtWork st w → Kept (st .sizes) (grow st w)
 unfolding grow
 grow-kept st w t =
     let x = grown (st .search) in
     either-kept (st .sizes) (isFinite (x .mu)) _ _ (search-kept (searching st x) w t)
     (finish-kept (searching st x) w t (stop.Damped (st .search .rejected)))
 
-turn-down-kept : (st : State) (w : Memory) → Working st w → (r : Rejection) → Kept (st .sizes) (turnDown st w r)
+turn-down-kept : (st : State) (w : Memory) → AtWork st w → (r : Rejection) → Kept (st .sizes) (turnDown st w r)
 unfolding turnDown
 turn-down-kept st w t r =
     let x = rejectedFor (st .search) r in
@@ -216,7 +200,7 @@ turn-down-kept st w t r =
     (div-yields (st .trial .tried) (degenerate four64))
     (λ q u. grow-kept (searching st (withRadius x (sharpen q))) w t)
 
-not-lower-kept : (st : State) (w : Memory) → Working st w → Kept (st .sizes) (notLower st w)
+not-lower-kept : (st : State) (w : Memory) → AtWork st w → Kept (st .sizes) (notLower st w)
 unfolding notLower
 not-lower-kept st w t =
     either-kept (st .sizes) (not (st .search .plain) && learnedOf (st .sizes .n) (w .curvature)) _ _
@@ -231,13 +215,41 @@ unfolding filterWith
 filter-tidy size used count filter f theta h t =
     tidy-put (tidy-put t (2 * count) f (omega arith)) (2 * count + 1) theta (omega arith)
 
-module _ (st : State) (w : Memory) (t : Working st w) where
+module _ (st : State) (w : Memory) (t : AtWork st w) where
   curvature-used : Tidy CURVATURE (2 * curvatureEntries (st .sizes .n)) (curvatureOf st w)
   curvature-used = by (st .search .plain)
     where
       by : (b : Bool) → Tidy CURVATURE (2 * curvatureEntries (st .sizes .n)) (pick b (zeros CURVATURE) (w .curvature))
       by true = tidy-zeros CURVATURE (2 * curvatureEntries (st .sizes .n))
       by false = t .curvature
+
+  -- with one pair more in the filter
+  pub taken-working :
+      (b : List Float) (f theta : Scalar) → Tidy CURVATURE (2 * curvatureEntries (st .sizes .n)) b →
+      TidyMemory (allUsed (st .sizes) (st .counts .iterations + 1))
+      (withTaken w b (filterWith (w .filter) (st .counts .iterations) f theta))
+  taken-working b f theta tidy-b =
+      record {
+        standing = t .landed;
+        landed = t .landed;
+        asked = t .asked;
+        standing-rows = t .landed-rows;
+        landed-rows = t .landed-rows;
+        step = t .step;
+        multipliers = t .multipliers;
+        curvature = tidy-b;
+        filter = filter-tidy FILTER (4 * (st .counts .iterations + 1)) (st .counts .iterations) (w .filter) f theta
+            (omega arith) (tidy-more (t .filter) (omega arith));
+      }
+
+  pub learned-tidy : {b : List Float}
+      → updateCurvature (st .sizes .n) (curvatureOf st w) (w .step) (standingAt st w) (landedAt st w) (w .multipliers)
+      ≡ ok b
+      → Tidy CURVATURE (2 * curvatureEntries (st .sizes .n)) b
+  learned-tidy e =
+      given e
+      (curvature-tidy CURVATURE (st .sizes .n) (curvatureOf st w) (w .step) (standingAt st w) (landedAt st w)
+      (w .multipliers) curvature-used)
 
   take-kept : (theta length : Scalar) → Kept (st .sizes) (run.take st w theta length)
   unfolding run.take
@@ -256,18 +268,7 @@ module _ (st : State) (w : Memory) (t : Working st w) where
       iterate-kept
       (standingOn st length (shrunk (st .search .mu) third)
       (reachOf length (st .search .radius) (st .«max_step») linear)) (withTaken w b pairs)
-      (record {
-        standing = t .landed;
-        landed = t .landed;
-        asked = t .asked;
-        standing-rows = t .landed-rows;
-        landed-rows = t .landed-rows;
-        step = t .step;
-        multipliers = t .multipliers;
-        curvature = tidy-b;
-        filter = filter-tidy FILTER (4 * (st .counts .iterations + 1)) (st .counts .iterations) (w .filter)
-            (sumSquared (standingAt st w .sum)) theta (omega arith) (tidy-more (t .filter) (omega arith));
-      }))))
+      (taken-working b (sumSquared (standingAt st w .sum)) theta tidy-b))))
 
   -- ---- the judgement
 
@@ -323,13 +324,13 @@ pub record Answered (st : State) (rows : List Float) : Type 0 where
   pub many : length rows ≡ rowNumbers (st .sizes .n) (st .sizes .m) (st .sizes .s)
   pub fit : length rows ≤ ROWS
 
-module _ (st : State) (w : Memory) (t : Working st w) (rows : List Float) (r : Answered st rows) where
+module _ (st : State) (w : Memory) (t : AtWork st w) (rows : List Float) (r : Answered st rows) where
   rows-tidy : Tidy ROWS (rowNumbers (st .sizes .n) (st .sizes .m) (st .sizes .s)) (padded ROWS rows)
   rows-tidy =
       tidy-padded ROWS (rowNumbers (st .sizes .n) (st .sizes .m) (st .sizes .s)) rows (omega (arith, r .many)) (r .fit)
 
-  landed-working : (n : ℕ) (step : List Float) → Tidy POINT (2 * st .sizes .n) step
-      → Working (landing st n) (withLanded w rows step)
+  pub landed-working : (n : ℕ) (step : List Float) → Tidy POINT (2 * st .sizes .n) step
+      → AtWork (landing st n) (withLanded w rows step)
   landed-working n step s =
       record {
         standing = t .standing;
@@ -377,11 +378,9 @@ module _ (st : State) (w : Memory) (t : Working st w) (rows : List Float) (r : A
 
   -- ---- an accepted answer
 
-  start-kept : Kept (st .sizes) (started st w rows)
-  unfolding started
-  start-kept =
-      iterate-kept (moves st (movingOf (st .sizes .n) (rowsAt st rows))) (withStart w rows)
-      (record {
+  pub start-working : AtWork st (withStart w rows)
+  start-working =
+      record {
         standing = t .standing;
         landed = tidy-zeros POINT _;
         asked = tidy-zeros POINT _;
@@ -391,7 +390,13 @@ module _ (st : State) (w : Memory) (t : Working st w) (rows : List Float) (r : A
         multipliers = tidy-zeros POINT _;
         curvature = tidy-zeros CURVATURE _;
         filter = tidy-zeros FILTER _;
-      })
+      }
+
+  start-kept : Kept (st .sizes) (started st w rows)
+  unfolding started
+  start-kept =
+      iterate-kept (moves st (movingOf (st .sizes .n) (rowsAt st rows))) (withStart w rows)
+      start-working
 
   pub answered-kept : (k : Kind) → Kept (st .sizes) (answered k st w rows)
   answered-kept kind.Start = start-kept
@@ -402,9 +407,59 @@ module _ (st : State) (w : Memory) (t : Working st w) (rows : List Float) (r : A
       or-refuse-kept st w t (violationOf (standingAt st w .constraints)) _
       (violation-yields (standingAt st w .constraints)) (λ theta p. land-correction-kept theta)
 
-pub answered-none-kept : (st : State) (w : Memory) → Working st w → (k : Kind) → Kept (st .sizes) (answeredNone k st w)
+pub answered-none-kept : (st : State) (w : Memory) → AtWork st w → (k : Kind) → Kept (st .sizes) (answeredNone k st w)
 answered-none-kept st w t kind.Start = finish-kept st w t stop.Infeasible
 answered-none-kept st w t kind.Trial = turn-down-kept st w t why.Infeasible
 answered-none-kept st w t kind.Correction =
     or-refuse-kept st w t (violationOf (standingAt st w .constraints)) _
     (violation-yields (standingAt st w .constraints)) (λ theta p. judge-kept st w t theta)
+
+-- ---- the area of a call that works
+
+module _ (st : State) {most : ℕ} (bounded : Bounded most st) (rows : List Float)
+    (many : length rows ≡ rowNumbers (st .sizes .n) (st .sizes .m) (st .sizes .s)) where
+  as-answered : Answered st rows
+  as-answered = record { many = many; fit = omega (arith, rows-fit (st .sizes) (limits-of bounded), many) }
+
+  -- a start's answer
+  pub starts : {w : Memory} {a b : List Float} →
+      Uses (usedIn st) w a → st .phase ≡ Open kind.Start →
+      (Uses (pointsUsed (2 * st .sizes .n)) w a → Holds (withStart w rows) b) → Working st (withStart w rows) b
+  starts {w} h e f =
+      record {
+        holds = f (only-points st e h);
+        tidy = start-working st w (all-tidy st w (h .tidy)) rows as-answered;
+      }
+
+  -- where the asked point landed
+  pub lands : {w : Memory} {a b : List Float} →
+      Working st w a → (Tidy ROWS (length rows) (w .landedRows) → Holds (withLanded w rows (w .step)) b) →
+      Working st (withLanded w rows (w .step)) b
+  lands {w} h f =
+      record {
+        holds = f (subst (λ (n : ℕ). Tidy ROWS n (w .landedRows)) (sym many) (h .tidy .landed-rows));
+        tidy = landed-working st w (h .tidy) rows as-answered 0 (w .step) (h .tidy .step);
+      }
+
+-- a step that is shifted
+pub shifts :
+    (st : State) (d : List Float) {w : Memory} {a b : List Float} → Working st w a →
+    Holds (withStep w (shiftedStep (st .sizes .n) (w .step) d)) b →
+    Working st (withStep w (shiftedStep (st .sizes .n) (w .step) d)) b
+unfolding shiftedStep
+shifts st d h k =
+    let t = h .tidy in
+    record {
+      holds = k;
+      tidy = record {
+        standing = t .standing;
+        landed = t .landed;
+        asked = t .asked;
+        standing-rows = t .standing-rows;
+        landed-rows = t .landed-rows;
+        step = tidy-fill (t .step) 0 _ (st .sizes .n) (omega arith);
+        multipliers = t .multipliers;
+        curvature = t .curvature;
+        filter = t .filter;
+      };
+    }

@@ -3,7 +3,7 @@
 use Prim.Native.Nat.{ℕ, zero, suc, _+_, _-_, _*_, _<_, min}
 use mathlib.Core.Bool.{Bool, true, false, not, _&&_, _||_}
 use mathlib.Core.Logic.{_≢_}
-use mathlib.Core.Path.{_≡_, refl, _∙_}
+use mathlib.Core.Path.{_≡_, refl, subst, _∙_}
 use mathlib.Core.List.{List, [], _∷_}
 use native.Mathlib.Nat.{lt-suc-self, not-suc-le-zero}
 use native.Mathlib.Omega.{arith}
@@ -40,12 +40,20 @@ use Rattle.run.specs.Area.{Memory}
 use Rattle.run.specs.Run.{landedAt, linearOf}
 use Rattle.run.specs.declared.state.Last.{Last}
 use Rattle.run.specs.declared.state.State.{State}
-use Rattle.run.proofs.Remainders.{Tidy, tidy-zeros, tidy-put, tidy-fill, tidy-spread}
+use Rattle.run.specs.Remainders.{Tidy}
+use Rattle.run.proofs.Remainders.{tidy-zeros, tidy-put, tidy-fill, tidy-spread}
 
 -- a value with P, or refusal 5 or 6
 pub data Yields {A : Type 0} (P : A → Type 0) : Res A → Type 0 where
   gives : {x : A} → P x → Yields P (ok x)
   refuses : {k : ℕ} → T (eqb k 5 || eqb k 6) → Yields P (refused k)
+
+-- what is known of a value that is given
+pub given : {A : Type 0} {P : A → Type 0} {x : Res A} {a : A} → x ≡ ok a → Yields P x → P a
+given {A} {P} {x} {a} e y = by (subst (λ (z : Res A). Yields P z) e y)
+  where
+    by : Yields P (ok a) → P a
+    by (gives p) = p
 
 -- any value
 abbrev pub Any : {A : Type 0} → A → Type 0

@@ -230,16 +230,6 @@ pub record Holds (w : Memory) (a : List Float) : Type 0 where
   pub sized : map length (slotsOf w) ≡ SIZES
   pub is : a ≡ areaOf w
 
--- only the standing and the asked point are in use, as before a start's answer
-pub record OnlyPoints (w : Memory) : Type 0 where
-  pub no-landed : w .landed ≡ zeros POINT
-  pub no-standing-rows : w .standingRows ≡ zeros ROWS
-  pub no-landed-rows : w .landedRows ≡ zeros ROWS
-  pub no-step : w .step ≡ zeros POINT
-  pub no-multipliers : w .multipliers ≡ zeros POINT
-  pub no-curvature : w .curvature ≡ zeros CURVATURE
-  pub no-filter : w .filter ≡ zeros FILTER
-
 -- where slot k begins
 unfoldable pub startOf : List ℕ → ℕ → ℕ
 startOf sizes zero = 0

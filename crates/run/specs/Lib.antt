@@ -10,6 +10,7 @@ pub mod Judgement
 pub mod Filter
 pub mod Correction
 pub mod Area
+pub mod Remainders
 pub mod Search
 pub mod Run
 pub mod Calls

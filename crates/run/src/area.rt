@@ -4,12 +4,16 @@ ghost use mathlib.Core.List.{_++_};
 ghost use Prim.Native.Nat.{ℕ, _+_, _<_, _≤_};
 ghost use lib.ListN.{length, take, drop, getD};
 ghost use Rattle.linear.specs.Flat.{zeros};
-ghost use Rattle.run.specs.Area.{Memory, padded, written, Holds, OnlyPoints, startOf, tidiedTo, usedIn, memoryOf, begunMemory, onlyStanding, withStart, withTrial, withLanded, withTaken};
+ghost use Rattle.run.specs.Area.{Memory, padded, written, Holds, startOf, tidiedTo, usedIn, memoryOf};
+ghost use Rattle.run.specs.Area.{begunMemory, onlyStanding, withStart, withTrial, withLanded, withTaken};
 ghost use Rattle.run.specs.Proposal.{movedOf};
+ghost use Rattle.run.specs.Remainders.{Tidy, Uses, Limits, allUsed, pointsUsed};
+ghost use Rattle.run.specs.Rows.{rowNumbers};
 ghost use Rattle.run.specs.Run.{filterWith};
 use crate::points::moved;
 use crate::state::Kind;
 use crate::state::Phase;
+use crate::state::Sizes;
 use crate::state::State;
 use interval::Scalar;
 use linear::clear;
@@ -100,49 +104,66 @@ fn tidy_slots(area: &mut [f64], sizes: &[usize], used: &[usize])
     }
 }
 
+// How many numbers an answer's rows have.
+fn row_numbers(z: Sizes) -> usize
+    requires { ⌜ (z .n ≤ 12) × ((z .m ≤ 12) × (z .s ≤ 24)) ⌝ }
+    ensures { λ r. ⌜ r ≡ rowNumbers (z .n) (z .m) (z .s) ⌝ }
+{
+    2 * ((z.m + z.s) * (z.n + 1))
+}
+
+// How many numbers of each slot may be in use while a call works.
+fn all_used(z: Sizes, iterations: usize) -> [usize; 9]
+    requires { ⌜ Limits z iterations ⌝ }
+    ensures { λ r. ⌜ r ≡ allUsed z iterations ⌝ }
+{
+    let point = 2 * z.n;
+    let rows = row_numbers(z);
+    let multipliers = 2 * z.m;
+    let entries = 2 * (z.n * z.n);
+    let pairs = 4 * iterations;
+    [
+        point,
+        point,
+        point,
+        rows,
+        rows,
+        point,
+        multipliers,
+        entries,
+        pairs,
+    ]
+}
+
 // How many numbers of each slot are in use.
 fn in_use(st: State) -> [usize; 9]
-    requires { ⌜ (st .sizes .n ≤ 12) × ((st .sizes .m ≤ 12) × ((st .sizes .s ≤ 24) × (st .counts .iterations ≤ 200))) ⌝ }
+    requires { ⌜ Limits (st .sizes) (st .counts .iterations) ⌝ }
     ensures { λ r. ⌜ r ≡ usedIn st ⌝ }
 {
     let phase = st.phase;
-    let point = 2 * st.sizes.n;
-    let rows = 2 * ((st.sizes.m + st.sizes.s) * (st.sizes.n + 1));
-    let multipliers = 2 * st.sizes.m;
-    let entries = 2 * (st.sizes.n * st.sizes.n);
-    let pairs = 4 * st.counts.iterations;
+    let all = all_used(st.sizes, st.counts.iterations);
     match phase {
         Phase::Open(kind) => match kind {
             Kind::Start => {
-                return [point, 0, point, 0, 0, 0, 0, 0, 0];
+                return [all[0], 0, all[2], 0, 0, 0, 0, 0, 0];
             }
             Kind::Trial => {
-                return [point, 0, point, rows, 0, point, multipliers, entries, pairs];
+                return [all[0], 0, all[2], all[3], 0, all[5], all[6], all[7], all[8]];
             }
             Kind::Correction => {
-                return [
-                    point,
-                    point,
-                    point,
-                    rows,
-                    rows,
-                    point,
-                    multipliers,
-                    entries,
-                    pairs,
-                ];
+                return all;
             }
         },
         Phase::Over => {
-            return [point, 0, 0, 0, 0, 0, 0, 0, 0];
+            return [all[0], 0, 0, 0, 0, 0, 0, 0, 0];
         }
     }
 }
 
 // Every place that is not in use +0.
 pub fn tidy(area: &mut [f64], st: State)
-    requires { ⌜ (length (now area) ≡ 8000) × ((st .sizes .n ≤ 12) × ((st .sizes .m ≤ 12) × ((st .sizes .s ≤ 24) × (st .counts .iterations ≤ 200)))) ⌝ }
-    ensures { λ _. ⌜ Holds (memoryOf st (now (area .entry))) (now (area .exit)) ⌝ }
+    requires { ⌜ (length (now area) ≡ 8000) × Limits (st .sizes) (st .counts .iterations) ⌝ }
+    ensures { λ _. ⌜ Uses (usedIn st) (memoryOf st (now (area .entry))) (now (area .exit)) ⌝ }
 {
     let sizes = [
         POINT,
@@ -170,23 +191,32 @@ pub fn begun(area: &mut [f64], start: &[f64])
     slot(area, ASKED, POINT, start);
 }
 
-// After a finish, or refusal 5 or 6: only the standing point. The last numbers are +0 already, and at the smallest
-// drawings clearing is most of a call's time.
-pub fn only_standing(area: &mut [f64])
-    requires { ⌜ length (now area) ≡ 8000 ⌝ }
-    ensures { λ _. ⌜ ((w : Memory) → Holds w (now (area .entry)) → Holds (onlyStanding w) (now (area .exit))) ⌝ }
+// After a finish, or refusal 5 or 6: only the standing point. Behind the numbers in use all is +0 already, and at the
+// smallest drawings clearing is most of a call's time.
+pub fn only_standing(area: &mut [f64], z: Sizes, iterations: usize)
+    requires { ⌜ (length (now area) ≡ 8000) × Limits z iterations ⌝ }
+    ensures { λ _. ⌜ ((w : Memory) → Uses (allUsed z iterations) w (now (area .entry)) →
+        Holds (onlyStanding w) (now (area .exit))) ⌝ }
 {
-    clear_from(area, LANDED, SPARE - LANDED);
+    let used = all_used(z, iterations);
+    clear_from(area, LANDED, POINT);
+    clear_from(area, ASKED, POINT);
+    clear_from(area, STANDING_ROWS, used[3]);
+    clear_from(area, LANDED_ROWS, used[4]);
+    clear_from(area, STEP, POINT);
+    clear_from(area, MULTIPLIERS, POINT);
+    clear_from(area, CURVATURE, used[7]);
+    clear_from(area, FILTER, used[8]);
 }
 
 // A start's answer. Before it only the two points are in use, so all else is +0 already.
 pub fn with_start(area: &mut [f64], rows: &[f64])
     requires { ⌜ (length (now area) ≡ 8000) × (length (now rows) ≤ 936) ⌝ }
-    ensures { λ _. ⌜ ((w : Memory) → Holds w (now (area .entry)) → OnlyPoints w →
+    ensures { λ _. ⌜ ((w : Memory) (point : ℕ) → Uses (pointsUsed point) w (now (area .entry)) →
         Holds (withStart w (now (rows .entry))) (now (area .exit))) ⌝ }
 {
     clear_from(area, ASKED, POINT);
-    slot(area, STANDING_ROWS, ROWS, rows);
+    place(area, STANDING_ROWS, rows);
 }
 
 // The point that a step leads to from the standing one is asked.
@@ -199,25 +229,31 @@ fn with_next(area: &mut [f64], n: usize, delta: &[f64])
     place(area, ASKED, &next);
 }
 
-// A trial asked, where the step leads: nothing has landed.
-pub fn with_trial(area: &mut [f64], n: usize, delta: &[f64], lambda: &[f64])
-    requires { ⌜ (length (now area) ≡ 8000) × ((length (now delta) ≡ 24) × (length (now lambda) ≡ 24)) ⌝ }
-    ensures { λ _. ⌜ ((w : Memory) → Holds w (now (area .entry)) → Holds (withTrial w (movedOf n (w .standing) (now (delta .entry))) (now (delta .entry)) (now (lambda .entry))) (now (area .exit))) ⌝ }
+// A trial asked, where the step leads: nothing has landed. Of the landed rows those in use are cleared.
+pub fn with_trial(area: &mut [f64], z: Sizes, delta: &[f64], lambda: &[f64])
+    requires { ⌜ (length (now area) ≡ 8000) × (((z .n ≤ 12) × ((z .m ≤ 12) × (z .s ≤ 24))) ×
+        ((length (now delta) ≡ 24) × (length (now lambda) ≡ 24))) ⌝ }
+    ensures { λ _. ⌜ ((w : Memory) → Holds w (now (area .entry)) →
+        Tidy 936 (rowNumbers (z .n) (z .m) (z .s)) (w .landedRows) →
+        Holds (withTrial w (movedOf (z .n) (w .standing) (now (delta .entry))) (now (delta .entry)) (now (lambda .entry)))
+        (now (area .exit))) ⌝ }
 {
-    with_next(area, n, delta);
+    with_next(area, z.n, delta);
     clear_from(area, LANDED, POINT);
-    clear_from(area, LANDED_ROWS, ROWS);
+    clear_from(area, LANDED_ROWS, row_numbers(z));
     place(area, STEP, delta);
     place(area, MULTIPLIERS, lambda);
 }
 
-// The asked point landed, with its rows.
+// The asked point landed, with its rows, in a slot that is +0 behind as many.
 pub fn landed(area: &mut [f64], rows: &[f64])
     requires { ⌜ (length (now area) ≡ 8000) × (length (now rows) ≤ 936) ⌝ }
-    ensures { λ _. ⌜ ((w : Memory) → Holds w (now (area .entry)) → Holds (withLanded w (now (rows .entry)) (w .step)) (now (area .exit))) ⌝ }
+    ensures { λ _. ⌜ ((w : Memory) → Holds w (now (area .entry)) → Tidy 936 (length (now (rows .entry))) (w .landedRows)
+        →
+        Holds (withLanded w (now (rows .entry)) (w .step)) (now (area .exit))) ⌝ }
 {
     copy(area, ASKED, LANDED, POINT);
-    slot(area, LANDED_ROWS, ROWS, rows);
+    place(area, LANDED_ROWS, rows);
 }
 
 // The filter with one pair more.
@@ -229,13 +265,25 @@ fn push(filter: &mut [f64], count: usize, f: Scalar, theta: Scalar)
     put(filter, 2 * count + 1, theta);
 }
 
-// The landed point stands, with the curvature after it; the filter has the pair of the point that stood.
-pub fn with_taken(area: &mut [f64], curvature: &[f64], count: usize, f: Scalar, theta: Scalar)
-    requires { ⌜ (length (now area) ≡ 8000) × ((length (now curvature) ≡ 288) × (count < 200)) ⌝ }
-    ensures { λ _. ⌜ ((w : Memory) → Holds w (now (area .entry)) → Holds (withTaken w (now (curvature .entry)) (filterWith (w .filter) count f theta)) (now (area .exit))) ⌝ }
+// The landed point stands, with the curvature after it; the filter has the pair of the point that stood. Of the rows
+// those in use are copied.
+pub fn with_taken(
+    area: &mut [f64],
+    z: Sizes,
+    curvature: &[f64],
+    count: usize,
+    f: Scalar,
+    theta: Scalar,
+)
+    requires { ⌜ (length (now area) ≡ 8000) × (((z .n ≤ 12) × ((z .m ≤ 12) × (z .s ≤ 24))) ×
+        ((length (now curvature) ≡ 288) × (count < 200))) ⌝ }
+    ensures { λ _. ⌜ ((w : Memory) → Holds w (now (area .entry)) →
+        Tidy 936 (rowNumbers (z .n) (z .m) (z .s)) (w .standingRows) →
+        Tidy 936 (rowNumbers (z .n) (z .m) (z .s)) (w .landedRows) →
+        Holds (withTaken w (now (curvature .entry)) (filterWith (w .filter) count f theta)) (now (area .exit))) ⌝ }
 {
     copy(area, LANDED, STANDING, POINT);
-    copy(area, LANDED_ROWS, STANDING_ROWS, ROWS);
+    copy(area, LANDED_ROWS, STANDING_ROWS, row_numbers(z));
     place(area, CURVATURE, curvature);
     push(&mut area[FILTER..SPARE], count, f, theta);
 }

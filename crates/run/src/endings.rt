@@ -6,6 +6,7 @@ ghost use lib.Ieee.{Float};
 ghost use lib.ListN.{length};
 ghost use Rattle.linear.specs.Answers.{numberOf};
 ghost use Rattle.run.specs.Area.{Memory, Holds};
+ghost use Rattle.run.specs.Remainders.{Limits, Working};
 ghost use Rattle.run.specs.Run as run;
 ghost use Rattle.run.specs.Run.{Leaves};
 use crate::area::only_standing;
@@ -36,10 +37,11 @@ fn number_of(e: LinearError) -> usize
 
 // The run is over with its counts; the area keeps the standing point alone.
 pub fn finish(st: State, area: &mut [f64], stop: Stop) -> Out
-    requires { ⌜ length (now area) ≡ 8000 ⌝ }
-    ensures { λ r. ⌜ ((w : Memory) → Holds w (now (area .entry)) → Leaves (run.finish st w stop) r (now (area .exit))) ⌝ }
+    requires { ⌜ (length (now area) ≡ 8000) × Limits (st .sizes) (st .counts .iterations) ⌝ }
+    ensures { λ r. ⌜ ((w : Memory) → Working st w (now (area .entry)) → Leaves (run.finish st w stop) r (now (area
+        .exit))) ⌝ }
 {
-    only_standing(area);
+    only_standing(area, st.sizes, st.counts.iterations);
     Out {
         state: with_phase(st, Phase::Over),
         answer: Answer::Finish(
@@ -53,10 +55,11 @@ pub fn finish(st: State, area: &mut [f64], stop: Stop) -> Out
 
 // The run is over with the number of a refusal; the area keeps the standing point alone.
 pub fn refuse(st: State, area: &mut [f64], e: LinearError) -> Out
-    requires { ⌜ length (now area) ≡ 8000 ⌝ }
-    ensures { λ r. ⌜ ((w : Memory) → Holds w (now (area .entry)) → Leaves (run.refuse st w (numberOf e)) r (now (area .exit))) ⌝ }
+    requires { ⌜ (length (now area) ≡ 8000) × Limits (st .sizes) (st .counts .iterations) ⌝ }
+    ensures { λ r. ⌜ ((w : Memory) → Working st w (now (area .entry)) → Leaves (run.refuse st w (numberOf e)) r (now
+        (area .exit))) ⌝ }
 {
-    only_standing(area);
+    only_standing(area, st.sizes, st.counts.iterations);
     Out {
         state: with_phase(st, Phase::Over),
         answer: Answer::Refused(number_of(e)),

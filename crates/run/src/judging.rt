@@ -4,6 +4,7 @@ ghost use mathlib.Core.Path.{_≡_};
 ghost use lib.ListN.{length};
 ghost use Rattle.run.specs.Area.{Memory, Holds};
 ghost use Rattle.run.specs.Judgement.{judgeOf, judgementOf};
+ghost use Rattle.run.specs.Remainders.{Working};
 ghost use Rattle.run.specs.Run.{Leaves, Underway, standingAt, landedAt, wasTaken, decide, judge};
 use crate::area;
 use crate::endings::finish;
@@ -63,7 +64,8 @@ fn is_better(first: bool, j: Judged) -> bool
 // What follows a judgement, from a standing point with violation theta.
 fn decide(st: State, area: &mut [f64], theta: Scalar, j: Judged) -> Out
     requires { ⌜ (length (now area) ≡ 8000) × Underway st ⌝ }
-    ensures { λ r. ⌜ ((w : Memory) → Holds w (now (area .entry)) → Leaves (decide st w theta j) r (now (area .exit))) ⌝ }
+    ensures { λ r. ⌜ ((w : Memory) → Working st w (now (area .entry)) → Leaves (decide st w theta j) r (now (area
+        .exit))) ⌝ }
 {
     let last = st.last;
     if is_stuck(st.search.first, last, j) {
@@ -98,7 +100,8 @@ fn judge_in(st: State, area: &[f64], theta: Scalar) -> Judgement
 // The landed point is judged, from a standing point with violation theta.
 pub fn judge_landed(st: State, area: &mut [f64], theta: Scalar) -> Out
     requires { ⌜ (length (now area) ≡ 8000) × Underway st ⌝ }
-    ensures { λ r. ⌜ ((w : Memory) → Holds w (now (area .entry)) → Leaves (judge st w theta) r (now (area .exit))) ⌝ }
+    ensures { λ r. ⌜ ((w : Memory) → Working st w (now (area .entry)) → Leaves (judge st w theta) r (now (area .exit)))
+        ⌝ }
 {
     match judge_in(st, area, theta) {
         Judgement::Of(j) => {

@@ -5,8 +5,9 @@ ghost use Prim.Native.Nat.{_*_, _≤_};
 ghost use lib.ListN.{length};
 ghost use Rattle.interval.specs.Scalar.{pick};
 ghost use Rattle.linear.specs.Answers.{resultOf};
-ghost use Rattle.run.specs.Area.{Memory, Holds, OnlyPoints};
+ghost use Rattle.run.specs.Area.{Memory, Holds, usedIn};
 ghost use Rattle.run.specs.Calls.{phaseFits};
+ghost use Rattle.run.specs.Remainders.{Uses, Working};
 ghost use Rattle.run.specs.Rows.{rowNumbers, constraintsOf, violationOf};
 ghost use Rattle.run.specs.Run.{Leaves, Bounded, Underway, judge, correct, keep, landTrial, landCorrection, nearerOf, nearerResult, fromStanding, started, answered, answeredNone};
 ghost use Rattle.run.specs.declared.state.Kind.the-variants as kinds;
@@ -43,7 +44,8 @@ pub enum Nearer {
 // The landed point is shifted back onto the constraints, and that point asked, or it is judged.
 fn correct(st: State, area: &mut [f64], theta: Scalar) -> Out
     requires { ⌜ (length (now area) ≡ 8000) × Underway st ⌝ }
-    ensures { λ r. ⌜ ((w : Memory) → Holds w (now (area .entry)) → Leaves (correct st w theta) r (now (area .exit))) ⌝ }
+    ensures { λ r. ⌜ ((w : Memory) → Working st w (now (area .entry)) → Leaves (correct st w theta) r (now (area
+        .exit))) ⌝ }
 {
     let moving = st.moving;
     let mut next = [0.0; 24];
@@ -70,7 +72,8 @@ fn correct(st: State, area: &mut [f64], theta: Scalar) -> Out
 
 fn correct_or_judge(st: State, area: &mut [f64], theta: Scalar, corrects: bool) -> Out
     requires { ⌜ (length (now area) ≡ 8000) × Underway st ⌝ }
-    ensures { λ r. ⌜ ((w : Memory) → Holds w (now (area .entry)) → Leaves (pick corrects (correct st w theta) (judge st w theta)) r (now (area .exit))) ⌝ }
+    ensures { λ r. ⌜ ((w : Memory) → Working st w (now (area .entry)) → Leaves (pick corrects (correct st w theta)
+        (judge st w theta)) r (now (area .exit))) ⌝ }
 {
     if corrects {
         return correct(st, area, theta);
@@ -80,8 +83,11 @@ fn correct_or_judge(st: State, area: &mut [f64], theta: Scalar, corrects: bool) 
 
 // A correction's rows, nearer the constraints: the step is shifted as well.
 fn keep(st: State, area: &mut [f64], rows: &[f64], theta: Scalar) -> Out
-    requires { ⌜ (length (now area) ≡ 8000) × ((length (now rows) ≤ 936) × (Underway st × (st .counts .corrections ≤ 4))) ⌝ }
-    ensures { λ r. ⌜ ((w : Memory) → Holds w (now (area .entry)) → Leaves (keep st w (now (rows .entry)) theta) r (now (area .exit))) ⌝ }
+    requires { ⌜ (length (now area) ≡ 8000) ×
+        ((length (now rows) ≡ rowNumbers (st .sizes .n) (st .sizes .m) (st .sizes .s)) ×
+        (Underway st × (st .counts .corrections ≤ 4))) ⌝ }
+    ensures { λ r. ⌜ ((w : Memory) → Working st w (now (area .entry)) → Leaves (keep st w (now (rows .entry)) theta) r
+        (now (area .exit))) ⌝ }
 {
     let moving = st.moving;
     let mut d = [0.0; 24];
@@ -129,7 +135,8 @@ fn is_nearer(z: Sizes, area: &[f64], rows: &[f64]) -> Nearer
 // A correction's rows, from a standing point with violation theta: kept where they are nearer than the landed ones.
 fn land_correction(st: State, area: &mut [f64], rows: &[f64], theta: Scalar) -> Out
     requires { ⌜ (length (now area) ≡ 8000) × ((length (now rows) ≡ rowNumbers (st .sizes .n) (st .sizes .m) (st .sizes .s)) × (Underway st × (st .counts .corrections ≤ 4))) ⌝ }
-    ensures { λ r. ⌜ ((w : Memory) → Holds w (now (area .entry)) → Leaves (landCorrection st w (now (rows .entry)) theta) r (now (area .exit))) ⌝ }
+    ensures { λ r. ⌜ ((w : Memory) → Working st w (now (area .entry)) → Leaves (landCorrection st w (now (rows .entry))
+        theta) r (now (area .exit))) ⌝ }
 {
     match is_nearer(st.sizes, area, rows) {
         Nearer::Known(kept) => {
@@ -146,8 +153,10 @@ fn land_correction(st: State, area: &mut [f64], rows: &[f64], theta: Scalar) -> 
 
 // A start's rows: what they say moves, and the first iteration.
 fn started(st: State, area: &mut [f64], rows: &[f64]) -> Out
-    requires { ⌜ (length (now area) ≡ 8000) × ((length (now rows) ≤ 936) × Bounded 1073741824 st) ⌝ }
-    ensures { λ r. ⌜ ((w : Memory) → Holds w (now (area .entry)) → OnlyPoints w →
+    requires { ⌜ (length (now area) ≡ 8000) ×
+        ((length (now rows) ≡ rowNumbers (st .sizes .n) (st .sizes .m) (st .sizes .s)) ×
+        (Bounded 1073741824 st × (st .phase ≡ Open kinds.Start))) ⌝ }
+    ensures { λ r. ⌜ ((w : Memory) → Uses (usedIn st) w (now (area .entry)) →
         Leaves (started st w (now (rows .entry))) r (now (area .exit))) ⌝ }
 {
     let moving = rows::moving(rows, st.sizes.n, st.sizes.m, st.sizes.s);
@@ -157,8 +166,10 @@ fn started(st: State, area: &mut [f64], rows: &[f64]) -> Out
 
 // A trial's rows, from a standing point with violation theta: corrected where the violation rose.
 fn land_trial(st: State, area: &mut [f64], rows: &[f64], theta: Scalar) -> Out
-    requires { ⌜ (length (now area) ≡ 8000) × ((length (now rows) ≤ 936) × Underway st) ⌝ }
-    ensures { λ r. ⌜ ((w : Memory) → Holds w (now (area .entry)) → Leaves (landTrial st w (now (rows .entry)) theta) r (now (area .exit))) ⌝ }
+    requires { ⌜ (length (now area) ≡ 8000) ×
+        ((length (now rows) ≡ rowNumbers (st .sizes .n) (st .sizes .m) (st .sizes .s)) × Underway st) ⌝ }
+    ensures { λ r. ⌜ ((w : Memory) → Working st w (now (area .entry)) → Leaves (landTrial st w (now (rows .entry))
+        theta) r (now (area .exit))) ⌝ }
 {
     area::landed(area, rows);
     let t = with_landed_number(st, 0);
@@ -182,7 +193,9 @@ fn standing_violation(z: Sizes, area: &[f64]) -> Answer
 // A trial's or a correction's rows.
 fn land(st: State, area: &mut [f64], rows: &[f64], trial: bool) -> Out
     requires { ⌜ (length (now area) ≡ 8000) × ((length (now rows) ≡ rowNumbers (st .sizes .n) (st .sizes .m) (st .sizes .s)) × (Underway st × (st .counts .corrections ≤ 4))) ⌝ }
-    ensures { λ r. ⌜ ((w : Memory) → Holds w (now (area .entry)) → Leaves (fromStanding st w (λ theta. pick trial (landTrial st w (now (rows .entry)) theta) (landCorrection st w (now (rows .entry)) theta))) r (now (area .exit))) ⌝ }
+    ensures { λ r. ⌜ ((w : Memory) → Working st w (now (area .entry)) → Leaves (fromStanding st w (λ theta. pick trial
+        (landTrial st w (now (rows .entry)) theta) (landCorrection st w (now (rows .entry)) theta))) r (now (area
+        .exit))) ⌝ }
 {
     match standing_violation(st.sizes, area) {
         Answer::Value(theta) => {
@@ -199,7 +212,8 @@ fn land(st: State, area: &mut [f64], rows: &[f64], trial: bool) -> Out
 
 fn correction_none(st: State, area: &mut [f64]) -> Out
     requires { ⌜ (length (now area) ≡ 8000) × Underway st ⌝ }
-    ensures { λ r. ⌜ ((w : Memory) → Holds w (now (area .entry)) → Leaves (answeredNone kinds.Correction st w) r (now (area .exit))) ⌝ }
+    ensures { λ r. ⌜ ((w : Memory) → Working st w (now (area .entry)) → Leaves (answeredNone kinds.Correction st w) r
+        (now (area .exit))) ⌝ }
 {
     match standing_violation(st.sizes, area) {
         Answer::Value(theta) => {
@@ -213,8 +227,11 @@ fn correction_none(st: State, area: &mut [f64]) -> Out
 
 // What follows an accepted answer with rows.
 pub fn answered(kind: Kind, st: State, area: &mut [f64], rows: &[f64]) -> Out
-    requires { ⌜ (length (now area) ≡ 8000) × ((length (now rows) ≡ rowNumbers (st .sizes .n) (st .sizes .m) (st .sizes .s)) × (Bounded 1073741824 st × ((st .counts .corrections ≤ 4) × (phaseFits st (Open kind) ≡ true)))) ⌝ }
-    ensures { λ r. ⌜ ((w : Memory) → Holds w (now (area .entry)) → (kind ≡ kinds.Start → OnlyPoints w) →
+    requires { ⌜ (length (now area) ≡ 8000) ×
+        ((length (now rows) ≡ rowNumbers (st .sizes .n) (st .sizes .m) (st .sizes .s)) ×
+        (Bounded 1073741824 st × ((st .counts .corrections ≤ 4) ×
+        ((phaseFits st (Open kind) ≡ true) × (st .phase ≡ Open kind))))) ⌝ }
+    ensures { λ r. ⌜ ((w : Memory) → Uses (usedIn st) w (now (area .entry)) →
         Leaves (answered kind st w (now (rows .entry))) r (now (area .exit))) ⌝ }
 {
     match kind {
@@ -233,7 +250,8 @@ pub fn answered(kind: Kind, st: State, area: &mut [f64], rows: &[f64]) -> Out
 // What follows an accepted answer with none.
 pub fn answered_none(kind: Kind, st: State, area: &mut [f64]) -> Out
     requires { ⌜ (length (now area) ≡ 8000) × (Bounded 1073741824 st × (phaseFits st (Open kind) ≡ true)) ⌝ }
-    ensures { λ r. ⌜ ((w : Memory) → Holds w (now (area .entry)) → Leaves (answeredNone kind st w) r (now (area .exit))) ⌝ }
+    ensures { λ r. ⌜ ((w : Memory) → Working st w (now (area .entry)) → Leaves (answeredNone kind st w) r (now (area
+        .exit))) ⌝ }
 {
     match kind {
         Kind::Start => {

@@ -9,6 +9,7 @@ ghost use Rattle.linear.specs.Answers.{doneOf};
 ghost use Rattle.linear.specs.Flat.{zeros};
 ghost use Rattle.run.specs.Area.{Memory, Holds};
 ghost use Rattle.run.specs.Curvature.{updateCurvature};
+ghost use Rattle.run.specs.Remainders.{Working};
 ghost use Rattle.run.specs.Rows.{evaluationOf};
 ghost use Rattle.run.specs.Run.{Leaves, Underway, held, linearOf, linearResult, shrunk, reachOf, take, takenWith};
 use crate::area;
@@ -116,7 +117,8 @@ fn take_with(
     radius: Scalar,
 ) -> Out
     requires { ⌜ (length (now area) ≡ 8000) × (Underway st × (isPositive mu ≡ true)) ⌝ }
-    ensures { λ r. ⌜ ((w : Memory) → Holds w (now (area .entry)) → Leaves (takenWith st w theta span mu radius) r (now (area .exit))) ⌝ }
+    ensures { λ r. ⌜ ((w : Memory) → Working st w (now (area .entry)) → Leaves (takenWith st w theta span mu radius) r
+        (now (area .exit))) ⌝ }
 {
     let mut b = [0.0; 288];
     match learn(st.sizes, st.search.plain, area, &mut b) {
@@ -131,14 +133,15 @@ fn take_with(
         st.sizes.m,
         st.sizes.s,
     );
-    area::with_taken(area, &b, st.counts.iterations, f, theta);
+    area::with_taken(area, st.sizes, &b, st.counts.iterations, f, theta);
     iterate(standing_on(st, span, mu, radius), area)
 }
 
 // The step of that length is taken, from a point with violation theta.
 pub fn take(st: State, area: &mut [f64], theta: Scalar, span: Scalar) -> Out
     requires { ⌜ (length (now area) ≡ 8000) × Underway st ⌝ }
-    ensures { λ r. ⌜ ((w : Memory) → Holds w (now (area .entry)) → Leaves (take st w theta span) r (now (area .exit))) ⌝ }
+    ensures { λ r. ⌜ ((w : Memory) → Working st w (now (area .entry)) → Leaves (take st w theta span) r (now (area
+        .exit))) ⌝ }
 {
     match linear_of(st, area, theta) {
         Linear::Known(linear) => match st.search.mu.div(Scalar::degenerate(3.0)) {

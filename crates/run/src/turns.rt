@@ -1,12 +1,13 @@
 // The search from the standing point, a new iteration, and a step turned down.
 ghost use mathlib.Core.Bool.{not, _&&_};
 ghost use mathlib.Core.Path.{_≡_};
-ghost use Prim.Native.Nat.{_^_, _<_, _≤_};
+ghost use Prim.Native.Nat.{_≤_};
 ghost use lib.ListN.{length, take, drop};
 ghost use Rattle.interval.specs.Scalar.{pick};
 ghost use Rattle.run.specs.Area.{Memory, Holds};
 ghost use Rattle.run.specs.Curvature.{learnedOf};
 ghost use Rattle.run.specs.Proposal.{movedOf};
+ghost use Rattle.run.specs.Remainders.{Working};
 ghost use Rattle.run.specs.Rows.{sumOf, sumSquared};
 ghost use Rattle.run.specs.Run as run;
 ghost use Rattle.run.specs.Run.{Leaves, Bounded, searching, leftAt, soughtOf};
@@ -27,7 +28,6 @@ use crate::search::seek;
 use crate::state::Kind;
 use crate::state::Out;
 use crate::state::Rejection;
-use crate::state::Search;
 use crate::state::Sizes;
 use crate::state::State;
 use crate::state::Stop;
@@ -40,12 +40,15 @@ use linear::LinearError;
 
 // What follows where a search was left, with the step and its multipliers.
 fn left_at(st: State, area: &mut [f64], found: Found, delta: &[f64], lambda: &[f64]) -> Out
-    requires { ⌜ (length (now area) ≡ 8000) × ((st .counts .question < 2 ^ 32) × ((length (now delta) ≡ 24) × (length (now lambda) ≡ 24))) ⌝ }
-    ensures { λ r. ⌜ ((w : Memory) → Holds w (now (area .entry)) → Leaves (leftAt st w (foundResult found (now (delta .entry)) (now (lambda .entry)) (movedOf (st .sizes .n) (w .standing) (now (delta .entry))))) r (now (area .exit))) ⌝ }
+    requires { ⌜ (length (now area) ≡ 8000) × (Bounded 2147483648 st × ((length (now delta) ≡ 24) × (length (now lambda)
+        ≡ 24))) ⌝ }
+    ensures { λ r. ⌜ ((w : Memory) → Working st w (now (area .entry)) → Leaves (leftAt st w (foundResult found (now
+        (delta .entry)) (now (lambda .entry)) (movedOf (st .sizes .n) (w .standing) (now (delta .entry))))) r (now (area
+        .exit))) ⌝ }
 {
     match found {
         Found::Ask(x, t) => {
-            area::with_trial(area, st.sizes.n, delta, lambda);
+            area::with_trial(area, st.sizes, delta, lambda);
             return ask(with_trial_of(st, x, t), Kind::Trial, 0);
         }
         Found::Stop(x, stop) => {
@@ -114,7 +117,7 @@ fn seek_standing(st: State, area: &[f64], delta: &mut [f64], lambda: &mut [f64])
 // The search for a proposal from the standing point, until a question, the finish or a refusal.
 fn search(st: State, area: &mut [f64]) -> Out
     requires { ⌜ (length (now area) ≡ 8000) × Bounded 2147483648 st ⌝ }
-    ensures { λ r. ⌜ ((w : Memory) → Holds w (now (area .entry)) → Leaves (run.search st w) r (now (area .exit))) ⌝ }
+    ensures { λ r. ⌜ ((w : Memory) → Working st w (now (area .entry)) → Leaves (run.search st w) r (now (area .exit))) ⌝ }
 {
     let mut delta = [0.0; 24];
     let mut lambda = [0.0; 24];
@@ -125,7 +128,8 @@ fn search(st: State, area: &mut [f64]) -> Out
 // A new iteration, or the finish where the limit is reached.
 pub fn iterate(st: State, area: &mut [f64]) -> Out
     requires { ⌜ (length (now area) ≡ 8000) × Bounded 2147483648 st ⌝ }
-    ensures { λ r. ⌜ ((w : Memory) → Holds w (now (area .entry)) → Leaves (run.iterate st w) r (now (area .exit))) ⌝ }
+    ensures { λ r. ⌜ ((w : Memory) → Working st w (now (area .entry)) → Leaves (run.iterate st w) r (now (area .exit)))
+        ⌝ }
 {
     if st.sizes.limit <= st.counts.iterations {
         return finish(st, area, Stop::Budget);
@@ -136,7 +140,8 @@ pub fn iterate(st: State, area: &mut [f64]) -> Out
 // With that radius and more damping, while that is finite.
 fn grow(st: State, area: &mut [f64], radius: Scalar, why: Rejection) -> Out
     requires { ⌜ (length (now area) ≡ 8000) × Bounded 1073741824 st ⌝ }
-    ensures { λ r. ⌜ ((w : Memory) → Holds w (now (area .entry)) → Leaves (run.grow (searching st (withRadius (rejectedFor (st .search) why) radius)) w) r (now (area .exit))) ⌝ }
+    ensures { λ r. ⌜ ((w : Memory) → Working st w (now (area .entry)) → Leaves (run.grow (searching st (withRadius
+        (rejectedFor (st .search) why) radius)) w) r (now (area .exit))) ⌝ }
 {
     match damp(st.search, radius, why) {
         Damped::On(y) => {
@@ -151,7 +156,8 @@ fn grow(st: State, area: &mut [f64], radius: Scalar, why: Rejection) -> Out
 // A step turned down: a quarter of the length tried is the radius, and more damping.
 pub fn turn_down(st: State, area: &mut [f64], why: Rejection) -> Out
     requires { ⌜ (length (now area) ≡ 8000) × Bounded 1073741824 st ⌝ }
-    ensures { λ r. ⌜ ((w : Memory) → Holds w (now (area .entry)) → Leaves (run.turnDown st w why) r (now (area .exit))) ⌝ }
+    ensures { λ r. ⌜ ((w : Memory) → Working st w (now (area .entry)) → Leaves (run.turnDown st w why) r (now (area
+        .exit))) ⌝ }
 {
     match st.trial.tried.div(Scalar::degenerate(4.0)) {
         ScalarResult::Value(q) => {
@@ -178,7 +184,8 @@ fn may_retry(plain: bool, n: usize, area: &[f64]) -> bool
 // A step that is not lower: tried again without the curvature learned, once in an iteration, or turned down.
 pub fn not_lower(st: State, area: &mut [f64]) -> Out
     requires { ⌜ (length (now area) ≡ 8000) × Bounded 1073741824 st ⌝ }
-    ensures { λ r. ⌜ ((w : Memory) → Holds w (now (area .entry)) → Leaves (run.notLower st w) r (now (area .exit))) ⌝ }
+    ensures { λ r. ⌜ ((w : Memory) → Working st w (now (area .entry)) → Leaves (run.notLower st w) r (now (area .exit)))
+        ⌝ }
 {
     if may_retry(st.search.plain, st.sizes.n, area) {
         let mut y = reject(st.search, Rejection::NotLower);

@@ -1,40 +1,14 @@
 -- `in_use` meets its contract: each phase has its counts.
-use native.Mathlib.Omega.{arith}
-use Rattle.run.proofs.AreaSlots.{Limits, rows-fit, entries-fit}
+use Prim.Native.Nat.{ℕ}
+use mathlib.Core.List.{List, [], _∷_}
+use mathlib.Core.Path.{ap}
+use lib.ListN.{getD}
 use borrow.Author.Needs.{needs}
 use Rattle.run.proofs.area.in_use.Statement.{statement}
 use Rattle.run.proofs.area.in_use.Tie as tie
 
--- within the limits
-limits : (s : tie.Start) → Limits (s .args .st)
-limits s = record { n = s .pre .0; m = s .pre .1 .0; s = s .pre .1 .1 .0; iterations = s .pre .1 .1 .1 }
-
-mul-point : tie.Need-mul-point
-mul-point c = search needs
-
-add-rows : tie.Need-add-rows
-add-rows c = search needs
-
-add-rows-2 : tie.Need-add-rows-2
-add-rows-2 c = search needs
-
-mul-rows : tie.Need-mul-rows
-mul-rows c = omega (arith, rows-fit (c .before .before .before .args .st) (limits (c .before .before .before)))
-
-mul-rows-2 : tie.Need-mul-rows-2
-mul-rows-2 c = omega (arith, rows-fit (c .before .before .before .args .st) (limits (c .before .before .before)))
-
-mul-multipliers : tie.Need-mul-multipliers
-mul-multipliers c = search needs
-
-mul-entries : tie.Need-mul-entries
-mul-entries c = omega (arith, entries-fit (c .before .before .before .before .before .args .st) (limits (c .before .before .before .before .before)))
-
-mul-entries-2 : tie.Need-mul-entries-2
-mul-entries-2 c = omega (arith, entries-fit (c .before .before .before .before .before .args .st) (limits (c .before .before .before .before .before)))
-
-mul-pairs : tie.Need-mul-pairs
-mul-pairs c = omega (arith, limits (c .before .before .before .before .before .before))
+all-used-requires : tie.Need-all-used-requires
+all-used-requires c κs = search needs
 
 enum-known-phase : tie.Need-enum-known-phase
 enum-known-phase c = search needs
@@ -42,46 +16,89 @@ enum-known-phase c = search needs
 enum-told : tie.Need-enum-told
 enum-told c = search needs
 
+array-read-t8 : tie.Need-array-read-t8
+array-read-t8 c = search needs
+
+array-read-t11 : tie.Need-array-read-t11
+array-read-t11 c = search needs
+
 returns : tie.Need-returns
-returns c = rw (c .before .before .before .phase .given .1, c .enum-told .given .1)
+returns c =
+    rw (c .before .before .before .phase .given .1, c .enum-told .given .1)
+    (ap (λ (us : List ℕ). getD us 0 0 ∷ (0 ∷ (getD us 2 0 ∷ (0 ∷ (0 ∷ (0 ∷ (0 ∷ (0 ∷ (0 ∷ []))))))))) (c .before .before
+    .before .before .before .all-used .ensures))
 
 enum-told-2 : tie.Need-enum-told-2
 enum-told-2 c = search needs
 
+array-read-t14 : tie.Need-array-read-t14
+array-read-t14 c = search needs
+
+array-read-t17 : tie.Need-array-read-t17
+array-read-t17 c = search needs
+
+array-read-t20 : tie.Need-array-read-t20
+array-read-t20 c = search needs
+
+array-read-t23 : tie.Need-array-read-t23
+array-read-t23 c = search needs
+
+array-read-t26 : tie.Need-array-read-t26
+array-read-t26 c = search needs
+
+array-read-t29 : tie.Need-array-read-t29
+array-read-t29 c = search needs
+
+array-read-t32 : tie.Need-array-read-t32
+array-read-t32 c = search needs
+
 returns-2 : tie.Need-returns-2
-returns-2 c = rw (c .before .before .before .phase .given .1, c .enum-told2 .given .1)
+returns-2 c =
+    rw (c .before .before .before .phase .given .1, c .enum-told2 .given .1)
+    (ap (λ (us : List ℕ). getD us 0 0 ∷ (0 ∷ (getD us 2 0 ∷ (getD us 3 0 ∷ (0 ∷ (getD us 5 0 ∷ (getD us 6 0 ∷ (getD us 7
+    0 ∷ (getD us 8 0 ∷ []))))))))) (c .before .before .before .before .before .all-used .ensures))
 
 enum-told-3 : tie.Need-enum-told-3
 enum-told-3 c = search needs
 
 returns-3 : tie.Need-returns-3
-returns-3 c = rw (c .before .before .before .phase .given .1, c .enum-told3 .given .1)
+returns-3 c =
+    rw (c .before .before .before .phase .given .1, c .enum-told3 .given .1)
+    (c .before .before .before .before .before .all-used .ensures)
 
 enum-told-4 : tie.Need-enum-told-4
 enum-told-4 c = search needs
 
+array-read-t35 : tie.Need-array-read-t35
+array-read-t35 c = search needs
+
 returns-4 : tie.Need-returns-4
-returns-4 c = rw (c .enum-told4 .given .1)
+returns-4 c =
+    rw (c .enum-told4 .given .1)
+    (ap (λ (us : List ℕ). getD us 0 0 ∷ (0 ∷ (0 ∷ (0 ∷ (0 ∷ (0 ∷ (0 ∷ (0 ∷ (0 ∷ []))))))))) (c .before .before .all-used
+    .ensures))
 
 pub in-use-spec : {M : Type 1} → statement M
 in-use-spec =
     tie.close
     (tie.spec
-    mul-point
-    add-rows
-    add-rows-2
-    mul-rows
-    mul-rows-2
-    mul-multipliers
-    mul-entries
-    mul-entries-2
-    mul-pairs
+    all-used-requires
     enum-known-phase
     enum-told
+    array-read-t8
+    array-read-t11
     returns
     enum-told-2
+    array-read-t14
+    array-read-t17
+    array-read-t20
+    array-read-t23
+    array-read-t26
+    array-read-t29
+    array-read-t32
     returns-2
     enum-told-3
     returns-3
     enum-told-4
+    array-read-t35
     returns-4)

@@ -5,14 +5,11 @@ use Prim.Native.Nat.{ℕ, _≤_}
 use native.Mathlib.Omega.{arith}
 use lib.ListN.{length, getD, drop}
 use Rattle.run.specs.Area.{SIZES, startOf, tidiedTo, usedIn}
-use Rattle.run.proofs.AreaSlots.{Limits, used-fit, tidied-end, memory-holds}
+use Rattle.run.proofs.AreaSlots.{used-fit, tidied-end, memory-holds}
+use Rattle.run.proofs.Remainders.{reads-tidy}
 use borrow.Author.Needs.{needs}
 use Rattle.run.proofs.area.tidy.Statement.{statement}
 use Rattle.run.proofs.area.tidy.Tie as tie
-
--- within the limits
-limits : (s : tie.Start) → Limits (s .args .st)
-limits s = record { n = s .pre .1 .0; m = s .pre .1 .1 .0; s = s .pre .1 .1 .1 .0; iterations = s .pre .1 .1 .1 .1 }
 
 in-use-requires : tie.Need-in-use-requires
 in-use-requires c κs = search needs
@@ -27,7 +24,7 @@ tidy-slots-requires : tie.Need-tidy-slots-requires
 unfolding startOf
 tidy-slots-requires c κs =
     let s = c .before .before .before .before .before in
-    let f = used-fit (s .args .st) (limits s) (s .args .area .now) (s .pre .0) in
+    let f = used-fit (s .args .st) (s .pre .1) (s .args .area .now) (s .pre .0) in
     (ap length (c .before .before .before .in-use .ensures), (f .inside, λ j h. subst (λ (us : List ℕ). getD us j 0 ≤ getD SIZES j 0) (sym (c .before .before .before .in-use .ensures)) (f .below j h)))
 
 sub-clear-from : tie.Need-sub-clear-from
@@ -44,10 +41,12 @@ unfolding startOf
 returns c =
     let s = c .before .before .before .before .before .before .before .before .before .before .before .before in
     let a = s .args .area .now in
-    let l = limits s in
+    let l = s .pre .1 in
     let e : c .before .before .before .before .before .before .tidy-slots .last .0 ≡ tidiedTo SIZES (usedIn (s .args .st)) a 9 ++ drop 3080 a =
     c .before .before .before .before .before .before .tidy-slots .ensures ∙ ap (λ (us : List ℕ). tidiedTo SIZES us a 9 ++ drop 3080 a) (c .before .before .before .before .before .before .before .before .before .before .in-use .ensures) in
-    memory-holds (s .args .st) l a (s .pre .0) (tidied-end SIZES (usedIn (s .args .st)) a (used-fit (s .args .st) l a (s .pre .0)) 4920 (omega (arith, s .pre .0)) e (c .before .before .clear-from .ensures))
+    let k = memory-holds (s .args .st) l a (s .pre .0) (tidied-end SIZES (usedIn (s .args .st)) a (used-fit (s .args
+    .st) l a (s .pre .0)) 4920 (omega (arith, s .pre .0)) e (c .before .before .clear-from .ensures)) in
+    record { holds = k; tidy = reads-tidy (s .args .st) a l }
 
 pub tidy-spec : {M : Type 1} → statement M
 tidy-spec =

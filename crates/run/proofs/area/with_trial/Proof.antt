@@ -6,9 +6,10 @@ use lib.Ieee.{Float}
 use Rattle.linear.specs.Flat.{zeros}
 use Rattle.run.specs.Area.{startOf, withTrial, written}
 use Rattle.run.specs.Proposal.{movedOf}
-use Rattle.run.proofs.AreaSlots.{slots-of, holds-of, wrote, length-clear}
+use Rattle.run.proofs.AreaSlots.{slots-of, holds-of, wrote, length-clear, room}
 use Rattle.run.proofs.LeaveLaws.{standing-read}
 use Rattle.run.proofs.PointLaws.{length-moved}
+use Rattle.run.proofs.Remainders.{few-rows, rows-as, cleared-first}
 use borrow.Author.Needs.{needs}
 use Rattle.run.proofs.area.with_trial.Statement.{statement}
 use Rattle.run.proofs.area.with_trial.Tie as tie
@@ -19,8 +20,21 @@ with-next-requires c κs = search needs
 clear-from-requires : tie.Need-clear-from-requires
 clear-from-requires c κs = search needs
 
+row-numbers-requires : tie.Need-row-numbers-requires
+row-numbers-requires c κs =
+    c .before .before .before .before .before .before .before .before .before .before .before .before .pre .1 .0
+
 clear-from-requires-2 : tie.Need-clear-from-requires-2
-clear-from-requires-2 c κs = search needs
+clear-from-requires-2 c κs =
+    let s = c .before .before .before .before .before .before .before .before .before .before .before .before .before in
+    room 1008 936 (few-rows (s .args .z) (s .pre .1 .0) (c .row-numbers .ensures)) (omega arith)
+    (omega (
+      arith,
+      c .before .before .before .before .clear-from .kept,
+      c .before .before .before .before .before
+          .before .before .before .with-next .kept,
+      s .pre .0,
+    ))
 
 place-requires : tie.Need-place-requires
 place-requires c κs = search needs
@@ -33,14 +47,28 @@ same-length c = search needs
 
 returns : tie.Need-returns
 unfolding startOf
-returns c w h =
-    let a = c .before .before .before .before .before .before .before .before .before .before .before .before .before .before .before .before .before .before .before .before .before .before .before .args in
-    let next = movedOf (a .n) (w .standing) (a .delta .now) in
-    let h₁ = wrote (slots-of h) 2 next (omega arith) (length-moved (a .n) (w .standing) (a .delta .now)) (c .before .before .before .before .before .before .before .before .before .before .before .before .before .before .before .before .before .before .with-next .ensures ∙ ap (λ (x : List Float). written (a .area .now) 48 (movedOf (a .n) x (a .delta .now))) (standing-read h)) in
-    let h₂ = wrote h₁ 1 (zeros 24) (omega arith) (length-clear 24) (c .before .before .before .before .before .before .before .before .before .before .before .before .before .before .clear-from .ensures) in
-    let h₃ = wrote h₂ 4 (zeros 936) (omega arith) (length-clear 936) (c .before .before .before .before .before .before .before .before .before .before .clear-from2 .ensures) in
-    let h₄ = wrote h₃ 5 (a .delta .now) (omega arith) (c .before .before .before .before .before .before .before .before .before .before .before .before .before .before .before .before .before .before .before .before .before .before .before .pre .1 .0) (c .before .before .before .before .before .before .place .ensures) in
-    holds-of (withTrial w next (a .delta .now) (a .lambda .now)) (wrote h₄ 6 (a .lambda .now) (omega arith) (c .before .before .before .before .before .before .before .before .before .before .before .before .before .before .before .before .before .before .before .before .before .before .before .pre .1 .1) (c .before .before .place2 .ensures))
+returns c w h t =
+    let s = c .before .before .before .before .before .before .before .before .before .before .before .before .before
+    .before .before .before .before .before .before .before .before .before .before .before in
+    let a = s .args in
+    let e = c .before .before .before .before .before .before .before .before .before .before .before .row-numbers
+    .ensures in
+    let next = movedOf (a .z .n) (w .standing) (a .delta .now) in
+    let read = ap (λ (x : List Float). written (a .area .now) 48 (movedOf (a .z .n) x (a .delta .now))) (standing-read
+    h) in
+    let h₁ = wrote (slots-of h) 2 next (omega arith) (length-moved (a .z .n) (w .standing) (a .delta .now))
+    (c .before .before .before .before .before .before .before .before .before .before .before .before .before .before
+    .before .before .before .before .before .with-next .ensures ∙ read) in
+    let h₂ = wrote h₁ 1 (zeros 24) (omega arith) (length-clear 24) (c .before .before .before .before .before .before
+    .before .before .before .before .before .before .before .before .before .clear-from .ensures) in
+    let h₃ = cleared-first h₂ 4 (omega arith) (c .before .before .before .before .before .before .before .before .before
+    .before .before .row-numbers .result) (few-rows (a .z) (s .pre .1 .0) e)
+    (rows-as e t) (c .before .before .before .before .before .before .before .before .before .before .clear-from2
+    .ensures) in
+    let h₄ = wrote h₃ 5 (a .delta .now) (omega arith) (s .pre .1 .1 .0) (c .before .before .before .before .before
+    .before .place .ensures) in
+    holds-of (withTrial w next (a .delta .now) (a .lambda .now))
+    (wrote h₄ 6 (a .lambda .now) (omega arith) (s .pre .1 .1 .1) (c .before .before .place2 .ensures))
 
 pub with-trial-spec : {M : Type 1} → statement M
 with-trial-spec =
@@ -48,6 +76,7 @@ with-trial-spec =
     (tie.spec
     with-next-requires
     clear-from-requires
+    row-numbers-requires
     clear-from-requires-2
     place-requires
     place-requires-2

@@ -1,5 +1,6 @@
 -- `decide` meets its contract: the two tests decide.
 use Rattle.run.proofs.FollowLaws.{decide-stuck, decide-better, decide-not}
+use Rattle.run.proofs.Remainders.{limits-of}
 use borrow.Author.Needs.{needs}
 use Rattle.run.proofs.judging.decide.Statement.{statement}
 use Rattle.run.proofs.judging.decide.Tie as tie
@@ -8,7 +9,7 @@ is-stuck-requires : tie.Need-is-stuck-requires
 is-stuck-requires c κs = search needs
 
 finish-requires : tie.Need-finish-requires
-finish-requires c κs = c .before .before .before .before .pre .0
+finish-requires c κs = let p = c .before .before .before .before .pre in (p .0, limits-of (p .1 .bounded))
 
 same-length : tie.Need-same-length
 same-length c = search needs

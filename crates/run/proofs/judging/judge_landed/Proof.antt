@@ -2,6 +2,7 @@
 use mathlib.Core.Path.{sym, ap, _∙_}
 use Rattle.run.specs.Judgement.{judgementOf}
 use Rattle.run.proofs.FollowLaws.{judge-known, judge-refused}
+use Rattle.run.proofs.Remainders.{limits-of}
 use borrow.Author.Needs.{needs}
 use Rattle.run.proofs.judging.judge_landed.Statement.{statement}
 use Rattle.run.proofs.judging.judge_landed.Tie as tie
@@ -19,19 +20,26 @@ same-length : tie.Need-same-length
 same-length c = search needs
 
 returns : tie.Need-returns
-returns c w h = let a = c .before .before .before .before .before .before .before .before .before .before .args in judge-known (a .st) w (a .theta) (sym (c .before .before .before .before .before .before .before .judge-in .ensures w h) ∙ ap judgementOf (c .before .before .before .before .before .j .given .1)) (c .before .before .decide .ensures w h)
+returns c w h =
+    let a = c .before .before .before .before .before .before .before .before .before .before .args in judge-known (a
+    .st) w (a .theta) (sym (c .before .before .before .before .before .before .before .judge-in .ensures w (h .holds)) ∙
+    ap judgementOf (c .before .before .before .before .before .j .given .1)) (c .before .before .decide .ensures w h)
 
 enum-known-e : tie.Need-enum-known-e
 enum-known-e c = search needs
 
 refuse-requires : tie.Need-refuse-requires
-refuse-requires c κs = c .before .before .before .before .before .before .before .pre .0
+refuse-requires c κs =
+    let p = c .before .before .before .before .before .before .before .pre in (p .0, limits-of (p .1 .bounded))
 
 same-length-2 : tie.Need-same-length-2
 same-length-2 c = search needs
 
 returns-2 : tie.Need-returns-2
-returns-2 c w h = let a = c .before .before .before .before .before .before .before .before .before .before .args in judge-refused (a .st) w (a .theta) (sym (c .before .before .before .before .before .before .before .judge-in .ensures w h) ∙ ap judgementOf (c .before .before .before .before .before .e .given .1)) (c .before .before .refuse .ensures w h)
+returns-2 c w h =
+    let a = c .before .before .before .before .before .before .before .before .before .before .args in judge-refused (a
+    .st) w (a .theta) (sym (c .before .before .before .before .before .before .before .judge-in .ensures w (h .holds)) ∙
+    ap judgementOf (c .before .before .before .before .before .e .given .1)) (c .before .before .refuse .ensures w h)
 
 pub judge-landed-spec : {M : Type 1} → statement M
 judge-landed-spec =

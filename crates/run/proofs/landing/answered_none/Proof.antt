@@ -1,5 +1,6 @@
 -- `answered_none` meets its contract: each kind is the definition's.
 use Rattle.run.proofs.FollowLaws.{correction-underway, none-as}
+use Rattle.run.proofs.Remainders.{limits-of}
 use borrow.Author.Needs.{needs}
 use Rattle.run.proofs.landing.answered_none.Statement.{statement}
 use Rattle.run.proofs.landing.answered_none.Tie as tie
@@ -8,7 +9,7 @@ enum-told : tie.Need-enum-told
 enum-told c = search needs
 
 finish-requires : tie.Need-finish-requires
-finish-requires c κs = c .before .before .before .before .pre .0
+finish-requires c κs = let p = c .before .before .before .before .pre in (p .0, limits-of (p .1 .0))
 
 same-length : tie.Need-same-length
 same-length c = search needs

@@ -6,6 +6,7 @@ use Rattle.run.specs.Correction.{shiftedOf}
 use Rattle.run.specs.declared.correction.Shifted.{Shifted}
 use Rattle.run.proofs.FollowLaws.{correct-asks, correct-stays, correct-refused}
 use Rattle.run.proofs.ReadLaws.{marks-count, shifted-read, asked-read}
+use Rattle.run.proofs.Remainders.{limits-of}
 use borrow.Author.Needs.{needs}
 use Rattle.run.proofs.landing.correct.Statement.{statement}
 use Rattle.run.proofs.landing.correct.Tie as tie
@@ -57,13 +58,17 @@ returns : tie.Need-returns
 returns c w h =
     let a = c .before .before .before .before .before .before .before .before .before .before .before .before .before .before .before .args in
     let x = c .before .before .before .before .before .before .before .shift-from in
-    correct-stays (a .st) w (a .theta) refl (shifted-read (a .st) h (x .ensures)) (ap (λ (r : Shifted). shiftedOf r (x .last .1 .1 .1 .1 .1 .0)) (c .before .before .before .before .enum-told2 .given .1)) (c .before .before .judge-landed .ensures w h)
+    correct-stays (a .st) w (a .theta) refl (shifted-read (a .st) (h .holds) (x .ensures)) (ap (λ (r : Shifted).
+    shiftedOf r (x .last .1 .1 .1 .1 .1 .0)) (c .before .before .before .before .enum-told2 .given .1)) (c .before
+    .before .judge-landed .ensures w h)
 
 enum-known-shifted : tie.Need-enum-known-shifted
 enum-known-shifted c = search needs
 
 refuse-requires : tie.Need-refuse-requires
-refuse-requires c κs = c .before .before .before .before .before .before .before .before .before .before .before .before .before .pre .0
+refuse-requires c κs =
+    let p = c .before .before .before .before .before .before .before .before .before .before .before .before .before
+    .pre in (p .0, limits-of (p .1 .bounded))
 
 same-length-2 : tie.Need-same-length-2
 same-length-2 c = search needs
@@ -72,7 +77,9 @@ returns-2 : tie.Need-returns-2
 returns-2 c w h =
     let a = c .before .before .before .before .before .before .before .before .before .before .before .before .before .before .before .before .args in
     let x = c .before .before .before .before .before .before .before .before .shift-from in
-    correct-refused (a .st) w (a .theta) refl (shifted-read (a .st) h (x .ensures)) (ap (λ (r : Shifted). shiftedOf r (x .last .1 .1 .1 .1 .1 .0)) (c .before .before .before .before .before .shifted .given .1)) (c .before .before .refuse .ensures w h)
+    correct-refused (a .st) w (a .theta) refl (shifted-read (a .st) (h .holds) (x .ensures)) (ap (λ (r : Shifted).
+    shiftedOf r (x .last .1 .1 .1 .1 .1 .0)) (c .before .before .before .before .before .shifted .given .1)) (c .before
+    .before .refuse .ensures w h)
 
 slice-aggregate-place : tie.Need-slice-aggregate-place
 slice-aggregate-place c = search needs
@@ -90,7 +97,10 @@ returns-3 : tie.Need-returns-3
 returns-3 c w h =
     let a = c .before .before .before .before .before .before .before .before .before .before .before .before .before .before .before .before .before .args in
     let x = c .before .before .before .before .before .before .before .before .before .shift-from in
-    correct-asks (a .st) w (a .theta) refl (shifted-read (a .st) h (x .ensures)) (ap (λ (r : Shifted). shiftedOf r (x .last .1 .1 .1 .1 .1 .0)) (c .before .before .before .before .before .before .enum-told .given .1)) (c .ask .ensures _ _ (asked-read h (x .last .1 .1 .1 .1 .1 .0) (c .before .before .before .place .ensures) (x .kept .1 .1 .1 .1 .1 .0)))
+    correct-asks (a .st) w (a .theta) refl (shifted-read (a .st) (h .holds) (x .ensures)) (ap (λ (r : Shifted).
+    shiftedOf r (x .last .1 .1 .1 .1 .1 .0)) (c .before .before .before .before .before .before .enum-told .given .1))
+    (c .ask .ensures _ _ (asked-read (h .holds) (x .last .1 .1 .1 .1 .1 .0) (c .before .before .before .place .ensures)
+    (x .kept .1 .1 .1 .1 .1 .0)))
 
 pub correct-spec : {M : Type 1} → statement M
 correct-spec =

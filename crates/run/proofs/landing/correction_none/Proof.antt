@@ -3,6 +3,7 @@ use mathlib.Core.Path.{sym, ap, _∙_}
 use Rattle.linear.specs.Answers.{resultOf}
 use Rattle.run.specs.Run.{judge}
 use Rattle.run.proofs.LeaveLaws.{or-next, or-refused}
+use Rattle.run.proofs.Remainders.{limits-of}
 use borrow.Author.Needs.{needs}
 use Rattle.run.proofs.landing.correction_none.Statement.{statement}
 use Rattle.run.proofs.landing.correction_none.Tie as tie
@@ -20,19 +21,28 @@ same-length : tie.Need-same-length
 same-length c = search needs
 
 returns : tie.Need-returns
-returns c w h = let st = c .before .before .before .before .before .before .before .before .before .before .args .st in or-next st w (judge st w) (sym (c .before .before .before .before .before .before .before .standing-violation .ensures w h) ∙ ap resultOf (c .before .before .before .before .before .theta .given .1)) (c .before .before .judge-landed .ensures w h)
+returns c w h =
+    let st = c .before .before .before .before .before .before .before .before .before .before .args .st in or-next st w
+    (judge st w) (sym (c .before .before .before .before .before .before .before .standing-violation .ensures w (h
+    .holds)) ∙ ap resultOf (c .before .before .before .before .before .theta .given .1)) (c .before .before
+    .judge-landed .ensures w h)
 
 enum-known-e : tie.Need-enum-known-e
 enum-known-e c = search needs
 
 refuse-requires : tie.Need-refuse-requires
-refuse-requires c κs = c .before .before .before .before .before .before .before .pre .0
+refuse-requires c κs =
+    let p = c .before .before .before .before .before .before .before .pre in (p .0, limits-of (p .1 .bounded))
 
 same-length-2 : tie.Need-same-length-2
 same-length-2 c = search needs
 
 returns-2 : tie.Need-returns-2
-returns-2 c w h = let st = c .before .before .before .before .before .before .before .before .before .before .args .st in or-refused st w (judge st w) (sym (c .before .before .before .before .before .before .before .standing-violation .ensures w h) ∙ ap resultOf (c .before .before .before .before .before .e .given .1)) (c .before .before .refuse .ensures w h)
+returns-2 c w h =
+    let st = c .before .before .before .before .before .before .before .before .before .before .args .st in or-refused
+    st w (judge st w) (sym (c .before .before .before .before .before .before .before .standing-violation .ensures w (h
+    .holds)) ∙ ap resultOf (c .before .before .before .before .before .e .given .1)) (c .before .before .refuse .ensures
+    w h)
 
 pub correction-none-spec : {M : Type 1} → statement M
 correction-none-spec =

@@ -8,8 +8,10 @@ use Rattle.run.specs.Area.{withLanded}
 use Rattle.run.specs.Correction.{shiftedStep}
 use Rattle.run.specs.Run.{Underway}
 use Rattle.run.specs.declared.state.State.{State}
-use Rattle.run.proofs.FollowLaws.{keep-known, keep-refused, kept-known}
+use Rattle.run.proofs.FollowLaws.{keep-known, keep-refused, kept-known, rows-few}
 use Rattle.run.proofs.ReadLaws.{marks-count, shift-read, landed-again, withStep, stepped}
+use Rattle.run.proofs.Remainders.{limits-of, works-as}
+use Rattle.run.proofs.Tidied.{shifts, lands}
 use borrow.Author.Needs.{needs}
 use Rattle.run.proofs.landing.keep.Statement.{statement}
 use Rattle.run.proofs.landing.keep.Tie as tie
@@ -43,7 +45,9 @@ enum-known-shift : tie.Need-enum-known-shift
 enum-known-shift c = search needs
 
 refuse-requires : tie.Need-refuse-requires
-refuse-requires c κs = c .before .before .before .before .before .before .before .before .before .before .before .before .before .pre .0
+refuse-requires c κs =
+    let p = c .before .before .before .before .before .before .before .before .before .before .before .before .before
+    .pre in (p .0, limits-of (p .1 .1 .0 .bounded))
 
 same-length : tie.Need-same-length
 same-length c = search needs
@@ -52,7 +56,9 @@ returns : tie.Need-returns
 returns c w h =
     let a = c .before .before .before .before .before .before .before .before .before .before .before .before .before .before .before .before .args in
     let x = c .before .before .before .before .before .before .before .before .shift in
-    keep-refused (a .st) w (a .rows .now) (a .theta) refl (shift-read (a .st) h (x .ensures)) (ap (λ (r : Done). doneOf r (x .last .1 .1 .1 .1 .0)) (c .before .before .before .before .before .shift2 .given .1)) (c .before .before .refuse .ensures w h)
+    keep-refused (a .st) w (a .rows .now) (a .theta) refl (shift-read (a .st) (h .holds) (x .ensures)) (ap (λ (r :
+    Done). doneOf r (x .last .1 .1 .1 .1 .0)) (c .before .before .before .before .before .shift2 .given .1)) (c .before
+    .before .refuse .ensures w h)
 
 sub-shifted-step : tie.Need-sub-shifted-step
 sub-shifted-step c = search needs
@@ -70,7 +76,10 @@ shifted-step-requires : tie.Need-shifted-step-requires
 shifted-step-requires c κs = search needs
 
 landed-requires : tie.Need-landed-requires
-landed-requires c κs = search needs
+landed-requires c κs =
+    let p = c .before .before .before .before .before .before .before .before .before .before .before .before .before
+    .before .before .before .before .pre in
+    (search needs, omega (arith, rows-few (p .1 .1 .0 .bounded), p .1 .0))
 
 add-corrections : tie.Need-add-corrections
 add-corrections c = omega (arith, c .before .before .before .before .before .before .before .before .before .before .before .before .before .before .before .before .before .before .before .before .before .pre .1 .1 .1)
@@ -92,8 +101,18 @@ returns-2 c w h =
     let x = c .before .before .before .before .before .before .before .before .before .before .before .before .before .before .before .before .before .before .shift in
     let d = x .last .1 .1 .1 .1 .0 in
     let s = shiftedStep (a .st .sizes .n) (w .step) d in
-    keep-known (a .st) w (a .rows .now) (a .theta) refl (shift-read (a .st) h (x .ensures)) (ap (λ (r : Done). doneOf r d) (c .before .before .before .before .before .before .before .before .before .before .before .before .before .before .before .enum-told .given .1))
-    (kept-known (a .st) w (a .rows .now) (a .theta) d (c .before .before .before .before .with-landed-number .ensures) (c .before .before .correct-or-judge .ensures (withLanded w (a .rows .now) s) (c .before .before .before .before .before .before .before .before .landed .ensures (withStep w s) (stepped (a .st .sizes .n) d h (c .before .before .before .before .before .before .before .before .before .before .before .before .shifted-step .ensures)))))
+    let p = c .before .before .before .before .before .before .before .before .before .before .before .before .before
+    .before .before .before .before .before .before .before .before .before .before .before .before .before .pre in
+    let hs = shifts (a .st) d h (stepped (a .st .sizes .n) d (h .holds) (c .before .before .before .before .before
+    .before .before .before .before .before .before .before .shifted-step .ensures)) in
+    let hv = lands (a .st) (p .1 .1 .0 .bounded) (a .rows .now) (p .1 .0) hs (c .before .before .before .before .before
+    .before .before .before .landed .ensures (withStep w s) (hs .holds)) in
+    keep-known (a .st) w (a .rows .now) (a .theta) refl (shift-read (a .st) (h .holds) (x .ensures)) (ap (λ (r : Done).
+    doneOf r d) (c .before .before .before .before .before .before .before .before .before .before .before .before
+    .before .before .before .enum-told .given .1))
+    (kept-known (a .st) w (a .rows .now) (a .theta) d (c .before .before .before .before .with-landed-number .ensures)
+    (c .before .before .correct-or-judge .ensures (withLanded w (a .rows .now) s) (works-as (c .before .before .before
+    .before .with-landed-number .ensures) hv)))
 
 pub keep-spec : {M : Type 1} → statement M
 keep-spec =

@@ -1,13 +1,12 @@
 -- `land` meets its contract: the standing violation, or its refusal, and then the kind.
 use mathlib.Core.Path.{sym, ap, _∙_}
-use native.Mathlib.Omega.{arith}
 use Rattle.interval.specs.declared.Scalar.{Scalar}
 use Rattle.interval.specs.Scalar.{pick}
 use Rattle.linear.specs.Answers.{resultOf}
 use Rattle.run.specs.Area.{Memory}
 use Rattle.run.specs.Run.{Outcome, landTrial, landCorrection}
-use Rattle.run.proofs.FollowLaws.{rows-few}
 use Rattle.run.proofs.LeaveLaws.{or-next, or-refused, when, unless}
+use Rattle.run.proofs.Remainders.{limits-of}
 use borrow.Author.Needs.{needs}
 use Rattle.run.proofs.landing.land.Statement.{statement}
 use Rattle.run.proofs.landing.land.Tie as tie
@@ -23,13 +22,26 @@ enum-known-theta : tie.Need-enum-known-theta
 enum-known-theta c = search needs
 
 land-trial-requires : tie.Need-land-trial-requires
-land-trial-requires c κs = let p = c .before .before .before .before .before .before .before .before .before .pre in (p .0, (omega (arith, rows-few (p .1 .1 .0 .bounded), p .1 .0), p .1 .1 .0))
+land-trial-requires c κs =
+    let p = c .before .before .before .before .before .before .before .before .before .pre in (
+      p .0,
+      (
+        p .1 .0,
+        p .1 .1
+            .0,
+      ),
+    )
 
 same-length : tie.Need-same-length
 same-length c = search needs
 
 returns : tie.Need-returns
-returns c w h = or-next (c .before .before .before .before .before .before .before .before .before .before .before .before .args .st) w (next (c .before .before .before .before .before .before .before .before .before .before .before .before) w) (sym (c .before .before .before .before .before .before .before .before .standing-violation .ensures w h) ∙ ap resultOf (c .before .before .before .before .before .before .theta .given .1)) (when _ _ (c .before .before .before .before .if1 .taken) (c .before .before .land-trial .ensures w h))
+returns c w h =
+    or-next (c .before .before .before .before .before .before .before .before .before .before .before .before .args
+    .st) w (next (c .before .before .before .before .before .before .before .before .before .before .before .before) w)
+    (sym (c .before .before .before .before .before .before .before .before .standing-violation .ensures w (h .holds)) ∙
+    ap resultOf (c .before .before .before .before .before .before .theta .given .1)) (when _ _ (c .before .before
+    .before .before .if1 .taken) (c .before .before .land-trial .ensures w h))
 
 land-correction-requires : tie.Need-land-correction-requires
 land-correction-requires c κs = c .before .before .before .before .before .before .before .before .before .pre
@@ -38,19 +50,33 @@ same-length-2 : tie.Need-same-length-2
 same-length-2 c = search needs
 
 returns-2 : tie.Need-returns-2
-returns-2 c w h = or-next (c .before .before .before .before .before .before .before .before .before .before .before .before .args .st) w (next (c .before .before .before .before .before .before .before .before .before .before .before .before) w) (sym (c .before .before .before .before .before .before .before .before .standing-violation .ensures w h) ∙ ap resultOf (c .before .before .before .before .before .before .theta .given .1)) (unless _ _ (c .before .before .before .before .if1 .left) (c .before .before .land-correction .ensures w h))
+returns-2 c w h =
+    or-next (c .before .before .before .before .before .before .before .before .before .before .before .before .args
+    .st) w (next (c .before .before .before .before .before .before .before .before .before .before .before .before) w)
+    (sym (c .before .before .before .before .before .before .before .before .standing-violation .ensures w (h .holds)) ∙
+    ap resultOf (c .before .before .before .before .before .before .theta .given .1)) (unless _ _ (c .before .before
+    .before .before .if1 .left) (c .before .before .land-correction .ensures w h))
 
 enum-known-e : tie.Need-enum-known-e
 enum-known-e c = search needs
 
 refuse-requires : tie.Need-refuse-requires
-refuse-requires c κs = c .before .before .before .before .before .before .before .before .pre .0
+refuse-requires c κs =
+    let p = c .before .before .before .before .before .before .before .before .pre in (
+      p .0,
+      limits-of (p .1 .1 .0
+          .bounded),
+    )
 
 same-length-3 : tie.Need-same-length-3
 same-length-3 c = search needs
 
 returns-3 : tie.Need-returns-3
-returns-3 c w h = or-refused (c .before .before .before .before .before .before .before .before .before .before .before .args .st) w (next (c .before .before .before .before .before .before .before .before .before .before .before) w) (sym (c .before .before .before .before .before .before .before .standing-violation .ensures w h) ∙ ap resultOf (c .before .before .before .before .before .e .given .1)) (c .before .before .refuse .ensures w h)
+returns-3 c w h =
+    or-refused (c .before .before .before .before .before .before .before .before .before .before .before .args .st) w
+    (next (c .before .before .before .before .before .before .before .before .before .before .before) w) (sym (c .before
+    .before .before .before .before .before .before .standing-violation .ensures w (h .holds)) ∙ ap resultOf (c .before
+    .before .before .before .before .e .given .1)) (c .before .before .refuse .ensures w h)
 
 pub land-spec : {M : Type 1} → statement M
 land-spec =

@@ -5,8 +5,9 @@ use native.Mathlib.Omega.{arith}
 use Rattle.interval.specs.Scalar.{pick}
 use Rattle.run.specs.Area.{Memory}
 use Rattle.run.specs.Run.{Outcome, keep, judge, nearerResult}
-use Rattle.run.proofs.FollowLaws.{correction-by, rows-few, rows-enough}
+use Rattle.run.proofs.FollowLaws.{correction-by, rows-enough}
 use Rattle.run.proofs.LeaveLaws.{or-next, or-refused, when, unless}
+use Rattle.run.proofs.Remainders.{limits-of}
 use borrow.Author.Needs.{needs}
 use Rattle.run.proofs.landing.land_correction.Statement.{statement}
 use Rattle.run.proofs.landing.land_correction.Tie as tie
@@ -25,7 +26,7 @@ enum-known-kept : tie.Need-enum-known-kept
 enum-known-kept c = search needs
 
 keep-requires : tie.Need-keep-requires
-keep-requires c κs = let p = c .before .before .before .before .before .before .before .before .before .pre in (p .0, (omega (arith, rows-few (p .1 .1 .0 .bounded), p .1 .0), p .1 .1))
+keep-requires c κs = c .before .before .before .before .before .before .before .before .before .pre
 
 same-length : tie.Need-same-length
 same-length c = search needs
@@ -33,7 +34,11 @@ same-length c = search needs
 returns : tie.Need-returns
 returns c w h =
     let a = c .before .before .before .before .before .before .before .before .before .before .before .before .args in
-    correction-by (a .st) w (a .rows .now) (a .theta) (or-next (a .st) w (next (c .before .before .before .before .before .before .before .before .before .before .before .before) w) (sym (c .before .before .before .before .before .before .before .before .is-nearer .ensures w h) ∙ ap nearerResult (c .before .before .before .before .before .before .kept .given .1)) (when _ _ (c .before .before .before .before .if1 .taken) (c .before .before .keep .ensures w h)))
+    correction-by (a .st) w (a .rows .now) (a .theta) (or-next (a .st) w (next (c .before .before .before .before
+    .before .before .before .before .before .before .before .before) w) (sym (c .before .before .before .before .before
+    .before .before .before .is-nearer .ensures w (h .holds)) ∙ ap nearerResult (c .before .before .before .before
+    .before .before .kept .given .1)) (when _ _ (c .before .before .before .before .if1 .taken) (c .before .before .keep
+    .ensures w h)))
 
 judge-landed-requires : tie.Need-judge-landed-requires
 judge-landed-requires c κs = let p = c .before .before .before .before .before .before .before .before .before .pre in (p .0, p .1 .1 .0)
@@ -44,13 +49,22 @@ same-length-2 c = search needs
 returns-2 : tie.Need-returns-2
 returns-2 c w h =
     let a = c .before .before .before .before .before .before .before .before .before .before .before .before .args in
-    correction-by (a .st) w (a .rows .now) (a .theta) (or-next (a .st) w (next (c .before .before .before .before .before .before .before .before .before .before .before .before) w) (sym (c .before .before .before .before .before .before .before .before .is-nearer .ensures w h) ∙ ap nearerResult (c .before .before .before .before .before .before .kept .given .1)) (unless _ _ (c .before .before .before .before .if1 .left) (c .before .before .judge-landed .ensures w h)))
+    correction-by (a .st) w (a .rows .now) (a .theta) (or-next (a .st) w (next (c .before .before .before .before
+    .before .before .before .before .before .before .before .before) w) (sym (c .before .before .before .before .before
+    .before .before .before .is-nearer .ensures w (h .holds)) ∙ ap nearerResult (c .before .before .before .before
+    .before .before .kept .given .1)) (unless _ _ (c .before .before .before .before .if1 .left) (c .before .before
+    .judge-landed .ensures w h)))
 
 enum-known-e : tie.Need-enum-known-e
 enum-known-e c = search needs
 
 refuse-requires : tie.Need-refuse-requires
-refuse-requires c κs = c .before .before .before .before .before .before .before .before .pre .0
+refuse-requires c κs =
+    let p = c .before .before .before .before .before .before .before .before .pre in (
+      p .0,
+      limits-of (p .1 .1 .0
+          .bounded),
+    )
 
 same-length-3 : tie.Need-same-length-3
 same-length-3 c = search needs
@@ -58,7 +72,10 @@ same-length-3 c = search needs
 returns-3 : tie.Need-returns-3
 returns-3 c w h =
     let a = c .before .before .before .before .before .before .before .before .before .before .before .args in
-    correction-by (a .st) w (a .rows .now) (a .theta) (or-refused (a .st) w (next (c .before .before .before .before .before .before .before .before .before .before .before) w) (sym (c .before .before .before .before .before .before .before .is-nearer .ensures w h) ∙ ap nearerResult (c .before .before .before .before .before .e .given .1)) (c .before .before .refuse .ensures w h))
+    correction-by (a .st) w (a .rows .now) (a .theta) (or-refused (a .st) w (next (c .before .before .before .before
+    .before .before .before .before .before .before .before) w) (sym (c .before .before .before .before .before .before
+    .before .is-nearer .ensures w (h .holds)) ∙ ap nearerResult (c .before .before .before .before .before .e .given
+    .1)) (c .before .before .refuse .ensures w h))
 
 pub land-correction-spec : {M : Type 1} → statement M
 land-correction-spec =

@@ -1,12 +1,11 @@
 -- `reply` meets its contract: what the check refuses is left as it was, and what it accepts is answered over the tidied area.
-use mathlib.Core.Path.{sym, ap, _∙_}
+use mathlib.Core.Path.{sym, _∙_}
 use native.Mathlib.Omega.{arith}
 use lib.ListN.{length}
 use Rattle.run.specs.Area.{memoryOf}
-use Rattle.run.specs.declared.state.Phase.the-variants.{Open}
-use Rattle.run.proofs.AreaSlots.{only-points}
 use Rattle.run.proofs.CheckLaws.{bounds, accepted-rows, rows-refused, rows-accepted}
 use Rattle.run.proofs.ReplyLaws.{leaves-left, reply-phase, reply-bounded}
+use Rattle.run.proofs.Remainders.{limits-of}
 use borrow.Author.Needs.{needs}
 use Rattle.run.proofs.replies.reply.Statement.{statement}
 use Rattle.run.proofs.replies.reply.Tie as tie
@@ -28,14 +27,23 @@ tidy-requires c κs =
     let a = c .before .before .before .before .before .before .before .args in
     let r = accepted-rows (a .st) (length (a .area .now)) (a .rows .now) _ (sym (c .before .before .before .before .check-rows .ensures) ∙ c .before .before .kind .given .1) .reply in
     let b = reply-bounded (a .st) _ (r .run) (r .opened) in
-    (r .whole, (b .few-variables, (b .few-constraints, (b .few-sums, omega (arith, b .within, b .few-iterations)))))
+    (r .whole, limits-of b)
 
 answered-requires : tie.Need-answered-requires
 answered-requires c κs =
     let a = c .before .before .before .before .before .before .before .before .before .before .before .args in
     let w = accepted-rows (a .st) (length (a .area .now)) (a .rows .now) _ (sym (c .before .before .before .before .before .before .before .before .check-rows .ensures) ∙ c .before .before .before .before .before .before .kind .given .1) in
-    let v = w .reply .run in
-    (omega (arith, c .before .before .before .tidy .kept, w .reply .whole), (w .full, (reply-bounded (a .st) _ v (w .reply .opened), (bounds (a .st) v .corrections, reply-phase (a .st) _ v (w .reply .opened)))))
+    let v = w .reply .run in (
+      omega (arith, c .before .before .before .tidy .kept, w .reply .whole),
+      (
+        w .full,
+        (
+          reply-bounded (a .st) _ v (w
+              .reply .opened),
+          (bounds (a .st) v .corrections, (reply-phase (a .st) _ v (w .reply .opened), w .reply .opened)),
+        ),
+      ),
+    )
 
 same-length : tie.Need-same-length
 same-length c = search needs
@@ -45,11 +53,9 @@ returns-2 c =
     let read = c .before .before .before .before .before .before .before .before .before in
     let a = read .before .before .before .before .before .args in
     let is = sym (read .before .before .check-rows .ensures) ∙ read .kind .given .1 in
-    let opened = accepted-rows (a .st) (length (a .area .now)) (a .rows .now) _ is .reply .opened in
     leaves-left _ _ _
     (c .before .before .answered .ensures (memoryOf (a .st) (a .area .now))
-    (c .before .before .before .before .before .before .tidy .ensures)
-    (λ e. only-points (a .st) (a .area .now) (opened ∙ ap Open e)))
+    (c .before .before .before .before .before .before .tidy .ensures))
     ∙ sym (rows-accepted (a .st) (a .area .now) (a .rows .now) _ is)
 
 pub reply-spec : {M : Type 1} → statement M

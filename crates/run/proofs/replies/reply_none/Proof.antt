@@ -5,6 +5,7 @@ use lib.ListN.{length}
 use Rattle.run.specs.Area.{memoryOf}
 use Rattle.run.proofs.CheckLaws.{accepted, none-refused, none-accepted}
 use Rattle.run.proofs.ReplyLaws.{leaves-left, reply-phase, reply-bounded}
+use Rattle.run.proofs.Remainders.{limits-of, works}
 use borrow.Author.Needs.{needs}
 use Rattle.run.proofs.replies.reply_none.Statement.{statement}
 use Rattle.run.proofs.replies.reply_none.Tie as tie
@@ -26,7 +27,7 @@ tidy-requires c κs =
     let a = c .before .before .before .before .before .before .args in
     let r = accepted (a .st) (length (a .area .now)) _ (sym (c .before .before .before .before .check .ensures) ∙ c .before .before .kind .given .1) in
     let b = reply-bounded (a .st) _ (r .run) (r .opened) in
-    (r .whole, (b .few-variables, (b .few-constraints, (b .few-sums, omega (arith, b .within, b .few-iterations)))))
+    (r .whole, limits-of b)
 
 answered-none-requires : tie.Need-answered-none-requires
 answered-none-requires c κs =
@@ -40,7 +41,10 @@ same-length c = search needs
 returns-2 : tie.Need-returns-2
 returns-2 c =
     let a = c .before .before .before .before .before .before .before .before .before .before .before .before .before .args in
-    leaves-left _ _ _ (c .before .before .answered-none .ensures (memoryOf (a .st) (a .area .now)) (c .before .before .before .before .before .before .tidy .ensures)) ∙ sym (none-accepted (a .st) (a .area .now) _ (sym (c .before .before .before .before .before .before .before .before .before .before .before .check .ensures) ∙ c .before .before .before .before .before .before .before .before .before .kind .given .1))
+    leaves-left _ _ _ (c .before .before .answered-none .ensures (memoryOf (a .st) (a .area .now)) (works (a .st) (c
+    .before .before .before .before .before .before .tidy .ensures))) ∙ sym (none-accepted (a .st) (a .area .now) _ (sym
+    (c .before .before .before .before .before .before .before .before .before .before .before .check .ensures) ∙ c
+    .before .before .before .before .before .before .before .before .before .kind .given .1))
 
 pub reply-none-spec : {M : Type 1} → statement M
 reply-none-spec =

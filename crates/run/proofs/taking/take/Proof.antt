@@ -10,6 +10,7 @@ use Rattle.interval.proofs.Given.{yes}
 use Rattle.run.specs.Run.{linearResult}
 use Rattle.run.proofs.Dampings.{shrunk-positive}
 use Rattle.run.proofs.FollowLaws.{take-known, take-refused, third-known, third-refused}
+use Rattle.run.proofs.Remainders.{limits-of}
 use borrow.Author.Needs.{needs}
 use Rattle.run.proofs.taking.take.Statement.{statement}
 use Rattle.run.proofs.taking.take.Tie as tie
@@ -52,14 +53,21 @@ same-length c = search needs
 returns : tie.Need-returns
 returns c w h =
     let a = c .before .before .before .before .before .before .before .before .before .before .before .before .before .before .before .before .before .args in
-    take-known (a .st) w (a .theta) (a .span) (sym (c .before .before .before .before .before .before .before .before .before .before .before .before .before .before .linear-of .ensures w h) ∙ ap linearResult (c .before .before .before .before .before .before .before .before .before .before .before .before .linear .given .1))
+    take-known (a .st) w (a .theta) (a .span) (sym (c .before .before .before .before .before .before .before .before
+    .before .before .before .before .before .before .linear-of .ensures w (h .holds)) ∙ ap linearResult (c .before
+    .before .before .before .before .before .before .before .before .before .before .before .linear .given .1))
     (third-known (a .st) w (a .theta) (a .span) (c .before .before .before .before .before .before .before .before .before .before .before .before .linear .given .0 .0) (sym (divided (c .before .before .before .before .before .before .before .before .before)) ∙ ap resultOf (c .before .before .before .before .before .before .before .third .given .1)) (c .before .before .before .before .before .shrunk .ensures) (c .before .before .before .before .reach .ensures) (c .before .before .take-with .ensures w h))
 
 enum-known-e : tie.Need-enum-known-e
 enum-known-e c = search needs
 
 refuse-requires : tie.Need-refuse-requires
-refuse-requires c κs = c .before .before .before .before .before .before .before .before .before .before .before .before .pre .0
+refuse-requires c κs =
+    let p = c .before .before .before .before .before .before .before .before .before .before .before .before .pre in (
+      p
+          .0,
+      limits-of (p .1 .bounded),
+    )
 
 same-length-2 : tie.Need-same-length-2
 same-length-2 c = search needs
@@ -67,20 +75,27 @@ same-length-2 c = search needs
 returns-2 : tie.Need-returns-2
 returns-2 c w h =
     let a = c .before .before .before .before .before .before .before .before .before .before .before .before .before .before .before .args in
-    take-known (a .st) w (a .theta) (a .span) (sym (c .before .before .before .before .before .before .before .before .before .before .before .before .linear-of .ensures w h) ∙ ap linearResult (c .before .before .before .before .before .before .before .before .before .before .linear .given .1))
+    take-known (a .st) w (a .theta) (a .span) (sym (c .before .before .before .before .before .before .before .before
+    .before .before .before .before .linear-of .ensures w (h .holds)) ∙ ap linearResult (c .before .before .before
+    .before .before .before .before .before .before .before .linear .given .1))
     (third-refused (a .st) w (a .theta) (a .span) (c .before .before .before .before .before .before .before .before .before .before .linear .given .0 .0) (sym (divided (c .before .before .before .before .before .before .before)) ∙ ap resultOf (c .before .before .before .before .before .e .given .1)) (c .before .before .refuse .ensures w h))
 
 enum-known-e-2 : tie.Need-enum-known-e-2
 enum-known-e-2 c = search needs
 
 refuse-requires-2 : tie.Need-refuse-requires-2
-refuse-requires-2 c κs = c .before .before .before .before .before .before .before .pre .0
+refuse-requires-2 c κs =
+    let p = c .before .before .before .before .before .before .before .pre in (p .0, limits-of (p .1 .bounded))
 
 same-length-3 : tie.Need-same-length-3
 same-length-3 c = search needs
 
 returns-3 : tie.Need-returns-3
-returns-3 c w h = let a = c .before .before .before .before .before .before .before .before .before .before .args in take-refused (a .st) w (a .theta) (a .span) (sym (c .before .before .before .before .before .before .before .linear-of .ensures w h) ∙ ap linearResult (c .before .before .before .before .before .e2 .given .1)) (c .before .before .refuse2 .ensures w h)
+returns-3 c w h =
+    let a = c .before .before .before .before .before .before .before .before .before .before .args in take-refused (a
+    .st) w (a .theta) (a .span) (sym (c .before .before .before .before .before .before .before .linear-of .ensures w (h
+    .holds)) ∙ ap linearResult (c .before .before .before .before .before .e2 .given .1)) (c .before .before .refuse2
+    .ensures w h)
 
 pub take-spec : {M : Type 1} → statement M
 take-spec =

@@ -6,11 +6,15 @@ use lib.Ieee.{Float, ofBits}
 use Rattle.linear.specs.Answers.{doneOf}
 use Rattle.linear.specs.declared.answers.Done.{Done}
 use Rattle.run.specs.Rows.{sumOf, sumSquared}
-use Rattle.run.specs.Run.{Bounded}
+use Rattle.run.specs.Area.{withTaken}
+use Rattle.run.specs.Remainders.{Working}
+use Rattle.run.specs.Run.{Bounded, filterWith, standingOn}
 use Rattle.run.specs.declared.state.State.{State}
 use Rattle.run.proofs.FollowLaws.{learned-known, learned-refused, stands-on}
 use Rattle.run.proofs.LeaveLaws.{standing-rows-read}
 use Rattle.run.proofs.ReadLaws.{stood}
+use Rattle.run.proofs.Remainders.{limits-of}
+use Rattle.run.proofs.Tidied.{learned-tidy, taken-working}
 use borrow.Author.Needs.{needs}
 use Rattle.run.proofs.taking.take_with.Statement.{statement}
 use Rattle.run.proofs.taking.take_with.Tie as tie
@@ -29,7 +33,12 @@ enum-known-e : tie.Need-enum-known-e
 enum-known-e c = search needs
 
 refuse-requires : tie.Need-refuse-requires
-refuse-requires c κs = c .before .before .before .before .before .before .before .before .before .pre .0
+refuse-requires c κs =
+    let p = c .before .before .before .before .before .before .before .before .before .pre in (
+      p .0,
+      limits-of (p .1 .0
+          .bounded),
+    )
 
 same-length : tie.Need-same-length
 same-length c = search needs
@@ -38,7 +47,9 @@ returns : tie.Need-returns
 returns c w h =
     let a = c .before .before .before .before .before .before .before .before .before .before .before .before .args in
     let l = c .before .before .before .before .before .before .before .before .learn in
-    learned-refused (a .st) w (a .theta) (a .span) (a .mu) (a .radius) (sym (l .ensures w h) ∙ ap (λ (d : Done). doneOf d (l .last .1 .1 .1 .0)) (c .before .before .before .before .before .e .given .1)) (c .before .before .refuse .ensures w h)
+    learned-refused (a .st) w (a .theta) (a .span) (a .mu) (a .radius) (sym (l .ensures w (h .holds)) ∙ ap (λ (d :
+    Done). doneOf d (l .last .1 .1 .1 .0)) (c .before .before .before .before .before .e .given .1)) (c .before .before
+    .refuse .ensures w h)
 
 sub-sum-squared : tie.Need-sub-sum-squared
 sub-sum-squared c = search needs
@@ -56,7 +67,24 @@ slice-aggregate-with-taken : tie.Need-slice-aggregate-with-taken
 slice-aggregate-with-taken c = search needs
 
 with-taken-requires : tie.Need-with-taken-requires
-with-taken-requires c κs = let s = c .before .before .before .before .before .before .before .before .before .before .before .before in let u = s .pre .1 .0 in (s .pre .0, (c .before .before .before .before .before .before .before .before .learn .kept .1 .1 .1 .0, omega (arith, u .below, u .bounded .few-iterations)))
+with-taken-requires c κs =
+    let s = c .before .before .before .before .before .before .before .before .before .before .before .before in let u =
+    s .pre .1 .0 in let b = u .bounded in (
+      s .pre .0,
+      (
+        (b .few-variables, (b .few-constraints, b .few-sums)),
+        (
+          c .before
+              .before .before .before .before .before .before .before .learn .kept .1 .1 .1 .0,
+          omega (
+            arith,
+            u .below,
+            b
+                .few-iterations,
+          ),
+        ),
+      ),
+    )
 
 standing-on-requires : tie.Need-standing-on-requires
 standing-on-requires c κs = let u = c .before .before .before .before .before .before .before .before .before .before .before .before .before .before .before .pre .1 .0 in omega (arith, u .below, u .bounded .few-iterations)
@@ -76,8 +104,21 @@ returns-2 c w h =
     let z = a .st .sizes in
     let l = c .before .before .before .before .before .before .before .before .before .before .before .before .before .before .before .before .learn in
     let b = l .last .1 .1 .1 .0 in
-    learned-known (a .st) w (a .theta) (a .span) (a .mu) (a .radius) (sym (l .ensures w h) ∙ ap (λ (d : Done). doneOf d b) (c .before .before .before .before .before .before .before .before .before .before .before .before .before .enum-told .given .1))
-    (stands-on (a .st) w (a .theta) (a .span) (a .mu) (a .radius) b (c .before .before .before .before .standing-on .ensures) (c .before .before .before .before .before .before .before .before .before .before .sum-squared .ensures ∙ ap (λ (x : List Float). sumSquared (sumOf (z .n) (z .m) (z .s) x)) (standing-rows-read h)) (c .before .before .before .before .before .before .before .with-taken .ensures w h) (c .before .before .iterate .ensures))
+    let e = sym (l .ensures w (h .holds)) ∙ ap (λ (d : Done). doneOf d b) (c .before .before .before .before .before
+    .before .before .before .before .before .before .before .before .enum-told .given .1) in
+    let f = c .before .before .before .before .before .before .before .before .before .before .sum-squared .result in
+    let kept : Working (standingOn (a .st) (a .span) (a .mu) (a .radius)) (withTaken w b (filterWith (w .filter) (a .st
+    .counts .iterations) f (a .theta))) (c .before .before .before .before .before .before .before .with-taken .last .0)
+    = record {
+      holds = c .before .before .before .before .before .before .before .with-taken .ensures w (h .holds) (h .tidy
+          .standing-rows) (h .tidy .landed-rows);
+      tidy = taken-working (a .st) w (h .tidy) b f (a .theta) (learned-tidy (a .st) w (h .tidy) e);
+    } in
+    learned-known (a .st) w (a .theta) (a .span) (a .mu) (a .radius) e
+    (stands-on (a .st) w (a .theta) (a .span) (a .mu) (a .radius) b (c .before .before .before .before .standing-on
+    .ensures) (c .before .before .before .before .before .before .before .before .before .before .sum-squared .ensures ∙
+    ap (λ (x : List Float). sumSquared (sumOf (z .n) (z .m) (z .s) x)) (standing-rows-read (h .holds))) kept (c .before
+    .before .iterate .ensures))
 
 pub take-with-spec : {M : Type 1} → statement M
 take-with-spec =

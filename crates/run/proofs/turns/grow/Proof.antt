@@ -6,6 +6,7 @@ use Rattle.run.specs.Run.{searching}
 use Rattle.run.specs.Search.{rejectedFor, withRadius}
 use Rattle.run.specs.declared.state.Search.{Search}
 use Rattle.run.proofs.SearchCalls.{searched, grown-bounded, grow-on, grow-stops}
+use Rattle.run.proofs.Remainders.{limits-of, limits-as, works-as}
 use borrow.Author.Needs.{needs}
 use Rattle.run.proofs.turns.grow.Statement.{statement}
 use Rattle.run.proofs.turns.grow.Tie as tie
@@ -36,7 +37,12 @@ same-length c = search needs
 
 returns : tie.Need-returns
 unfolding within
-returns c w h = grow-on (searching (c .before .before .before .before .before .before .before .before .before .before .args .st) (within (c .before .before .before .before .before .before .before .before .before .before))) w (sym (c .before .before .before .before .before .before .y .given .1) ∙ c .before .before .before .before .before .before .before .before .damp .ensures) (c .before .before .before .before .with-search .ensures) (c .before .before .search .ensures w h)
+returns c w h =
+    grow-on (searching (c .before .before .before .before .before .before .before .before .before .before .args .st)
+    (within (c .before .before .before .before .before .before .before .before .before .before))) w (sym (c .before
+    .before .before .before .before .before .y .given .1) ∙ c .before .before .before .before .before .before .before
+    .before .damp .ensures) (c .before .before .before .before .with-search .ensures) (c .before .before .search
+    .ensures w (works-as (c .before .before .before .before .with-search .ensures) h))
 
 enum-known-y-2 : tie.Need-enum-known-y-2
 enum-known-y-2 c = search needs
@@ -45,14 +51,24 @@ with-search-requires-2 : tie.Need-with-search-requires-2
 with-search-requires-2 c κs = search needs
 
 finish-requires : tie.Need-finish-requires
-finish-requires c κs = c .before .before .before .before .before .before .before .pre .0
+finish-requires c κs =
+    let p = c .before .before .before .before .before .before .before .pre in (
+      p .0,
+      limits-as (c .before .with-search2
+          .ensures) (limits-of (p .1)),
+    )
 
 same-length-2 : tie.Need-same-length-2
 same-length-2 c = search needs
 
 returns-2 : tie.Need-returns-2
 unfolding within
-returns-2 c w h = grow-stops (searching (c .before .before .before .before .before .before .before .before .before .before .args .st) (within (c .before .before .before .before .before .before .before .before .before .before))) w (sym (c .before .before .before .before .before .before .y2 .given .1) ∙ c .before .before .before .before .before .before .before .before .damp .ensures) (c .before .before .before .before .with-search2 .ensures) (c .before .before .finish .ensures w h)
+returns-2 c w h =
+    grow-stops (searching (c .before .before .before .before .before .before .before .before .before .before .args .st)
+    (within (c .before .before .before .before .before .before .before .before .before .before))) w (sym (c .before
+    .before .before .before .before .before .y2 .given .1) ∙ c .before .before .before .before .before .before .before
+    .before .damp .ensures) (c .before .before .before .before .with-search2 .ensures) (c .before .before .finish
+    .ensures w (works-as (c .before .before .before .before .with-search2 .ensures) h))
 
 pub grow-spec : {M : Type 1} → statement M
 grow-spec =

@@ -2,12 +2,13 @@
 use borrow.Author.Tests.{le-leb, lt-leb}
 use Rattle.run.specs.Run.{iterate}
 use Rattle.run.proofs.LeaveLaws.{when, unless}
+use Rattle.run.proofs.Remainders.{limits-of}
 use borrow.Author.Needs.{needs}
 use Rattle.run.proofs.turns.iterate.Statement.{statement}
 use Rattle.run.proofs.turns.iterate.Tie as tie
 
 finish-requires : tie.Need-finish-requires
-finish-requires c κs = search needs
+finish-requires c κs = let p = c .before .before .before .before .pre in (p .0, limits-of (p .1))
 
 same-length : tie.Need-same-length
 same-length c = search needs

@@ -24,13 +24,16 @@ left-at-requires : tie.Need-left-at-requires
 left-at-requires c κs =
     let p = c .before .before .before .before .before .before .before .before .before .before .pre in
     let k = c .before .before .before .before .before .seek-standing .kept .1 .1 in
-    (p .0, (p .1 .few-questions, (k .0, k .1 .0)))
+    (p .0, (p .1, (k .0, k .1 .0)))
 
 same-length : tie.Need-same-length
 same-length c = search needs
 
 returns : tie.Need-returns
-returns c w h = search-by (c .before .before .before .before .before .before .before .before .before .before .before .before .before .args .st) w (c .before .before .before .before .before .before .before .before .seek-standing .ensures w h) (c .before .before .left-at .ensures w h)
+returns c w h =
+    search-by (c .before .before .before .before .before .before .before .before .before .before .before .before .before
+    .args .st) w (c .before .before .before .before .before .before .before .before .seek-standing .ensures w (h
+    .holds)) (c .before .before .left-at .ensures w h)
 
 pub search-spec : {M : Type 1} → statement M
 search-spec =

@@ -7,6 +7,7 @@ use Rattle.interval.specs.Scaling.{four64}
 use Rattle.interval.specs.declared.Scalar.{Scalar}
 use Rattle.interval.specs.declared.ScalarResult.{ScalarResult}
 use Rattle.run.proofs.SearchCalls.{turn-next, turn-refused}
+use Rattle.run.proofs.Remainders.{limits-of, limits-as, works-as}
 use borrow.Author.Needs.{needs}
 use Rattle.run.proofs.turns.turn_down.Statement.{statement}
 use Rattle.run.proofs.turns.turn_down.Tie as tie
@@ -47,13 +48,23 @@ with-search-requires : tie.Need-with-search-requires
 with-search-requires c κs = search needs
 
 refuse-requires : tie.Need-refuse-requires
-refuse-requires c κs = c .before .before .before .before .before .before .before .before .before .pre .0
+refuse-requires c κs =
+    let p = c .before .before .before .before .before .before .before .before .before .pre in (
+      p .0,
+      limits-as (c
+          .before .with-search .ensures) (limits-of (p .1)),
+    )
 
 same-length-2 : tie.Need-same-length-2
 same-length-2 c = search needs
 
 returns-2 : tie.Need-returns-2
-returns-2 c w h = let a = c .before .before .before .before .before .before .before .before .before .before .before .before .args in turn-refused (a .st) w (a .why) (c .before .before .before .before .before .reject .ensures) (divided (c .before .before .before .before .before .before .before .before .before) (c .before .before .before .before .before .before .before .e .given .1)) (c .before .before .before .before .with-search .ensures) (c .before .before .refuse .ensures w h)
+returns-2 c w h =
+    let a = c .before .before .before .before .before .before .before .before .before .before .before .before .args in
+    turn-refused (a .st) w (a .why) (c .before .before .before .before .before .reject .ensures) (divided (c .before
+    .before .before .before .before .before .before .before .before) (c .before .before .before .before .before .before
+    .before .e .given .1)) (c .before .before .before .before .with-search .ensures) (c .before .before .refuse .ensures
+    w (works-as (c .before .before .before .before .with-search .ensures) h))
 
 pub turn-down-spec : {M : Type 1} → statement M
 turn-down-spec =
