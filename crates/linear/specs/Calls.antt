@@ -14,7 +14,7 @@ use Rattle.linear.specs.Norm.{normOf}
 use Rattle.linear.specs.Cholesky.{Factor, choleskyOf}
 use Rattle.linear.specs.Substitution.{solveOf}
 use Rattle.linear.specs.Householder.{leastSquaresOf}
-use Rattle.linear.specs.Solved.{minusSolvedOf}
+use Rattle.linear.specs.Solved.{minusSolvedOf, gramFactorOf, minusFactoredOf}
 use Rattle.linear.specs.Replies.{Reply, replyOf, checked, checkedValue}
 
 -- the greatest count of rows or columns
@@ -57,3 +57,25 @@ minusSolvedReply m n jc rhs from out =
     (checked (eqb (length jc) (2 * (m * n))) 2 out
     (checked (eqb (length rhs) (2 * m)) 2 out
     (checked (eqb (length from) (2 * n)) 2 out (checked (eqb (length out) (2 * n)) 2 out (replyOf (zeros (2 * n)) (minusSolvedOf m n jc rhs from)))))))
+
+-- g is scratch
+unfoldable pub gramFactorReply : ℕ → ℕ → List Float → List Float → Factor → Reply Factor
+gramFactorReply m n jc g f =
+    checked (leb m limit) 1 f
+    (checked (leb n limit) 1 f
+    (checked (eqb (length jc) (2 * (m * n))) 2 f
+    (checked (eqb (length g) (2 * (m * m))) 2 f
+    (checked (eqb (length (f .l)) (2 * (m * m))) 2 f
+    (checked (eqb (length (f .left-out)) m) 2 f (replyOf (blank m) (gramFactorOf m n jc)))))))
+
+unfoldable pub minusFactoredReply : ℕ → ℕ → List Float → Factor → List Float → List Float → List Float
+    → Reply (List Float)
+minusFactoredReply m n jc f rhs from out =
+    checked (leb m limit) 1 out
+    (checked (leb n limit) 1 out
+    (checked (eqb (length jc) (2 * (m * n))) 2 out
+    (checked (eqb (length (f .l)) (2 * (m * m))) 2 out
+    (checked (eqb (length (f .left-out)) m) 2 out
+    (checked (eqb (length rhs) (2 * m)) 2 out
+    (checked (eqb (length from) (2 * n)) 2 out
+    (checked (eqb (length out) (2 * n)) 2 out (replyOf (zeros (2 * n)) (minusFactoredOf m n jc f rhs from)))))))))

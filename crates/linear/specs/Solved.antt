@@ -10,7 +10,7 @@ use Rattle.linear.specs.Flat.{at, along, listTo}
 use Rattle.linear.specs.Results.{bind}
 use Rattle.linear.specs.Dot.{dotTo, minusTo}
 use Rattle.linear.specs.Choose.{chooseOf}
-use Rattle.linear.specs.Cholesky.{choleskyOf}
+use Rattle.linear.specs.Cholesky.{Factor, choleskyOf}
 use Rattle.linear.specs.Substitution.{solveOf}
 
 -- J Jᵀ
@@ -35,3 +35,14 @@ multipliersOf m n jc rhs = bind (choleskyOf m (gramOf m n jc)) (λ f. solveOf m 
 unfoldable pub minusSolvedOf : ℕ → ℕ → List Float → List Float → List Float → Res (List Float)
 unfolding bind
 minusSolvedOf m n jc rhs from = bind (multipliersOf m n jc rhs) (λ k. ok (minusOf m n jc from k))
+
+-- ---- the same in two, for several right-hand sides with one J
+
+-- the factor of J Jᵀ
+unfoldable pub gramFactorOf : ℕ → ℕ → List Float → Res Factor
+gramFactorOf m n jc = choleskyOf m (gramOf m n jc)
+
+-- from - Jᵀ k with L Lᵀ k = rhs
+unfoldable pub minusFactoredOf : ℕ → ℕ → List Float → Factor → List Float → List Float → Res (List Float)
+unfolding bind
+minusFactoredOf m n jc f rhs from = bind (solveOf m (f .l) (f .left-out) rhs) (λ k. ok (minusOf m n jc from k))

@@ -1,8 +1,11 @@
-// Lists of scalars and small matrices, at most 24 rows and 24 columns, over flat f64 slices: two numbers for each scalar, lo then hi, matrices row by row. The functions are those of
-// geop-core-math's solvers, by the same names. Nothing is kept on a heap.
+// Lists of scalars and small matrices, at most 24 rows and 24 columns, over flat f64 slices: two numbers for each
+// scalar, lo then hi, matrices row by row. The functions are those of geop-core-math's solvers, by the same names, some
+// also in parts, since one part may serve several calls. Nothing is kept on a heap.
 //
-// Public functions are total: they answer 1 where a count is above 24, then 2 where a slice has the wrong length, with nothing written, and 5 or 6 in the Rust's order of operations, with
-// the output slice all +0. Inputs are never written. `at`, `along`, `plus_dot`, `minus_dot`, `row_dot`, `two_rows` and `minus_scaled` read NaN outside a slice, and `put` and `minus_scaled` change nothing there.
+// Public functions are total: they answer 1 where a count is above 24, then 2 where a slice has the wrong length, with
+// nothing written, and 5 or 6 in the Rust's order of operations, with the output slice all +0. Inputs are never
+// written. `at`, `along`, `plus_dot`, `minus_dot`, `row_dot`, `two_rows` and `minus_scaled` read NaN outside a slice, and
+// `put` and `minus_scaled` change nothing there.
 mod answers;
 mod bounds;
 mod choices;
@@ -35,5 +38,7 @@ pub use flat::put;
 pub use householder::least_squares;
 pub use norms::norm;
 pub use scaled::minus_scaled;
+pub use solved::gram_factor;
+pub use solved::minus_factored;
 pub use solved::minus_solved;
 pub use substitution::solve_cholesky;

@@ -2,11 +2,11 @@
 ghost use mathlib.Core.Path.{_≡_};
 ghost use Prim.Native.Nat.{_*_, _<_, _≤_};
 ghost use lib.ListN.{length};
-ghost use Rattle.linear.specs.Answers.{doneOf};
-ghost use Rattle.linear.specs.Calls.{minusSolvedReply};
+ghost use Rattle.linear.specs.Calls.{blank, minusSolvedReply, gramFactorReply, minusFactoredReply};
+ghost use Rattle.linear.specs.Cholesky.{factorOf};
 ghost use Rattle.linear.specs.Flat.{zeros};
 ghost use Rattle.linear.specs.Replies.{replied, replyOf};
-ghost use Rattle.linear.specs.Solved.{gramAt, lowerGramOf, multipliersOf, minusOf, minusSolvedOf};
+ghost use Rattle.linear.specs.Solved.{gramAt, lowerGramOf, minusOf, minusSolvedOf, gramFactorOf, minusFactoredOf};
 use crate::answers::Done;
 use crate::answers::LinearError;
 use crate::choices::choose;
@@ -14,6 +14,7 @@ use crate::dots::minus_dot;
 use crate::dots::row_dot;
 use crate::factor::factor_sized;
 use crate::flat::at;
+use crate::flat::clear;
 use crate::flat::put;
 use crate::substitution::cleared;
 use crate::substitution::solve_sized;
@@ -51,25 +52,87 @@ fn minus(m: usize, n: usize, jc: &[f64], from: &[f64], k: &[f64], out: &mut [f64
     }
 }
 
-// k, of J Jᵀ k = rhs, with scratch slices.
-fn multipliers(
+// The factor of J Jᵀ into l and left_out, clear slices where it is refused; g is scratch, and the lengths are checked.
+fn gram_factor_sized(
     m: usize,
     n: usize,
     jc: &[f64],
-    rhs: &[f64],
-    k: &mut [f64],
     g: &mut [f64],
     l: &mut [f64],
     left_out: &mut [bool],
 ) -> Done
-    requires { ⌜ (m ≤ 24) × ((n ≤ 24) × ((length (now k) ≡ 2 * m) × ((length (now g) ≡ 2 * (m * m)) × ((length (now l) ≡ 2 * (m * m)) × (length (now «left_out») ≡ m))))) ⌝ }
-    ensures { λ r. ⌜ doneOf r (now (k .exit)) ≡ multipliersOf m n (now (jc .entry)) (now (rhs .entry)) ⌝ }
+    requires { ⌜ (m ≤ 24) × ((n ≤ 24) × ((length (now g) ≡ 2 * (m * m)) × ((length (now l) ≡ 2 * (m * m))
+        × (length (now «left_out») ≡ m)))) ⌝ }
+    ensures { λ r. ⌜ replied r (factorOf (now (l .exit)) (now («left_out» .exit)))
+        ≡ replyOf (blank m) (gramFactorOf m n (now (jc .entry))) ⌝ }
 {
     gram(m, n, jc, g);
-    match factor_sized(m, g, l, left_out) {
-        Done::Finished => solve_sized(m, l, left_out, rhs, k),
-        Done::Refused(e) => Done::Refused(e),
-    }
+    factor_sized(m, g, l, left_out)
+}
+
+// The values by the factor, with a scratch slice for k; out is clear where they are refused.
+fn minus_factored_in(
+    m: usize,
+    n: usize,
+    jc: &[f64],
+    l: &[f64],
+    left_out: &[bool],
+    rhs: &[f64],
+    from: &[f64],
+    out: &mut [f64],
+    k: &mut [f64],
+) -> Done
+    requires { ⌜ (m ≤ 24) × ((n ≤ 24) × ((length (now «left_out») ≡ m) × ((length (now out) ≡ 2 * n)
+        × (length (now k) ≡ 2 * m)))) ⌝ }
+    ensures { λ r. ⌜ replied r (now (out .exit))
+        ≡ replyOf (zeros (2 * n)) (minusFactoredOf m n (now (jc .entry))
+        (factorOf (now (l .entry)) (now («left_out» .entry))) (now (rhs .entry)) (now (from .entry))) ⌝ }
+{
+    let d = solve_sized(m, l, left_out, rhs, k);
+    minus(m, n, jc, from, k, out);
+    cleared(d, out)
+}
+
+// The same with a scratch slice that is long enough.
+fn minus_factored_with(
+    m: usize,
+    n: usize,
+    jc: &[f64],
+    l: &[f64],
+    left_out: &[bool],
+    rhs: &[f64],
+    from: &[f64],
+    out: &mut [f64],
+    k: &mut [f64],
+) -> Done
+    requires { ⌜ (m ≤ 24) × ((n ≤ 24) × ((length (now «left_out») ≡ m) × ((length (now out) ≡ 2 * n)
+        × (2 * m ≤ length (now k))))) ⌝ }
+    ensures { λ r. ⌜ replied r (now (out .exit))
+        ≡ replyOf (zeros (2 * n)) (minusFactoredOf m n (now (jc .entry))
+        (factorOf (now (l .entry)) (now («left_out» .entry))) (now (rhs .entry)) (now (from .entry))) ⌝ }
+{
+    let q = 2 * m;
+    minus_factored_in(m, n, jc, l, left_out, rhs, from, out, &mut k[..q])
+}
+
+// The same with an array of its own; the lengths are checked.
+fn minus_factored_sized(
+    m: usize,
+    n: usize,
+    jc: &[f64],
+    l: &[f64],
+    left_out: &[bool],
+    rhs: &[f64],
+    from: &[f64],
+    out: &mut [f64],
+) -> Done
+    requires { ⌜ (m ≤ 24) × ((n ≤ 24) × ((length (now «left_out») ≡ m) × (length (now out) ≡ 2 * n))) ⌝ }
+    ensures { λ r. ⌜ replied r (now (out .exit))
+        ≡ replyOf (zeros (2 * n)) (minusFactoredOf m n (now (jc .entry))
+        (factorOf (now (l .entry)) (now («left_out» .entry))) (now (rhs .entry)) (now (from .entry))) ⌝ }
+{
+    let mut k = [0.0; 48];
+    minus_factored_with(m, n, jc, l, left_out, rhs, from, out, &mut k)
 }
 
 // The whole, with scratch slices of the right lengths; out is clear where it is refused.
@@ -80,17 +143,22 @@ fn solved_in(
     rhs: &[f64],
     from: &[f64],
     out: &mut [f64],
-    k: &mut [f64],
     g: &mut [f64],
     l: &mut [f64],
     left_out: &mut [bool],
 ) -> Done
-    requires { ⌜ (m ≤ 24) × ((n ≤ 24) × ((length (now out) ≡ 2 * n) × ((length (now k) ≡ 2 * m) × ((length (now g) ≡ 2 * (m * m)) × ((length (now l) ≡ 2 * (m * m)) × (length (now «left_out») ≡ m)))))) ⌝ }
-    ensures { λ r. ⌜ replied r (now (out .exit)) ≡ replyOf (zeros (2 * n)) (minusSolvedOf m n (now (jc .entry)) (now (rhs .entry)) (now (from .entry))) ⌝ }
+    requires { ⌜ (m ≤ 24) × ((n ≤ 24) × ((length (now out) ≡ 2 * n) × ((length (now g) ≡ 2 * (m * m))
+        × ((length (now l) ≡ 2 * (m * m)) × (length (now «left_out») ≡ m))))) ⌝ }
+    ensures { λ r. ⌜ replied r (now (out .exit))
+        ≡ replyOf (zeros (2 * n)) (minusSolvedOf m n (now (jc .entry)) (now (rhs .entry)) (now (from .entry))) ⌝ }
 {
-    let d = multipliers(m, n, jc, rhs, k, g, l, left_out);
-    minus(m, n, jc, from, k, out);
-    cleared(d, out)
+    match gram_factor_sized(m, n, jc, g, l, left_out) {
+        Done::Finished => minus_factored_sized(m, n, jc, l, left_out, rhs, from, out),
+        Done::Refused(e) => {
+            clear(out);
+            Done::Refused(e)
+        }
+    }
 }
 
 // The same with scratch slices that are long enough.
@@ -101,15 +169,15 @@ fn solved_cut(
     rhs: &[f64],
     from: &[f64],
     out: &mut [f64],
-    k: &mut [f64],
     g: &mut [f64],
     l: &mut [f64],
     left_out: &mut [bool],
 ) -> Done
-    requires { ⌜ (m ≤ 24) × ((n ≤ 24) × ((length (now out) ≡ 2 * n) × ((2 * m ≤ length (now k)) × ((2 * (m * m) ≤ length (now g)) × ((2 * (m * m) ≤ length (now l)) × (m ≤ length (now «left_out»))))))) ⌝ }
-    ensures { λ r. ⌜ replied r (now (out .exit)) ≡ replyOf (zeros (2 * n)) (minusSolvedOf m n (now (jc .entry)) (now (rhs .entry)) (now (from .entry))) ⌝ }
+    requires { ⌜ (m ≤ 24) × ((n ≤ 24) × ((length (now out) ≡ 2 * n) × ((2 * (m * m) ≤ length (now g))
+        × ((2 * (m * m) ≤ length (now l)) × (m ≤ length (now «left_out»)))))) ⌝ }
+    ensures { λ r. ⌜ replied r (now (out .exit))
+        ≡ replyOf (zeros (2 * n)) (minusSolvedOf m n (now (jc .entry)) (now (rhs .entry)) (now (from .entry))) ⌝ }
 {
-    let q = 2 * m;
     let s = 2 * (m * m);
     solved_in(
         m,
@@ -118,7 +186,6 @@ fn solved_cut(
         rhs,
         from,
         out,
-        &mut k[..q],
         &mut g[..s],
         &mut l[..s],
         &mut left_out[..m],
@@ -128,52 +195,31 @@ fn solved_cut(
 // The same of at most 12 rows, as a run has them, with arrays of its own.
 fn solved_small(m: usize, n: usize, jc: &[f64], rhs: &[f64], from: &[f64], out: &mut [f64]) -> Done
     requires { ⌜ (m ≤ 12) × ((n ≤ 24) × (length (now out) ≡ 2 * n)) ⌝ }
-    ensures { λ r. ⌜ replied r (now (out .exit)) ≡ replyOf (zeros (2 * n)) (minusSolvedOf m n (now (jc .entry)) (now (rhs .entry)) (now (from .entry))) ⌝ }
+    ensures { λ r. ⌜ replied r (now (out .exit))
+        ≡ replyOf (zeros (2 * n)) (minusSolvedOf m n (now (jc .entry)) (now (rhs .entry)) (now (from .entry))) ⌝ }
 {
-    let mut k = [0.0; 24];
     let mut g = [0.0; 288];
     let mut l = [0.0; 288];
     let mut left_out = [false; 12];
-    solved_cut(
-        m,
-        n,
-        jc,
-        rhs,
-        from,
-        out,
-        &mut k,
-        &mut g,
-        &mut l,
-        &mut left_out,
-    )
+    solved_cut(m, n, jc, rhs, from, out, &mut g, &mut l, &mut left_out)
 }
 
 // The same of at most 24.
 fn solved_large(m: usize, n: usize, jc: &[f64], rhs: &[f64], from: &[f64], out: &mut [f64]) -> Done
     requires { ⌜ (m ≤ 24) × ((n ≤ 24) × (length (now out) ≡ 2 * n)) ⌝ }
-    ensures { λ r. ⌜ replied r (now (out .exit)) ≡ replyOf (zeros (2 * n)) (minusSolvedOf m n (now (jc .entry)) (now (rhs .entry)) (now (from .entry))) ⌝ }
+    ensures { λ r. ⌜ replied r (now (out .exit))
+        ≡ replyOf (zeros (2 * n)) (minusSolvedOf m n (now (jc .entry)) (now (rhs .entry)) (now (from .entry))) ⌝ }
 {
-    let mut k = [0.0; 48];
     let mut g = [0.0; 1152];
     let mut l = [0.0; 1152];
     let mut left_out = [false; 24];
-    solved_cut(
-        m,
-        n,
-        jc,
-        rhs,
-        from,
-        out,
-        &mut k,
-        &mut g,
-        &mut l,
-        &mut left_out,
-    )
+    solved_cut(m, n, jc, rhs, from, out, &mut g, &mut l, &mut left_out)
 }
 
 fn solved_sized(m: usize, n: usize, jc: &[f64], rhs: &[f64], from: &[f64], out: &mut [f64]) -> Done
     requires { ⌜ (m ≤ 24) × ((n ≤ 24) × (length (now out) ≡ 2 * n)) ⌝ }
-    ensures { λ r. ⌜ replied r (now (out .exit)) ≡ replyOf (zeros (2 * n)) (minusSolvedOf m n (now (jc .entry)) (now (rhs .entry)) (now (from .entry))) ⌝ }
+    ensures { λ r. ⌜ replied r (now (out .exit))
+        ≡ replyOf (zeros (2 * n)) (minusSolvedOf m n (now (jc .entry)) (now (rhs .entry)) (now (from .entry))) ⌝ }
 {
     if m <= 12 {
         return solved_small(m, n, jc, rhs, from, out);
@@ -190,7 +236,8 @@ pub fn minus_solved(
     from: &[f64],
     out: &mut [f64],
 ) -> Done
-    ensures { λ r. ⌜ replied r (now (out .exit)) ≡ minusSolvedReply m n (now (jc .entry)) (now (rhs .entry)) (now (from .entry)) (now (out .entry)) ⌝ }
+    ensures { λ r. ⌜ replied r (now (out .exit))
+        ≡ minusSolvedReply m n (now (jc .entry)) (now (rhs .entry)) (now (from .entry)) (now (out .entry)) ⌝ }
 {
     if m > 24 {
         return Done::Refused(LinearError::TooMany);
@@ -211,4 +258,80 @@ pub fn minus_solved(
         return Done::Refused(LinearError::WrongLength);
     }
     solved_sized(m, n, jc, rhs, from, out)
+}
+
+// L with L Lᵀ = J Jᵀ, for several right-hand sides by minus_factored; J has m rows of n, and g is scratch.
+pub fn gram_factor(
+    m: usize,
+    n: usize,
+    jc: &[f64],
+    g: &mut [f64],
+    l: &mut [f64],
+    left_out: &mut [bool],
+) -> Done
+    ensures { λ r. ⌜ replied r (factorOf (now (l .exit)) (now («left_out» .exit)))
+        ≡ gramFactorReply m n (now (jc .entry)) (now (g .entry))
+        (factorOf (now (l .entry)) (now («left_out» .entry))) ⌝ }
+{
+    if m > 24 {
+        return Done::Refused(LinearError::TooMany);
+    }
+    if n > 24 {
+        return Done::Refused(LinearError::TooMany);
+    }
+    if jc.len() != 2 * (m * n) {
+        return Done::Refused(LinearError::WrongLength);
+    }
+    if g.len() != 2 * (m * m) {
+        return Done::Refused(LinearError::WrongLength);
+    }
+    if l.len() != 2 * (m * m) {
+        return Done::Refused(LinearError::WrongLength);
+    }
+    if left_out.len() != m {
+        return Done::Refused(LinearError::WrongLength);
+    }
+    gram_factor_sized(m, n, jc, g, l, left_out)
+}
+
+// minus_solved by the factor of gram_factor.
+pub fn minus_factored(
+    m: usize,
+    n: usize,
+    jc: &[f64],
+    l: &[f64],
+    left_out: &[bool],
+    rhs: &[f64],
+    from: &[f64],
+    out: &mut [f64],
+) -> Done
+    ensures { λ r. ⌜ replied r (now (out .exit))
+        ≡ minusFactoredReply m n (now (jc .entry)) (factorOf (now (l .entry)) (now («left_out» .entry)))
+        (now (rhs .entry)) (now (from .entry)) (now (out .entry)) ⌝ }
+{
+    if m > 24 {
+        return Done::Refused(LinearError::TooMany);
+    }
+    if n > 24 {
+        return Done::Refused(LinearError::TooMany);
+    }
+    if jc.len() != 2 * (m * n) {
+        return Done::Refused(LinearError::WrongLength);
+    }
+    if l.len() != 2 * (m * m) {
+        return Done::Refused(LinearError::WrongLength);
+    }
+    if left_out.len() != m {
+        return Done::Refused(LinearError::WrongLength);
+    }
+    if rhs.len() != 2 * m {
+        return Done::Refused(LinearError::WrongLength);
+    }
+    if from.len() != 2 * n {
+        return Done::Refused(LinearError::WrongLength);
+    }
+    if out.len() != 2 * n {
+        return Done::Refused(LinearError::WrongLength);
+    }
+    minus_factored_sized(m, n, jc, l, left_out, rhs, from, out)
 }

@@ -4,50 +4,53 @@ use Prim.Native.Nat.{_*_, _≤_}
 use native.Mathlib.Omega.{arith}
 use borrow.Author.Needs.{needs}
 use lib.Seq.{length-take-le}
+use Rattle.linear.proofs.Cells.{product-small}
 use Rattle.linear.proofs.solved.solved_cut.Statement.{statement}
 use Rattle.linear.proofs.solved.solved_cut.Tie as tie
-use Rattle.linear.proofs.Cells.{product-small}
 
 room : (s : tie.Start) → s .args .m * s .args .m ≤ 576
 room s = product-small (s .pre .0) (s .pre .0)
 
-mul-q : tie.Need-mul-q
-mul-q c = search needs
-
 mul-s : tie.Need-mul-s
-mul-s c = omega (arith, room (c .before .before .before .before .before .before .before .before))
+mul-s c = let k = c .before .before .before .before in omega (arith, room (k .before .before .before))
 
 mul-s-2 : tie.Need-mul-s-2
-mul-s-2 c = omega (arith, room (c .before .before .before .before .before .before .before .before))
+mul-s-2 c = let k = c .before .before .before .before in omega (arith, room (k .before .before .before))
 
 slice-relend-prefix-solved-in : tie.Need-slice-relend-prefix-solved-in
-slice-relend-prefix-solved-in c = search needs
+slice-relend-prefix-solved-in c =
+    let k = c .before .before .before .before in omega (arith, room (k .before .before .before .before))
 
 slice-aggregate-solved-in : tie.Need-slice-aggregate-solved-in
-slice-aggregate-solved-in c = sym (length-take-le _ _ (omega arith))
+slice-aggregate-solved-in c =
+    let k = c .before .before .before .before in sym
+    (length-take-le _ _ (omega (arith, room (k .before .before .before .before .before))))
 
 slice-relend-prefix-solved-in-2 : tie.Need-slice-relend-prefix-solved-in-2
-slice-relend-prefix-solved-in-2 c = search needs
+slice-relend-prefix-solved-in-2 c =
+    let k = c .before .before .before .before in omega (arith, room (k .before .before .before .before .before))
 
 slice-aggregate-solved-in-2 : tie.Need-slice-aggregate-solved-in-2
-slice-aggregate-solved-in-2 c = sym (length-take-le _ _ (omega (arith, room (c .before .before .before .before .before .before .before .before .before .before .before))))
+slice-aggregate-solved-in-2 c =
+    let k = c .before .before .before .before in sym
+    (length-take-le _ _ (omega (arith, room (k .before .before .before .before .before .before))))
 
 slice-relend-prefix-solved-in-3 : tie.Need-slice-relend-prefix-solved-in-3
-slice-relend-prefix-solved-in-3 c = omega (arith, room (c .before .before .before .before .before .before .before .before .before .before .before))
+slice-relend-prefix-solved-in-3 c = search needs
 
 slice-aggregate-solved-in-3 : tie.Need-slice-aggregate-solved-in-3
-slice-aggregate-solved-in-3 c = sym (length-take-le _ _ (omega (arith, room (c .before .before .before .before .before .before .before .before .before .before .before .before))))
-
-slice-relend-prefix-solved-in-4 : tie.Need-slice-relend-prefix-solved-in-4
-slice-relend-prefix-solved-in-4 c = search needs
-
-slice-aggregate-solved-in-4 : tie.Need-slice-aggregate-solved-in-4
-slice-aggregate-solved-in-4 c = sym (length-take-le _ _ (omega arith))
+slice-aggregate-solved-in-3 c = sym (length-take-le _ _ (omega arith))
 
 solved-in-requires : tie.Need-solved-in-requires
 solved-in-requires c κs =
-    let p = c .before .before .before .before .before .before .before .before .before .before .before .before .before .pre in
-    (p .0, (p .1 .0, (p .1 .1 .0, (length-take-le _ _ (omega arith), (length-take-le _ _ (omega (arith, room (c .before .before .before .before .before .before .before .before .before .before .before .before .before))), (length-take-le _ _ (omega (arith, room (c .before .before .before .before .before .before .before .before .before .before .before .before .before))), length-take-le _ _ (omega arith)))))))
+    let p = c .before .before .before .before .before .before .before .before .before .before .before .pre in
+    let r = p .1 .1 .1 in (
+      p .0,
+      (
+        p .1 .0,
+        (p .1 .1 .0, (length-take-le _ _ (r .0), (length-take-le _ _ (r .1 .0), length-take-le _ _ (r .1 .1)))),
+      ),
+    )
 
 same-length : tie.Need-same-length
 same-length c = search needs
@@ -61,9 +64,6 @@ same-length-3 c = search needs
 same-length-4 : tie.Need-same-length-4
 same-length-4 c = search needs
 
-same-length-5 : tie.Need-same-length-5
-same-length-5 c = search needs
-
 returns : tie.Need-returns
 returns c = search needs
 
@@ -71,7 +71,6 @@ pub solved-cut-spec : {M : Type 1} → statement M
 solved-cut-spec =
     tie.close
     (tie.spec
-    mul-q
     mul-s
     mul-s-2
     slice-relend-prefix-solved-in
@@ -80,12 +79,9 @@ solved-cut-spec =
     slice-aggregate-solved-in-2
     slice-relend-prefix-solved-in-3
     slice-aggregate-solved-in-3
-    slice-relend-prefix-solved-in-4
-    slice-aggregate-solved-in-4
     solved-in-requires
     same-length
     same-length-2
     same-length-3
     same-length-4
-    same-length-5
     returns)

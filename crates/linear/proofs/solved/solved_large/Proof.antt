@@ -15,15 +15,12 @@ slice-aggregate-solved-cut-2 c = search needs
 slice-aggregate-solved-cut-3 : tie.Need-slice-aggregate-solved-cut-3
 slice-aggregate-solved-cut-3 c = search needs
 
-slice-aggregate-solved-cut-4 : tie.Need-slice-aggregate-solved-cut-4
-slice-aggregate-solved-cut-4 c = search needs
-
 solved-cut-requires : tie.Need-solved-cut-requires
 solved-cut-requires c κs =
-    let s = c .before .before .before .before .before .before .before .before .before in
+    let s = c .before .before .before .before .before .before .before .before in
     let p = s .pre in
     let room : s .args .m * s .args .m ≤ 576 = mul-le-mul (p .0) (p .0) in
-    (omega (arith, p), (p .1 .0, (p .1 .1, (omega (arith, p), (omega (arith, room), (omega (arith, room), omega (arith, p)))))))
+    (omega (arith, p), (p .1 .0, (p .1 .1, (omega (arith, room), (omega (arith, room), omega (arith, p))))))
 
 same-length : tie.Need-same-length
 same-length c = search needs
@@ -38,7 +35,6 @@ solved-large-spec =
     slice-aggregate-solved-cut
     slice-aggregate-solved-cut-2
     slice-aggregate-solved-cut-3
-    slice-aggregate-solved-cut-4
     solved-cut-requires
     same-length
     returns)

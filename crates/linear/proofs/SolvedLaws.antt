@@ -1,0 +1,51 @@
+-- `minus_solved` is the factor of J Jᵀ, and then the values by that factor.
+use mathlib.Core.Path.{_≡_, refl, sym, ap, _∙_}
+use Prim.Native.Nat.{ℕ, _*_}
+use mathlib.Core.Bool.{Bool}
+use mathlib.Core.List.{List}
+use lib.Ieee.{Float}
+use Rattle.interval.specs.Result.{Res, ok, refused}
+use Rattle.linear.specs.Answers.{doneOf}
+use Rattle.linear.specs.Calls.{blank}
+use Rattle.linear.specs.Cholesky.{Factor, factorOf, choleskyOf}
+use Rattle.linear.specs.Flat.{zeros}
+use Rattle.linear.specs.Replies.{replied, replyOf}
+use Rattle.linear.specs.Results.{bind}
+use Rattle.linear.specs.Solved.{gramOf, lowerGramOf, multipliersOf, minusOf, minusSolvedOf, gramFactorOf, minusFactoredOf}
+use Rattle.linear.specs.Substitution.{solveOf}
+use Rattle.linear.specs.declared.answers.Done.{Done}
+use Rattle.linear.proofs.Folds.{bind-ok, bind-refused}
+use Rattle.linear.proofs.LowerTriangle.{cholesky-gram}
+use Rattle.linear.proofs.Replied.{done-is, done-then}
+
+one-after-the-other : {A B C : Type 0} (x : Res A) (f : A → Res B) (g : B → Res C)
+    → bind (bind x f) g ≡ bind x (λ a. bind (f a) g)
+unfolding bind
+one-after-the-other (ok a) f g = refl
+one-after-the-other (refused k) f g = refl
+
+module _ (m n : ℕ) (jc rhs from : List Float) where
+  pub solved-in-two : minusSolvedOf m n jc rhs from ≡ bind (gramFactorOf m n jc) (λ f. minusFactoredOf m n jc f rhs from)
+  unfolding minusSolvedOf multipliersOf gramFactorOf minusFactoredOf
+  solved-in-two = one-after-the-other (choleskyOf m (gramOf m n jc)) _ _
+
+  pub solved-by-factor : (f : Factor) → gramFactorOf m n jc ≡ ok f → minusSolvedOf m n jc rhs from ≡ minusFactoredOf m n jc f rhs from
+  solved-by-factor f e = solved-in-two ∙ bind-ok _ e
+
+  pub solved-refused : (k : ℕ) → gramFactorOf m n jc ≡ refused k → minusSolvedOf m n jc rhs from ≡ refused k
+  solved-refused k e = solved-in-two ∙ bind-refused _ e
+
+-- ---- what the code works out
+module _ (m n : ℕ) (jc : List Float) where
+  pub gram-factor : (g : List Float) (r : Done) (f : Factor) → g ≡ lowerGramOf m n jc → replied r f ≡ replyOf (blank m) (choleskyOf m g)
+      → replied r f ≡ replyOf (blank m) (gramFactorOf m n jc)
+  unfolding gramFactorOf
+  gram-factor g r f e h = h ∙ ap (λ x. replyOf (blank m) x) (ap (choleskyOf m) e ∙ cholesky-gram m n jc)
+
+  pub factor-done : (r : Done) (f : Factor) → replied r f ≡ replyOf (blank m) (gramFactorOf m n jc) → gramFactorOf m n jc ≡ doneOf r f
+  factor-done r f h = sym (done-is r f (blank m) (gramFactorOf m n jc) h)
+
+  pub minus-factored : (l : List Float) (left : List Bool) (rhs from k : List Float) (r : Done) → replied r k ≡ replyOf (zeros (2 * m)) (solveOf m l left rhs)
+      → doneOf r (minusOf m n jc from k) ≡ minusFactoredOf m n jc (factorOf l left) rhs from
+  unfolding minusFactoredOf
+  minus-factored l left rhs from k r h = done-then r (minusOf m n jc from) k (done-is r k (zeros (2 * m)) (solveOf m l left rhs) h)

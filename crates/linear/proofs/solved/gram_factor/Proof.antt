@@ -1,0 +1,123 @@
+-- `gram_factor` meets its contract: each check decides one of the definition's.
+use native.Mathlib.Omega.{arith}
+use borrow.Author.Needs.{needs}
+use borrow.Author.Tests.{le-leb, lt-leb, eq-eqb, ne-eqb}
+use Rattle.linear.specs.Calls.{gramFactorReply}
+use Rattle.linear.proofs.Cells.{product-small}
+use Rattle.linear.proofs.solved.gram_factor.Statement.{statement}
+use Rattle.linear.proofs.solved.gram_factor.Tie as tie
+
+returns : tie.Need-returns
+unfolding gramFactorReply
+returns c = rw (lt-leb _ _ (c .if1 .taken))
+
+returns-2 : tie.Need-returns-2
+unfolding gramFactorReply
+returns-2 c = rw (le-leb _ _ (c .before .if1 .left), lt-leb _ _ (c .if2 .taken))
+
+mul-if3 : tie.Need-mul-if3
+mul-if3 c = omega (arith, product-small (c .before .if1 .left) (c .if2 .left))
+
+mul-if3-2 : tie.Need-mul-if3-2
+mul-if3-2 c = omega (arith, product-small (c .before .if1 .left) (c .if2 .left))
+
+returns-3 : tie.Need-returns-3
+unfolding gramFactorReply
+returns-3 c =
+    rw (
+      le-leb _ _ (c .before .before .if1 .left),
+      le-leb _ _ (c .before .if2 .left),
+      ne-eqb _ _ (c .if3 .taken),
+    )
+
+mul-if4 : tie.Need-mul-if4
+mul-if4 c = omega (arith, product-small (c .before .before .if1 .left) (c .before .before .if1 .left))
+
+mul-if4-2 : tie.Need-mul-if4-2
+mul-if4-2 c = omega (arith, product-small (c .before .before .if1 .left) (c .before .before .if1 .left))
+
+returns-4 : tie.Need-returns-4
+unfolding gramFactorReply
+returns-4 c =
+    rw (
+      le-leb _ _ (c .before .before .before .if1 .left),
+      le-leb _ _ (c .before .before .if2 .left),
+      eq-eqb _ _ (c .before .if3 .left),
+      ne-eqb _ _ (c .if4 .taken),
+    )
+
+mul-if5 : tie.Need-mul-if5
+mul-if5 c = search needs
+
+mul-if5-2 : tie.Need-mul-if5-2
+mul-if5-2 c = search needs
+
+returns-5 : tie.Need-returns-5
+unfolding gramFactorReply
+returns-5 c =
+    rw (
+      le-leb _ _ (c .before .before .before .before .if1 .left),
+      le-leb _ _ (c .before .before .before .if2 .left),
+      eq-eqb _ _ (c .before .before .if3 .left),
+      eq-eqb _ _ (c .before .if4 .left),
+      ne-eqb _ _ (c .if5 .taken),
+    )
+
+returns-6 : tie.Need-returns-6
+unfolding gramFactorReply
+returns-6 c =
+    rw (
+      le-leb _ _ (c .before .before .before .before .before .if1 .left),
+      le-leb _ _ (c .before .before .before .before .if2 .left),
+      eq-eqb _ _ (c .before .before .before .if3 .left),
+      eq-eqb _ _ (c .before .before .if4 .left),
+      eq-eqb _ _ (c .before .if5 .left),
+      ne-eqb _ _ (c .if6 .taken),
+    )
+
+gram-factor-sized-requires : tie.Need-gram-factor-sized-requires
+gram-factor-sized-requires c κs = search needs
+
+same-length : tie.Need-same-length
+same-length c = search needs
+
+same-length-2 : tie.Need-same-length-2
+same-length-2 c = search needs
+
+same-length-3 : tie.Need-same-length-3
+same-length-3 c = search needs
+
+returns-7 : tie.Need-returns-7
+unfolding gramFactorReply
+returns-7 c =
+    let k = c .before .before .before .before .before .before .before .before .before .before in
+    rw (
+      le-leb _ _ (k .before .before .before .before .before .if1 .left),
+      le-leb _ _ (k .before .before .before .before .if2 .left),
+      eq-eqb _ _ (k .before .before .before .if3 .left),
+      eq-eqb _ _ (k .before .before .if4 .left),
+      eq-eqb _ _ (k .before .if5 .left),
+      eq-eqb _ _ (k .if6 .left),
+    ) (c .before .before .before .before .before .before .gram-factor-sized .ensures)
+
+pub gram-factor-spec : {M : Type 1} → statement M
+gram-factor-spec =
+    tie.close
+    (tie.spec
+    returns
+    returns-2
+    mul-if3
+    mul-if3-2
+    returns-3
+    mul-if4
+    mul-if4-2
+    returns-4
+    mul-if5
+    mul-if5-2
+    returns-5
+    returns-6
+    gram-factor-sized-requires
+    same-length
+    same-length-2
+    same-length-3
+    returns-7)

@@ -1,0 +1,150 @@
+-- `minus_factored` meets its contract: each check decides one of the definition's.
+use native.Mathlib.Omega.{arith}
+use borrow.Author.Needs.{needs}
+use borrow.Author.Tests.{le-leb, lt-leb, eq-eqb, ne-eqb}
+use Rattle.linear.specs.Calls.{minusFactoredReply}
+use Rattle.linear.proofs.Cells.{product-small}
+use Rattle.linear.proofs.solved.minus_factored.Statement.{statement}
+use Rattle.linear.proofs.solved.minus_factored.Tie as tie
+
+returns : tie.Need-returns
+unfolding minusFactoredReply
+returns c = rw (lt-leb _ _ (c .if1 .taken))
+
+returns-2 : tie.Need-returns-2
+unfolding minusFactoredReply
+returns-2 c = rw (le-leb _ _ (c .before .if1 .left), lt-leb _ _ (c .if2 .taken))
+
+mul-if3 : tie.Need-mul-if3
+mul-if3 c = omega (arith, product-small (c .before .if1 .left) (c .if2 .left))
+
+mul-if3-2 : tie.Need-mul-if3-2
+mul-if3-2 c = omega (arith, product-small (c .before .if1 .left) (c .if2 .left))
+
+returns-3 : tie.Need-returns-3
+unfolding minusFactoredReply
+returns-3 c =
+    rw (
+      le-leb _ _ (c .before .before .if1 .left),
+      le-leb _ _ (c .before .if2 .left),
+      ne-eqb _ _ (c .if3 .taken),
+    )
+
+mul-if4 : tie.Need-mul-if4
+mul-if4 c = omega (arith, product-small (c .before .before .if1 .left) (c .before .before .if1 .left))
+
+mul-if4-2 : tie.Need-mul-if4-2
+mul-if4-2 c = omega (arith, product-small (c .before .before .if1 .left) (c .before .before .if1 .left))
+
+returns-4 : tie.Need-returns-4
+unfolding minusFactoredReply
+returns-4 c =
+    rw (
+      le-leb _ _ (c .before .before .before .if1 .left),
+      le-leb _ _ (c .before .before .if2 .left),
+      eq-eqb _ _ (c .before .if3 .left),
+      ne-eqb _ _ (c .if4 .taken),
+    )
+
+returns-5 : tie.Need-returns-5
+unfolding minusFactoredReply
+returns-5 c =
+    rw (
+      le-leb _ _ (c .before .before .before .before .if1 .left),
+      le-leb _ _ (c .before .before .before .if2 .left),
+      eq-eqb _ _ (c .before .before .if3 .left),
+      eq-eqb _ _ (c .before .if4 .left),
+      ne-eqb _ _ (c .if5 .taken),
+    )
+
+mul-if6 : tie.Need-mul-if6
+mul-if6 c = search needs
+
+returns-6 : tie.Need-returns-6
+unfolding minusFactoredReply
+returns-6 c =
+    rw (
+      le-leb _ _ (c .before .before .before .before .before .if1 .left),
+      le-leb _ _ (c .before .before .before .before .if2 .left),
+      eq-eqb _ _ (c .before .before .before .if3 .left),
+      eq-eqb _ _ (c .before .before .if4 .left),
+      eq-eqb _ _ (c .before .if5 .left),
+      ne-eqb _ _ (c .if6 .taken),
+    )
+
+mul-if7 : tie.Need-mul-if7
+mul-if7 c = search needs
+
+returns-7 : tie.Need-returns-7
+unfolding minusFactoredReply
+returns-7 c =
+    rw (
+      le-leb _ _ (c .before .before .before .before .before .before .if1 .left),
+      le-leb _ _ (c .before .before .before .before .before .if2 .left),
+      eq-eqb _ _ (c .before .before .before .before .if3 .left),
+      eq-eqb _ _ (c .before .before .before .if4 .left),
+      eq-eqb _ _ (c .before .before .if5 .left),
+      eq-eqb _ _ (c .before .if6 .left),
+      ne-eqb _ _ (c .if7 .taken),
+    )
+
+mul-if8 : tie.Need-mul-if8
+mul-if8 c = search needs
+
+returns-8 : tie.Need-returns-8
+unfolding minusFactoredReply
+returns-8 c =
+    rw (
+      le-leb _ _ (c .before .before .before .before .before .before .before .if1 .left),
+      le-leb _ _ (c .before .before .before .before .before .before .if2 .left),
+      eq-eqb _ _ (c .before .before .before .before .before .if3 .left),
+      eq-eqb _ _ (c .before .before .before .before .if4 .left),
+      eq-eqb _ _ (c .before .before .before .if5 .left),
+      eq-eqb _ _ (c .before .before .if6 .left),
+      eq-eqb _ _ (c .before .if7 .left),
+      ne-eqb _ _ (c .if8 .taken),
+    )
+
+minus-factored-sized-requires : tie.Need-minus-factored-sized-requires
+minus-factored-sized-requires c κs = search needs
+
+same-length : tie.Need-same-length
+same-length c = search needs
+
+returns-9 : tie.Need-returns-9
+unfolding minusFactoredReply
+returns-9 c =
+    let k = c .before .before .before .before in
+    rw (
+      le-leb _ _ (k .before .before .before .before .before .before .before .if1 .left),
+      le-leb _ _ (k .before .before .before .before .before .before .if2 .left),
+      eq-eqb _ _ (k .before .before .before .before .before .if3 .left),
+      eq-eqb _ _ (k .before .before .before .before .if4 .left),
+      eq-eqb _ _ (k .before .before .before .if5 .left),
+      eq-eqb _ _ (k .before .before .if6 .left),
+      eq-eqb _ _ (k .before .if7 .left),
+      eq-eqb _ _ (k .if8 .left),
+    ) (c .before .before .minus-factored-sized .ensures)
+
+pub minus-factored-spec : {M : Type 1} → statement M
+minus-factored-spec =
+    tie.close
+    (tie.spec
+    returns
+    returns-2
+    mul-if3
+    mul-if3-2
+    returns-3
+    mul-if4
+    mul-if4-2
+    returns-4
+    returns-5
+    mul-if6
+    returns-6
+    mul-if7
+    returns-7
+    mul-if8
+    returns-8
+    minus-factored-sized-requires
+    same-length
+    returns-9)
