@@ -100,13 +100,22 @@ fn scaled_cut(v: &mut [f64], v0: usize, a: Scalar, w: &[f64], w0: usize, k: usiz
     }
 }
 
-// k places of v from v0 on, less a times those of w from w0 on, each chosen.
-pub fn minus_scaled(v: &mut [f64], v0: usize, a: Scalar, w: &[f64], w0: usize, k: usize)
-    ensures { λ _. ⌜ now (v .exit) ≡ minusScaled (now (v .entry)) v0 a (now (w .entry)) w0 k ⌝ }
+// minus_scaled by the ends of a: a caller has just worked them out, and to read them from memory as a pair waits until
+// both are stored.
+fn scaled_by(v: &mut [f64], v0: usize, lo: f64, hi: f64, w: &[f64], w0: usize, k: usize)
+    ensures { λ _. ⌜ now (v .exit) ≡ minusScaled (now (v .entry)) v0 (record { lo = lo; hi = hi }) (now (w .entry)) w0 k ⌝ }
 {
+    let a = Scalar { lo, hi };
     if both_inside(v0, 1, v.len(), w0, 1, w.len(), k) {
         scaled_inside(v, v0, a, w, w0, k);
     } else {
         scaled_cut(v, v0, a, w, w0, k);
     }
+}
+
+// k places of v from v0 on, less a times those of w from w0 on, each chosen.
+pub fn minus_scaled(v: &mut [f64], v0: usize, a: Scalar, w: &[f64], w0: usize, k: usize)
+    ensures { λ _. ⌜ now (v .exit) ≡ minusScaled (now (v .entry)) v0 a (now (w .entry)) w0 k ⌝ }
+{
+    scaled_by(v, v0, a.lo, a.hi, w, w0, k);
 }

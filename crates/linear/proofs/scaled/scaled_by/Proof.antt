@@ -1,7 +1,7 @@
--- `minus_scaled` meets its contract: both ways leave the run of the definition.
+-- `scaled_by` meets its contract: both ways leave the run of the definition.
 use borrow.Author.Needs.{needs}
-use Rattle.linear.proofs.scaled.minus_scaled.Statement.{statement}
-use Rattle.linear.proofs.scaled.minus_scaled.Tie as tie
+use Rattle.linear.proofs.scaled.scaled_by.Statement.{statement}
+use Rattle.linear.proofs.scaled.scaled_by.Tie as tie
 
 both-inside-requires : tie.Need-both-inside-requires
 both-inside-requires c κs = search needs
@@ -24,8 +24,8 @@ same-length-2 c = search needs
 returns-2 : tie.Need-returns-2
 returns-2 c = c .before .before .scaled-cut .ensures
 
-pub minus-scaled-spec : {M : Type 1} → statement M
-minus-scaled-spec =
+pub scaled-by-spec : {M : Type 1} → statement M
+scaled-by-spec =
     tie.close
     (tie.spec
     both-inside-requires
