@@ -1,7 +1,9 @@
 // Rows of one kind as a view: the answered slice, and where the rows stand in it. The checker covers no function over a struct that holds a reference: each below that takes, makes or holds a view is thin and proved by hand. The work is
-// `value_at` and `slope_at`, on the slice and numbers; `value_of` and `slope_of`, with plain parameters, are how every other function reads an answer.
+// `value_at`, `slope_at` and `slopes_from`, on the slice and numbers; `value_of`, `slope_of` and `slopes_of`, with
+// plain parameters, are how every other function reads an answer.
 ghost use mathlib.Core.Path.{_≡_};
 ghost use Prim.Native.Nat.{_+_, _*_, _<_, _≤_};
+ghost use lib.ListN.{drop};
 ghost use Rattle.linear.specs.Flat.{at};
 ghost use Rattle.run.specs.Rows.{rowsIn, Small, valueAt, slopeAt};
 use crate::rows::RowSet;
@@ -30,6 +32,16 @@ fn slope_at(rows: &[f64], slopes: usize, n: usize, i: usize, j: usize) -> Scalar
     along(rows, slopes + i * n, 1, j)
 }
 
+// What stands from the place `slopes` on.
+fn slopes_from<'a>(rows: &'a [f64], slopes: usize) -> &'a [f64]
+    ensures { λ r. ⌜ now r ≡ drop (2 * slopes) (now (rows .entry)) ⌝ }
+{
+    if slopes <= rows.len() / 2 {
+        return &rows[2 * slopes..];
+    }
+    &rows[rows.len()..]
+}
+
 // ---- the view, made and taken apart
 
 fn viewed<'a>(rows: &'a [f64], set: RowSet) -> RowView<'a>
@@ -51,6 +63,12 @@ fn slope<'a>(v: RowView<'a>, i: usize, j: usize) -> Scalar
     slope_at(v.rows, v.set.slopes, v.set.n, i, j)
 }
 
+fn slopes<'a>(v: RowView<'a>) -> &'a [f64]
+    ensures { λ r. ⌜ now r ≡ drop (2 * v .entry .set .slopes) (now (v .entry .rows)) ⌝ }
+{
+    slopes_from(v.rows, v.set.slopes)
+}
+
 // ---- with plain parameters
 
 // The value of row i.
@@ -66,4 +84,12 @@ pub fn slope_of(xs: &[f64], e: RowSet, i: usize, j: usize) -> Scalar
     ensures { λ r. ⌜ r ≡ slopeAt (rowsIn (now (xs .entry)) e) i j ⌝ }
 {
     slope(viewed(xs, e), i, j)
+}
+
+// The slopes and what stands behind them, for sums over many: row i from i n on, those by variable j from j on by steps
+// of n.
+pub fn slopes_of(xs: &[f64], e: RowSet) -> &[f64]
+    ensures { λ r. ⌜ now r ≡ drop (2 * e .slopes) (now (xs .entry)) ⌝ }
+{
+    slopes(viewed(xs, e))
 }

@@ -8,6 +8,7 @@ ghost use Rattle.run.specs.Calls.{inDomain, allInDomain};
 ghost use Rattle.run.specs.Scratch.{fillTo, chosenOf};
 ghost use Rattle.run.specs.Rows.{rowsIn, Small, constraintSet, sumSet, constraintsOf, sumOf, valueAt, linearizedAt, squaredOf, transposedAt, sumSquared, violationOf, predictedOf, dependsOn, movingOf, evaluationOf};
 use crate::row_view::slope_of;
+use crate::row_view::slopes_of;
 use crate::row_view::value_of;
 use crate::scratch::norm_of;
 use interval::Scalar;
@@ -54,10 +55,8 @@ pub fn linearized_at(xs: &[f64], e: RowSet, delta: &[f64], d: usize, i: usize) -
     requires { ⌜ Small e × (i < 65536) ⌝ }
     ensures { λ r. ⌜ r ≡ linearizedAt (rowsIn (now (xs .entry)) e) (now (delta .entry)) d i ⌝ }
 {
-    let mut total = Scalar::ZERO;
-    for j in 0..d {
-        total = total.add(slope_of(xs, e, i, j).mul(at(delta, j)));
-    }
+    let slopes = slopes_of(xs, e);
+    let total = plus_dot(slopes, i * e.n, 1, delta, 0, 1, Scalar::ZERO, d);
     value_of(xs, e, i).add(total)
 }
 
@@ -77,12 +76,8 @@ pub fn transposed_at(xs: &[f64], e: RowSet, w: &[f64], j: usize) -> Scalar
     requires { ⌜ Small e × (j < 65536) ⌝ }
     ensures { λ r. ⌜ r ≡ transposedAt (rowsIn (now (xs .entry)) e) (now (w .entry)) j ⌝ }
 {
-    let mut total = Scalar::ZERO;
-    let count = e.count;
-    for i in 0..count {
-        total = total.add(slope_of(xs, e, i, j).mul(at(w, i)));
-    }
-    total
+    let slopes = slopes_of(xs, e);
+    plus_dot(slopes, j, e.n, w, 0, 1, Scalar::ZERO, e.count)
 }
 
 // f of a point, from its rows.

@@ -1,55 +1,34 @@
--- `transposed_at` meets its contract: the sum is that of the rows so far.
+-- `transposed_at` meets its contract: from the set's slopes on, those by variable j begin at j.
 use borrow.Author.Needs.{needs}
-use mathlib.Core.Path.{_≡_, refl, _∙_}
-use Prim.Native.Nat.{_≤_, _-_}
-use native.Mathlib.Nat.{le-antisymm}
-use native.Mathlib.Omega.{arith}
-use lib.Ieee.{ofBits}
-use Rattle.linear.specs.Dot.{plusTo, dotTo}
-use Rattle.linear.specs.Flat.{at}
-use Rattle.linear.proofs.Sums.{plusTo-more}
-use Rattle.run.specs.Rows.{rowsIn, slopesBy, transposedAt}
-use Rattle.run.proofs.RowLaws.{slope-by}
+use mathlib.Core.List.{List}
+use mathlib.Core.Path.{_≡_, refl}
+use Prim.Native.Nat.{ℕ, _*_}
+use lib.Ieee.{Float, ofBits}
+use lib.ListN.{drop}
+use Rattle.interval.specs.declared.Scalar.{Scalar}
+use Rattle.linear.specs.Dot.{dotTo}
+use Rattle.linear.specs.Flat.{along}
+use Rattle.linear.proofs.Sums.{along-start}
+use Rattle.run.specs.Rows.{Rows, transposedAt}
+use Rattle.run.proofs.Parts.{along-behind}
 use Rattle.run.proofs.rows.transposed_at.Statement.{statement}
 use Rattle.run.proofs.rows.transposed_at.Tie as tie
 
-abbrev Inv-loop : tie.InvT-loop
-Inv-loop xs e w j total₀ count i₀ total i = (i ≤ count) × (total ≡ dotTo (slopesBy (rowsIn xs e) j) (at w) i)
-
-abbrev μ-loop : tie.MeasureT-loop
-μ-loop xs e w j total₀ count i₀ total i = count - i
-
-loop-holds : tie.Need-loop-holds Inv-loop μ-loop
-unfolding plusTo ofBits
-loop-holds c = (search needs, refl)
-
-slope-of-requires : tie.Need-slope-of-requires Inv-loop μ-loop
-slope-of-requires c κs = (c .before .before .before .before .pre .0, omega (arith, c .before .before .before .before .pre .0 .few-rows, c .loop-test .taken))
-
-at-requires : tie.Need-at-requires Inv-loop μ-loop
-at-requires c κs = search needs
-
-mul-requires : tie.Need-mul-requires Inv-loop μ-loop
-mul-requires c κs = search needs
-
-add-requires : tie.Need-add-requires Inv-loop μ-loop
-add-requires c κs = search needs
-
-add-i : tie.Need-add-i Inv-loop μ-loop
-add-i c = search needs
-
-loop-less : tie.Need-loop-less Inv-loop μ-loop
-loop-less c = search needs
-
-loop-again : tie.Need-loop-again Inv-loop μ-loop
-loop-again c =
-    let a = c .before .before .before .before .before .before .before .before .args in
-    let l = c .before .before .before .before .before .loop in
-    (search needs, plusTo-more _ _ _ (l .i) (l .inv .1) (c .before .before .before .slope-of .ensures ∙ slope-by (rowsIn (a .xs .now) (a .e)) (l .i) (a .j)) (c .before .before .at .ensures) (c .before .mul .ensures .value) (c .add .ensures .value))
-
-returns : tie.Need-returns Inv-loop μ-loop
+summed : (e : Rows) (w : List Float) (j : ℕ) {slopes : List Float} {r : Scalar} →
+    slopes ≡ drop (2 * e .slopes) (e .list) →
+    r ≡ dotTo (along slopes j (e .n)) (along w 0 1) (e .count) → r ≡ transposedAt e w j
 unfolding transposedAt
-returns c = rw (le-antisymm (c .before .loop .inv .0) (c .loop-test .left)) at (c .before .loop .inv .1)
+summed e w j es er = rw (er, es, along-behind (e .list) (e .slopes) j (e .n) refl, along-start w)
+
+slopes-of-requires : tie.Need-slopes-of-requires
+slopes-of-requires c κs = search needs
+
+plus-dot-requires : tie.Need-plus-dot-requires
+plus-dot-requires c κs = search needs
+
+returns : tie.Need-returns
+unfolding ofBits
+returns c = summed _ _ _ (c .before .slopes-of .ensures) (c .plus-dot .ensures)
 
 pub transposed-at-spec : {M : Type 1} → statement M
-transposed-at-spec = tie.close (tie.spec Inv-loop μ-loop loop-holds slope-of-requires at-requires mul-requires add-requires add-i loop-less loop-again returns)
+transposed-at-spec = tie.close (tie.spec slopes-of-requires plus-dot-requires returns)
