@@ -35,8 +35,8 @@ use linear::choose;
 use linear::clear;
 use linear::minus_dot;
 use linear::minus_scaled;
-use linear::plus_dot;
 use linear::put;
+use linear::row_dot;
 
 // How many rows are in the basis, or the refusal met on the way.
 pub enum Rank {
@@ -79,11 +79,7 @@ fn projections(k: usize, r: usize, i: usize, wide: &[f64], q: &[f64], b: &mut [f
     ensures { λ _. ⌜ now (b .exit) ≡ listTo (λ j. dotTo (row (now (wide .entry)) i) (row (now (q .entry)) j) k) r ⌝ }
 {
     for j in 0..r {
-        put(
-            b,
-            j,
-            plus_dot(wide, 12 * i, 1, q, 12 * j, 1, Scalar::ZERO, k),
-        );
+        put(b, j, row_dot(wide, 12 * i, q, 12 * j, k));
     }
 }
 
@@ -134,7 +130,7 @@ fn parts_out(k: usize, r: usize, q: &[f64], v: &mut [f64], coefficients: &mut [f
     ensures { λ _. ⌜ takenBy (now (v .exit)) (now (coefficients .exit)) ≡ partsOut k r (now (q .entry)) (takenBy (now (v .entry)) (now (coefficients .entry))) r ⌝ }
 {
     for j in 0..r {
-        let a = choose(plus_dot(v, 0, 1, q, 12 * j, 1, Scalar::ZERO, k));
+        let a = choose(row_dot(v, 0, q, 12 * j, k));
         minus_scaled(v, 0, a, q, 12 * j, k);
         put(coefficients, 12 * r + j, a);
     }
@@ -145,7 +141,7 @@ fn gram_entry(k: usize, r: usize, q: &[f64], gram: &mut [f64], j: usize) -> Done
     requires { ⌜ (r ≤ 12) × (j < r) ⌝ }
     ensures { λ d. ⌜ doneOf d (now (gram .exit)) ≡ gramStep k r (now (q .entry)) (now (gram .entry)) j ⌝ }
 {
-    let z = plus_dot(q, 12 * r, 1, q, 12 * j, 1, Scalar::ZERO, k);
+    let z = row_dot(q, 12 * r, q, 12 * j, k);
     let s = minus_dot(gram, 12 * r, 1, gram, 12 * j, 1, z, j);
     let d = at(gram, 12 * j + j);
     store(gram, 12 * r + j, s.div(d))
@@ -173,7 +169,7 @@ fn gram_row(k: usize, r: usize, q: &[f64], gram: &mut [f64]) -> Done
 {
     match gram_entries(k, r, q, gram) {
         Done::Finished => {
-            let z = plus_dot(q, 12 * r, 1, q, 12 * r, 1, Scalar::ZERO, k);
+            let z = row_dot(q, 12 * r, q, 12 * r, k);
             let s = minus_dot(gram, 12 * r, 1, gram, 12 * r, 1, z, r);
             return store(gram, 12 * r + r, s.sqrt());
         }
@@ -440,7 +436,7 @@ fn multiplier(k: usize, r: usize, q: &[f64], pull: &[f64], by_row: &mut [f64], u
 {
     let t = r - 1 - u;
     let c = COEFFICIENTS + 13 * t;
-    let z = plus_dot(q, 12 * t, 1, pull, 0, 1, Scalar::ZERO, k);
+    let z = row_dot(q, 12 * t, pull, 0, k);
     let s = minus_dot(q, c + 12, 12, by_row, t + 1, 1, z, u);
     store_chosen(by_row, t, s.div(at(q, c)))
 }

@@ -26,8 +26,8 @@ use linear::LinearError;
 use linear::at;
 use linear::choose;
 use linear::minus_solved;
-use linear::plus_dot;
 use linear::put;
+use linear::row_dot;
 
 // Not sharp, or definitely not zero.
 fn bends(v: Scalar) -> bool
@@ -54,7 +54,7 @@ pub fn learned(n: usize, b: &[f64]) -> bool
 fn dot_of(a: &[f64], b: &[f64], n: usize) -> Scalar
     ensures { λ r. ⌜ r ≡ dotTo (at (now (a .entry))) (at (now (b .entry))) n ⌝ }
 {
-    plus_dot(a, 0, 1, b, 0, 1, Scalar::ZERO, n)
+    row_dot(a, 0, b, 0, n)
 }
 
 // The first k rows of n, each times v, from the start of `out` on.
@@ -63,7 +63,7 @@ pub fn products(n: usize, k: usize, rows: &[f64], v: &[f64], out: &mut [f64])
     ensures { λ _. ⌜ now (out .exit) ≡ fillTo (now (out .entry)) 0 (λ i. dotTo (along (now (rows .entry)) (i * n) 1) (at (now (v .entry))) n) k ⌝ }
 {
     for i in 0..k {
-        put(out, i, plus_dot(rows, i * n, 1, v, 0, 1, Scalar::ZERO, n));
+        put(out, i, row_dot(rows, i * n, v, 0, n));
     }
 }
 

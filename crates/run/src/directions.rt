@@ -11,8 +11,8 @@ use interval::ScalarResult;
 use linear::LinearError;
 use linear::choose;
 use linear::minus_scaled;
-use linear::plus_dot;
 use linear::put;
+use linear::row_dot;
 
 // Which remainder, and its square.
 pub struct Remainder {
@@ -38,7 +38,7 @@ fn part_off(k: usize, w: &[f64], t: usize, left: &mut [f64], p: usize)
     requires { ⌜ (k ≤ 12) × ((t < 12) × (p < 12)) ⌝ }
     ensures { λ _. ⌜ now (left .exit) ≡ partOff k (now (w .entry)) t (now (left .entry)) p ⌝ }
 {
-    let a = choose(plus_dot(left, 12 * p, 1, w, 12 * t, 1, Scalar::ZERO, k));
+    let a = choose(row_dot(left, 12 * p, w, 12 * t, k));
     minus_scaled(left, 12 * p, a, w, 12 * t, k);
 }
 
@@ -77,7 +77,7 @@ fn square(k: usize, left: &[f64], p: usize) -> Scalar
     requires { ⌜ p < 12 ⌝ }
     ensures { λ r. ⌜ r ≡ squareOf k (now (left .entry)) p ⌝ }
 {
-    plus_dot(left, 12 * p, 1, left, 12 * p, 1, Scalar::ZERO, k)
+    row_dot(left, 12 * p, left, 12 * p, k)
 }
 
 // The choice so far, or the remainder p where it is definitely longer.

@@ -17,8 +17,8 @@ use linear::Done;
 use linear::LinearError;
 use linear::at;
 use linear::choose;
-use linear::plus_dot;
 use linear::put;
+use linear::row_dot;
 
 // How the search for weights along Z ended.
 pub enum Along {
@@ -32,7 +32,7 @@ fn bent_at(k: usize, h: &[f64], v: &[f64], v0: usize, i: usize) -> Scalar
     requires { ⌜ i < 12 ⌝ }
     ensures { λ r. ⌜ r ≡ chooseOf (dotTo (row (now (h .entry)) i) (along (now (v .entry)) v0 1) k) ⌝ }
 {
-    choose(plus_dot(h, 12 * i, 1, v, v0, 1, Scalar::ZERO, k))
+    choose(row_dot(h, 12 * i, v, v0, k))
 }
 
 // Entry i of g + H v.
@@ -91,7 +91,7 @@ fn reduced_at(k: usize, z: &[f64], hz: &[f64], i: usize, j: usize) -> Scalar
     if i < j {
         return Scalar::ZERO;
     }
-    choose(plus_dot(z, 12 * i, 1, hz, 12 * j, 1, Scalar::ZERO, k))
+    choose(row_dot(z, 12 * i, hz, 12 * j, k))
 }
 
 // The products of the directions and of H times each, packed, the lower triangle.
@@ -111,7 +111,7 @@ fn against(k: usize, count: usize, z: &[f64], force: &[f64], out: &mut [f64])
     ensures { λ _. ⌜ now (out .exit) ≡ listTo (λ t. chooseOf (negOf (dotTo (row (now (z .entry)) t) (at (now (force .entry))) k))) count ⌝ }
 {
     for t in 0..count {
-        let x = plus_dot(z, 12 * t, 1, force, 0, 1, Scalar::ZERO, k);
+        let x = row_dot(z, 12 * t, force, 0, k);
         put(out, t, choose(x.neg()));
     }
 }

@@ -17,6 +17,7 @@ use linear::at;
 use linear::choose;
 use linear::plus_dot;
 use linear::put;
+use linear::row_dot;
 
 // Rows of one kind: `count` values from the place `values` on, and n slopes for each from the place `slopes` on.
 pub struct RowSet {
@@ -56,7 +57,7 @@ pub fn linearized_at(xs: &[f64], e: RowSet, delta: &[f64], d: usize, i: usize) -
     ensures { λ r. ⌜ r ≡ linearizedAt (rowsIn (now (xs .entry)) e) (now (delta .entry)) d i ⌝ }
 {
     let slopes = slopes_of(xs, e);
-    let total = plus_dot(slopes, i * e.n, 1, delta, 0, 1, Scalar::ZERO, d);
+    let total = row_dot(slopes, i * e.n, delta, 0, d);
     value_of(xs, e, i).add(total)
 }
 
@@ -68,7 +69,7 @@ pub fn squared(xs: &[f64], e: RowSet, delta: &[f64], d: usize) -> Scalar
     let count = e.count;
     let mut out = [0.0; 48];
     linearized(xs, e, delta, d, &mut out);
-    plus_dot(&out, 0, 1, &out, 0, 1, Scalar::ZERO, count)
+    row_dot(&out, 0, &out, 0, count)
 }
 
 // The slopes by variable j, each times its weight.

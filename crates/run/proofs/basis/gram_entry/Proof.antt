@@ -1,18 +1,17 @@
 -- `gram_entry` meets its contract: the definition's steps, from what each call gives.
-use lib.Ieee.{ofBits}
 use Rattle.run.specs.Basis.{gramStep}
 use borrow.Author.Needs.{needs}
 use Rattle.run.proofs.basis.gram_entry.Statement.{statement}
 use Rattle.run.proofs.basis.gram_entry.Tie as tie
 
-mul-plus-dot : tie.Need-mul-plus-dot
-mul-plus-dot c = search needs
+mul-row-dot : tie.Need-mul-row-dot
+mul-row-dot c = search needs
 
-mul-plus-dot-2 : tie.Need-mul-plus-dot-2
-mul-plus-dot-2 c = search needs
+mul-row-dot-2 : tie.Need-mul-row-dot-2
+mul-row-dot-2 c = search needs
 
-plus-dot-requires : tie.Need-plus-dot-requires
-plus-dot-requires c κs = tt
+row-dot-requires : tie.Need-row-dot-requires
+row-dot-requires c κs = tt
 
 mul-minus-dot : tie.Need-mul-minus-dot
 mul-minus-dot c = search needs
@@ -48,16 +47,16 @@ same-length : tie.Need-same-length
 same-length c = search needs
 
 returns : tie.Need-returns
-unfolding gramStep ofBits
-returns c = rw (← c .before .before .before .before .before .before .before .before .before .plus-dot .ensures, ← c .before .before .before .before .before .before .before .minus-dot .ensures, ← c .before .before .before .before .before .at .ensures, ← c .before .before .before .div .ensures .value) (c .before .before .store .ensures)
+unfolding gramStep
+returns c = rw (← c .before .before .before .before .before .before .before .before .before .row-dot .ensures, ← c .before .before .before .before .before .before .before .minus-dot .ensures, ← c .before .before .before .before .before .at .ensures, ← c .before .before .before .div .ensures .value) (c .before .before .store .ensures)
 
 pub gram-entry-spec : {M : Type 1} → statement M
 gram-entry-spec =
     tie.close
     (tie.spec
-    mul-plus-dot
-    mul-plus-dot-2
-    plus-dot-requires
+    mul-row-dot
+    mul-row-dot-2
+    row-dot-requires
     mul-minus-dot
     mul-minus-dot-2
     minus-dot-requires

@@ -1,5 +1,4 @@
 -- `gram_row` meets its contract: the entries below the diagonal, then the diagonal.
-use lib.Ieee.{ofBits}
 use Rattle.run.proofs.BasisLaws.{gram-on, gram-refused}
 use borrow.Author.Needs.{needs}
 use Rattle.run.proofs.basis.gram_row.Statement.{statement}
@@ -11,14 +10,14 @@ gram-entries-requires c κs = search needs
 enum-told : tie.Need-enum-told
 enum-told c = search needs
 
-mul-plus-dot : tie.Need-mul-plus-dot
-mul-plus-dot c = search needs
+mul-row-dot : tie.Need-mul-row-dot
+mul-row-dot c = search needs
 
-mul-plus-dot-2 : tie.Need-mul-plus-dot-2
-mul-plus-dot-2 c = search needs
+mul-row-dot-2 : tie.Need-mul-row-dot-2
+mul-row-dot-2 c = search needs
 
-plus-dot-requires : tie.Need-plus-dot-requires
-plus-dot-requires c κs = tt
+row-dot-requires : tie.Need-row-dot-requires
+row-dot-requires c κs = tt
 
 mul-minus-dot : tie.Need-mul-minus-dot
 mul-minus-dot c = search needs
@@ -45,11 +44,10 @@ same-length : tie.Need-same-length
 same-length c = search needs
 
 returns : tie.Need-returns
-unfolding ofBits
 returns c =
     let a = c .before .before .before .before .before .before .before .before .before .before .before .before .before .before .before .before .args in
     let g = c .before .before .before .before .before .before .before .before .before .before .before .before .gram-entries in
-    gram-on (a .k) (a .r) (a .q .now) (a .gram .now) (g .last .1 .1 .1 .0) (g .result) (g .ensures) (c .before .before .before .before .before .before .before .before .enum-told .given .1) (c .before .before .before .before .before .before .before .plus-dot .ensures) (c .before .before .before .before .before .minus-dot .ensures) (c .before .before .before .sqrt .ensures .value) (c .before .before .store .ensures)
+    gram-on (a .k) (a .r) (a .q .now) (a .gram .now) (g .last .1 .1 .1 .0) (g .result) (g .ensures) (c .before .before .before .before .before .before .before .before .enum-told .given .1) (c .before .before .before .before .before .before .before .row-dot .ensures) (c .before .before .before .before .before .minus-dot .ensures) (c .before .before .before .sqrt .ensures .value) (c .before .before .store .ensures)
 
 enum-known-e : tie.Need-enum-known-e
 enum-known-e c = search needs
@@ -69,9 +67,9 @@ gram-row-spec =
     (tie.spec
     gram-entries-requires
     enum-told
-    mul-plus-dot
-    mul-plus-dot-2
-    plus-dot-requires
+    mul-row-dot
+    mul-row-dot-2
+    row-dot-requires
     mul-minus-dot
     mul-minus-dot-2
     minus-dot-requires

@@ -1,5 +1,4 @@
 -- `multiplier` meets its contract: the definition's steps, from what each call gives.
-use lib.Ieee.{ofBits}
 use Rattle.run.proofs.BasisLaws.{multiplier-is}
 use borrow.Author.Needs.{needs}
 use Rattle.run.proofs.basis.multiplier.Statement.{statement}
@@ -17,11 +16,11 @@ mul-c c = search needs
 add-c : tie.Need-add-c
 add-c c = search needs
 
-mul-plus-dot : tie.Need-mul-plus-dot
-mul-plus-dot c = search needs
+mul-row-dot : tie.Need-mul-row-dot
+mul-row-dot c = search needs
 
-plus-dot-requires : tie.Need-plus-dot-requires
-plus-dot-requires c κs = tt
+row-dot-requires : tie.Need-row-dot-requires
+row-dot-requires c κs = tt
 
 add-minus-dot : tie.Need-add-minus-dot
 add-minus-dot c = search needs
@@ -45,10 +44,9 @@ same-length : tie.Need-same-length
 same-length c = search needs
 
 returns : tie.Need-returns
-unfolding ofBits
 returns c =
     let a = c .before .before .before .before .before .before .before .before .before .before .before .before .args in
-    multiplier-is (a .k) (a .r) (a .q .now) (a .pull .now) (a .by-row .now) (a .u) (c .before .before .before .before .before .before .before .before .plus-dot .ensures) (c .before .before .before .before .before .before .minus-dot .ensures) (c .before .before .before .before .at .ensures) (c .before .before .before .div .ensures .value) (c .before .before .store-chosen .ensures)
+    multiplier-is (a .k) (a .r) (a .q .now) (a .pull .now) (a .by-row .now) (a .u) (c .before .before .before .before .before .before .before .before .row-dot .ensures) (c .before .before .before .before .before .before .minus-dot .ensures) (c .before .before .before .before .at .ensures) (c .before .before .before .div .ensures .value) (c .before .before .store-chosen .ensures)
 
 pub multiplier-spec : {M : Type 1} → statement M
 multiplier-spec =
@@ -58,8 +56,8 @@ multiplier-spec =
     sub-t-2
     mul-c
     add-c
-    mul-plus-dot
-    plus-dot-requires
+    mul-row-dot
+    row-dot-requires
     add-minus-dot
     add-minus-dot-2
     minus-dot-requires

@@ -3,7 +3,6 @@ use borrow.Author.Needs.{needs}
 use mathlib.Core.Path.{_≡_}
 use Prim.Native.Nat.{_≤_, _-_}
 use native.Mathlib.Nat.{le-antisymm}
-use lib.Ieee.{ofBits}
 use lib.ListN.{length}
 use Rattle.run.specs.Basis.{partsOut, takenBy}
 use Rattle.run.proofs.BasisLaws.{part-turn, part-is}
@@ -20,11 +19,11 @@ loop-holds : tie.Need-loop-holds Inv-loop μ-loop
 unfolding partsOut
 loop-holds c = search needs
 
-mul-plus-dot : tie.Need-mul-plus-dot Inv-loop μ-loop
-mul-plus-dot c = search needs
+mul-row-dot : tie.Need-mul-row-dot Inv-loop μ-loop
+mul-row-dot c = search needs
 
-plus-dot-requires : tie.Need-plus-dot-requires Inv-loop μ-loop
-plus-dot-requires c κs = tt
+row-dot-requires : tie.Need-row-dot-requires Inv-loop μ-loop
+row-dot-requires c κs = tt
 
 choose-requires : tie.Need-choose-requires Inv-loop μ-loop
 choose-requires c κs = search needs
@@ -51,11 +50,10 @@ loop-less : tie.Need-loop-less Inv-loop μ-loop
 loop-less c = search needs
 
 loop-again : tie.Need-loop-again Inv-loop μ-loop
-unfolding ofBits
 loop-again c =
     let a = c .before .before .before .before .before .before .before .before .before .before .before .before .before .before .before .before .args in
     let l = c .before .before .before .before .before .before .before .before .before .before .before .before .loop in
-    (search needs, search needs, search needs, part-turn (a .k) (a .r) (a .q .now) _ (l .j) (l .inv .3) (part-is (a .k) (a .r) (a .q .now) (l .v) (l .coefficients) (l .j) (c .before .before .before .before .before .before .before .before .before .plus-dot .ensures) (c .before .before .before .before .before .before .before .before .choose .ensures) (c .before .before .before .before .before .before .minus-scaled .ensures) (c .before .before .put .ensures)))
+    (search needs, search needs, search needs, part-turn (a .k) (a .r) (a .q .now) _ (l .j) (l .inv .3) (part-is (a .k) (a .r) (a .q .now) (l .v) (l .coefficients) (l .j) (c .before .before .before .before .before .before .before .before .before .row-dot .ensures) (c .before .before .before .before .before .before .before .before .choose .ensures) (c .before .before .before .before .before .before .minus-scaled .ensures) (c .before .before .put .ensures)))
 
 same-length : tie.Need-same-length Inv-loop μ-loop
 same-length c = search needs
@@ -73,8 +71,8 @@ parts-out-spec =
     Inv-loop
     μ-loop
     loop-holds
-    mul-plus-dot
-    plus-dot-requires
+    mul-row-dot
+    row-dot-requires
     choose-requires
     mul-minus-scaled
     minus-scaled-requires

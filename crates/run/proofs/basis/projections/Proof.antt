@@ -5,7 +5,6 @@ use mathlib.Core.List.{_++_}
 use Prim.Native.Nat.{ℕ, _*_, _≤_, _-_}
 use native.Mathlib.Nat.{le-antisymm}
 use native.Mathlib.Omega.{arith}
-use lib.Ieee.{ofBits}
 use lib.ListN.{length, drop}
 use Rattle.interval.specs.declared.Scalar.{Scalar}
 use Rattle.linear.specs.Dot.{dotTo}
@@ -24,14 +23,14 @@ abbrev μ-loop : tie.MeasureT-loop
 loop-holds : tie.Need-loop-holds Inv-loop μ-loop
 loop-holds c = (search needs, search needs, sym (listTo-none _ _))
 
-mul-plus-dot : tie.Need-mul-plus-dot Inv-loop μ-loop
-mul-plus-dot c = search needs
+mul-row-dot : tie.Need-mul-row-dot Inv-loop μ-loop
+mul-row-dot c = search needs
 
-mul-plus-dot-2 : tie.Need-mul-plus-dot-2 Inv-loop μ-loop
-mul-plus-dot-2 c = search needs
+mul-row-dot-2 : tie.Need-mul-row-dot-2 Inv-loop μ-loop
+mul-row-dot-2 c = search needs
 
-plus-dot-requires : tie.Need-plus-dot-requires Inv-loop μ-loop
-plus-dot-requires c κs = tt
+row-dot-requires : tie.Need-row-dot-requires Inv-loop μ-loop
+row-dot-requires c κs = tt
 
 put-requires : tie.Need-put-requires Inv-loop μ-loop
 put-requires c κs = search needs
@@ -43,12 +42,11 @@ loop-less : tie.Need-loop-less Inv-loop μ-loop
 loop-less c = search needs
 
 loop-again : tie.Need-loop-again Inv-loop μ-loop
-unfolding ofBits
 loop-again c =
     let s = c .before .before .before .before .before .before .before .before .before .before in
     let a = s .args in
     let f : ℕ → Scalar = λ t. dotTo (row (a .wide .now) (a .i)) (row (a .q .now) t) (a .k) in
-    let e = rw (c .before .before .before .before .before .before .loop .inv .2, c .before .before .before .plus-dot .ensures) at (c .before .before .put .ensures) in
+    let e = rw (c .before .before .before .before .before .before .loop .inv .2, c .before .before .before .row-dot .ensures) at (c .before .before .put .ensures) in
     (search needs, search needs, e ∙ listTo-more f (c .before .before .before .before .before .before .loop .j) (a .b .now) (omega (arith, s .pre .1 .1, c .before .before .before .before .before .loop-test .taken)))
 
 same-length : tie.Need-same-length Inv-loop μ-loop
@@ -68,9 +66,9 @@ projections-spec =
     Inv-loop
     μ-loop
     loop-holds
-    mul-plus-dot
-    mul-plus-dot-2
-    plus-dot-requires
+    mul-row-dot
+    mul-row-dot-2
+    row-dot-requires
     put-requires
     add-j
     loop-less

@@ -5,7 +5,7 @@ use Prim.Native.Nat.{ℕ, _*_, _≤_, _-_}
 use native.Mathlib.Nat.{le-antisymm}
 use native.Mathlib.Omega.{arith}
 use borrow.Author.Needs.{needs}
-use lib.Ieee.{Float, ofBits}
+use lib.Ieee.{Float}
 use lib.ListN.{length}
 use Rattle.interval.specs.declared.Scalar.{Scalar}
 use Rattle.linear.specs.Flat.{at, along}
@@ -29,11 +29,11 @@ abbrev μ-loop : tie.MeasureT-loop
 loop-holds : tie.Need-loop-holds Inv-loop μ-loop
 loop-holds c = (search needs, search needs, sym (fill-none _ _))
 
-mul-plus-dot : tie.Need-mul-plus-dot Inv-loop μ-loop
-mul-plus-dot c = omega (arith, product-small {i = c .before .before .loop .i} {n = c .before .before .before .before .before .before .args .n} (omega arith) (omega arith))
+mul-row-dot : tie.Need-mul-row-dot Inv-loop μ-loop
+mul-row-dot c = omega (arith, product-small {i = c .before .before .loop .i} {n = c .before .before .before .before .before .before .args .n} (omega arith) (omega arith))
 
-plus-dot-requires : tie.Need-plus-dot-requires Inv-loop μ-loop
-plus-dot-requires c κs = tt
+row-dot-requires : tie.Need-row-dot-requires Inv-loop μ-loop
+row-dot-requires c κs = tt
 
 put-requires : tie.Need-put-requires Inv-loop μ-loop
 put-requires c κs = search needs
@@ -45,8 +45,7 @@ loop-less : tie.Need-loop-less Inv-loop μ-loop
 loop-less c = search needs
 
 loop-again : tie.Need-loop-again Inv-loop μ-loop
-unfolding ofBits
-loop-again c = let a = c .before .before .before .before .before .before .before .before .before .before .args in (search needs, search needs, c .before .before .put .ensures ∙ fill-first (a .out .now) (by (a .n) (a .rows .now) (a .v .now)) (c .before .before .before .before .before .before .loop .i) (c .before .before .before .before .before .before .loop .inv .2) (rw along-start at (c .before .before .before .plus-dot .ensures)))
+loop-again c = let a = c .before .before .before .before .before .before .before .before .before .before .args in (search needs, search needs, c .before .before .put .ensures ∙ fill-first (a .out .now) (by (a .n) (a .rows .now) (a .v .now)) (c .before .before .before .before .before .before .loop .i) (c .before .before .before .before .before .before .loop .inv .2) (rw along-start at (c .before .before .before .row-dot .ensures)))
 
 same-length : tie.Need-same-length Inv-loop μ-loop
 same-length c = search needs
@@ -61,8 +60,8 @@ products-spec =
     Inv-loop
     μ-loop
     loop-holds
-    mul-plus-dot
-    plus-dot-requires
+    mul-row-dot
+    row-dot-requires
     put-requires
     add-i
     loop-less

@@ -1,17 +1,16 @@
 -- `part_off` meets its contract: the definition's steps, from what each call gives.
 use borrow.Author.Needs.{needs}
-use lib.Ieee.{ofBits}
 use Rattle.run.proofs.directions.part_off.Statement.{statement}
 use Rattle.run.proofs.directions.part_off.Tie as tie
 
-mul-plus-dot : tie.Need-mul-plus-dot
-mul-plus-dot c = search needs
+mul-row-dot : tie.Need-mul-row-dot
+mul-row-dot c = search needs
 
-mul-plus-dot-2 : tie.Need-mul-plus-dot-2
-mul-plus-dot-2 c = search needs
+mul-row-dot-2 : tie.Need-mul-row-dot-2
+mul-row-dot-2 c = search needs
 
-plus-dot-requires : tie.Need-plus-dot-requires
-plus-dot-requires c κs = search needs
+row-dot-requires : tie.Need-row-dot-requires
+row-dot-requires c κs = search needs
 
 choose-requires : tie.Need-choose-requires
 choose-requires c κs = search needs
@@ -29,16 +28,15 @@ same-length : tie.Need-same-length
 same-length c = search needs
 
 returns : tie.Need-returns
-unfolding ofBits
-returns c = rw (← c .before .before .before .before .before .plus-dot .ensures, ← c .before .before .before .before .choose .ensures) (c .before .before .minus-scaled .ensures)
+returns c = rw (← c .before .before .before .before .before .row-dot .ensures, ← c .before .before .before .before .choose .ensures) (c .before .before .minus-scaled .ensures)
 
 pub part-off-spec : {M : Type 1} → statement M
 part-off-spec =
     tie.close
     (tie.spec
-    mul-plus-dot
-    mul-plus-dot-2
-    plus-dot-requires
+    mul-row-dot
+    mul-row-dot-2
+    row-dot-requires
     choose-requires
     mul-minus-scaled
     mul-minus-scaled-2

@@ -5,7 +5,6 @@ use Prim.Native.Nat.{ℕ, _*_, _≤_, _-_}
 use native.Mathlib.Nat.{le-antisymm}
 use native.Mathlib.Omega.{arith}
 use borrow.Author.Needs.{needs}
-use lib.Ieee.{ofBits}
 use lib.ListN.{length, drop}
 use Rattle.interval.specs.declared.Scalar.{Scalar}
 use Rattle.interval.specs.Scalar.{negOf}
@@ -27,11 +26,11 @@ abbrev μ-loop : tie.MeasureT-loop
 loop-holds : tie.Need-loop-holds Inv-loop μ-loop
 loop-holds c = (search needs, search needs, sym (listTo-none _ _))
 
-mul-plus-dot : tie.Need-mul-plus-dot Inv-loop μ-loop
-mul-plus-dot c = search needs
+mul-row-dot : tie.Need-mul-row-dot Inv-loop μ-loop
+mul-row-dot c = search needs
 
-plus-dot-requires : tie.Need-plus-dot-requires Inv-loop μ-loop
-plus-dot-requires c κs = tt
+row-dot-requires : tie.Need-row-dot-requires Inv-loop μ-loop
+row-dot-requires c κs = tt
 
 neg-requires : tie.Need-neg-requires Inv-loop μ-loop
 neg-requires c κs = search needs
@@ -49,12 +48,11 @@ loop-less : tie.Need-loop-less Inv-loop μ-loop
 loop-less c = search needs
 
 loop-again : tie.Need-loop-again Inv-loop μ-loop
-unfolding ofBits
 loop-again c =
     let l = c .before .before .before .before .before .before .before .before .loop in
     let a = c .before .before .before .before .before .before .before .before .before .before .before .before .args in
     let f : ℕ → Scalar = λ j. chooseOf (negOf (dotTo (row (a .z .now) j) (at (a .force .now)) (a .k))) in
-    let v : c .before .before .before .choose .result ≡ f (l .t) = rw (← rw along-start at (c .before .before .before .before .before .before .plus-dot .ensures), ← c .before .before .before .before .neg .ensures .value) (c .before .before .before .choose .ensures) in
+    let v : c .before .before .before .choose .result ≡ f (l .t) = rw (← rw along-start at (c .before .before .before .before .before .before .row-dot .ensures), ← c .before .before .before .before .neg .ensures .value) (c .before .before .before .choose .ensures) in
     let e = rw (l .inv .2, v) at (c .before .before .put .ensures) in
     (search needs, search needs, e ∙ listTo-more f (l .t) (a .out .now) (omega (arith, c .before .before .before .before .before .before .before .before .before .before .before .before .pre, c .before .before .before .before .before .before .before .loop-test .taken)))
 
@@ -74,8 +72,8 @@ against-spec =
     Inv-loop
     μ-loop
     loop-holds
-    mul-plus-dot
-    plus-dot-requires
+    mul-row-dot
+    row-dot-requires
     neg-requires
     choose-requires
     put-requires

@@ -10,21 +10,21 @@ returns : tie.Need-returns
 unfolding lowerAt ofBits
 returns c = rw (lt-ltb _ _ (c .if1 .taken))
 
-mul-plus-dot : tie.Need-mul-plus-dot
-mul-plus-dot c = search needs
+mul-row-dot : tie.Need-mul-row-dot
+mul-row-dot c = search needs
 
-mul-plus-dot-2 : tie.Need-mul-plus-dot-2
-mul-plus-dot-2 c = search needs
+mul-row-dot-2 : tie.Need-mul-row-dot-2
+mul-row-dot-2 c = search needs
 
-plus-dot-requires : tie.Need-plus-dot-requires
-plus-dot-requires c κs = tt
+row-dot-requires : tie.Need-row-dot-requires
+row-dot-requires c κs = tt
 
 choose-requires : tie.Need-choose-requires
 choose-requires c κs = search needs
 
 returns-2 : tie.Need-returns-2
-unfolding lowerAt ofBits
-returns-2 c = rw (le-ltb _ _ (c .before .before .if1 .left)) (rw (c .before .plus-dot .ensures) at (c .choose .ensures))
+unfolding lowerAt
+returns-2 c = rw (le-ltb _ _ (c .before .before .if1 .left)) (rw (c .before .row-dot .ensures) at (c .choose .ensures))
 
 pub reduced-at-spec : {M : Type 1} → statement M
-reduced-at-spec = tie.close (tie.spec returns mul-plus-dot mul-plus-dot-2 plus-dot-requires choose-requires returns-2)
+reduced-at-spec = tie.close (tie.spec returns mul-row-dot mul-row-dot-2 row-dot-requires choose-requires returns-2)

@@ -4,7 +4,7 @@ use mathlib.Core.List.{List}
 use mathlib.Core.Path.{_≡_, refl}
 use Prim.Native.Nat.{ℕ, _*_}
 use native.Mathlib.Omega.{arith}
-use lib.Ieee.{Float, ofBits}
+use lib.Ieee.{Float}
 use lib.ListN.{drop}
 use Rattle.interval.specs.declared.Scalar.{Scalar}
 use Rattle.interval.specs.Scalar.{addOf}
@@ -29,13 +29,13 @@ added e delta d i es ey ex er =
 slopes-of-requires : tie.Need-slopes-of-requires
 slopes-of-requires c κs = search needs
 
-mul-plus-dot : tie.Need-mul-plus-dot
-mul-plus-dot c =
+mul-row-dot : tie.Need-mul-row-dot
+mul-row-dot c =
     let h = c .before .before .before .before .pre in
     omega (arith, row-near (h .1) (h .0 .few-variables))
 
-plus-dot-requires : tie.Need-plus-dot-requires
-plus-dot-requires c κs = search needs
+row-dot-requires : tie.Need-row-dot-requires
+row-dot-requires c κs = search needs
 
 value-of-requires : tie.Need-value-of-requires
 value-of-requires c κs = search needs
@@ -44,11 +44,10 @@ add-requires : tie.Need-add-requires
 add-requires c κs = search needs
 
 returns : tie.Need-returns
-unfolding ofBits
 returns c =
-    added _ _ _ _ (c .before .before .before .before .slopes-of .ensures) (c .before .before .plus-dot .ensures)
+    added _ _ _ _ (c .before .before .before .before .slopes-of .ensures) (c .before .before .row-dot .ensures)
     (c .before .value-of .ensures) (c .add .ensures .value)
 
 pub linearized-at-spec : {M : Type 1} → statement M
 linearized-at-spec =
-    tie.close (tie.spec slopes-of-requires mul-plus-dot plus-dot-requires value-of-requires add-requires returns)
+    tie.close (tie.spec slopes-of-requires mul-row-dot row-dot-requires value-of-requires add-requires returns)

@@ -16,14 +16,14 @@ slice-aggregate-linearized c = search needs
 linearized-requires : tie.Need-linearized-requires
 linearized-requires c κs = search needs
 
-slice-aggregate-plus-dot : tie.Need-slice-aggregate-plus-dot
-slice-aggregate-plus-dot c = search needs
+slice-aggregate-row-dot : tie.Need-slice-aggregate-row-dot
+slice-aggregate-row-dot c = search needs
 
-slice-aggregate-plus-dot-2 : tie.Need-slice-aggregate-plus-dot-2
-slice-aggregate-plus-dot-2 c = search needs
+slice-aggregate-row-dot-2 : tie.Need-slice-aggregate-row-dot-2
+slice-aggregate-row-dot-2 c = search needs
 
-plus-dot-requires : tie.Need-plus-dot-requires
-plus-dot-requires c κs = search needs
+row-dot-requires : tie.Need-row-dot-requires
+row-dot-requires c κs = search needs
 
 returns : tie.Need-returns
 unfolding squaredOf ofBits
@@ -31,7 +31,7 @@ returns c =
     let s = c .before .before .before .before .before .before .before .before in
     let a = s .args in
     let h : 2 * a .e .count ≤ 48 = omega (arith, s .pre .few-rows) in
-    c .plus-dot .ensures
+    c .row-dot .ensures
     ∙ rw (along-start, c .before .before .before .before .linearized .ensures)
     (squares-fill _ (linearizedAt (rowsIn (a .xs .now) (a .e)) (a .delta .now) (a .d)) (a .e .count) h)
 
@@ -41,7 +41,7 @@ squared-spec =
     (tie.spec
     slice-aggregate-linearized
     linearized-requires
-    slice-aggregate-plus-dot
-    slice-aggregate-plus-dot-2
-    plus-dot-requires
+    slice-aggregate-row-dot
+    slice-aggregate-row-dot-2
+    row-dot-requires
     returns)
