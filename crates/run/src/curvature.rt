@@ -4,7 +4,7 @@ ghost use mathlib.Core.Path.{_≡_};
 ghost use Prim.Native.Nat.{_*_, _<_, _≤_};
 ghost use lib.ListN.{length};
 ghost use Rattle.interval.specs.Result as scalar;
-ghost use Rattle.interval.specs.Scalar.{zeroS, subOf, isSharp, definitelyNotEqual};
+ghost use Rattle.interval.specs.Scalar.{zeroS, subOf, inverseOf, isSharp, definitelyNotEqual};
 ghost use Rattle.linear.specs.Answers.{doneOf};
 ghost use Rattle.linear.specs.Choose.{chooseOf};
 ghost use Rattle.linear.specs.Dot.{dotTo};
@@ -19,6 +19,7 @@ use crate::rows::chosen_values;
 use crate::rows::constraints;
 use crate::rows::sum;
 use crate::rows::transposed_at;
+use crate::scratch::quotient;
 use interval::Scalar;
 use interval::ScalarResult;
 use linear::Done;
@@ -133,13 +134,15 @@ fn add_chosen(b: &mut [f64], p: usize, q: ScalarResult) -> Done
     }
 }
 
-fn rank_one_at(n: usize, b: &mut [f64], v: &[f64], vs: Scalar, p: usize) -> Done
+// Entry p of b + v vᵀ / vs, by the inverse of vs.
+fn rank_one_at(n: usize, b: &mut [f64], v: &[f64], inverse: ScalarResult, p: usize) -> Done
     requires { ⌜ 0 < n ⌝ }
-    ensures { λ r. ⌜ doneOf r (now (b .exit)) ≡ rankOneStep n (now (v .entry)) vs (now (b .entry)) p ⌝ }
+    ensures { λ r. ⌜ ((vs : Scalar) → scalar.resultOf inverse ≡ inverseOf vs →
+        doneOf r (now (b .exit)) ≡ rankOneStep n (now (v .entry)) vs (now (b .entry)) p) ⌝ }
 {
     let x = at(v, p / n);
     let y = x.mul(at(v, p % n));
-    add_chosen(b, p, y.div(vs))
+    add_chosen(b, p, quotient(y, inverse))
 }
 
 // b + v vᵀ / vs, each entry chosen.
@@ -148,8 +151,9 @@ pub fn rank_one(n: usize, b: &mut [f64], v: &[f64], vs: Scalar) -> Done
     ensures { λ r. ⌜ doneOf r (now (b .exit)) ≡ rankOneOf n (now (b .entry)) (now (v .entry)) vs ⌝ }
 {
     let q = n * n;
+    let inverse = vs.inverse();
     for p in 0..q {
-        match rank_one_at(n, b, v, vs, p) {
+        match rank_one_at(n, b, v, inverse, p) {
             Done::Finished => {}
             Done::Refused(e) => {
                 return Done::Refused(e);

@@ -3,6 +3,7 @@ ghost use mathlib.Core.Path.{_≡_};
 ghost use Prim.Native.Nat.{_*_, _<_, _≤_};
 ghost use lib.ListN.{length};
 ghost use Rattle.interval.specs.Result as scalar;
+ghost use Rattle.interval.specs.Scalar.{inverseOf, divOf};
 ghost use Rattle.linear.specs.Answers.{resultOf};
 ghost use Rattle.linear.specs.Flat.{at, along};
 ghost use Rattle.linear.specs.Norm.{normOf};
@@ -57,14 +58,29 @@ pub fn or_zero(q: ScalarResult) -> Scalar
     }
 }
 
+// x over what `inverse` is of: one inverse serves many quotients.
+pub fn quotient(x: Scalar, inverse: ScalarResult) -> ScalarResult
+    ensures { λ r. ⌜ ((y : Scalar) → scalar.resultOf inverse ≡ inverseOf y → scalar.resultOf r ≡ divOf x y) ⌝ }
+{
+    match inverse {
+        ScalarResult::Value(i) => {
+            return ScalarResult::Value(x.mul(i));
+        }
+        ScalarResult::Refused(e) => {
+            return ScalarResult::Refused(e);
+        }
+    }
+}
+
 // k scalars of v from v0 on over a length, chosen, zero where that is refused, from t0 on in `to`.
 pub fn unit(v: &[f64], v0: usize, length: Scalar, k: usize, to: &mut [f64], t0: usize)
     requires { ⌜ (v0 < 65536) × ((t0 < 65536) × (k < 65536)) ⌝ }
     ensures { λ _. ⌜ now (to .exit) ≡ fillTo (now (to .entry)) t0 (unitAt (along (now (v .entry)) v0 1) length) k ⌝ }
 {
+    let inverse = length.inverse();
     for p in 0..k {
         let x = at(v, v0 + p);
-        put(to, t0 + p, choose(or_zero(x.div(length))));
+        put(to, t0 + p, choose(or_zero(quotient(x, inverse))));
     }
 }
 

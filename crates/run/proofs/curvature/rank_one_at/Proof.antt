@@ -32,8 +32,8 @@ at-requires-2 c κs = search needs
 mul-requires : tie.Need-mul-requires
 mul-requires c κs = search needs
 
-div-requires : tie.Need-div-requires
-div-requires c κs = search needs
+quotient-requires : tie.Need-quotient-requires
+quotient-requires c κs = search needs
 
 add-chosen-requires : tie.Need-add-chosen-requires
 add-chosen-requires c κs = search needs
@@ -42,7 +42,10 @@ same-length : tie.Need-same-length
 same-length c = search needs
 
 returns : tie.Need-returns
-returns c = let a = c .before .before .before .before .before .before .before .before .before .before .args in step (a .n) (a .v .now) (a .vs) (a .b .now) (a .p) (c .before .before .before .before .before .before .before .at .ensures) (c .before .before .before .before .before .before .at2 .ensures) (c .before .before .before .before .before .mul .ensures .value) (c .before .before .before .div .ensures .value) (c .before .before .add-chosen .ensures)
+returns c = λ vs e.
+    let a = c .before .before .before .before .before .before .before .before .before .before .args in
+    step (a .n) (a .v .now) vs (a .b .now) (a .p) (c .before .before .before .before .before .before .before .at .ensures) (c .before .before .before .before .before .before .at2 .ensures) (c .before .before .before .before .before .mul .ensures .value)
+    (c .before .before .before .quotient .ensures vs e) (c .before .before .add-chosen .ensures)
 
 pub rank-one-at-spec : {M : Type 1} → statement M
 rank-one-at-spec =
@@ -53,7 +56,7 @@ rank-one-at-spec =
     rem-at
     at-requires-2
     mul-requires
-    div-requires
+    quotient-requires
     add-chosen-requires
     same-length
     returns)

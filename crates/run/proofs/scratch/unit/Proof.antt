@@ -4,7 +4,9 @@ use mathlib.Core.Path.{_≡_, refl, sym, ap, _∙_}
 use Prim.Native.Nat.{_≤_, _-_}
 use native.Mathlib.Nat.{le-antisymm}
 use lib.ListN.{length}
-use Rattle.interval.specs.Scalar.{divOf}
+use Rattle.interval.specs.declared.Scalar.{Scalar}
+use Rattle.interval.specs.Result.{resultOf}
+use Rattle.interval.specs.Scalar.{inverseOf, divOf}
 use Rattle.linear.specs.Choose.{chooseOf}
 use Rattle.linear.specs.Flat.{along}
 use Rattle.linear.proofs.Sums.{along-row}
@@ -13,15 +15,21 @@ use Rattle.run.proofs.ScratchLaws.{fill-turn}
 use Rattle.run.proofs.scratch.unit.Statement.{statement}
 use Rattle.run.proofs.scratch.unit.Tie as tie
 
+-- for every length that the inverse is of
 abbrev Inv-loop : tie.InvT-loop
-Inv-loop v v0 len k to₀ t0 p₀ to p = (p ≤ k) × (length to ≡ length to₀) × (to ≡ fillTo to₀ t0 (unitAt (along v v0 1) len) p)
+Inv-loop v v0 k to₀ t0 inverse p₀ to p =
+    (p ≤ k) × (length to ≡ length to₀)
+    × ((len : Scalar) → resultOf inverse ≡ inverseOf len → to ≡ fillTo to₀ t0 (unitAt (along v v0 1) len) p)
 
 abbrev μ-loop : tie.MeasureT-loop
-μ-loop v v0 len k to₀ t0 p₀ to p = k - p
+μ-loop v v0 k to₀ t0 inverse p₀ to p = k - p
+
+inverse-requires : tie.Need-inverse-requires Inv-loop μ-loop
+inverse-requires c κs = search needs
 
 loop-holds : tie.Need-loop-holds Inv-loop μ-loop
 unfolding fillTo
-loop-holds c = (search needs, refl, refl)
+loop-holds c = (search needs, refl, λ len e. refl)
 
 add-at : tie.Need-add-at Inv-loop μ-loop
 add-at c = search needs
@@ -32,8 +40,8 @@ at-requires c κs = search needs
 add-put : tie.Need-add-put Inv-loop μ-loop
 add-put c = search needs
 
-div-requires : tie.Need-div-requires Inv-loop μ-loop
-div-requires c κs = search needs
+quotient-requires : tie.Need-quotient-requires Inv-loop μ-loop
+quotient-requires c κs = search needs
 
 or-zero-requires : tie.Need-or-zero-requires Inv-loop μ-loop
 or-zero-requires c κs = search needs
@@ -53,16 +61,24 @@ loop-less c = search needs
 loop-again : tie.Need-loop-again Inv-loop μ-loop
 loop-again c =
     let l = c .before .before .before .before .before .before .before .before .before .loop in
-    let a = c .before .before .before .before .before .before .before .before .before .before .before .before .args in
-    let x = c .before .before .before .before .before .before .before .at .ensures ∙ sym (along-row (a .v .now) (a .v0) (l .p)) in
-    let v = c .before .before .before .choose .ensures ∙ ap chooseOf (c .before .before .before .before .or-zero .ensures ∙ ap orZero (c .before .before .before .before .before .div .ensures .value ∙ ap (λ z. divOf z (a .length)) x)) in
-    (search needs, search needs, c .before .before .put .ensures ∙ fill-turn _ (a .t0) (unitAt (along (a .v .now) (a .v0) 1) (a .length)) (l .p) (l .inv .2) v)
+    let a = c .before .before .before .before .before .before .before .before .before .before .before .before .before .args in
+    let x = c .before .before .before .before .before .before .before .at .ensures ∙ sym (along-row (a .v .now) (a .v0) (l .p)) in (
+      search needs,
+      search needs,
+      λ len e.
+          let d = c .before .before .before .before .before .quotient .ensures len e in
+          let v = c .before .before .before .choose .ensures
+          ∙ ap chooseOf (c .before .before .before .before .or-zero .ensures ∙ ap orZero (d ∙ ap (λ z. divOf z len) x)) in
+          c .before .before .put .ensures ∙ fill-turn _ (a .t0) (unitAt (along (a .v .now) (a .v0) 1) len) (l .p) (l .inv .2 len e) v,
+    )
 
 same-length : tie.Need-same-length Inv-loop μ-loop
 same-length c = search needs
 
 returns : tie.Need-returns Inv-loop μ-loop
-returns c = rw (le-antisymm (c .before .loop .inv .0) (c .loop-test .left)) at (c .before .loop .inv .2)
+returns c =
+    let e = c .before .loop .inv .2 (c .before .before .before .before .before .args .length) (c .before .before .inverse .ensures) in
+    rw (le-antisymm (c .before .loop .inv .0) (c .loop-test .left)) at e
 
 pub unit-spec : {M : Type 1} → statement M
 unit-spec =
@@ -70,11 +86,12 @@ unit-spec =
     (tie.spec
     Inv-loop
     μ-loop
+    inverse-requires
     loop-holds
     add-at
     at-requires
     add-put
-    div-requires
+    quotient-requires
     or-zero-requires
     choose-requires
     put-requires
