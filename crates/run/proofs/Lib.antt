@@ -24,6 +24,7 @@ pub mod OpenQuestions
 pub mod Demand
 pub mod LinearCalls
 pub mod DirectionLaws
+pub mod Pairs
 pub mod FreeLaws
 pub mod StepLaws
 pub mod CheckLaws

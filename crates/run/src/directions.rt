@@ -13,6 +13,7 @@ use linear::choose;
 use linear::minus_scaled;
 use linear::put;
 use linear::row_dot;
+use linear::two_rows;
 
 // Which remainder, and its square.
 pub struct Remainder {
@@ -42,6 +43,17 @@ fn part_off(k: usize, w: &[f64], t: usize, left: &mut [f64], p: usize)
     minus_scaled(left, 12 * p, a, w, 12 * t, k);
 }
 
+// The same of rows p and p + 1, whose parts do not wait for each other.
+fn two_parts_off(k: usize, w: &[f64], t: usize, left: &mut [f64], p: usize)
+    requires { ⌜ (k ≤ 12) × ((t < 12) × (p < 11)) ⌝ }
+    ensures { λ _. ⌜ now (left .exit)
+        ≡ partOff k (now (w .entry)) t (partOff k (now (w .entry)) t (now (left .entry)) p) (p + 1) ⌝ }
+{
+    let d = two_rows(left, 12 * p, 12 * p + 12, w, 12 * t, k);
+    minus_scaled(left, 12 * p, choose(d.first), w, 12 * t, k);
+    minus_scaled(left, 12 * p + 12, choose(d.second), w, 12 * t, k);
+}
+
 // Row p without its parts along the first r of q, one after the other.
 fn left_after(k: usize, r: usize, q: &[f64], left: &mut [f64], p: usize)
     requires { ⌜ (k ≤ 12) × ((r ≤ 12) × (p < 12)) ⌝ }
@@ -68,9 +80,14 @@ fn without(k: usize, z: &[f64], t: usize, left: &mut [f64])
     requires { ⌜ (k ≤ 12) × (t < 12) ⌝ }
     ensures { λ _. ⌜ now (left .exit) ≡ withoutTo k (now (z .entry)) t (now (left .entry)) k ⌝ }
 {
-    for p in 0..k {
-        part_off(k, z, t, left, p);
+    let half = k / 2;
+    for h in 0..half {
+        two_parts_off(k, z, t, left, 2 * h);
     }
+    if 2 * half == k {
+        return;
+    }
+    part_off(k, z, t, left, 2 * half);
 }
 
 fn square(k: usize, left: &[f64], p: usize) -> Scalar

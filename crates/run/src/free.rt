@@ -8,7 +8,7 @@ ghost use Rattle.interval.specs.Scalar.{addOf, negOf};
 ghost use Rattle.linear.specs.Choose.{chooseOf, sharpOf};
 ghost use Rattle.linear.specs.Cholesky.{factorOf};
 ghost use Rattle.linear.specs.Dot.{dotTo};
-ghost use Rattle.linear.specs.Flat.{at, along, listTo};
+ghost use Rattle.linear.specs.Flat.{at, along, put, listTo};
 ghost use Rattle.run.specs.Scratch.{vector, matrix, row, fillTo, fillRows, anyTo};
 ghost use Rattle.run.specs.Step.{bentAt, forceOf, pullOf, reducedOf, againstOf, weights, weightsOf, curved, spanned, lowerAt, alongOf, solvedWith, freePart};
 use crate::scratch::combine;
@@ -19,6 +19,7 @@ use linear::at;
 use linear::choose;
 use linear::put;
 use linear::row_dot;
+use linear::two_rows;
 
 // How the search for weights along Z ended.
 pub enum Along {
@@ -63,14 +64,32 @@ pub fn pull(k: usize, h: &[f64], g: &[f64], v: &[f64], out: &mut [f64])
     }
 }
 
+// Entries i and i + 1 of row t of hz: H times row t of z.
+fn two_bent(k: usize, h: &[f64], z: &[f64], t: usize, hz: &mut [f64], i: usize)
+    requires { ⌜ (t < 12) × (i < 11) ⌝ }
+    ensures { λ _. ⌜ now (hz .exit) ≡ put (put (now (hz .entry)) (12 * t + i)
+        (chooseOf (dotTo (row (now (h .entry)) i) (row (now (z .entry)) t) k))) (12 * t + (i + 1))
+        (chooseOf (dotTo (row (now (h .entry)) (i + 1)) (row (now (z .entry)) t) k)) ⌝ }
+{
+    let d = two_rows(h, 12 * i, 12 * i + 12, z, 12 * t, k);
+    put(hz, 12 * t + i, choose(d.first));
+    put(hz, 12 * t + (i + 1), choose(d.second));
+}
+
 // H times row t of z, as row t of hz.
 fn bent_row(k: usize, h: &[f64], z: &[f64], t: usize, hz: &mut [f64])
     requires { ⌜ (k ≤ 12) × (t < 12) ⌝ }
     ensures { λ _. ⌜ now (hz .exit) ≡ fillTo (now (hz .entry)) (12 * t) (λ i. chooseOf (dotTo (row (now (h .entry)) i) (row (now (z .entry)) t) k)) k ⌝ }
 {
-    for i in 0..k {
-        put(hz, 12 * t + i, bent_at(k, h, z, 12 * t, i));
+    let half = k / 2;
+    for p in 0..half {
+        two_bent(k, h, z, t, hz, 2 * p);
     }
+    if 2 * half == k {
+        return;
+    }
+    let i = 2 * half;
+    put(hz, 12 * t + i, bent_at(k, h, z, 12 * t, i));
 }
 
 // H times each direction, into a clear matrix.
