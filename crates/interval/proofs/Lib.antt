@@ -29,6 +29,7 @@ pub mod NearestOfAll
 pub mod Bounded
 pub mod Scaling
 pub mod Bounds
+pub mod Negation
 pub mod PlusZero
 pub mod Points
 pub mod Middle
