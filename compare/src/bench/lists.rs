@@ -255,19 +255,25 @@ impl Lists {
     }
 
     pub fn tasks(&self) -> Vec<Task<'_>> {
-        let both: [(&str, Option<f64>, [Side; 2]); 5] = [
-            ("dot", Some(0.7), [rust_dot, rattle_dot]),
-            ("norm", None, [rust_norm, rattle_norm]),
-            ("cholesky", Some(0.7), [rust_cholesky, rattle_cholesky]),
-            ("solve_cholesky", None, [rust_solve, rattle_solve]),
+        // With the goals of 12 and of 24.
+        let none = [None; 2];
+        let both: [(&str, [Option<f64>; 2], [Side; 2]); 5] = [
+            ("dot", [Some(0.7), Some(0.55)], [rust_dot, rattle_dot]),
+            ("norm", none, [rust_norm, rattle_norm]),
+            (
+                "cholesky",
+                [Some(0.55), Some(0.7)],
+                [rust_cholesky, rattle_cholesky],
+            ),
+            ("solve_cholesky", none, [rust_solve, rattle_solve]),
             (
                 "minus_solved",
-                None,
+                none,
                 [rust_minus_solved, rattle_minus_solved],
             ),
         ];
         let mut tasks = Vec::new();
-        for inputs in &self.0 {
+        for (size, inputs) in self.0.iter().enumerate() {
             let n = inputs[0].n;
             let task = |name: &str, goal, part| Task {
                 name: format!("{name} of {n}"),
@@ -275,8 +281,8 @@ impl Lists {
                 goal,
                 parts: vec![part],
             };
-            for (name, goal, sides) in both {
-                tasks.push(task(name, goal, sides.map(|side| by(inputs, side))));
+            for (name, goals, sides) in both {
+                tasks.push(task(name, goals[size], sides.map(|side| by(inputs, side))));
             }
             let rust: super::Timed = Box::new(|| rust_least_squares(inputs));
             tasks.push(task(

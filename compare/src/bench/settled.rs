@@ -170,7 +170,7 @@ impl Corpora {
     pub fn tasks(&self) -> Vec<Task<'_>> {
         let questions = self.frames.0.iter().map(|run| run.replies.len()).sum();
         let name = format!("a question of {FRAMES} whole runs");
-        let mut tasks = vec![self.frames.task(name, questions, Some(0.7))];
+        let mut tasks = vec![self.frames.task(name, questions, Some(0.5))];
         for (n, corpus) in &self.runs {
             tasks.push(corpus.task(format!("a run of {n} variables"), SIZED, None));
         }
