@@ -1,6 +1,6 @@
 -- What follows an answer, part by part: each result that is known, or refused, leaves what the definition says.
 use mathlib.Core.Bool.{Bool, true, false, not, _&&_, _||_}
-use mathlib.Core.Path.{_≡_, refl, sym, ap, subst, _∙_}
+use mathlib.Core.Path.{_≡_, refl, sym, ap, ap₂, subst, _∙_}
 use mathlib.Core.List.{List}
 use Prim.Native.Nat.{ℕ, _+_, _*_, _≤_}
 use native.Mathlib.Nat.{mul-le-mul}
@@ -18,7 +18,7 @@ use Rattle.run.specs.Calls.{phaseFits}
 use Rattle.run.specs.Correction.{CORRECTIONS, Shift, to, stay, shiftOf, shiftFrom, shiftedStep}
 use Rattle.run.specs.Curvature.{updateCurvature}
 use Rattle.run.specs.Judgement.{Judged, judgeOf}
-use Rattle.run.specs.Remainders.{Working}
+use Rattle.run.specs.Remainders.{Seeking}
 use Rattle.run.specs.Rows.{rowNumbers, movingOf, sumSquared, violationOf}
 use Rattle.run.specs.Run.{Outcome, Leaves, Bounded, Underway, finish, refuse, question, curvatureOf, standingAt, landedAt, rowsAt, linearOf, shrunk, reachOf, filterWith, standingOn, moves, landing, iterate, notLower, orRefuse, take, takenWith, wasTaken, decide, judge, correct, landTrial, keep, landCorrection, nearerOf, started, answered, answeredNone}
 use Rattle.run.specs.declared.state.Kind.{Kind}
@@ -28,7 +28,7 @@ use Rattle.run.specs.declared.state.Phase.the-variants.{Open}
 use Rattle.run.specs.declared.state.State.{State}
 use Rattle.run.specs.declared.state.Stop.the-variants as stop
 use Rattle.run.proofs.CheckLaws.{both}
-use Rattle.run.proofs.Remainders.{works-as}
+use Rattle.run.proofs.Remainders.{seeks-as}
 use Rattle.run.proofs.LeaveLaws.{or-next, or-refused, when, unless}
 
 -- ---- a step taken
@@ -71,18 +71,18 @@ module _ (st : State) (w : Memory) (theta length : Scalar) {o : Out} {a : List F
     learned-refused e l = or-refused st w (stands st w theta length mu radius) e l
 
     pub stands-on :
-        (b : List Float) {t : State} {f : Scalar} {c : List Float} →
+        (b : List Float) {t : State} {f : Scalar} {v : Res Scalar} {c : List Float} →
         t ≡ standingOn st length mu radius →
         f ≡ sumSquared (standingAt st w .sum) →
-        Working (standingOn st length mu radius) (withTaken w b (filterWith (w .filter) (st .counts .iterations) f
-        theta)) c →
-        ((v : Memory) → Working t v c → Leaves (iterate t v) o a) → Leaves (stands st w theta length mu radius b) o a
-    stands-on b {t} {f} {c} e q h l =
+        Seeking (standingOn st length mu radius) v
+        (withTaken w b (filterWith (w .filter) (st .counts .iterations) f theta)) c →
+        ((x : Memory) → Seeking t v x c → Leaves (iterate t x) o a) → Leaves (stands st w theta length mu radius b) o a
+    stands-on b {t} {f} {v} {c} e q h l =
         let next = standingOn st length mu radius in
         let after : Scalar → Memory = λ x. withTaken w b (filterWith (w .filter) (st .counts .iterations) x theta) in
-        let v = after (sumSquared (standingAt st w .sum)) in
-        subst (λ (x : State). Leaves (iterate x v) o a) e
-        (l v (works-as e (subst (λ (x : Scalar). Working next (after x) c) q h)))
+        let x = after (sumSquared (standingAt st w .sum)) in
+        subst (λ (y : State). Leaves (iterate y x) o a) e
+        (l x (seeks-as e (subst (λ (y : Scalar). Seeking next v (after y) c) q h)))
 
 -- ---- the judgement
 
@@ -171,7 +171,10 @@ module _ (st : State) (w : Memory) (rows : List Float) (theta : Scalar) {o : Out
     unfolding keep
     keep-refused e l = or-refused st w (λ d. keptBy st w rows theta d) (shift-of st w em er ∙ e) l
 
-  pub correction-by : Leaves (orRefuse st w (nearerOf (st .sizes) rows (w .landedRows)) (λ kept. pick kept (keep st w rows theta) (judge st w theta))) o a → Leaves (landCorrection st w rows theta) o a
+  pub correction-by :
+      Leaves
+      (orRefuse st w (nearerOf (violationOf (rowsAt st rows .constraints)) (violationOf (landedAt st w .constraints)))
+      (λ kept. pick kept (keep st w rows theta) (judge st w theta))) o a → Leaves (landCorrection st w rows theta) o a
   unfolding landCorrection bind
   correction-by l = go (violationOf (rowsAt st rows .constraints)) (violationOf (landedAt st w .constraints)) l
     where
@@ -180,6 +183,10 @@ module _ (st : State) (w : Memory) (rows : List Float) (theta : Scalar) {o : Out
       go (ok new) (ok old) l = l
       go (ok new) (refused k) l = l
       go (refused k) y l = l
+
+-- by the violations as they were worked out
+pub nearer-read : {x y v u : Res Scalar} {r : Res Bool} → r ≡ nearerOf x y → x ≡ v → y ≡ u → nearerOf v u ≡ r
+nearer-read e p q = sym (e ∙ ap₂ nearerOf p q)
 
 -- fewer than four, or four at least
 turned-about : {A : Type 0} (n : ℕ) (x y : A) → pick (ltb n 4) x y ≡ pick (leb 4 n) y x

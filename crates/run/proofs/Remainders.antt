@@ -11,15 +11,17 @@ use lib.ListN.{length, take, drop, getD, set, length-replicate, length-drop, tak
 use lib.ListN.{replicate-append-replicate, length-take}
 use lib.Seq.{getD-append-add, getD-set-other, getD-drop, length-take-le, take-take, drop-drop, drop-append-le}
 use Rattle.interval.specs.declared.Scalar.{Scalar}
+use Rattle.interval.specs.Result.{Res, ok}
 use Rattle.interval.specs.Scalar.{zero64, pick}
 use Rattle.linear.specs.Flat.{at, put, inside, zeros}
 use Rattle.linear.proofs.FlatLaws.{length-put}
 use Rattle.run.specs.Scratch.{fillTo, spreadTo}
-use Rattle.run.specs.Rows.{rowNumbers}
+use Rattle.run.specs.Rows.{rowNumbers, constraintsOf, violationOf}
 use Rattle.run.specs.Curvature.{curvatureEntries}
 use Rattle.run.specs.Area.{POINT, ROWS, CURVATURE, FILTER, SIZES, Memory, padded, memoryOf, startOf, written}
 use Rattle.run.specs.Area.{Holds, withStart, slotsOf, usedIn, isOpen, isTried, isCorrected}
-use Rattle.run.specs.Remainders.{Tidy, TidyMemory, Uses, Working, Limits, allUsed, pointsUsed}
+use Rattle.run.specs.Remainders.{Tidy, TidyMemory, Uses, Measured, Compared, Working, Seeking, Judging, Limits}
+use Rattle.run.specs.Remainders.{allUsed, pointsUsed}
 use Rattle.run.specs.Run.{Bounded}
 use Rattle.run.specs.declared.state.Kind.the-variants as kind
 use Rattle.run.specs.declared.state.Phase.the-variants.{Open}
@@ -292,9 +294,32 @@ limits-of b = record {
   iterations-fit = omega (arith, b .within, b .few-iterations);
 }
 
+-- what the sizes and the iterations decide, for another state of the run
 module _ {s t : State} (e : t ≡ s) where
-  pub limits-as : Limits (s .sizes) (s .counts .iterations) → Limits (t .sizes) (t .counts .iterations)
-  limits-as l = subst (λ (x : State). Limits (x .sizes) (x .counts .iterations)) (sym e) l
+  same-run : (P : Sizes → ℕ → Type 0) → P (s .sizes) (s .counts .iterations) → P (t .sizes) (t .counts .iterations)
+  same-run P p = subst (λ (x : State). P (x .sizes) (x .counts .iterations)) (sym e) p
 
-  pub works-as : {w : Memory} {a : List Float} → Working s w a → Working t w a
-  works-as {w} {a} u = subst (λ (x : State). Working x w a) (sym e) u
+  pub limits-as : Limits (s .sizes) (s .counts .iterations) → Limits (t .sizes) (t .counts .iterations)
+  limits-as l = same-run (λ z i. Limits z i) l
+
+  module _ {w : Memory} {a : List Float} where
+    pub works-as : Working s w a → Working t w a
+    works-as u = same-run (λ z i. Uses (allUsed z i) w a) u
+
+    pub seeks-as : {standing : Res Scalar} → Seeking s standing w a → Seeking t standing w a
+    seeks-as {standing} u = same-run (λ z i. Measured z i standing w a) u
+
+    pub judges-as : {theta : Scalar} {landed : Res Scalar} → Judging s theta landed w a → Judging t theta landed w a
+    judges-as {theta} {landed} u = same-run (λ z i. Compared z i theta landed w a) u
+
+-- with the violations that were worked out
+module _ (st : State) {w : Memory} {a : List Float} (u : Working st w a) where
+  pub measures : {standing : Res Scalar}
+      → standing ≡ violationOf (constraintsOf (st .sizes .n) (st .sizes .m) (w .standingRows)) → Seeking st standing w a
+  measures e = record { uses = u; standing-is = e }
+
+  pub compares : {theta : Scalar} {landed : Res Scalar}
+      → ok theta ≡ violationOf (constraintsOf (st .sizes .n) (st .sizes .m) (w .standingRows))
+      → landed ≡ violationOf (constraintsOf (st .sizes .n) (st .sizes .m) (w .landedRows))
+      → Judging st theta landed w a
+  compares e f = record { measured = measures e; landed-is = f }

@@ -1,12 +1,15 @@
 -- The memory while a call works: each list has its slot's length, and +0 behind as many numbers as the sizes and the
--- iterations say, so that a slot is cleared or copied by its numbers in use alone. Contracts within the crate cite this.
+-- iterations say, so that a slot is cleared or copied by its numbers in use alone; and the violations that are worked
+-- out already, which a call hands on. Contracts within the crate cite this.
 use Prim.Native.Nat.{ℕ, _*_, _≤_}
 use mathlib.Core.List.{List, [], _∷_}
 use mathlib.Core.Path.{_≡_}
 use lib.Ieee.{Float}
 use lib.ListN.{length, getD}
+use Rattle.interval.specs.declared.Scalar.{Scalar}
+use Rattle.interval.specs.Result.{Res, ok}
 use Rattle.interval.specs.Scalar.{zero64}
-use Rattle.run.specs.Rows.{rowNumbers}
+use Rattle.run.specs.Rows.{rowNumbers, constraintsOf, violationOf}
 use Rattle.run.specs.Curvature.{curvatureEntries}
 use Rattle.run.specs.Area.{POINT, ROWS, CURVATURE, FILTER, Memory, Holds}
 use Rattle.run.specs.declared.state.Sizes.{Sizes}
@@ -50,6 +53,23 @@ pub record Uses (used : List ℕ) (w : Memory) (a : List Float) : Type 0 where
 -- an area while a call works
 abbrev pub Working : State → Memory → List Float → Type 0
 Working st w a = Uses (allUsed (st .sizes) (st .counts .iterations)) w a
+
+-- and the violation of the standing point, or its refusal, worked out already
+pub record Measured (z : Sizes) (iterations : ℕ) (standing : Res Scalar) (w : Memory) (a : List Float) : Type 0 where
+  pub uses : Uses (allUsed z iterations) w a
+  pub standing-is : standing ≡ violationOf (constraintsOf (z .n) (z .m) (w .standingRows))
+
+-- and that of the landed point
+pub record Compared (z : Sizes) (iterations : ℕ) (theta : Scalar) (landed : Res Scalar) (w : Memory) (a : List Float) :
+    Type 0 where
+  pub measured : Measured z iterations (ok theta) w a
+  pub landed-is : landed ≡ violationOf (constraintsOf (z .n) (z .m) (w .landedRows))
+
+abbrev pub Seeking : State → Res Scalar → Memory → List Float → Type 0
+Seeking st standing w a = Measured (st .sizes) (st .counts .iterations) standing w a
+
+abbrev pub Judging : State → Scalar → Res Scalar → Memory → List Float → Type 0
+Judging st theta landed w a = Compared (st .sizes) (st .counts .iterations) theta landed w a
 
 -- sizes and iterations whose numbers in use fit the slots
 pub record Limits (z : Sizes) (iterations : ℕ) : Type 0 where

@@ -13,7 +13,7 @@ use Rattle.interval.specs.Scaling.{three64, four64, isPositive}
 use Rattle.linear.specs.Answers.{numberOf}
 use Rattle.linear.specs.Flat.{put, zeros}
 use Rattle.linear.specs.Results.{bind}
-use Rattle.run.specs.Rows.{Evaluation, constraintsOf, evaluationOf, sumSquared, violationOf, movingOf}
+use Rattle.run.specs.Rows.{Evaluation, evaluationOf, sumSquared, violationOf, movingOf}
 use Rattle.run.specs.Curvature.{learnedOf, updateCurvature}
 use Rattle.run.specs.Proposal.{Standing, Trial}
 use Rattle.run.specs.Judgement.{Judged, judgeOf}
@@ -34,7 +34,6 @@ use Rattle.run.specs.declared.state.Phase.the-variants.{Open, Over}
 use Rattle.run.specs.declared.state.Rejection.{Rejection}
 use Rattle.run.specs.declared.state.Rejection.the-variants as why
 use Rattle.run.specs.declared.state.Search.{Search}
-use Rattle.run.specs.declared.state.Sizes.{Sizes}
 use Rattle.run.specs.declared.state.State.{State}
 use Rattle.run.specs.declared.state.Stop.{Stop}
 use Rattle.run.specs.declared.state.Stop.the-variants as stop
@@ -322,10 +321,9 @@ takenWith st w theta length mu radius =
     orRefuse st w (updateCurvature (st .sizes .n) (curvatureOf st w) (w .step) (standingAt st w) (landedAt st w) (w .multipliers))
     (λ b. iterate (standingOn st length mu radius) (withTaken w b (filterWith (w .filter) (st .counts .iterations) (sumSquared (standingAt st w .sum)) theta)))
 
--- whether a correction's rows are nearer the constraints than the landed ones
-abbrev pub nearerOf : Sizes → List Float → List Float → Res Bool
-nearerOf z rows landed =
-    bind (violationOf (constraintsOf (z .n) (z .m) rows)) (λ new. bind (violationOf (constraintsOf (z .n) (z .m) landed)) (λ old. ok (definitelyLess new old)))
+-- whether a correction's rows are nearer the constraints than the landed ones, by the violations of both
+abbrev pub nearerOf : Res Scalar → Res Scalar → Res Bool
+nearerOf new old = bind new (λ x. bind old (λ y. ok (definitelyLess x y)))
 
 -- what `is_nearer` and `linear_of` answer
 abbrev pub nearerResult : Nearer → Res Bool

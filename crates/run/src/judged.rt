@@ -4,7 +4,8 @@ ghost use mathlib.Core.Path.{_≡_};
 ghost use Prim.Native.Nat.{_*_, _<_, _≤_};
 ghost use lib.ListN.{length};
 ghost use Rattle.interval.specs.Scalar.{subOf, definitelyLess};
-ghost use Rattle.run.specs.Rows.{rowsIn, Small, sumOf, sumSquared, evaluationOf};
+ghost use Rattle.linear.specs.Answers.{resultOf};
+ghost use Rattle.run.specs.Rows.{rowsIn, Small, sumOf, sumSquared, constraintsOf, evaluationOf, violationOf};
 ghost use Rattle.run.specs.Judgement.{sumChange, filterSum, filterViolation, beatsTo, rises, indefinite, contracts, judgedBy, judgeOf, judgementOf};
 use crate::filter::beats_as_pairs;
 use crate::row_view::value_of;
@@ -127,7 +128,8 @@ fn judged_at(
     }
 }
 
-// How the step from the rows `at`, with violation theta, to the rows `next` fares against the first pairs of the filter.
+// How the step from the rows `at`, with violation theta, to the rows `next`, with violation `landed`, fares against the
+// first pairs of the filter.
 pub fn judge(
     n: usize,
     m: usize,
@@ -135,19 +137,22 @@ pub fn judge(
     at: &[f64],
     next: &[f64],
     theta: Scalar,
+    landed: Answer,
     filter: &[f64],
     count: usize,
     last: Last,
     step: &[f64],
 ) -> Judgement
-    requires { ⌜ (n ≤ 12) × ((m ≤ 12) × ((s ≤ 24) × ((2 * m ≤ length (now next)) × ((count < 65536) × (length (now step) ≡ 24))))) ⌝ }
-    ensures { λ r. ⌜ judgementOf r ≡ judgeOf n (evaluationOf n m s (now (at .entry))) (evaluationOf n m s (now (next .entry))) theta (now (filter .entry)) count last (now (step .entry)) ⌝ }
+    requires { ⌜ (n ≤ 12) × ((m ≤ 12) × ((s ≤ 24) × ((count < 65536) × (length (now step) ≡ 24)))) ⌝ }
+    ensures { λ r. ⌜ (resultOf landed ≡ violationOf (constraintsOf n m (now (next .entry))) → judgementOf r ≡ judgeOf n
+        (evaluationOf n m s (now (at .entry))) (evaluationOf n m s (now (next .entry))) theta (now (filter .entry))
+        count last (now (step .entry))) ⌝ }
 {
     match norm_of(step, n) {
         Answer::Refused(e) => {
             return Judgement::Refused(e);
         }
-        Answer::Value(length) => match rows::violation(next, n, m) {
+        Answer::Value(length) => match landed {
             Answer::Refused(e) => {
                 return Judgement::Refused(e);
             }

@@ -2,9 +2,10 @@
 ghost use mathlib.Core.Bool.{not, _&&_, _||_};
 ghost use mathlib.Core.Path.{_≡_};
 ghost use lib.ListN.{length};
-ghost use Rattle.run.specs.Area.{Memory, Holds};
+ghost use Rattle.linear.specs.Answers.{resultOf};
+ghost use Rattle.run.specs.Area.{Memory};
 ghost use Rattle.run.specs.Judgement.{judgeOf, judgementOf};
-ghost use Rattle.run.specs.Remainders.{Working};
+ghost use Rattle.run.specs.Remainders.{Judging};
 ghost use Rattle.run.specs.Run.{Leaves, Underway, standingAt, landedAt, wasTaken, decide, judge};
 use crate::area;
 use crate::endings::finish;
@@ -19,6 +20,7 @@ use crate::state::Stop;
 use crate::taking::take;
 use crate::turns::not_lower;
 use interval::Scalar;
+use linear::Answer;
 
 fn was_taken(last: Last) -> bool
     ensures { λ r. ⌜ r ≡ wasTaken last ⌝ }
@@ -61,10 +63,11 @@ fn is_better(first: bool, j: Judged) -> bool
     j.contracting
 }
 
-// What follows a judgement, from a standing point with violation theta.
-fn decide(st: State, area: &mut [f64], theta: Scalar, j: Judged) -> Out
+// What follows a judgement, from a standing point with violation theta to the landed one.
+fn decide(st: State, area: &mut [f64], theta: Scalar, landed: Answer, j: Judged) -> Out
     requires { ⌜ (length (now area) ≡ 8000) × Underway st ⌝ }
-    ensures { λ r. ⌜ ((w : Memory) → Working st w (now (area .entry)) → Leaves (decide st w theta j) r (now (area
+    ensures { λ r. ⌜ ((w : Memory) → Judging st theta (resultOf landed) w (now (area .entry)) → Leaves (decide st w
+        theta j) r (now (area
         .exit))) ⌝ }
 {
     let last = st.last;
@@ -72,15 +75,17 @@ fn decide(st: State, area: &mut [f64], theta: Scalar, j: Judged) -> Out
         return finish(st, area, Stop::Undecided);
     }
     if is_better(st.search.first, j) {
-        return take(st, area, theta, j.length);
+        return take(st, area, theta, landed, j.length);
     }
-    not_lower(st, area)
+    not_lower(st, area, Answer::Value(theta))
 }
 
 // The judgement of the landed point, from a standing point with violation theta.
-fn judge_in(st: State, area: &[f64], theta: Scalar) -> Judgement
+fn judge_in(st: State, area: &[f64], theta: Scalar, landed: Answer) -> Judgement
     requires { ⌜ (length (now area) ≡ 8000) × Underway st ⌝ }
-    ensures { λ r. ⌜ ((w : Memory) → Holds w (now (area .entry)) → judgementOf r ≡ judgeOf (st .sizes .n) (standingAt st w) (landedAt st w) theta (w .filter) (st .counts .iterations) (st .last) (w .step)) ⌝ }
+    ensures { λ r. ⌜ ((w : Memory) → Judging st theta (resultOf landed) w (now (area .entry)) → judgementOf r ≡ judgeOf
+        (st .sizes .n) (standingAt st w) (landedAt st w) theta (w .filter) (st .counts .iterations) (st .last) (w
+        .step)) ⌝ }
 {
     let last = st.last;
     judge(
@@ -90,6 +95,7 @@ fn judge_in(st: State, area: &[f64], theta: Scalar) -> Judgement
         &area[area::STANDING_ROWS..area::LANDED_ROWS],
         &area[area::LANDED_ROWS..area::STEP],
         theta,
+        landed,
         &area[area::FILTER..area::SPARE],
         st.counts.iterations,
         last,
@@ -98,14 +104,15 @@ fn judge_in(st: State, area: &[f64], theta: Scalar) -> Judgement
 }
 
 // The landed point is judged, from a standing point with violation theta.
-pub fn judge_landed(st: State, area: &mut [f64], theta: Scalar) -> Out
+pub fn judge_landed(st: State, area: &mut [f64], theta: Scalar, landed: Answer) -> Out
     requires { ⌜ (length (now area) ≡ 8000) × Underway st ⌝ }
-    ensures { λ r. ⌜ ((w : Memory) → Working st w (now (area .entry)) → Leaves (judge st w theta) r (now (area .exit)))
+    ensures { λ r. ⌜ ((w : Memory) → Judging st theta (resultOf landed) w (now (area .entry)) → Leaves (judge st w
+        theta) r (now (area .exit)))
         ⌝ }
 {
-    match judge_in(st, area, theta) {
+    match judge_in(st, area, theta, landed) {
         Judgement::Of(j) => {
-            return decide(st, area, theta, j);
+            return decide(st, area, theta, landed, j);
         }
         Judgement::Refused(e) => {
             return refuse(st, area, e);

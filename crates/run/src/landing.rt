@@ -1,15 +1,18 @@
 // Where an answer leads: corrections of a landed point, and what follows an accepted answer.
 ghost use mathlib.Core.Bool.{true};
 ghost use mathlib.Core.Path.{_≡_};
-ghost use Prim.Native.Nat.{_*_, _≤_};
+ghost use Prim.Native.Nat.{_≤_};
 ghost use lib.ListN.{length};
+ghost use Rattle.interval.specs.Result.{ok};
 ghost use Rattle.interval.specs.Scalar.{pick};
 ghost use Rattle.linear.specs.Answers.{resultOf};
 ghost use Rattle.run.specs.Area.{Memory, Holds, usedIn};
 ghost use Rattle.run.specs.Calls.{phaseFits};
-ghost use Rattle.run.specs.Remainders.{Uses, Working};
+ghost use Rattle.run.specs.Remainders.{Uses, Working, Seeking, Judging};
 ghost use Rattle.run.specs.Rows.{rowNumbers, constraintsOf, violationOf};
-ghost use Rattle.run.specs.Run.{Leaves, Bounded, Underway, judge, correct, keep, landTrial, landCorrection, nearerOf, nearerResult, fromStanding, started, answered, answeredNone};
+ghost use Rattle.run.specs.Run.{Leaves, Bounded, Underway, rowsAt, judge, correct, keep, landTrial};
+ghost use Rattle.run.specs.Run.{landCorrection, nearerOf, nearerResult, fromStanding, started, answered};
+ghost use Rattle.run.specs.Run.{answeredNone};
 ghost use Rattle.run.specs.declared.state.Kind.the-variants as kinds;
 ghost use Rattle.run.specs.declared.state.Phase.the-variants.{Open};
 use crate::area;
@@ -42,9 +45,10 @@ pub enum Nearer {
 }
 
 // The landed point is shifted back onto the constraints, and that point asked, or it is judged.
-fn correct(st: State, area: &mut [f64], theta: Scalar) -> Out
+fn correct(st: State, area: &mut [f64], theta: Scalar, landed: Answer) -> Out
     requires { ⌜ (length (now area) ≡ 8000) × Underway st ⌝ }
-    ensures { λ r. ⌜ ((w : Memory) → Working st w (now (area .entry)) → Leaves (correct st w theta) r (now (area
+    ensures { λ r. ⌜ ((w : Memory) → Judging st theta (resultOf landed) w (now (area .entry)) → Leaves (correct st w
+        theta) r (now (area
         .exit))) ⌝ }
 {
     let moving = st.moving;
@@ -60,7 +64,7 @@ fn correct(st: State, area: &mut [f64], theta: Scalar) -> Out
     match shifted {
         Shifted::To => {}
         Shifted::Stay => {
-            return judge_landed(st, area, theta);
+            return judge_landed(st, area, theta, landed);
         }
         Shifted::Refused(e) => {
             return refuse(st, area, e);
@@ -70,24 +74,32 @@ fn correct(st: State, area: &mut [f64], theta: Scalar) -> Out
     ask(st, Kind::Correction, st.counts.corrections)
 }
 
-fn correct_or_judge(st: State, area: &mut [f64], theta: Scalar, corrects: bool) -> Out
+fn correct_or_judge(
+    st: State,
+    area: &mut [f64],
+    theta: Scalar,
+    landed: Answer,
+    corrects: bool,
+) -> Out
     requires { ⌜ (length (now area) ≡ 8000) × Underway st ⌝ }
-    ensures { λ r. ⌜ ((w : Memory) → Working st w (now (area .entry)) → Leaves (pick corrects (correct st w theta)
+    ensures { λ r. ⌜ ((w : Memory) → Judging st theta (resultOf landed) w (now (area .entry)) → Leaves (pick corrects
+        (correct st w theta)
         (judge st w theta)) r (now (area .exit))) ⌝ }
 {
     if corrects {
-        return correct(st, area, theta);
+        return correct(st, area, theta, landed);
     }
-    judge_landed(st, area, theta)
+    judge_landed(st, area, theta, landed)
 }
 
 // A correction's rows, nearer the constraints: the step is shifted as well.
-fn keep(st: State, area: &mut [f64], rows: &[f64], theta: Scalar) -> Out
+fn keep(st: State, area: &mut [f64], rows: &[f64], theta: Scalar, landed: Answer) -> Out
     requires { ⌜ (length (now area) ≡ 8000) ×
         ((length (now rows) ≡ rowNumbers (st .sizes .n) (st .sizes .m) (st .sizes .s)) ×
         (Underway st × (st .counts .corrections ≤ 4))) ⌝ }
-    ensures { λ r. ⌜ ((w : Memory) → Working st w (now (area .entry)) → Leaves (keep st w (now (rows .entry)) theta) r
-        (now (area .exit))) ⌝ }
+    ensures { λ r. ⌜ ((w : Memory) → Seeking st (ok theta) w (now (area .entry)) →
+        resultOf landed ≡ violationOf (rowsAt st (now (rows .entry)) .constraints) →
+        Leaves (keep st w (now (rows .entry)) theta) r (now (area .exit))) ⌝ }
 {
     let moving = st.moving;
     let mut d = [0.0; 24];
@@ -108,19 +120,17 @@ fn keep(st: State, area: &mut [f64], rows: &[f64], theta: Scalar) -> Out
     area::landed(area, rows);
     let corrections = st.counts.corrections + 1;
     let t = with_landed_number(st, corrections);
-    correct_or_judge(t, area, theta, corrections < 4)
+    correct_or_judge(t, area, theta, landed, corrections < 4)
 }
 
-// Whether a correction's rows are nearer the constraints than the landed ones.
-fn is_nearer(z: Sizes, area: &[f64], rows: &[f64]) -> Nearer
-    requires { ⌜ (z .m ≤ 12) × ((length (now area) ≡ 8000) × (2 * z .m ≤ length (now rows))) ⌝ }
-    ensures { λ r. ⌜ ((w : Memory) → Holds w (now (area .entry)) → nearerResult r ≡ nearerOf z (now (rows .entry)) (w .landedRows)) ⌝ }
+// Whether a correction's rows, by their violation, are nearer the constraints than the landed ones.
+fn is_nearer(new: Answer, old: Answer) -> Nearer
+    ensures { λ r. ⌜ nearerResult r ≡ nearerOf (resultOf new) (resultOf old) ⌝ }
 {
-    let landed = &area[area::LANDED_ROWS..area::STEP];
-    match rows::violation(rows, z.n, z.m) {
-        Answer::Value(new) => match rows::violation(landed, z.n, z.m) {
-            Answer::Value(old) => {
-                return Nearer::Known(new.definitely_less(old));
+    match new {
+        Answer::Value(now) => match old {
+            Answer::Value(before) => {
+                return Nearer::Known(now.definitely_less(before));
             }
             Answer::Refused(e) => {
                 return Nearer::Refused(e);
@@ -135,15 +145,18 @@ fn is_nearer(z: Sizes, area: &[f64], rows: &[f64]) -> Nearer
 // A correction's rows, from a standing point with violation theta: kept where they are nearer than the landed ones.
 fn land_correction(st: State, area: &mut [f64], rows: &[f64], theta: Scalar) -> Out
     requires { ⌜ (length (now area) ≡ 8000) × ((length (now rows) ≡ rowNumbers (st .sizes .n) (st .sizes .m) (st .sizes .s)) × (Underway st × (st .counts .corrections ≤ 4))) ⌝ }
-    ensures { λ r. ⌜ ((w : Memory) → Working st w (now (area .entry)) → Leaves (landCorrection st w (now (rows .entry))
+    ensures { λ r. ⌜ ((w : Memory) → Seeking st (ok theta) w (now (area .entry)) → Leaves (landCorrection st w (now
+        (rows .entry))
         theta) r (now (area .exit))) ⌝ }
 {
-    match is_nearer(st.sizes, area, rows) {
+    let new = rows::violation(rows, st.sizes.n, st.sizes.m);
+    let old = landed_violation(st.sizes, area);
+    match is_nearer(new, old) {
         Nearer::Known(kept) => {
             if kept {
-                return keep(st, area, rows, theta);
+                return keep(st, area, rows, theta, new);
             }
-            return judge_landed(st, area, theta);
+            return judge_landed(st, area, theta, old);
         }
         Nearer::Refused(e) => {
             return refuse(st, area, e);
@@ -161,21 +174,24 @@ fn started(st: State, area: &mut [f64], rows: &[f64]) -> Out
 {
     let moving = rows::moving(rows, st.sizes.n, st.sizes.m, st.sizes.s);
     area::with_start(area, rows);
-    iterate(with_moving(st, moving), area)
+    let standing = standing_violation(st.sizes, area);
+    iterate(with_moving(st, moving), area, standing)
 }
 
 // A trial's rows, from a standing point with violation theta: corrected where the violation rose.
 fn land_trial(st: State, area: &mut [f64], rows: &[f64], theta: Scalar) -> Out
     requires { ⌜ (length (now area) ≡ 8000) ×
         ((length (now rows) ≡ rowNumbers (st .sizes .n) (st .sizes .m) (st .sizes .s)) × Underway st) ⌝ }
-    ensures { λ r. ⌜ ((w : Memory) → Working st w (now (area .entry)) → Leaves (landTrial st w (now (rows .entry))
+    ensures { λ r. ⌜ ((w : Memory) → Seeking st (ok theta) w (now (area .entry)) → Leaves (landTrial st w (now (rows
+        .entry))
         theta) r (now (area .exit))) ⌝ }
 {
     area::landed(area, rows);
     let t = with_landed_number(st, 0);
-    match rows::violation(&area[area::LANDED_ROWS..area::STEP], st.sizes.n, st.sizes.m) {
+    let landed = landed_violation(st.sizes, area);
+    match landed {
         Answer::Value(new) => {
-            return correct_or_judge(t, area, theta, new.definitely_greater(theta));
+            return correct_or_judge(t, area, theta, landed, new.definitely_greater(theta));
         }
         Answer::Refused(e) => {
             return refuse(t, area, e);
@@ -188,6 +204,14 @@ fn standing_violation(z: Sizes, area: &[f64]) -> Answer
     ensures { λ r. ⌜ ((w : Memory) → Holds w (now (area .entry)) → resultOf r ≡ violationOf (constraintsOf (z .n) (z .m) (w .standingRows))) ⌝ }
 {
     rows::violation(&area[area::STANDING_ROWS..area::LANDED_ROWS], z.n, z.m)
+}
+
+fn landed_violation(z: Sizes, area: &[f64]) -> Answer
+    requires { ⌜ (z .m ≤ 12) × (length (now area) ≡ 8000) ⌝ }
+    ensures { λ r. ⌜ ((w : Memory) → Holds w (now (area .entry)) →
+        resultOf r ≡ violationOf (constraintsOf (z .n) (z .m) (w .landedRows))) ⌝ }
+{
+    rows::violation(&area[area::LANDED_ROWS..area::STEP], z.n, z.m)
 }
 
 // A trial's or a correction's rows.
@@ -217,7 +241,8 @@ fn correction_none(st: State, area: &mut [f64]) -> Out
 {
     match standing_violation(st.sizes, area) {
         Answer::Value(theta) => {
-            return judge_landed(st, area, theta);
+            let landed = landed_violation(st.sizes, area);
+            return judge_landed(st, area, theta, landed);
         }
         Answer::Refused(e) => {
             return refuse(st, area, e);
@@ -258,7 +283,8 @@ pub fn answered_none(kind: Kind, st: State, area: &mut [f64]) -> Out
             return finish(st, area, Stop::Infeasible);
         }
         Kind::Trial => {
-            return turn_down(st, area, Rejection::Infeasible);
+            let standing = standing_violation(st.sizes, area);
+            return turn_down(st, area, Rejection::Infeasible, standing);
         }
         Kind::Correction => {
             return correction_none(st, area);

@@ -172,7 +172,8 @@ pub fn judge(
         }
         Done::Finished => {}
     }
-    judged::judge(n, m, s, xs, next, theta, filter, count, last, step)
+    let landed = rows::violation(next, n, m);
+    judged::judge(n, m, s, xs, next, theta, landed, filter, count, last, step)
 }
 
 // Whether the model expects the step to lower the sum or the violation, from f and theta: 288 numbers of curvature.

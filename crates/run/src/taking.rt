@@ -5,13 +5,14 @@ ghost use Prim.Native.Nat.{_≤_};
 ghost use lib.ListN.{length};
 ghost use Rattle.interval.specs.Scalar.{pick};
 ghost use Rattle.interval.specs.Scaling.{isPositive};
-ghost use Rattle.linear.specs.Answers.{doneOf};
+ghost use Rattle.linear.specs.Answers.{doneOf, resultOf};
 ghost use Rattle.linear.specs.Flat.{zeros};
 ghost use Rattle.run.specs.Area.{Memory, Holds};
 ghost use Rattle.run.specs.Curvature.{updateCurvature};
-ghost use Rattle.run.specs.Remainders.{Working};
-ghost use Rattle.run.specs.Rows.{evaluationOf};
-ghost use Rattle.run.specs.Run.{Leaves, Underway, held, linearOf, linearResult, shrunk, reachOf, take, takenWith};
+ghost use Rattle.run.specs.Remainders.{Judging};
+ghost use Rattle.run.specs.Rows.{evaluationOf, violationOf};
+ghost use Rattle.run.specs.Run.{Leaves, Underway, landedAt, held, linearOf, linearResult, shrunk, reachOf, take};
+ghost use Rattle.run.specs.Run.{takenWith};
 use crate::area;
 use crate::curvature::update_curvature;
 use crate::endings::refuse;
@@ -42,13 +43,12 @@ fn held(old: Scalar, predicted: Scalar, new: Scalar) -> bool
     fell.definitely_greater(old.sub(predicted).mul(Scalar::degenerate(3.0)))
 }
 
-// Whether they did; asked only where there was a violation.
-fn linear_of(st: State, area: &[f64], theta: Scalar) -> Linear
-    requires { ⌜ (st .sizes .m ≤ 12) × (length (now area) ≡ 8000) ⌝ }
-    ensures { λ r. ⌜ ((w : Memory) → Holds w (now (area .entry)) → linearResult r ≡ linearOf st w theta) ⌝ }
+// Whether they did, by the violation of the landed point; asked only where there was a violation.
+fn linear_of(st: State, theta: Scalar, landed: Answer) -> Linear
+    ensures { λ r. ⌜ ((w : Memory) → resultOf landed ≡ violationOf (landedAt st w .constraints) →
+        linearResult r ≡ linearOf st w theta) ⌝ }
 {
     if theta.definitely_greater(Scalar::ZERO) {
-        let landed = rows::violation(&area[area::LANDED_ROWS..area::STEP], st.sizes.n, st.sizes.m);
         match landed {
             Answer::Value(new) => {
                 return Linear::Known(held(theta, st.trial.predicted, new));
@@ -112,12 +112,14 @@ fn take_with(
     st: State,
     area: &mut [f64],
     theta: Scalar,
+    landed: Answer,
     span: Scalar,
     mu: Scalar,
     radius: Scalar,
 ) -> Out
     requires { ⌜ (length (now area) ≡ 8000) × (Underway st × (isPositive mu ≡ true)) ⌝ }
-    ensures { λ r. ⌜ ((w : Memory) → Working st w (now (area .entry)) → Leaves (takenWith st w theta span mu radius) r
+    ensures { λ r. ⌜ ((w : Memory) → Judging st theta (resultOf landed) w (now (area .entry)) → Leaves (takenWith st w
+        theta span mu radius) r
         (now (area .exit))) ⌝ }
 {
     let mut b = [0.0; 288];
@@ -134,21 +136,22 @@ fn take_with(
         st.sizes.s,
     );
     area::with_taken(area, st.sizes, &b, st.counts.iterations, f, theta);
-    iterate(standing_on(st, span, mu, radius), area)
+    iterate(standing_on(st, span, mu, radius), area, landed)
 }
 
-// The step of that length is taken, from a point with violation theta.
-pub fn take(st: State, area: &mut [f64], theta: Scalar, span: Scalar) -> Out
+// The step of that length is taken, from a point with violation theta to the landed one.
+pub fn take(st: State, area: &mut [f64], theta: Scalar, landed: Answer, span: Scalar) -> Out
     requires { ⌜ (length (now area) ≡ 8000) × Underway st ⌝ }
-    ensures { λ r. ⌜ ((w : Memory) → Working st w (now (area .entry)) → Leaves (take st w theta span) r (now (area
+    ensures { λ r. ⌜ ((w : Memory) → Judging st theta (resultOf landed) w (now (area .entry)) → Leaves (take st w theta
+        span) r (now (area
         .exit))) ⌝ }
 {
-    match linear_of(st, area, theta) {
+    match linear_of(st, theta, landed) {
         Linear::Known(linear) => match st.search.mu.div(Scalar::degenerate(3.0)) {
             ScalarResult::Value(third) => {
                 let mu = shrunk(st.search.mu, third);
                 let radius = reach(span, st.search.radius, st.max_step, linear);
-                return take_with(st, area, theta, span, mu, radius);
+                return take_with(st, area, theta, landed, span, mu, radius);
             }
             ScalarResult::Refused(e) => {
                 return refuse(st, area, LinearError::Arithmetic(e));

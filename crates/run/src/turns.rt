@@ -4,10 +4,11 @@ ghost use mathlib.Core.Path.{_≡_};
 ghost use Prim.Native.Nat.{_≤_};
 ghost use lib.ListN.{length, take, drop};
 ghost use Rattle.interval.specs.Scalar.{pick};
+ghost use Rattle.linear.specs.Answers.{resultOf};
 ghost use Rattle.run.specs.Area.{Memory, Holds};
 ghost use Rattle.run.specs.Curvature.{learnedOf};
 ghost use Rattle.run.specs.Proposal.{movedOf};
-ghost use Rattle.run.specs.Remainders.{Working};
+ghost use Rattle.run.specs.Remainders.{Working, Seeking};
 ghost use Rattle.run.specs.Rows.{sumOf, sumSquared};
 ghost use Rattle.run.specs.Run as run;
 ghost use Rattle.run.specs.Run.{Leaves, Bounded, searching, leftAt, soughtOf};
@@ -19,7 +20,6 @@ use crate::endings::finish;
 use crate::endings::refuse;
 use crate::proposal::Model;
 use crate::rows::sum_squared;
-use crate::rows::violation;
 use crate::search::Damped;
 use crate::search::Found;
 use crate::search::damp;
@@ -84,14 +84,21 @@ fn model(z: Sizes, rows: &[f64], theta: Scalar) -> Model
     }
 }
 
-// The search from the standing point, until it is left; a violation that is refused leaves it.
-fn seek_standing(st: State, area: &[f64], delta: &mut [f64], lambda: &mut [f64]) -> Found
+// The search from the standing point with its violation, until it is left; a violation that is refused leaves it.
+fn seek_standing(
+    st: State,
+    area: &[f64],
+    standing: Answer,
+    delta: &mut [f64],
+    lambda: &mut [f64],
+) -> Found
     requires { ⌜ (length (now area) ≡ 8000) × (Bounded 2147483648 st × ((length (now delta) ≡ 24) × (length (now lambda) ≡ 24))) ⌝ }
-    ensures { λ r. ⌜ ((w : Memory) → Holds w (now (area .entry)) → foundResult r (now (delta .exit)) (now (lambda .exit)) (movedOf (st .sizes .n) (w .standing) (now (delta .exit))) ≡ soughtOf st w) ⌝ }
+    ensures { λ r. ⌜ ((w : Memory) → Seeking st (resultOf standing) w (now (area .entry)) → foundResult r (now (delta
+        .exit)) (now (lambda .exit)) (movedOf (st .sizes .n) (w .standing) (now (delta .exit))) ≡ soughtOf st w) ⌝ }
 {
     let from = st.search;
     let rows = &area[area::STANDING_ROWS..area::LANDED_ROWS];
-    match violation(rows, st.sizes.n, st.sizes.m) {
+    match standing {
         Answer::Value(theta) => {
             let mut b = [0.0; 288];
             let moving = st.moving;
@@ -114,38 +121,41 @@ fn seek_standing(st: State, area: &[f64], delta: &mut [f64], lambda: &mut [f64])
     }
 }
 
-// The search for a proposal from the standing point, until a question, the finish or a refusal.
-fn search(st: State, area: &mut [f64]) -> Out
+// The search for a proposal from the standing point with its violation, until a question, the finish or a refusal.
+fn search(st: State, area: &mut [f64], standing: Answer) -> Out
     requires { ⌜ (length (now area) ≡ 8000) × Bounded 2147483648 st ⌝ }
-    ensures { λ r. ⌜ ((w : Memory) → Working st w (now (area .entry)) → Leaves (run.search st w) r (now (area .exit))) ⌝ }
+    ensures { λ r. ⌜ ((w : Memory) → Seeking st (resultOf standing) w (now (area .entry)) → Leaves (run.search st w) r
+        (now (area .exit))) ⌝ }
 {
     let mut delta = [0.0; 24];
     let mut lambda = [0.0; 24];
-    let found = seek_standing(st, area, &mut delta, &mut lambda);
+    let found = seek_standing(st, area, standing, &mut delta, &mut lambda);
     left_at(st, area, found, &delta, &lambda)
 }
 
 // A new iteration, or the finish where the limit is reached.
-pub fn iterate(st: State, area: &mut [f64]) -> Out
+pub fn iterate(st: State, area: &mut [f64], standing: Answer) -> Out
     requires { ⌜ (length (now area) ≡ 8000) × Bounded 2147483648 st ⌝ }
-    ensures { λ r. ⌜ ((w : Memory) → Working st w (now (area .entry)) → Leaves (run.iterate st w) r (now (area .exit)))
+    ensures { λ r. ⌜ ((w : Memory) → Seeking st (resultOf standing) w (now (area .entry)) → Leaves (run.iterate st w) r
+        (now (area .exit)))
         ⌝ }
 {
     if st.sizes.limit <= st.counts.iterations {
         return finish(st, area, Stop::Budget);
     }
-    search(st, area)
+    search(st, area, standing)
 }
 
 // With that radius and more damping, while that is finite.
-fn grow(st: State, area: &mut [f64], radius: Scalar, why: Rejection) -> Out
+fn grow(st: State, area: &mut [f64], radius: Scalar, why: Rejection, standing: Answer) -> Out
     requires { ⌜ (length (now area) ≡ 8000) × Bounded 1073741824 st ⌝ }
-    ensures { λ r. ⌜ ((w : Memory) → Working st w (now (area .entry)) → Leaves (run.grow (searching st (withRadius
+    ensures { λ r. ⌜ ((w : Memory) → Seeking st (resultOf standing) w (now (area .entry)) → Leaves (run.grow (searching
+        st (withRadius
         (rejectedFor (st .search) why) radius)) w) r (now (area .exit))) ⌝ }
 {
     match damp(st.search, radius, why) {
         Damped::On(y) => {
-            return search(with_search(st, y), area);
+            return search(with_search(st, y), area, standing);
         }
         Damped::Stop(y, stop) => {
             return finish(with_search(st, y), area, stop);
@@ -154,14 +164,15 @@ fn grow(st: State, area: &mut [f64], radius: Scalar, why: Rejection) -> Out
 }
 
 // A step turned down: a quarter of the length tried is the radius, and more damping.
-pub fn turn_down(st: State, area: &mut [f64], why: Rejection) -> Out
+pub fn turn_down(st: State, area: &mut [f64], why: Rejection, standing: Answer) -> Out
     requires { ⌜ (length (now area) ≡ 8000) × Bounded 1073741824 st ⌝ }
-    ensures { λ r. ⌜ ((w : Memory) → Working st w (now (area .entry)) → Leaves (run.turnDown st w why) r (now (area
+    ensures { λ r. ⌜ ((w : Memory) → Seeking st (resultOf standing) w (now (area .entry)) → Leaves (run.turnDown st w
+        why) r (now (area
         .exit))) ⌝ }
 {
     match st.trial.tried.div(Scalar::degenerate(4.0)) {
         ScalarResult::Value(q) => {
-            return grow(st, area, q.sharpen(), why);
+            return grow(st, area, q.sharpen(), why, standing);
         }
         ScalarResult::Refused(e) => {
             let x = reject(st.search, why);
@@ -182,9 +193,10 @@ fn may_retry(plain: bool, n: usize, area: &[f64]) -> bool
 }
 
 // A step that is not lower: tried again without the curvature learned, once in an iteration, or turned down.
-pub fn not_lower(st: State, area: &mut [f64]) -> Out
+pub fn not_lower(st: State, area: &mut [f64], standing: Answer) -> Out
     requires { ⌜ (length (now area) ≡ 8000) × Bounded 1073741824 st ⌝ }
-    ensures { λ r. ⌜ ((w : Memory) → Working st w (now (area .entry)) → Leaves (run.notLower st w) r (now (area .exit)))
+    ensures { λ r. ⌜ ((w : Memory) → Seeking st (resultOf standing) w (now (area .entry)) → Leaves (run.notLower st w) r
+        (now (area .exit)))
         ⌝ }
 {
     if may_retry(st.search.plain, st.sizes.n, area) {
@@ -192,7 +204,7 @@ pub fn not_lower(st: State, area: &mut [f64]) -> Out
         let turned_down = st.search.turned_down + 1;
         y.turned_down = turned_down;
         y.plain = true;
-        return search(with_search(st, y), area);
+        return search(with_search(st, y), area, standing);
     }
-    turn_down(st, area, Rejection::NotLower)
+    turn_down(st, area, Rejection::NotLower, standing)
 }

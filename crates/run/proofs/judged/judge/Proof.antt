@@ -16,36 +16,47 @@ enum-known-e c = search needs
 
 returns : tie.Need-returns
 unfolding judgeOf
-returns c = sym (bind-refused _ (sym (c .before .before .before .norm-of .ensures) ∙ ap resultOf (c .before .e .given .1)))
+returns c v =
+    sym (bind-refused _ (sym (c .before .before .before .norm-of .ensures) ∙ ap resultOf (c .before .e .given .1)))
 
 enum-known-length : tie.Need-enum-known-length
 enum-known-length c = search needs
 
-violation-requires : tie.Need-violation-requires
-violation-requires c κs = search needs
-
-enum-known-e-2 : tie.Need-enum-known-e-2
-enum-known-e-2 c = search needs
+enum-known-landed : tie.Need-enum-known-landed
+enum-known-landed c = search needs
 
 returns-2 : tie.Need-returns-2
 unfolding judgeOf
-returns-2 c =
-    let f = sym (c .before .before .before .before .before .before .before .norm-of .ensures) ∙ ap resultOf (c .before .before .before .before .before .length .given .1) in
-    let g = sym (c .before .before .before .violation .ensures) ∙ ap resultOf (c .before .e2 .given .1) in
+returns-2 c v =
+    let f = sym (c .before .before .before .before .before .before .norm-of .ensures) ∙ ap resultOf (c .before .before
+    .before .before .length .given .1) in
+    let g = sym v ∙ ap resultOf (c .before .landed .given .1) in
     sym (bind-ok _ f ∙ bind-refused _ g)
 
-enum-known-t : tie.Need-enum-known-t
-enum-known-t c = search needs
+enum-known-landed-2 : tie.Need-enum-known-landed-2
+enum-known-landed-2 c = search needs
 
 judged-at-requires : tie.Need-judged-at-requires
 judged-at-requires c κs = search needs
 
 returns-3 : tie.Need-returns-3
 unfolding judgeOf
-returns-3 c =
-    let f = sym (c .before .before .before .before .before .before .before .before .norm-of .ensures) ∙ ap resultOf (c .before .before .before .before .before .before .length .given .1) in
-    let g = sym (c .before .before .before .before .violation .ensures) ∙ ap resultOf (c .before .before .t .given .1) in
+returns-3 c v =
+    let f = sym (c .before .before .before .before .before .before .before .norm-of .ensures) ∙ ap resultOf (c .before
+    .before .before .before .before .length .given .1) in
+    let g = sym v ∙ ap resultOf (c .before .before .landed2 .given .1) in
     ap ok (c .judged-at .ensures) ∙ sym (bind-ok _ f ∙ bind-ok _ g)
 
 pub judge-spec : {M : Type 1} → statement M
-judge-spec = tie.close (tie.spec norm-of-requires enum-known-e returns enum-known-length violation-requires enum-known-e-2 returns-2 enum-known-t judged-at-requires returns-3)
+judge-spec =
+    tie.close
+    (tie.spec
+    norm-of-requires
+    enum-known-e
+    returns
+    enum-known-length
+    enum-known-landed
+    returns-2
+    enum-known-landed-2
+    judged-at-requires
+    returns-3)

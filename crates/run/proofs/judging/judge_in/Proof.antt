@@ -1,7 +1,8 @@
 -- `judge_in` meets its contract: each part of the area is its slot.
+use mathlib.Core.Path.{refl, _∙_}
 use native.Mathlib.Omega.{arith}
 use Rattle.run.proofs.LeaveLaws.{cut-length}
-use Rattle.run.proofs.ReadLaws.{slot-enough, judged-is}
+use Rattle.run.proofs.ReadLaws.{landed-violation, judged-is}
 use borrow.Author.Needs.{needs}
 use Rattle.run.proofs.judging.judge_in.Statement.{statement}
 use Rattle.run.proofs.judging.judge_in.Tie as tie
@@ -47,13 +48,16 @@ judge-requires c κs =
     let s = c .before .before .before .before .before in
     let u = s .pre .1 in
     let b = u .bounded in
-    (b .few-variables, (b .few-constraints, (b .few-sums, (slot-enough 1008 (s .args .area .now) (omega (arith, s .pre .0)) (b .few-constraints), (omega (arith, u .below, b .few-iterations), cut-length 24 1944 (s .args .area .now) (omega (arith, s .pre .0)))))))
+    let step = cut-length 24 1944 (s .args .area .now) (omega (arith, s .pre .0)) in
+    (b .few-variables, (b .few-constraints, (b .few-sums, (omega (arith, u .below, b .few-iterations), step))))
 
 returns : tie.Need-returns
 returns c w h =
     let a = c .before .before .before .before .before .before .args in
     let z = a .st .sizes in
-    judged-is (z .n) (z .m) (z .s) (a .theta) (a .st .counts .iterations) (a .st .last) h (c .judge .ensures)
+    let k = h .measured .uses .holds in
+    let v = h .landed-is ∙ landed-violation (a .st) k refl in
+    judged-is (z .n) (z .m) (z .s) (a .theta) (a .st .counts .iterations) (a .st .last) k (c .judge .ensures v)
 
 pub judge-in-spec : {M : Type 1} → statement M
 judge-in-spec =

@@ -1,6 +1,6 @@
 -- `answered_none` meets its contract: each kind is the definition's.
 use Rattle.run.proofs.FollowLaws.{correction-underway, none-as}
-use Rattle.run.proofs.Remainders.{limits-of}
+use Rattle.run.proofs.Remainders.{limits-of, measures}
 use borrow.Author.Needs.{needs}
 use Rattle.run.proofs.landing.answered_none.Statement.{statement}
 use Rattle.run.proofs.landing.answered_none.Tie as tie
@@ -20,14 +20,25 @@ returns c w h = none-as (c .before .before .before .before .before .before .befo
 enum-told-2 : tie.Need-enum-told-2
 enum-told-2 c = search needs
 
+standing-violation-requires : tie.Need-standing-violation-requires
+standing-violation-requires c κs =
+    let p = c .before .before .before .before .pre in
+    (p .1 .0 .few-constraints, p .0)
+
 turn-down-requires : tie.Need-turn-down-requires
-turn-down-requires c κs = let p = c .before .before .before .before .pre in (p .0, p .1 .0)
+turn-down-requires c κs =
+    let p = c .before .before .before .before .before .before .pre in
+    (p .0, p .1 .0)
 
 same-length-2 : tie.Need-same-length-2
 same-length-2 c = search needs
 
 returns-2 : tie.Need-returns-2
-returns-2 c w h = none-as (c .before .before .before .before .before .before .before .args .st) w (c .before .before .before .before .enum-told2 .given .1) (c .before .before .turn-down .ensures w h)
+returns-2 c w h =
+    let st = c .before .before .before .before .before .before .before .before .before .args .st in
+    let hs = measures st h (c .before .before .before .before .standing-violation .ensures w (h .holds)) in
+    none-as st w (c .before .before .before .before .before .before .enum-told2 .given .1) (c .before .before .turn-down
+    .ensures w hs)
 
 enum-told-3 : tie.Need-enum-told-3
 enum-told-3 c = search needs
@@ -50,6 +61,7 @@ answered-none-spec =
     same-length
     returns
     enum-told-2
+    standing-violation-requires
     turn-down-requires
     same-length-2
     returns-2

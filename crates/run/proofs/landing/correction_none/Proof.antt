@@ -3,7 +3,7 @@ use mathlib.Core.Path.{sym, ap, _∙_}
 use Rattle.linear.specs.Answers.{resultOf}
 use Rattle.run.specs.Run.{judge}
 use Rattle.run.proofs.LeaveLaws.{or-next, or-refused}
-use Rattle.run.proofs.Remainders.{limits-of}
+use Rattle.run.proofs.Remainders.{limits-of, compares}
 use borrow.Author.Needs.{needs}
 use Rattle.run.proofs.landing.correction_none.Statement.{statement}
 use Rattle.run.proofs.landing.correction_none.Tie as tie
@@ -14,18 +14,26 @@ standing-violation-requires c κs = let p = c .before .before .pre in (p .1 .bou
 enum-known-theta : tie.Need-enum-known-theta
 enum-known-theta c = search needs
 
+landed-violation-requires : tie.Need-landed-violation-requires
+landed-violation-requires c κs =
+    let p = c .before .before .before .before .before .before .before .pre in
+    (p .1 .bounded .few-constraints, p .0)
+
 judge-landed-requires : tie.Need-judge-landed-requires
-judge-landed-requires c κs = c .before .before .before .before .before .before .before .pre
+judge-landed-requires c κs = c .before .before .before .before .before .before .before .before .before .pre
 
 same-length : tie.Need-same-length
 same-length c = search needs
 
 returns : tie.Need-returns
 returns c w h =
-    let st = c .before .before .before .before .before .before .before .before .before .before .args .st in or-next st w
-    (judge st w) (sym (c .before .before .before .before .before .before .before .standing-violation .ensures w (h
-    .holds)) ∙ ap resultOf (c .before .before .before .before .before .theta .given .1)) (c .before .before
-    .judge-landed .ensures w h)
+    let st = c .before .before .before .before .before .before .before .before .before .before .before .before .args .st
+    in
+    let v = c .before .before .before .before .before .before .before .before .before .standing-violation .ensures w (h
+    .holds) in
+    let e = ap resultOf (c .before .before .before .before .before .before .before .theta .given .1) in
+    let hj = compares st h (sym e ∙ v) (c .before .before .before .before .landed-violation .ensures w (h .holds)) in
+    or-next st w (judge st w) (sym v ∙ e) (c .before .before .judge-landed .ensures w hj)
 
 enum-known-e : tie.Need-enum-known-e
 enum-known-e c = search needs
@@ -50,6 +58,7 @@ correction-none-spec =
     (tie.spec
     standing-violation-requires
     enum-known-theta
+    landed-violation-requires
     judge-landed-requires
     same-length
     returns

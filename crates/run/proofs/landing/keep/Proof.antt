@@ -1,5 +1,5 @@
 -- `keep` meets its contract: the shift, with fewer than four corrections corrected again, or its refusal.
-use mathlib.Core.Path.{_≡_, refl, sym, ap, subst}
+use mathlib.Core.Path.{_≡_, refl, sym, ap, subst, _∙_}
 use native.Mathlib.Omega.{arith}
 use lib.ListN.{length}
 use Rattle.linear.specs.Answers.{doneOf}
@@ -10,7 +10,8 @@ use Rattle.run.specs.Run.{Underway}
 use Rattle.run.specs.declared.state.State.{State}
 use Rattle.run.proofs.FollowLaws.{keep-known, keep-refused, kept-known, rows-few}
 use Rattle.run.proofs.ReadLaws.{marks-count, shift-read, landed-again, withStep, stepped}
-use Rattle.run.proofs.Remainders.{limits-of, works-as}
+use Rattle.run.proofs.Remainders.{limits-of, judges-as, compares}
+use Rattle.run.proofs.Slots.{violation-padded}
 use Rattle.run.proofs.Tidied.{shifts, lands}
 use borrow.Author.Needs.{needs}
 use Rattle.run.proofs.landing.keep.Statement.{statement}
@@ -53,12 +54,12 @@ same-length : tie.Need-same-length
 same-length c = search needs
 
 returns : tie.Need-returns
-returns c w h =
+returns c w h v =
     let a = c .before .before .before .before .before .before .before .before .before .before .before .before .before .before .before .before .args in
     let x = c .before .before .before .before .before .before .before .before .shift in
-    keep-refused (a .st) w (a .rows .now) (a .theta) refl (shift-read (a .st) (h .holds) (x .ensures)) (ap (λ (r :
-    Done). doneOf r (x .last .1 .1 .1 .1 .0)) (c .before .before .before .before .before .shift2 .given .1)) (c .before
-    .before .refuse .ensures w h)
+    keep-refused (a .st) w (a .rows .now) (a .theta) refl (shift-read (a .st) (h .uses .holds) (x .ensures))
+    (ap (λ (r : Done). doneOf r (x .last .1 .1 .1 .1 .0)) (c .before .before .before .before .before .shift2 .given .1))
+    (c .before .before .refuse .ensures w (h .uses))
 
 sub-shifted-step : tie.Need-sub-shifted-step
 sub-shifted-step c = search needs
@@ -96,23 +97,26 @@ same-length-2 : tie.Need-same-length-2
 same-length-2 c = omega (arith, c .before .before .correct-or-judge .kept, correct-or-judge-requires (c .before .before .before) (c .before .before .correct-or-judge .lifetimes) .0, c .before .before .before .before .before .before .before .before .before .before .before .before .before .before .before .before .before .before .before .before .before .before .before .before .before .before .pre .0)
 
 returns-2 : tie.Need-returns-2
-returns-2 c w h =
+returns-2 c w h v =
     let a = c .before .before .before .before .before .before .before .before .before .before .before .before .before .before .before .before .before .before .before .before .before .before .before .before .before .before .args in
-    let x = c .before .before .before .before .before .before .before .before .before .before .before .before .before .before .before .before .before .before .shift in
-    let d = x .last .1 .1 .1 .1 .0 in
-    let s = shiftedStep (a .st .sizes .n) (w .step) d in
     let p = c .before .before .before .before .before .before .before .before .before .before .before .before .before
     .before .before .before .before .before .before .before .before .before .before .before .before .before .pre in
-    let hs = shifts (a .st) d h (stepped (a .st .sizes .n) d (h .holds) (c .before .before .before .before .before
+    let z = a .st .sizes in
+    let shifting = c .before .before .before .before .before .before .before .before .before .before .before .before in
+    let x = shifting .before .before .before .before .before .before .shift in
+    let d = x .last .1 .1 .1 .1 .0 in
+    let s = shiftedStep (z .n) (w .step) d in
+    let t = c .before .before .before .before .with-landed-number .ensures in
+    let hs = shifts (a .st) d (h .uses) (stepped (z .n) d (h .uses .holds) (c .before .before .before .before .before
     .before .before .before .before .before .before .before .shifted-step .ensures)) in
-    let hv = lands (a .st) (p .1 .1 .0 .bounded) (a .rows .now) (p .1 .0) hs (c .before .before .before .before .before
-    .before .before .before .landed .ensures (withStep w s) (hs .holds)) in
-    keep-known (a .st) w (a .rows .now) (a .theta) refl (shift-read (a .st) (h .holds) (x .ensures)) (ap (λ (r : Done).
-    doneOf r d) (c .before .before .before .before .before .before .before .before .before .before .before .before
-    .before .before .before .enum-told .given .1))
-    (kept-known (a .st) w (a .rows .now) (a .theta) d (c .before .before .before .before .with-landed-number .ensures)
-    (c .before .before .correct-or-judge .ensures (withLanded w (a .rows .now) s) (works-as (c .before .before .before
-    .before .with-landed-number .ensures) hv)))
+    let hv = lands (a .st) (p .1 .1 .0 .bounded) (a .rows .now) (p .1 .0) hs
+    (c .before .before .before .before .before .before .before .before .landed .ensures (withStep w s) (hs .holds)) in
+    let hj = compares (a .st) hv (h .standing-is) (v ∙ sym (violation-padded z (a .rows .now) (p .1 .0))) in
+    keep-known (a .st) w (a .rows .now) (a .theta) refl (shift-read (a .st) (h .uses .holds) (x .ensures))
+    (ap (λ (r : Done). doneOf r d) (c .before .before .before .before .before .before .before .before .before .before
+    .before .before .before .before .before .enum-told .given .1))
+    (kept-known (a .st) w (a .rows .now) (a .theta) d t
+    (c .before .before .correct-or-judge .ensures (withLanded w (a .rows .now) s) (judges-as t hj)))
 
 pub keep-spec : {M : Type 1} → statement M
 keep-spec =

@@ -6,7 +6,7 @@ use Rattle.linear.specs.Answers.{resultOf}
 use Rattle.run.specs.Area.{Memory}
 use Rattle.run.specs.Run.{Outcome, landTrial, landCorrection}
 use Rattle.run.proofs.LeaveLaws.{or-next, or-refused, when, unless}
-use Rattle.run.proofs.Remainders.{limits-of}
+use Rattle.run.proofs.Remainders.{limits-of, measures}
 use borrow.Author.Needs.{needs}
 use Rattle.run.proofs.landing.land.Statement.{statement}
 use Rattle.run.proofs.landing.land.Tie as tie
@@ -37,11 +37,13 @@ same-length c = search needs
 
 returns : tie.Need-returns
 returns c w h =
-    or-next (c .before .before .before .before .before .before .before .before .before .before .before .before .args
-    .st) w (next (c .before .before .before .before .before .before .before .before .before .before .before .before) w)
-    (sym (c .before .before .before .before .before .before .before .before .standing-violation .ensures w (h .holds)) ∙
-    ap resultOf (c .before .before .before .before .before .before .theta .given .1)) (when _ _ (c .before .before
-    .before .before .if1 .taken) (c .before .before .land-trial .ensures w h))
+    let s = c .before .before .before .before .before .before .before .before .before .before .before .before in
+    let v = c .before .before .before .before .before .before .before .before .standing-violation .ensures w (h .holds)
+    in
+    let e = ap resultOf (c .before .before .before .before .before .before .theta .given .1) in
+    let hs = measures (s .args .st) h (sym e ∙ v) in
+    or-next (s .args .st) w (next s w) (sym v ∙ e) (when _ _ (c .before .before .before .before .if1 .taken) (c .before
+    .before .land-trial .ensures w hs))
 
 land-correction-requires : tie.Need-land-correction-requires
 land-correction-requires c κs = c .before .before .before .before .before .before .before .before .before .pre
@@ -51,11 +53,13 @@ same-length-2 c = search needs
 
 returns-2 : tie.Need-returns-2
 returns-2 c w h =
-    or-next (c .before .before .before .before .before .before .before .before .before .before .before .before .args
-    .st) w (next (c .before .before .before .before .before .before .before .before .before .before .before .before) w)
-    (sym (c .before .before .before .before .before .before .before .before .standing-violation .ensures w (h .holds)) ∙
-    ap resultOf (c .before .before .before .before .before .before .theta .given .1)) (unless _ _ (c .before .before
-    .before .before .if1 .left) (c .before .before .land-correction .ensures w h))
+    let s = c .before .before .before .before .before .before .before .before .before .before .before .before in
+    let v = c .before .before .before .before .before .before .before .before .standing-violation .ensures w (h .holds)
+    in
+    let e = ap resultOf (c .before .before .before .before .before .before .theta .given .1) in
+    let hs = measures (s .args .st) h (sym e ∙ v) in
+    or-next (s .args .st) w (next s w) (sym v ∙ e) (unless _ _ (c .before .before .before .before .if1 .left) (c .before
+    .before .land-correction .ensures w hs))
 
 enum-known-e : tie.Need-enum-known-e
 enum-known-e c = search needs
@@ -73,10 +77,10 @@ same-length-3 c = search needs
 
 returns-3 : tie.Need-returns-3
 returns-3 c w h =
-    or-refused (c .before .before .before .before .before .before .before .before .before .before .before .args .st) w
-    (next (c .before .before .before .before .before .before .before .before .before .before .before) w) (sym (c .before
-    .before .before .before .before .before .before .standing-violation .ensures w (h .holds)) ∙ ap resultOf (c .before
-    .before .before .before .before .e .given .1)) (c .before .before .refuse .ensures w h)
+    let s = c .before .before .before .before .before .before .before .before .before .before .before in
+    let e = sym (c .before .before .before .before .before .before .before .standing-violation .ensures w (h .holds)) ∙
+    ap resultOf (c .before .before .before .before .before .e .given .1) in
+    or-refused (s .args .st) w (next s w) e (c .before .before .refuse .ensures w h)
 
 pub land-spec : {M : Type 1} → statement M
 land-spec =

@@ -6,47 +6,55 @@ use Rattle.run.specs.Area.{withStart}
 use Rattle.run.specs.Run.{Bounded}
 use Rattle.run.specs.declared.state.State.{State}
 use Rattle.run.proofs.FollowLaws.{started-known, moved-on, rows-few}
-use Rattle.run.proofs.Remainders.{works-as}
+use Rattle.run.proofs.Remainders.{seeks-as, measures}
 use Rattle.run.proofs.Tidied.{starts}
 use borrow.Author.Needs.{needs}
 use Rattle.run.proofs.landing.started.Statement.{statement}
 use Rattle.run.proofs.landing.started.Tie as tie
 
 moving-requires : tie.Need-moving-requires
-moving-requires c κs = let b = c .before .before .pre .1 .1 .0 in (b .few-variables, (b .few-constraints, b .few-sums))
+moving-requires c κs =
+    let b = c .before .before .pre .1 .1 .0 in
+    (b .few-variables, (b .few-constraints, b .few-sums))
 
 with-start-requires : tie.Need-with-start-requires
 with-start-requires c κs =
-    let p = c .before .before .before .before .pre in (p .0, omega (arith, rows-few (p .1 .1 .0), p .1 .0))
+    let p = c .before .before .before .before .pre in
+    (p .0, omega (arith, rows-few (p .1 .1 .0), p .1 .0))
+
+standing-violation-requires : tie.Need-standing-violation-requires
+standing-violation-requires c κs =
+    let p = c .before .before .before .before .before .before .before .before .pre in
+    (p .1 .1 .0 .few-constraints, omega (arith, c .before .before .before .with-start .kept, p .0))
 
 with-moving-requires : tie.Need-with-moving-requires
 with-moving-requires c κs = search needs
 
 iterate-requires : tie.Need-iterate-requires
 iterate-requires c κs =
-    let p = c .before .before .before .before .before .before .before .before .before .pre in (
-      omega (
-        arith,
-        c .before
-            .before .before .before .with-start .kept,
-        p .0,
-      ),
-      subst (λ (x : State). Bounded 2147483648 x) (sym (c .before
-          .with-moving .ensures)) (moved-on _ (p .1 .1 .0)),
-    )
+    let p = c .before .before .before .before .before .before .before .before .before .before .before .pre in
+    let long = c .before .before .before .before .before .before .with-start .kept in
+    let t = sym (c .before .with-moving .ensures) in
+    (omega (arith, long, p .0), subst (λ (x : State). Bounded 2147483648 x) t (moved-on _ (p .1 .1 .0)))
 
 same-length : tie.Need-same-length
 same-length c = search needs
 
 returns : tie.Need-returns
 returns c w h =
-    let a = c .before .before .before .before .before .before .before .before .before .before .before .before .args in
-    let p = c .before .before .before .before .before .before .before .before .before .before .before .before .pre in
-    let hv = starts (a .st) (p .1 .1 .0) (a .rows .now) (p .1 .0) h (p .1 .1 .1) (c .before .before .before .before
-    .before .before .before .with-start .ensures w (2 * a .st .sizes .n)) in
-    started-known (a .st) w (a .rows .now) (c .before .before .before .before .with-moving .ensures) (c .before .before
-    .before .before .before .before .before .before .before .moving .ensures) (c .before .before .iterate .ensures
-    (withStart w (a .rows .now)) (works-as (c .before .before .before .before .with-moving .ensures) hv))
+    let a = c .before .before .before .before .before .before .before .before .before .before .before .before .before
+    .before .args in
+    let p = c .before .before .before .before .before .before .before .before .before .before .before .before .before
+    .before .pre in
+    let t = c .before .before .before .before .with-moving .ensures in
+    let v = withStart w (a .rows .now) in
+    let hv = starts (a .st) (p .1 .1 .0) (a .rows .now) (p .1 .0) h (p .1 .1 .1)
+    (c .before .before .before .before .before .before .before .before .before .with-start .ensures w (2 * a .st .sizes
+    .n)) in
+    let hs = measures (a .st) hv (c .before .before .before .before .before .standing-violation .ensures v (hv .holds))
+    in
+    started-known (a .st) w (a .rows .now) t (c .before .before .before .before .before .before .before .before .before
+    .before .before .moving .ensures) (c .before .before .iterate .ensures v (seeks-as t hs))
 
 pub started-spec : {M : Type 1} → statement M
 started-spec =
@@ -54,6 +62,7 @@ started-spec =
     (tie.spec
     moving-requires
     with-start-requires
+    standing-violation-requires
     with-moving-requires
     iterate-requires
     same-length

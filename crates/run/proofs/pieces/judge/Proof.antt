@@ -27,16 +27,58 @@ returns-2 c = rw (le-leb _ _ (c .before .before .before .before .before .if1 .le
 enum-told : tie.Need-enum-told
 enum-told c = search needs
 
-judge-requires : tie.Need-judge-requires
-judge-requires c κs =
+violation-requires : tie.Need-violation-requires
+violation-requires c κs =
     let p = wants-passed _ _ _ (finished (c .enum-told .given .1)) (c .before .before .wants .ensures) in
     let q = fits-passed (p .0) (c .before .before .before .fits2 .ensures) in
-    let z = q .0 in
-    (z .few-variables, (z .few-constraints, (z .few-residuals, (values-inside z (q .1 .0), (omega (arith, c .before .before .before .before .if1 .left), p .1)))))
+    (q .0 .few-constraints, values-inside (q .0) (q .1 .0))
+
+judge-requires : tie.Need-judge-requires
+judge-requires c κs =
+    let p = wants-passed _ _ _ (finished (c .before .enum-told .given .1)) (c .before .before .before .wants .ensures)
+    in
+    let q = fits-passed (p .0) (c .before .before .before .before .fits2 .ensures) in
+    let z = q .0 in (
+      z .few-variables,
+      (
+        z .few-constraints,
+        (
+          z .few-residuals,
+          (
+            omega (
+              arith,
+              c .before .before .before .before .before
+                  .if1 .left,
+            ),
+            p .1,
+          ),
+        ),
+      ),
+    )
 
 returns-3 : tie.Need-returns-3
 unfolding judgeReply
-returns-3 c = rw (le-leb _ _ (c .before .before .before .before .before .if1 .left), ← c .before .before .before .before .fits2 .ensures, ← c .before .before .before .wants .ensures, c .before .enum-told .given .1) (c .judge .ensures)
+returns-3 c =
+    rw (
+      le-leb _ _ (c .before .before .before .before .before .before .if1 .left),
+      ← c .before .before .before .before
+          .before .fits2 .ensures,
+      ← c .before .before .before .before .wants .ensures,
+      c .before .before .enum-told .given
+          .1,
+    )
+    (c .judge .ensures (c .before .violation .ensures))
 
 pub judge-spec : {M : Type 1} → statement M
-judge-spec = tie.close (tie.spec returns fits-requires wants-requires enum-known-e returns-2 enum-told judge-requires returns-3)
+judge-spec =
+    tie.close
+    (tie.spec
+    returns
+    fits-requires
+    wants-requires
+    enum-known-e
+    returns-2
+    enum-told
+    violation-requires
+    judge-requires
+    returns-3)

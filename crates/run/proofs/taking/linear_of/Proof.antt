@@ -4,25 +4,13 @@ use lib.Ieee.{ofBits}
 use Rattle.interval.specs.Result.{ok}
 use Rattle.linear.specs.Answers.{resultOf}
 use Rattle.run.proofs.LeaveLaws.{pick-no}
-use Rattle.run.proofs.ReadLaws.{landed-violation, linear-known, linear-refused}
+use Rattle.run.proofs.ReadLaws.{linear-known, linear-refused}
 use borrow.Author.Needs.{needs}
 use Rattle.run.proofs.taking.linear_of.Statement.{statement}
 use Rattle.run.proofs.taking.linear_of.Tie as tie
 
 definitely-greater-requires : tie.Need-definitely-greater-requires
 definitely-greater-requires c κs = search needs
-
-sub-violation : tie.Need-sub-violation
-sub-violation c = search needs
-
-part-violation-start : tie.Need-part-violation-start
-part-violation-start c = search needs
-
-part-violation-end : tie.Need-part-violation-end
-part-violation-end c = search needs
-
-violation-requires : tie.Need-violation-requires
-violation-requires c κs = search needs
 
 enum-known-landed : tie.Need-enum-known-landed
 enum-known-landed c = search needs
@@ -32,32 +20,33 @@ held-requires c κs = search needs
 
 returns : tie.Need-returns
 unfolding ofBits
-returns c w h =
-    let a = c .before .before .before .before .before .before .before .before .before .args in
-    ap ok (c .held .ensures) ∙ linear-known (a .st) w (a .theta) (sym (landed-violation (a .st) h (c .before .before .before .before .violation .ensures))) (sym (c .before .before .before .before .before .before .before .definitely-greater .ensures) ∙ c .before .before .before .before .before .before .if1 .taken) (ap resultOf (c .before .before .landed .given .1))
+returns c w v =
+    let a = c .before .before .before .before .before .before .args in
+    ap ok (c .held .ensures)
+    ∙ linear-known (a .st) w (a .theta) v (sym (c .before .before .before .before .before .definitely-greater .ensures)
+    ∙ c .before .before .before .before .if1 .taken)
+    (ap resultOf (c .before .before .landed .given .1))
 
 enum-known-landed-2 : tie.Need-enum-known-landed-2
 enum-known-landed-2 c = search needs
 
 returns-2 : tie.Need-returns-2
 unfolding ofBits
-returns-2 c w h =
-    let a = c .before .before .before .before .before .before .before .before .args in
-    linear-refused (a .st) w (a .theta) (sym (landed-violation (a .st) h (c .before .before .before .violation .ensures))) (sym (c .before .before .before .before .before .before .definitely-greater .ensures) ∙ c .before .before .before .before .before .if1 .taken) (ap resultOf (c .before .landed2 .given .1))
+returns-2 c w v =
+    let a = c .before .before .before .before .before .args in
+    linear-refused (a .st) w (a .theta) v (sym (c .before .before .before .before .definitely-greater .ensures) ∙ c
+    .before .before .before .if1 .taken)
+    (ap resultOf (c .before .landed2 .given .1))
 
 returns-3 : tie.Need-returns-3
 unfolding ofBits
-returns-3 c w h = sym (pick-no _ _ (sym (c .before .definitely-greater .ensures) ∙ c .if1 .left))
+returns-3 c w v = sym (pick-no _ _ (sym (c .before .definitely-greater .ensures) ∙ c .if1 .left))
 
 pub linear-of-spec : {M : Type 1} → statement M
 linear-of-spec =
     tie.close
     (tie.spec
     definitely-greater-requires
-    sub-violation
-    part-violation-start
-    part-violation-end
-    violation-requires
     enum-known-landed
     held-requires
     returns

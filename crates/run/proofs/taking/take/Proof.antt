@@ -16,12 +16,16 @@ use Rattle.run.proofs.taking.take.Statement.{statement}
 use Rattle.run.proofs.taking.take.Tie as tie
 
 -- the third, as it is answered
-divided : (k : tie.After-div) → resultOf (k .div .result) ≡ divOf (k .before .before .before .before .before .before .before .before .args .st .search .mu) (degenerate three64)
+divided : (k : tie.After-div)
+    → resultOf (k .div .result)
+    ≡ divOf (k .before .before .before .before .before .before .before .args .st .search .mu) (degenerate three64)
 unfolding ofBits
-divided k = k .div .ensures .value ∙ ap (λ (x : Scalar). divOf (k .before .before .before .before .before .before .before .before .args .st .search .mu) x) (k .before .degenerate .ensures)
+divided k =
+    let mu = k .before .before .before .before .before .before .before .args .st .search .mu in
+    k .div .ensures .value ∙ ap (λ (x : Scalar). divOf mu x) (k .before .degenerate .ensures)
 
 linear-of-requires : tie.Need-linear-of-requires
-linear-of-requires c κs = let p = c .before .before .pre in (p .1 .bounded .few-constraints, p .0)
+linear-of-requires c κs = search needs
 
 enum-known-linear : tie.Need-enum-known-linear
 enum-known-linear c = search needs
@@ -43,59 +47,79 @@ reach-requires c κs = search needs
 
 take-with-requires : tie.Need-take-with-requires
 take-with-requires c κs =
-    let s = c .before .before .before .before .before .before .before .before .before .before .before .before .before .before in
+    let s = c .before .before .before .before .before .before .before .before .before .before .before .before .before in
     let g = s .good .0 .1 .1 .1 .1 .0 .1 .1 .0 .1 .1 in
-    (s .pre .0, (s .pre .1, subst (λ (x : Scalar). isPositive x ≡ true) (sym (c .before .before .shrunk .ensures)) (shrunk-positive (s .args .st .search .mu) _ (yes (g .0 .1), yes (g .1 .0 .1)) (s .pre .1 .bounded .damping) (sym (divided (c .before .before .before .before .before .before)) ∙ ap resultOf (c .before .before .before .before .third .given .1)))))
+    let third = sym (divided (c .before .before .before .before .before .before)) ∙ ap resultOf (c .before .before
+    .before .before .third .given .1) in
+    let u = s .pre .1 in (
+      s .pre .0,
+      (
+        u,
+        subst (λ (x : Scalar). isPositive x ≡ true) (sym (c .before .before .shrunk .ensures))
+            (shrunk-positive (s .args .st .search .mu) _ (yes (g .0 .1), yes (g .1 .0 .1)) (u .bounded .damping) third),
+      ),
+    )
 
 same-length : tie.Need-same-length
 same-length c = search needs
 
 returns : tie.Need-returns
 returns c w h =
-    let a = c .before .before .before .before .before .before .before .before .before .before .before .before .before .before .before .before .before .args in
-    take-known (a .st) w (a .theta) (a .span) (sym (c .before .before .before .before .before .before .before .before
-    .before .before .before .before .before .before .linear-of .ensures w (h .holds)) ∙ ap linearResult (c .before
-    .before .before .before .before .before .before .before .before .before .before .before .linear .given .1))
-    (third-known (a .st) w (a .theta) (a .span) (c .before .before .before .before .before .before .before .before .before .before .before .before .linear .given .0 .0) (sym (divided (c .before .before .before .before .before .before .before .before .before)) ∙ ap resultOf (c .before .before .before .before .before .before .before .third .given .1)) (c .before .before .before .before .before .shrunk .ensures) (c .before .before .before .before .reach .ensures) (c .before .before .take-with .ensures w h))
+    let a = c .before .before .before .before .before .before .before .before .before .before .before .before .before
+    .before .before .before .args in
+    let near = sym (c .before .before .before .before .before .before .before .before .before .before .before .before
+    .before .before .linear-of .ensures w (h .landed-is)) ∙ ap linearResult (c .before .before .before .before .before
+    .before .before .before .before .before .before .before .linear .given .1) in
+    let third = sym (divided (c .before .before .before .before .before .before .before .before .before)) ∙ ap resultOf
+    (c .before .before .before .before .before .before .before .third .given .1) in
+    take-known (a .st) w (a .theta) (a .span) near
+    (third-known (a .st) w (a .theta) (a .span) (c .before .before .before .before .before .before .before .before
+    .before .before .before .before .linear .given .0 .0) third (c .before .before .before .before .before .shrunk
+    .ensures)
+    (c .before .before .before .before .reach .ensures) (c .before .before .take-with .ensures w h))
 
 enum-known-e : tie.Need-enum-known-e
 enum-known-e c = search needs
 
 refuse-requires : tie.Need-refuse-requires
 refuse-requires c κs =
-    let p = c .before .before .before .before .before .before .before .before .before .before .before .before .pre in (
-      p
-          .0,
-      limits-of (p .1 .bounded),
-    )
+    let p = c .before .before .before .before .before .before .before .before .before .before .before .pre in
+    (p .0, limits-of (p .1 .bounded))
 
 same-length-2 : tie.Need-same-length-2
 same-length-2 c = search needs
 
 returns-2 : tie.Need-returns-2
 returns-2 c w h =
-    let a = c .before .before .before .before .before .before .before .before .before .before .before .before .before .before .before .args in
-    take-known (a .st) w (a .theta) (a .span) (sym (c .before .before .before .before .before .before .before .before
-    .before .before .before .before .linear-of .ensures w (h .holds)) ∙ ap linearResult (c .before .before .before
-    .before .before .before .before .before .before .before .linear .given .1))
-    (third-refused (a .st) w (a .theta) (a .span) (c .before .before .before .before .before .before .before .before .before .before .linear .given .0 .0) (sym (divided (c .before .before .before .before .before .before .before)) ∙ ap resultOf (c .before .before .before .before .before .e .given .1)) (c .before .before .refuse .ensures w h))
+    let a = c .before .before .before .before .before .before .before .before .before .before .before .before .before
+    .before .args in
+    let near = sym (c .before .before .before .before .before .before .before .before .before .before .before .before
+    .linear-of .ensures w (h .landed-is)) ∙ ap linearResult (c .before .before .before .before .before .before .before
+    .before .before .before .linear .given .1) in
+    let third = sym (divided (c .before .before .before .before .before .before .before)) ∙ ap resultOf (c .before
+    .before .before .before .before .e .given .1) in
+    take-known (a .st) w (a .theta) (a .span) near
+    (third-refused (a .st) w (a .theta) (a .span) (c .before .before .before .before .before .before .before .before
+    .before .before .linear .given .0 .0) third
+    (c .before .before .refuse .ensures w (h .measured .uses)))
 
 enum-known-e-2 : tie.Need-enum-known-e-2
 enum-known-e-2 c = search needs
 
 refuse-requires-2 : tie.Need-refuse-requires-2
 refuse-requires-2 c κs =
-    let p = c .before .before .before .before .before .before .before .pre in (p .0, limits-of (p .1 .bounded))
+    let p = c .before .before .before .before .before .before .pre in
+    (p .0, limits-of (p .1 .bounded))
 
 same-length-3 : tie.Need-same-length-3
 same-length-3 c = search needs
 
 returns-3 : tie.Need-returns-3
 returns-3 c w h =
-    let a = c .before .before .before .before .before .before .before .before .before .before .args in take-refused (a
-    .st) w (a .theta) (a .span) (sym (c .before .before .before .before .before .before .before .linear-of .ensures w (h
-    .holds)) ∙ ap linearResult (c .before .before .before .before .before .e2 .given .1)) (c .before .before .refuse2
-    .ensures w h)
+    let a = c .before .before .before .before .before .before .before .before .before .args in
+    let near = sym (c .before .before .before .before .before .before .before .linear-of .ensures w (h .landed-is)) ∙ ap
+    linearResult (c .before .before .before .before .before .e2 .given .1) in
+    take-refused (a .st) w (a .theta) (a .span) near (c .before .before .refuse2 .ensures w (h .measured .uses))
 
 pub take-spec : {M : Type 1} → statement M
 take-spec =

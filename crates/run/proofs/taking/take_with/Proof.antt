@@ -13,7 +13,7 @@ use Rattle.run.specs.declared.state.State.{State}
 use Rattle.run.proofs.FollowLaws.{learned-known, learned-refused, stands-on}
 use Rattle.run.proofs.LeaveLaws.{standing-rows-read}
 use Rattle.run.proofs.ReadLaws.{stood}
-use Rattle.run.proofs.Remainders.{limits-of}
+use Rattle.run.proofs.Remainders.{limits-of, measures}
 use Rattle.run.proofs.Tidied.{learned-tidy, taken-working}
 use borrow.Author.Needs.{needs}
 use Rattle.run.proofs.taking.take_with.Statement.{statement}
@@ -47,9 +47,10 @@ returns : tie.Need-returns
 returns c w h =
     let a = c .before .before .before .before .before .before .before .before .before .before .before .before .args in
     let l = c .before .before .before .before .before .before .before .before .learn in
-    learned-refused (a .st) w (a .theta) (a .span) (a .mu) (a .radius) (sym (l .ensures w (h .holds)) ∙ ap (λ (d :
-    Done). doneOf d (l .last .1 .1 .1 .0)) (c .before .before .before .before .before .e .given .1)) (c .before .before
-    .refuse .ensures w h)
+    let u = h .measured .uses in
+    let e = sym (l .ensures w (u .holds)) ∙ ap (λ (d : Done). doneOf d (l .last .1 .1 .1 .0)) (c .before .before .before
+    .before .before .e .given .1) in
+    learned-refused (a .st) w (a .theta) (a .span) (a .mu) (a .radius) e (c .before .before .refuse .ensures w u)
 
 sub-sum-squared : tie.Need-sub-sum-squared
 sub-sum-squared c = search needs
@@ -104,21 +105,25 @@ returns-2 c w h =
     let z = a .st .sizes in
     let l = c .before .before .before .before .before .before .before .before .before .before .before .before .before .before .before .before .learn in
     let b = l .last .1 .1 .1 .0 in
-    let e = sym (l .ensures w (h .holds)) ∙ ap (λ (d : Done). doneOf d b) (c .before .before .before .before .before
+    let u = h .measured .uses in
+    let t = u .tidy in
+    let e = sym (l .ensures w (u .holds)) ∙ ap (λ (d : Done). doneOf d b) (c .before .before .before .before .before
     .before .before .before .before .before .before .before .before .enum-told .given .1) in
     let f = c .before .before .before .before .before .before .before .before .before .before .sum-squared .result in
-    let kept : Working (standingOn (a .st) (a .span) (a .mu) (a .radius)) (withTaken w b (filterWith (w .filter) (a .st
-    .counts .iterations) f (a .theta))) (c .before .before .before .before .before .before .before .with-taken .last .0)
-    = record {
-      holds = c .before .before .before .before .before .before .before .with-taken .ensures w (h .holds) (h .tidy
-          .standing-rows) (h .tidy .landed-rows);
-      tidy = taken-working (a .st) w (h .tidy) b f (a .theta) (learned-tidy (a .st) w (h .tidy) e);
+    let sum = c .before .before .before .before .before .before .before .before .before .before .sum-squared .ensures
+    ∙ ap (λ (x : List Float). sumSquared (sumOf (z .n) (z .m) (z .s) x)) (standing-rows-read (u .holds)) in
+    let kept : Working (standingOn (a .st) (a .span) (a .mu) (a .radius))
+    (withTaken w b (filterWith (w .filter) (a .st .counts .iterations) f (a .theta))) (c .before .before .before .before
+    .before .before .before .with-taken .last .0) = record {
+      holds = c .before .before .before .before .before .before .before .with-taken .ensures w (u .holds) (t
+          .standing-rows) (t .landed-rows);
+      tidy = taken-working (a .st) w t b f (a .theta) (learned-tidy (a .st) w t e);
     } in
     learned-known (a .st) w (a .theta) (a .span) (a .mu) (a .radius) e
     (stands-on (a .st) w (a .theta) (a .span) (a .mu) (a .radius) b (c .before .before .before .before .standing-on
-    .ensures) (c .before .before .before .before .before .before .before .before .before .before .sum-squared .ensures ∙
-    ap (λ (x : List Float). sumSquared (sumOf (z .n) (z .m) (z .s) x)) (standing-rows-read (h .holds))) kept (c .before
-    .before .iterate .ensures))
+    .ensures) sum
+    (measures (standingOn (a .st) (a .span) (a .mu) (a .radius)) kept (h .landed-is)) (c .before .before .iterate
+    .ensures))
 
 pub take-with-spec : {M : Type 1} → statement M
 take-with-spec =

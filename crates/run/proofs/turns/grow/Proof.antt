@@ -6,7 +6,7 @@ use Rattle.run.specs.Run.{searching}
 use Rattle.run.specs.Search.{rejectedFor, withRadius}
 use Rattle.run.specs.declared.state.Search.{Search}
 use Rattle.run.proofs.SearchCalls.{searched, grown-bounded, grow-on, grow-stops}
-use Rattle.run.proofs.Remainders.{limits-of, limits-as, works-as}
+use Rattle.run.proofs.Remainders.{limits-of, limits-as, works-as, seeks-as}
 use borrow.Author.Needs.{needs}
 use Rattle.run.proofs.turns.grow.Statement.{statement}
 use Rattle.run.proofs.turns.grow.Tie as tie
@@ -38,11 +38,11 @@ same-length c = search needs
 returns : tie.Need-returns
 unfolding within
 returns c w h =
-    grow-on (searching (c .before .before .before .before .before .before .before .before .before .before .args .st)
-    (within (c .before .before .before .before .before .before .before .before .before .before))) w (sym (c .before
-    .before .before .before .before .before .y .given .1) ∙ c .before .before .before .before .before .before .before
-    .before .damp .ensures) (c .before .before .before .before .with-search .ensures) (c .before .before .search
-    .ensures w (works-as (c .before .before .before .before .with-search .ensures) h))
+    let s = c .before .before .before .before .before .before .before .before .before .before in
+    let t = c .before .before .before .before .with-search .ensures in
+    grow-on (searching (s .args .st) (within s)) w (sym (c .before .before .before .before .before .before .y .given .1)
+    ∙ c .before .before .before .before .before .before .before .before .damp .ensures) t
+    (c .before .before .search .ensures w (seeks-as t h))
 
 enum-known-y-2 : tie.Need-enum-known-y-2
 enum-known-y-2 c = search needs
@@ -64,11 +64,11 @@ same-length-2 c = search needs
 returns-2 : tie.Need-returns-2
 unfolding within
 returns-2 c w h =
-    grow-stops (searching (c .before .before .before .before .before .before .before .before .before .before .args .st)
-    (within (c .before .before .before .before .before .before .before .before .before .before))) w (sym (c .before
-    .before .before .before .before .before .y2 .given .1) ∙ c .before .before .before .before .before .before .before
-    .before .damp .ensures) (c .before .before .before .before .with-search2 .ensures) (c .before .before .finish
-    .ensures w (works-as (c .before .before .before .before .with-search2 .ensures) h))
+    let s = c .before .before .before .before .before .before .before .before .before .before in
+    let t = c .before .before .before .before .with-search2 .ensures in
+    grow-stops (searching (s .args .st) (within s)) w (sym (c .before .before .before .before .before .before .y2 .given
+    .1) ∙ c .before .before .before .before .before .before .before .before .damp .ensures) t
+    (c .before .before .finish .ensures w (works-as t (h .uses)))
 
 pub grow-spec : {M : Type 1} → statement M
 grow-spec =

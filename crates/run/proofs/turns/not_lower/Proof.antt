@@ -9,7 +9,7 @@ use Rattle.run.specs.declared.state.Rejection.the-variants as why
 use Rattle.run.specs.declared.state.Search.{Search}
 use Rattle.run.specs.declared.state.State.{State}
 use Rattle.run.proofs.SearchCalls.{searched, retries, turns-down}
-use Rattle.run.proofs.Remainders.{works-as}
+use Rattle.run.proofs.Remainders.{seeks-as}
 use borrow.Author.Needs.{needs}
 use Rattle.run.proofs.turns.not_lower.Statement.{statement}
 use Rattle.run.proofs.turns.not_lower.Tie as tie
@@ -44,10 +44,11 @@ same-length c = search needs
 returns : tie.Need-returns
 returns c w h =
     let st = c .before .before .before .before .before .before .before .before .before .before .before .args .st in
-    retries st w (sym (c .before .before .before .before .before .before .before .before .may-retry .ensures w (h
-    .holds)) ∙ c .before .before .before .before .before .before .before .if1 .taken) refl refl (again st (c .before
-    .before .before .before .before .before .reject .ensures) (c .before .before .before .before .with-search .ensures))
-    (c .before .before .search .ensures w (works-as (c .before .before .before .before .with-search .ensures) h))
+    let t = c .before .before .before .before .with-search .ensures in
+    retries st w (sym (c .before .before .before .before .before .before .before .before .may-retry .ensures w (h .uses
+    .holds)) ∙ c .before .before .before .before .before .before .before .if1 .taken) refl refl
+    (again st (c .before .before .before .before .before .before .reject .ensures) t) (c .before .before .search
+    .ensures w (seeks-as t h))
 
 turn-down-requires : tie.Need-turn-down-requires
 turn-down-requires c κs = search needs
@@ -58,8 +59,8 @@ same-length-2 c = search needs
 returns-2 : tie.Need-returns-2
 returns-2 c w h =
     turns-down (c .before .before .before .before .before .before .before .before .args .st) w (sym (c .before .before
-    .before .before .before .may-retry .ensures w (h .holds)) ∙ c .before .before .before .before .if1 .left) (c .before
-    .before .turn-down .ensures w h)
+    .before .before .before .may-retry .ensures w (h .uses .holds)) ∙ c .before .before .before .before .if1 .left)
+    (c .before .before .turn-down .ensures w h)
 
 pub not-lower-spec : {M : Type 1} → statement M
 not-lower-spec =

@@ -23,7 +23,7 @@ slice-aggregate-left-at-2 c = search needs
 left-at-requires : tie.Need-left-at-requires
 left-at-requires c κs =
     let p = c .before .before .before .before .before .before .before .before .before .before .pre in
-    let k = c .before .before .before .before .before .seek-standing .kept .1 .1 in
+    let k = c .before .before .before .before .before .seek-standing .kept .1 .1 .1 in
     (p .0, (p .1, (k .0, k .1 .0)))
 
 same-length : tie.Need-same-length
@@ -32,8 +32,8 @@ same-length c = search needs
 returns : tie.Need-returns
 returns c w h =
     search-by (c .before .before .before .before .before .before .before .before .before .before .before .before .before
-    .args .st) w (c .before .before .before .before .before .before .before .before .seek-standing .ensures w (h
-    .holds)) (c .before .before .left-at .ensures w h)
+    .args .st) w (c .before .before .before .before .before .before .before .before .seek-standing .ensures w h) (c
+    .before .before .left-at .ensures w (h .uses))
 
 pub search-spec : {M : Type 1} → statement M
 search-spec =

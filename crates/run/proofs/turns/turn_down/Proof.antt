@@ -61,10 +61,11 @@ same-length-2 c = search needs
 returns-2 : tie.Need-returns-2
 returns-2 c w h =
     let a = c .before .before .before .before .before .before .before .before .before .before .before .before .args in
+    let t = c .before .before .before .before .with-search .ensures in
     turn-refused (a .st) w (a .why) (c .before .before .before .before .before .reject .ensures) (divided (c .before
     .before .before .before .before .before .before .before .before) (c .before .before .before .before .before .before
-    .before .e .given .1)) (c .before .before .before .before .with-search .ensures) (c .before .before .refuse .ensures
-    w (works-as (c .before .before .before .before .with-search .ensures) h))
+    .before .e .given .1)) t
+    (c .before .before .refuse .ensures w (works-as t (h .uses)))
 
 pub turn-down-spec : {M : Type 1} → statement M
 turn-down-spec =
