@@ -31,6 +31,7 @@ pub mod CheckLaws
 pub mod CallLaws
 pub mod BasisLaws
 pub mod ModelLaws
+pub mod Symmetry
 pub mod ProposalLaws
 pub mod SearchLaws
 pub mod AreaSlots

@@ -1,4 +1,5 @@
 // The linearized problem over the variables that move: its slopes, its damped curvature, and the sum's gradient.
+ghost use mathlib.Core.Bool.{true};
 ghost use mathlib.Core.Path.{_≡_};
 ghost use mathlib.Core.List.{_++_};
 ghost use Prim.Native.Nat.{ℕ, _+_, _*_, _<_, _≤_};
@@ -116,7 +117,57 @@ fn undamped_at(jr: &[f64], s: usize, b: Scalar, i: usize, j: usize) -> Scalar
     choose(v)
 }
 
-// Row i of it.
+// Whether two numbers have the same bits; a NaN has not.
+fn is_same(x: f64, y: f64) -> bool
+    ensures { λ r. ⌜ (r ≡ true → x ≡ y) ⌝ }
+{
+    if x == y {
+        return f64::to_bits(x) == f64::to_bits(y);
+    }
+    false
+}
+
+fn are_same(x: Scalar, y: Scalar) -> bool
+    ensures { λ r. ⌜ (r ≡ true → x ≡ y) ⌝ }
+{
+    if is_same(x.lo, y.lo) {
+        return is_same(x.hi, y.hi);
+    }
+    false
+}
+
+// Whether (i, j) is below the diagonal, and B's entries b there and `across` it are the same.
+fn is_mirrored(b: Scalar, across: Scalar, i: usize, j: usize) -> bool
+    ensures { λ r. ⌜ (r ≡ true → (j < i) × (b ≡ across)) ⌝ }
+{
+    if j < i {
+        return are_same(b, across);
+    }
+    false
+}
+
+// Entry (i, j) of it, from B's entry b: the entry across the diagonal, which h has, where B's entry there is the same,
+// since products of points commute.
+fn undamped_from(
+    jr: &[f64],
+    s: usize,
+    b: Scalar,
+    across: Scalar,
+    h: &[f64],
+    i: usize,
+    j: usize,
+) -> Scalar
+    requires { ⌜ (i < 12) × ((j < 12) × (((p : ℕ) → at (now jr) p .lo ≡ at (now jr) p .hi)
+        × (j < i → at (now h) (12 * j + i) ≡ undampedAt (now jr) s across j i))) ⌝ }
+    ensures { λ r. ⌜ r ≡ undampedAt (now (jr .entry)) s b i j ⌝ }
+{
+    if is_mirrored(b, across, i, j) {
+        return at(h, 12 * j + i);
+    }
+    undamped_at(jr, s, b, i, j)
+}
+
+// Row i of it, where the rows before it are there.
 fn undamped_row(
     n: usize,
     index: &[usize],
@@ -127,19 +178,25 @@ fn undamped_row(
     h: &mut [f64],
     i: usize,
 )
-    requires { ⌜ (k ≤ 12) × ((length (now index) ≡ 12) × (i < k)) ⌝ }
+    requires { ⌜ (k ≤ 12) × ((length (now index) ≡ 12) × ((i < k) × (((p : ℕ) → at (now jr) p .lo ≡ at (now jr) p .hi)
+        × ((t j : ℕ) → t < i → j < k → at (now h) (12 * t + j)
+        ≡ undampedAt (now jr) s (curvatureAt n (now b) (getD (now index) t 0) (getD (now index) j 0)) t j)))) ⌝ }
     ensures { λ _. ⌜ now (h .exit) ≡ fillTo (now (h .entry)) (12 * i) (λ j. undampedAt (now (jr .entry)) s (curvatureAt n (now (b .entry)) (getD (now (index .entry)) i 0) (getD (now (index .entry)) j 0)) i j) k ⌝ }
 {
     let row = index[i];
     for j in 0..k {
-        let start = along(b, index[j], n, row);
-        put(h, 12 * i + j, undamped_at(jr, s, start, i, j));
+        let column = index[j];
+        let start = along(b, column, n, row);
+        let across = along(b, row, n, column);
+        let v = undamped_from(jr, s, start, across, h, i, j);
+        put(h, 12 * i + j, v);
     }
 }
 
 // J_rᵀ J_r + B over the kept variables, at the start of a clear curve.
 fn undamped(n: usize, index: &[usize], k: usize, jr: &[f64], s: usize, b: &[f64], curve: &mut [f64])
-    requires { ⌜ (k ≤ 12) × ((length (now index) ≡ 12) × (now curve ≡ zeros 336)) ⌝ }
+    requires { ⌜ (k ≤ 12) × ((length (now index) ≡ 12) × ((now curve ≡ zeros 336)
+        × ((p : ℕ) → at (now jr) p .lo ≡ at (now jr) p .hi))) ⌝ }
     ensures { λ _. ⌜ now (curve .exit) ≡ fillRows (zeros 336) (λ i j. undampedAt (now (jr .entry)) s (curvatureAt n (now (b .entry)) (getD (now (index .entry)) i 0) (getD (now (index .entry)) j 0)) i j) k k ⌝ }
 {
     for i in 0..k {
@@ -210,7 +267,7 @@ fn slopes(xs: &[f64], e: RowSet, index: &[usize], k: usize, wide: &mut [f64], na
     chosen(wide, 0, 12 * e.count, narrow);
 }
 
-// The curve: J_rᵀ J_r + B, D and the gradient, from the slopes chosen, into a clear slice.
+// The curve: J_rᵀ J_r + B, D and the gradient, from the slopes chosen, which are points, into a clear slice.
 fn fill_curve(
     n: usize,
     m: usize,
@@ -223,7 +280,8 @@ fn fill_curve(
     jc: &[f64],
     curve: &mut [f64],
 )
-    requires { ⌜ Small e × ((k ≤ 12) × ((length (now index) ≡ 12) × (((p : ℕ) → getD (now index) p 0 < 65536) × (now curve ≡ zeros 336)))) ⌝ }
+    requires { ⌜ Small e × ((k ≤ 12) × ((length (now index) ≡ 12) × (((p : ℕ) → getD (now index) p 0 < 65536)
+        × ((now curve ≡ zeros 336) × ((p : ℕ) → at (now jr) p .lo ≡ at (now jr) p .hi))))) ⌝ }
     ensures { λ _. ⌜ now (curve .exit) ≡ undampedOf n (keptBy k (now (index .entry))) (now (jr .entry)) (e .count) (now (b .entry)) ++ (scalingsOf k (now (jr .entry)) (e .count) (now (jc .entry)) m ++ gradientOf (keptBy k (now (index .entry))) (rowsIn (now (xs .entry)) e)) ⌝ }
 {
     undamped(n, index, k, jr, e.count, b, curve);

@@ -5,6 +5,7 @@ use Rattle.run.specs.Model.{keptBy}
 use Rattle.run.specs.Rows.{Small}
 use Rattle.run.proofs.ModelLaws.{curve-is, problem-is, curve-damped, curve-gradient}
 use Rattle.run.proofs.RowLaws.{constraints-small, sum-small}
+use Rattle.run.proofs.Symmetry.{chosen-points}
 use borrow.Author.Needs.{needs}
 use Rattle.run.proofs.model.problem.Statement.{statement}
 use Rattle.run.proofs.model.problem.Tie as tie
@@ -35,9 +36,10 @@ slice-aggregate-fill-curve : tie.Need-slice-aggregate-fill-curve
 slice-aggregate-fill-curve c = search needs
 
 fill-curve-requires : tie.Need-fill-curve-requires
+unfolding ofBits
 fill-curve-requires c κs =
     let p = c .before .before .before .before .before .before .before .before .before .before .before .before .before .before .before .before .before .before .before .before .before .before .before .pre in
-    (subst Small (sym (c .before .before .before .before .before .before .before .before .before .before .before .before .before .before .before .before .sum .ensures)) (sum-small (p .0) (p .1 .0) (p .1 .1 .0)), (p .1 .1 .1 .0, (p .1 .1 .1 .1 .0, (p .1 .1 .1 .1 .1 .0, p .1 .1 .1 .1 .1 .1 .1 .1))))
+    (subst Small (sym (c .before .before .before .before .before .before .before .before .before .before .before .before .before .before .before .before .sum .ensures)) (sum-small (p .0) (p .1 .0) (p .1 .1 .0)), (p .1 .1 .1 .0, (p .1 .1 .1 .1 .0, (p .1 .1 .1 .1 .1 .0, (p .1 .1 .1 .1 .1 .1 .1 .1, chosen-points _ _ _ 576 refl (c .before .before .before .before .before .slopes2 .ensures .1))))))
 
 same-length : tie.Need-same-length
 same-length c = search needs

@@ -1,9 +1,9 @@
 -- `undamped_row` meets its contract: one place more is filled in each turn.
 use borrow.Author.Needs.{needs}
-use mathlib.Core.Path.{_≡_, ap, _∙_}
+use mathlib.Core.Path.{_≡_, sym, ap, _∙_}
 use mathlib.Core.List.{List}
 use Prim.Native.Nat.{ℕ, _*_, _≤_, _-_}
-use native.Mathlib.Nat.{le-antisymm}
+use native.Mathlib.Nat.{le-antisymm, le-trans}
 use lib.Ieee.{Float}
 use lib.ListN.{length, getD}
 use Rattle.interval.specs.declared.Scalar.{Scalar}
@@ -12,6 +12,7 @@ use Rattle.run.specs.Model.{undampedAt}
 use Rattle.run.specs.Scratch.{fillTo}
 use Rattle.run.proofs.ModelLaws.{curvature-along}
 use Rattle.run.proofs.ScratchLaws.{fill-turn}
+use Rattle.run.proofs.Symmetry.{across-kept}
 use Rattle.run.proofs.model.undamped_row.Statement.{statement}
 use Rattle.run.proofs.model.undamped_row.Tie as tie
 
@@ -35,23 +36,45 @@ loop-holds : tie.Need-loop-holds Inv-loop μ-loop
 unfolding fillTo
 loop-holds c = search needs
 
-mul-along : tie.Need-mul-along Inv-loop μ-loop
-mul-along c = search needs
+mul-column : tie.Need-mul-column Inv-loop μ-loop
+mul-column c = search needs
 
-shared-slice-read-along : tie.Need-shared-slice-read-along Inv-loop μ-loop
-shared-slice-read-along c = search needs
+shared-slice-read-column : tie.Need-shared-slice-read-column Inv-loop μ-loop
+shared-slice-read-column c = search needs
 
 along-requires : tie.Need-along-requires Inv-loop μ-loop
 along-requires c κs = tt
+
+along-requires-2 : tie.Need-along-requires-2 Inv-loop μ-loop
+along-requires-2 c κs = tt
+
+undamped-from-requires : tie.Need-undamped-from-requires Inv-loop μ-loop
+undamped-from-requires c κs =
+    let a = c .before .before .before .before .before .before .before .before .before .before .before .args in
+    let p = c .before .before .before .before .before .before .before .before .before .before .before .pre in
+    let l = c .before .before .before .before .before .loop in
+    let hi = le-trans (p .1 .1 .0) (p .0) in
+    let e = c .before .along2 .ensures
+    ∙ curvature-along (a .n) (a .b .now) (getD (a .index .now) (l .j) 0) (getD (a .index .now) (a .i) 0) in (
+      hi,
+      (
+        le-trans (c .before .before .before .before .loop-test .taken) (p .0),
+        (
+          p .1 .1 .1 .0,
+          λ q.
+              across-kept (a .h .now) (entryAt (a .n) (a .index .now) (a .jr .now) (a .s) (a .b .now) (a .i)) (a .i) (l .j)
+              (l .inv .2) hi q
+              ∙ p .1 .1 .1 .1 (l .j) (a .i) q (p .1 .1 .0)
+              ∙ ap (λ (z : Scalar). undampedAt (a .jr .now) (a .s) z (l .j) (a .i)) (sym e),
+        ),
+      ),
+    )
 
 mul-put : tie.Need-mul-put Inv-loop μ-loop
 mul-put c = search needs
 
 add-put : tie.Need-add-put Inv-loop μ-loop
 add-put c = search needs
-
-undamped-at-requires : tie.Need-undamped-at-requires Inv-loop μ-loop
-undamped-at-requires c κs = search needs
 
 put-requires : tie.Need-put-requires Inv-loop μ-loop
 put-requires c κs = search needs
@@ -64,11 +87,17 @@ loop-less c = search needs
 
 loop-again : tie.Need-loop-again Inv-loop μ-loop
 loop-again c =
-    let a = c .before .before .before .before .before .before .before .before .before .before .before .before .before .before .args in
-    let l = c .before .before .before .before .before .before .before .before .loop in
-    let v = c .before .before .before .before .before .along .ensures ∙ curvature-along (a .n) (a .b .now) (getD (a .index .now) (a .i) 0) (getD (a .index .now) (l .j) 0) in
-    let e = c .before .before .before .undamped-at .ensures ∙ ap (λ (z : Scalar). undampedAt (a .jr .now) (a .s) z (a .i) (l .j)) v in
-    (search needs, search needs, c .before .before .put .ensures ∙ fill-turn (a .h .now) (12 * a .i) (entryAt (a .n) (a .index .now) (a .jr .now) (a .s) (a .b .now) (a .i)) (l .j) (l .inv .2) e)
+    let a = c .before .before .before .before .before .before .before .before .before .before .before .before .before .before .before .before .args in
+    let l = c .before .before .before .before .before .before .before .before .before .before .loop in
+    let v = c .before .before .before .before .before .before .before .along .ensures
+    ∙ curvature-along (a .n) (a .b .now) (getD (a .index .now) (a .i) 0) (getD (a .index .now) (l .j) 0) in
+    let e = c .before .before .before .before .undamped-from .ensures ∙ ap (λ (z : Scalar). undampedAt (a .jr .now) (a .s) z (a .i) (l .j)) v in (
+      search needs,
+      search needs,
+      c .before .before .put .ensures
+          ∙ fill-turn (a .h .now) (12 * a .i) (entryAt (a .n) (a .index .now) (a .jr .now) (a .s) (a .b .now) (a .i)) (l .j)
+          (l .inv .2) e,
+    )
 
 same-length : tie.Need-same-length Inv-loop μ-loop
 same-length c = search needs
@@ -85,12 +114,13 @@ undamped-row-spec =
     mul-row
     shared-slice-read-row
     loop-holds
-    mul-along
-    shared-slice-read-along
+    mul-column
+    shared-slice-read-column
     along-requires
+    along-requires-2
+    undamped-from-requires
     mul-put
     add-put
-    undamped-at-requires
     put-requires
     add-j
     loop-less
