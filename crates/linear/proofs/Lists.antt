@@ -66,6 +66,13 @@ listTo-more f i d h =
     rw (e, add-one, drop-cons d (2 * i) nan h₀, drop-cons d (suc (2 * i)) nan h₁, append-assoc)
     (put-seam (listTo f i) (drop (suc (suc (2 * i))) d) _ _ i (f i) (length-listTo f i))
 
+pub listTo-two : (f : ℕ → Scalar) (i : ℕ) (d : List Float) → 2 * i + 3 < length d
+    → put (put (listTo f i ++ drop (2 * i) d) i (f i)) (i + 1) (f (i + 1)) ≡ listTo f (i + 2) ++ drop (2 * (i + 2)) d
+listTo-two f i d h =
+    let e : i + 1 + 1 ≡ i + 2 = omega arith in
+    ap (λ l. put l (i + 1) (f (i + 1))) (listTo-more f i d (omega arith)) ∙ listTo-more f (i + 1) d (omega arith)
+    ∙ ap (λ (j : ℕ). listTo f j ++ drop (2 * j) d) e
+
 pub listTo-all : (f : ℕ → Scalar) (n : ℕ) (d : List Float) → length d ≡ 2 * n → listTo f n ++ drop (2 * n) d ≡ listTo f n
 listTo-all f n d e = rw (← e, drop-length, append-nil)
 

@@ -1,22 +1,26 @@
 -- `minus_solved` is the factor of J Jᵀ, and then the values by that factor.
 use mathlib.Core.Path.{_≡_, refl, sym, ap, _∙_}
-use Prim.Native.Nat.{ℕ, _*_}
+use Prim.Native.Nat.{ℕ, _+_, _*_}
 use mathlib.Core.Bool.{Bool}
 use mathlib.Core.List.{List}
 use lib.Ieee.{Float}
 use Rattle.interval.specs.Result.{Res, ok, refused}
+use Rattle.interval.specs.declared.Scalar.{Scalar}
 use Rattle.linear.specs.Answers.{doneOf}
 use Rattle.linear.specs.Calls.{blank}
 use Rattle.linear.specs.Cholesky.{Factor, factorOf, choleskyOf}
-use Rattle.linear.specs.Flat.{zeros}
+use Rattle.linear.specs.Choose.{chooseOf}
+use Rattle.linear.specs.Dot.{minusTo}
+use Rattle.linear.specs.Flat.{at, put, along, zeros}
 use Rattle.linear.specs.Replies.{replied, replyOf}
 use Rattle.linear.specs.Results.{bind}
-use Rattle.linear.specs.Solved.{gramOf, lowerGramOf, multipliersOf, minusOf, minusSolvedOf, gramFactorOf, minusFactoredOf}
+use Rattle.linear.specs.Solved.{gramOf, lowerGramOf, multipliersOf, minusAt, minusOf, minusSolvedOf, gramFactorOf, minusFactoredOf}
 use Rattle.linear.specs.Substitution.{solveOf}
 use Rattle.linear.specs.declared.answers.Done.{Done}
 use Rattle.linear.proofs.Folds.{bind-ok, bind-refused}
 use Rattle.linear.proofs.LowerTriangle.{cholesky-gram}
 use Rattle.linear.proofs.Replied.{done-is, done-then}
+use Rattle.linear.proofs.Sums.{along-start}
 
 one-after-the-other : {A B C : Type 0} (x : Res A) (f : A → Res B) (g : B → Res C)
     → bind (bind x f) g ≡ bind x (λ a. bind (f a) g)
@@ -49,3 +53,14 @@ module _ (m n : ℕ) (jc : List Float) where
       → doneOf r (minusOf m n jc from k) ≡ minusFactoredOf m n jc (factorOf l left) rhs from
   unfolding minusFactoredOf
   minus-factored l left rhs from k r h = done-then r (minusOf m n jc from) k (done-is r k (zeros (2 * m)) (solveOf m l left rhs) h)
+
+-- ---- the values
+module _ (m n : ℕ) (jc from k : List Float) where
+  pub value-at : (i : ℕ) {x d z : Scalar} → x ≡ chooseOf d → d ≡ minusTo (along jc i n) (along k 0 1) z m → z ≡ at from i
+      → x ≡ minusAt m n jc from k i
+  value-at i ex ed ez =
+      ex ∙ ap chooseOf (ed ∙ ap (λ (z : Scalar). minusTo (along jc i n) (along k 0 1) z m) ez ∙ rw along-start)
+
+pub two-stored : (o : List Float) {p q : List Float} {v w x y : Scalar} (i : ℕ) → p ≡ put o i v → q ≡ put p (i + 1) w → v ≡ x → w ≡ y
+    → q ≡ put (put o i x) (i + 1) y
+two-stored o i ep eq ev ew = rw (← ev, ← ew, ← ep) eq

@@ -7,7 +7,8 @@ use native.Mathlib.Numerals.{add-one}
 use native.Mathlib.Omega.{arith}
 use lib.Ieee.{Float}
 use Rattle.interval.specs.declared.Scalar.{Scalar}
-use Rattle.interval.specs.Scalar.{pick, addOf, subOf, mulOf, isSharp}
+use Rattle.interval.specs.Scalar.{pick, addOf, subOf, mulOf, negOf, isSharp}
+use Rattle.interval.proofs.Negation.{neg-neg-of, difference-negated}
 use Rattle.linear.specs.Flat.{at, along}
 use Rattle.linear.specs.Dot.{plusTo, minusTo, pointsFrom}
 
@@ -19,6 +20,20 @@ module _ (f g : ℕ → Scalar) (z : Scalar) {s x y p r : Scalar} (i : ℕ) wher
   pub minusTo-more : s ≡ minusTo f g z i → x ≡ f i → y ≡ g i → p ≡ mulOf x y → r ≡ subOf s p → r ≡ minusTo f g z (i + 1)
   unfolding minusTo
   minusTo-more es ex ey ep er = rw (add-one, er, ep, ex, ey, es)
+
+-- z less a sum is -(-z and the sum)
+pub minusTo-negated : (f g : ℕ → Scalar) (z : Scalar) (k : ℕ) → minusTo f g z k ≡ negOf (plusTo f g (negOf z) k)
+unfolding minusTo plusTo
+minusTo-negated f g z zero = sym (neg-neg-of z)
+minusTo-negated f g z (suc k) =
+    let s = plusTo f g (negOf z) k in
+    let p = mulOf (f k) (g k) in
+    ap (λ (x : Scalar). subOf x p) (minusTo-negated f g z k) ∙ difference-negated (negOf s) p
+    ∙ ap (λ (x : Scalar). negOf (addOf x p)) (neg-neg-of s)
+
+pub negated-back : (f g : ℕ → Scalar) (z : Scalar) (k : ℕ) {n s r : Scalar}
+    → n ≡ negOf z → s ≡ plusTo f g n k → r ≡ negOf s → r ≡ minusTo f g z k
+negated-back f g z k en es er = er ∙ ap negOf (es ∙ ap (λ (n : Scalar). plusTo f g n k) en) ∙ sym (minusTo-negated f g z k)
 
 pub holds : (b : Bool) → not b ≡ false → b ≡ true
 holds true h = refl

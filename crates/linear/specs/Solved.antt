@@ -24,6 +24,10 @@ gramAt n jc i j = pick (ltb i j) zeroS (dotTo (along jc (i * n) 1) (along jc (j 
 unfoldable pub lowerGramOf : ℕ → ℕ → List Float → List Float
 lowerGramOf m n jc = listTo (λ p. gramAt n jc (p / m) (p % m)) (m * m)
 
+-- value i of from - Jᵀ k, chosen
+abbrev pub minusAt : ℕ → ℕ → List Float → List Float → List Float → ℕ → Scalar
+minusAt m n jc from k i = chooseOf (minusTo (along jc i n) (at k) (at from i) m)
+
 unfoldable pub minusOf : ℕ → ℕ → List Float → List Float → List Float → List Float
 minusOf m n jc from k = listTo (λ i. chooseOf (minusTo (along jc i n) (at k) (at from i) m)) n
 

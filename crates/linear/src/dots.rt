@@ -201,31 +201,8 @@ fn minus_inside(
     scalar_of(sum)
 }
 
-// minus_dot for every place.
-fn minus_cut(
-    a: &[f64],
-    a0: usize,
-    sa: usize,
-    b: &[f64],
-    b0: usize,
-    sb: usize,
-    z: Scalar,
-    k: usize,
-) -> Scalar
-    ensures { λ r. ⌜ r ≡ minusTo (along (now (a .entry)) a0 sa) (along (now (b .entry)) b0 sb) z k ⌝ }
-{
-    let mut sum = z;
-    let mut i = a0;
-    let mut j = b0;
-    for _ in 0..k {
-        sum = sum.sub(at(a, i).mul(at(b, j)));
-        i = ahead(i, sa, a.len());
-        j = ahead(j, sb, b.len());
-    }
-    sum
-}
-
-// z less k products of two such runs.
+// z less k products of two such runs, which is -(-z + ..) by its bits. Where every place is inside it has a loop of its own:
+// with that of plus_dot for both, which the compiler then calls, a whole run takes 1 % longer.
 pub fn minus_dot(
     a: &[f64],
     a0: usize,
@@ -241,7 +218,7 @@ pub fn minus_dot(
     if is_plain(a0, sa, a.len(), b0, sb, b.len(), z, k) {
         return minus_inside(a, a0, sa, b, b0, sb, z, k);
     }
-    minus_cut(a, a0, sa, b, b0, sb, z, k)
+    plus_cut(a, a0, sa, b, b0, sb, z.neg(), k).neg()
 }
 
 // rows_minus where the bounds of z are proper.
@@ -428,6 +405,49 @@ pub fn two_rows(a: &[f64], a0: usize, a1: usize, b: &[f64], b0: usize, k: usize)
     Two {
         first: plus_cut(a, a0, 1, b, b0, 1, Scalar::ZERO, k),
         second: plus_cut(a, a1, 1, b, b0, 1, Scalar::ZERO, k),
+    }
+}
+
+// Whether k places of two runs of a, sa apart, and of a row of b are found to be inside.
+fn are_runs_inside(a0: usize, a1: usize, sa: usize, a: usize, b0: usize, b: usize, k: usize) -> bool
+    ensures { λ r. ⌜ (r ≡ true → Inside a0 sa k a × Inside a1 sa k a × Inside b0 1 k b) ⌝ }
+{
+    if both_inside(a0, sa, a, a1, sa, a, k) {
+        return is_row_inside(b0, k, b);
+    }
+    false
+}
+
+// y and z, each less k products of a run of a with the same row of b: by the loop of two_rows, with the signs turned.
+pub fn two_minus(
+    a: &[f64],
+    a0: usize,
+    a1: usize,
+    sa: usize,
+    b: &[f64],
+    b0: usize,
+    y: Scalar,
+    z: Scalar,
+    k: usize,
+) -> Two
+    ensures { λ r. ⌜ (r .first ≡ minusTo (along (now (a .entry)) a0 sa) (along (now (b .entry)) b0 1) y k)
+        × (r .second ≡ minusTo (along (now (a .entry)) a1 sa) (along (now (b .entry)) b0 1) z k) ⌝ }
+{
+    let first = bounds_of(y.neg());
+    let second = bounds_of(z.neg());
+    if are_runs_inside(a0, a1, sa, a.len(), b0, b.len(), k)
+        && is_proper(first)
+        && is_proper(second)
+    {
+        let sums = two_inside(a, a0, a1, sa, b, b0, first, second, k);
+        return Two {
+            first: sums.first.neg(),
+            second: sums.second.neg(),
+        };
+    }
+    Two {
+        first: minus_dot(a, a0, sa, b, b0, 1, y, k),
+        second: minus_dot(a, a1, sa, b, b0, 1, z, k),
     }
 }
 

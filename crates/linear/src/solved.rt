@@ -1,17 +1,18 @@
 // The shortest step onto linear constraints.
 ghost use mathlib.Core.Path.{_≡_};
-ghost use Prim.Native.Nat.{_*_, _<_, _≤_};
+ghost use Prim.Native.Nat.{_+_, _*_, _<_, _≤_};
 ghost use lib.ListN.{length};
 ghost use Rattle.linear.specs.Calls.{blank, minusSolvedReply, gramFactorReply, minusFactoredReply};
 ghost use Rattle.linear.specs.Cholesky.{factorOf};
-ghost use Rattle.linear.specs.Flat.{zeros};
+ghost use Rattle.linear.specs.Flat.{zeros, put};
 ghost use Rattle.linear.specs.Replies.{replied, replyOf};
-ghost use Rattle.linear.specs.Solved.{gramAt, lowerGramOf, minusOf, minusSolvedOf, gramFactorOf, minusFactoredOf};
+ghost use Rattle.linear.specs.Solved.{gramAt, lowerGramOf, minusAt, minusOf, minusSolvedOf, gramFactorOf, minusFactoredOf};
 use crate::answers::Done;
 use crate::answers::LinearError;
 use crate::choices::choose;
 use crate::dots::minus_dot;
 use crate::dots::row_dot;
+use crate::dots::two_minus;
 use crate::factor::factor_sized;
 use crate::flat::at;
 use crate::flat::clear;
@@ -42,13 +43,37 @@ fn gram(m: usize, n: usize, jc: &[f64], g: &mut [f64])
     }
 }
 
-// The values, once k is solved for.
+// Value i of those, once k is solved for.
+fn minus_at(m: usize, n: usize, jc: &[f64], from: &[f64], k: &[f64], i: usize) -> Scalar
+    ensures { λ r. ⌜ r ≡ minusAt m n (now (jc .entry)) (now (from .entry)) (now (k .entry)) i ⌝ }
+{
+    choose(minus_dot(jc, i, n, k, 0, 1, at(from, i), m))
+}
+
+// Values i and i + 1, stored.
+fn minus_two(m: usize, n: usize, jc: &[f64], from: &[f64], k: &[f64], out: &mut [f64], i: usize)
+    requires { ⌜ i < 24 ⌝ }
+    ensures { λ _. ⌜ now (out .exit)
+        ≡ put (put (now (out .entry)) i (minusAt m n (now (jc .entry)) (now (from .entry)) (now (k .entry)) i))
+        (i + 1) (minusAt m n (now (jc .entry)) (now (from .entry)) (now (k .entry)) (i + 1)) ⌝ }
+{
+    let d = two_minus(jc, i, i + 1, n, k, 0, at(from, i), at(from, i + 1), m);
+    put(out, i, choose(d.first));
+    put(out, i + 1, choose(d.second));
+}
+
+// The values, two at a time.
 fn minus(m: usize, n: usize, jc: &[f64], from: &[f64], k: &[f64], out: &mut [f64])
     requires { ⌜ (m ≤ 24) × ((n ≤ 24) × (length (now out) ≡ 2 * n)) ⌝ }
     ensures { λ _. ⌜ now (out .exit) ≡ minusOf m n (now (jc .entry)) (now (from .entry)) (now (k .entry)) ⌝ }
 {
-    for i in 0..n {
-        put(out, i, choose(minus_dot(jc, i, n, k, 0, 1, at(from, i), m)));
+    let half = n / 2;
+    for h in 0..half {
+        minus_two(m, n, jc, from, k, out, 2 * h);
+    }
+    let i = 2 * half;
+    if i < n {
+        put(out, i, minus_at(m, n, jc, from, k, i));
     }
 }
 

@@ -1,56 +1,65 @@
 -- `minus` meets its contract: the slice starts with the scalars stored so far, and is else as it was.
 use mathlib.Core.Path.{_≡_, sym, _∙_, ap}
 use mathlib.Core.List.{_++_}
-use Prim.Native.Nat.{ℕ, _+_, _*_, _≤_, _-_}
+use Prim.Native.Nat.{ℕ, _+_, _*_, _/_, _≤_, _-_}
 use native.Mathlib.Nat.{le-antisymm}
 use native.Mathlib.Omega.{arith}
 use borrow.Author.Needs.{needs}
 use lib.ListN.{length, drop}
 use Rattle.interval.specs.declared.Scalar.{Scalar}
-use Rattle.linear.specs.Flat.{at, along, listTo}
-use Rattle.linear.specs.Dot.{minusTo}
-use Rattle.linear.specs.Choose.{chooseOf}
-use Rattle.linear.specs.Solved.{minusOf}
+use Rattle.linear.specs.Flat.{listTo}
+use Rattle.linear.specs.Solved.{minusAt, minusOf}
+use Rattle.linear.proofs.Lists.{listTo-none, listTo-more, listTo-two, listTo-all}
 use Rattle.linear.proofs.solved.minus.Statement.{statement}
 use Rattle.linear.proofs.solved.minus.Tie as tie
-use Rattle.linear.proofs.Lists.{listTo-none, listTo-more, listTo-all}
-use Rattle.linear.proofs.Sums.{along-start}
 
 abbrev Inv-loop : tie.InvT-loop
-Inv-loop m n jc from k out₀ i₀ out i = (i ≤ n) × (length out ≡ length out₀) × (out ≡ listTo (λ j. chooseOf (minusTo (along jc j n) (at k) (at from j) m)) i ++ drop (2 * i) out₀)
+Inv-loop m n jc from k out₀ half h₀ out h =
+    (h ≤ half) × (length out ≡ length out₀) × (out ≡ listTo (minusAt m n jc from k) (2 * h) ++ drop (2 * (2 * h)) out₀)
 
 abbrev μ-loop : tie.MeasureT-loop
-μ-loop m n jc from k out₀ i₀ out i = n - i
+μ-loop m n jc from k out₀ half h₀ out h = half - h
 
 loop-holds : tie.Need-loop-holds Inv-loop μ-loop
 loop-holds c = (search needs, search needs, sym (listTo-none _ _))
 
-at-requires : tie.Need-at-requires Inv-loop μ-loop
-at-requires c κs = search needs
+mul-minus-two : tie.Need-mul-minus-two Inv-loop μ-loop
+mul-minus-two c =
+    omega (arith, c .before .before .before .before .before .before .before .pre, c .before .loop-test .taken)
 
-minus-dot-requires : tie.Need-minus-dot-requires Inv-loop μ-loop
-minus-dot-requires c κs = tt
+minus-two-requires : tie.Need-minus-two-requires Inv-loop μ-loop
+minus-two-requires c κs =
+    omega (arith, c .before .before .before .before .before .before .before .pre, c .before .loop-test .taken)
 
-choose-requires : tie.Need-choose-requires Inv-loop μ-loop
-choose-requires c κs = search needs
-
-put-requires : tie.Need-put-requires Inv-loop μ-loop
-put-requires c κs = search needs
-
-add-i : tie.Need-add-i Inv-loop μ-loop
-add-i c = search needs
+add-h : tie.Need-add-h Inv-loop μ-loop
+add-h c = search needs
 
 loop-less : tie.Need-loop-less Inv-loop μ-loop
 loop-less c = search needs
 
 loop-again : tie.Need-loop-again Inv-loop μ-loop
 loop-again c =
-    let l = c .before .before .before .before .before .before .before .before .loop in
-    let a = c .before .before .before .before .before .before .before .before .before .before .before .before .before .args in
-    let f : ℕ → Scalar = λ j. chooseOf (minusTo (along (a .jc .now) j (a .n)) (at (a .k .now)) (at (a .from .now) j) (a .m)) in
-    let v : c .before .before .before .choose .result ≡ f (l .i) = c .before .before .before .choose .ensures ∙ ap chooseOf (c .before .before .before .before .minus-dot .ensures ∙ ap (λ (z : Scalar). minusTo (along (a .jc .now) (l .i) (a .n)) (along (a .k .now) 0 1) z (a .m)) (c .before .before .before .before .before .at .ensures) ∙ rw along-start) in
-    let e = rw (l .inv .2, v) at (c .before .before .put .ensures) in
-    (search needs, search needs, e ∙ listTo-more f (l .i) (a .out .now) (omega arith))
+    let l = c .before .before .before .before .before .loop in
+    let s = c .before .before .before .before .before .before .before .before .before .before in
+    let a = s .args in
+    let f : ℕ → Scalar = minusAt (a .m) (a .n) (a .jc .now) (a .from .now) (a .k .now) in
+    let e : 2 * l .h + 2 ≡ 2 * (l .h + 1) = omega arith in
+    let more = listTo-two f (2 * l .h) (a .out .now)
+    (omega (arith, s .pre, c .before .before .before .before .loop-test .taken)) in (
+      search needs,
+      search needs,
+      (rw (l .inv .2) at (c .before .before .minus-two .ensures)) ∙ more ∙ ap
+          (λ (i : ℕ). listTo f i ++ drop (2 * i) (a .out .now)) e,
+    )
+
+mul-i : tie.Need-mul-i Inv-loop μ-loop
+mul-i c = search needs
+
+minus-at-requires : tie.Need-minus-at-requires Inv-loop μ-loop
+minus-at-requires c κs = search needs
+
+put-requires : tie.Need-put-requires Inv-loop μ-loop
+put-requires c κs = tt
 
 same-length : tie.Need-same-length Inv-loop μ-loop
 same-length c = search needs
@@ -58,10 +67,31 @@ same-length c = search needs
 returns : tie.Need-returns Inv-loop μ-loop
 unfolding minusOf
 returns c =
-    let s = c .before .before .before .before .before .before in
+    let l = c .before .before .before .before .before .before .before .loop in
+    let s = c .before .before .before .before .before .before .before .before .before .before .before .before in
     let a = s .args in
-    let e = rw (le-antisymm (c .before .loop .inv .0) (c .loop-test .left)) at (c .before .loop .inv .2) in
-    e ∙ listTo-all (λ j. chooseOf (minusTo (along (a .jc .now) j (a .n)) (at (a .k .now)) (at (a .from .now) j) (a .m))) (a .n) (a .out .now) (s .pre .1 .1)
+    let half = a .n / 2 in
+    let f : ℕ → Scalar = minusAt (a .m) (a .n) (a .jc .now) (a .from .now) (a .k .now) in
+    let e = rw (le-antisymm (l .inv .0) (c .before .before .before .before .before .before .loop-test .left)) at
+    (l .inv .2) in
+    let last : 2 * half + 1 ≡ a .n = omega (arith, c .before .before .before .before .before .if1 .taken) in
+    let more = listTo-more f (2 * half) (a .out .now) (omega (arith, s .pre, last)) in
+    (rw (e, c .before .before .before .minus-at .ensures) at (c .before .before .put .ensures)) ∙ more
+    ∙ ap (λ (i : ℕ). listTo f i ++ drop (2 * i) (a .out .now)) last ∙ listTo-all f (a .n) (a .out .now) (s .pre .1 .1)
+
+same-length-2 : tie.Need-same-length-2 Inv-loop μ-loop
+same-length-2 c = search needs
+
+returns-2 : tie.Need-returns-2 Inv-loop μ-loop
+unfolding minusOf
+returns-2 c =
+    let l = c .before .before .loop in
+    let s = c .before .before .before .before .before .before .before in
+    let a = s .args in
+    let f : ℕ → Scalar = minusAt (a .m) (a .n) (a .jc .now) (a .from .now) (a .k .now) in
+    let e = rw (le-antisymm (l .inv .0) (c .before .loop-test .left)) at (l .inv .2) in
+    let last : 2 * (a .n / 2) ≡ a .n = omega (arith, c .if1 .left) in
+    e ∙ ap (λ (i : ℕ). listTo f i ++ drop (2 * i) (a .out .now)) last ∙ listTo-all f (a .n) (a .out .now) (s .pre .1 .1)
 
 pub minus-spec : {M : Type 1} → statement M
 minus-spec =
@@ -70,12 +100,15 @@ minus-spec =
     Inv-loop
     μ-loop
     loop-holds
-    at-requires
-    minus-dot-requires
-    choose-requires
-    put-requires
-    add-i
+    mul-minus-two
+    minus-two-requires
+    add-h
     loop-less
     loop-again
+    mul-i
+    minus-at-requires
+    put-requires
     same-length
-    returns)
+    returns
+    same-length-2
+    returns-2)

@@ -1,0 +1,23 @@
+-- `minus_at` meets its contract.
+use borrow.Author.Needs.{needs}
+use Rattle.linear.proofs.SolvedLaws.{value-at}
+use Rattle.linear.proofs.solved.minus_at.Statement.{statement}
+use Rattle.linear.proofs.solved.minus_at.Tie as tie
+
+at-requires : tie.Need-at-requires
+at-requires c κs = search needs
+
+minus-dot-requires : tie.Need-minus-dot-requires
+minus-dot-requires c κs = tt
+
+choose-requires : tie.Need-choose-requires
+choose-requires c κs = search needs
+
+returns : tie.Need-returns
+returns c =
+    let a = c .before .before .before .before .before .before .args in
+    value-at (a .m) (a .n) (a .jc .now) (a .from .now) (a .k .now) (a .i) (c .choose .ensures)
+    (c .before .minus-dot .ensures) (c .before .before .at .ensures)
+
+pub minus-at-spec : {M : Type 1} → statement M
+minus-at-spec = tie.close (tie.spec at-requires minus-dot-requires choose-requires returns)
