@@ -1,16 +1,20 @@
 -- Sums of products by their bounds: one product more, whatever the sum starts from, and the points among the factors.
-use mathlib.Core.Path.{_≡_, refl, sym, _∙_}
+use mathlib.Core.Path.{_≡_, refl, sym, ap, _∙_, subst}
+use mathlib.Core.List.{List}
 use mathlib.Core.Bool.{Bool, true, false, not, _&&_}
 use Prim.Native.Nat.{ℕ, _+_, _≤_}
-use native.Mathlib.Nat.{le-antisymm}
+use native.Mathlib.Nat.{le-refl, le-antisymm}
 use lib.Dec.{T}
-use lib.Ieee.{neg, lt}
+use lib.Ieee.{Float, neg, lt}
+use lib.ListN.{length, take}
+use lib.Seq.{take-all}
 use Rattle.interval.specs.declared.Scalar.{Scalar}
 use Rattle.interval.specs.Scalar.{zeroS, addOf, mulOf, isSharp}
 use Rattle.interval.proofs.Given.{yes}
 use Rattle.linear.specs.declared.bounds.Bounds.{Bounds}
 use Rattle.linear.specs.Bounds.{boundsOf, scalarOf, Bounding}
 use Rattle.linear.specs.Dot.{plusTo}
+use Rattle.linear.specs.Flat.{Inside}
 use Rattle.linear.proofs.Sums.{holds, plusTo-more}
 use Rattle.linear.proofs.BoundLaws.{bounds-back, bounding}
 
@@ -44,3 +48,14 @@ three-sharp x y z b eb e = each (isSharp x) (isSharp y) (isSharp z) (yes (sym eb
     each true true false h = absurd h
     each true false r h = absurd h
     each false q r h = absurd h
+
+-- ---- a slice made anew is the slice
+pub anew : (l : List Float) → take (length l) l ≡ l
+anew l = take-all (length l) l (le-refl (length l))
+
+pub anew-length : (l : List Float) → length l ≡ length (take (length l) l)
+anew-length l = sym (ap length (anew l))
+
+pub anew-inside : (l : List Float) (base step k : ℕ) → Inside base step k (length l) → Inside base step k
+    (length (take (length l) l))
+anew-inside l base step k = subst (Inside base step k) (anew-length l)

@@ -1,5 +1,10 @@
-// Sums of products. A sum whose places are all inside its slices is worked out with no test of a place, by the two upper bounds of an interval, and with one
-// product for each term as long as both factors are points; the tests before it and the walk that is cut off at the slice's end give the same for every start, base, step and count.
+// Sums of products. A sum whose places are all inside its slices is worked out with no test of a place, by the two upper
+// bounds of an interval, and with one product for each term as long as both factors are points; the tests before it and
+// the walk that is cut off at the slice's end give the same for every start, base, step and count.
+//
+// A slice that is handed on to a function which the compiler calls is made anew, `&a[..la]`: handed on as it came it is
+// copied at the entry, ahead of every test, from where the caller has only just stored its two halves, and the machine
+// waits for them (8 % of whole runs).
 ghost use mathlib.Core.Bool.{true, _&&_};
 ghost use mathlib.Core.Path.{_≡_};
 ghost use Prim.Native.Nat.{_≤_};
@@ -17,8 +22,6 @@ use crate::bounds::Bounds;
 use crate::bounds::bounds_of;
 use crate::bounds::is_proper;
 use crate::bounds::minus_fresh;
-use crate::bounds::minus_points;
-use crate::bounds::minus_product;
 use crate::bounds::plus_points;
 use crate::bounds::plus_product;
 use crate::bounds::scalar_of;
@@ -152,57 +155,7 @@ pub fn plus_dot(
     plus_cut(a, a0, sa, b, b0, sb, z, k)
 }
 
-// The terms of minus_dot up to the first whose factors are not both points.
-fn minus_points_inside(
-    a: &[f64],
-    a0: usize,
-    sa: usize,
-    b: &[f64],
-    b0: usize,
-    sb: usize,
-    z: Bounds,
-    k: usize,
-) -> Begun
-    requires { ⌜ Inside a0 sa k (length (now a)) × Inside b0 sb k (length (now b)) × T (isProper z) ⌝ }
-    ensures { λ r. ⌜ (r .done ≡ pointsFrom (along (now (a .entry)) a0 sa) (along (now (b .entry)) b0 sb) 0 k) × Bounding (minusTo (along (now (a .entry)) a0 sa) (along (now (b .entry)) b0 sb) (scalarOf z) (r .done)) (r .sum) ⌝ }
-{
-    let mut sum = z;
-    for t in 0..k {
-        let x = at_inside(a, a0 + t * sa);
-        let y = at_inside(b, b0 + t * sb);
-        if !are_points(x, y) {
-            return Begun { sum, done: t };
-        }
-        sum = minus_points(sum, x, y);
-    }
-    Begun { sum, done: k }
-}
-
-// minus_dot where every place is inside and the bounds of z are proper.
-fn minus_inside(
-    a: &[f64],
-    a0: usize,
-    sa: usize,
-    b: &[f64],
-    b0: usize,
-    sb: usize,
-    z: Scalar,
-    k: usize,
-) -> Scalar
-    requires { ⌜ Inside a0 sa k (length (now a)) × Inside b0 sb k (length (now b)) × T (isProper (boundsOf z)) ⌝ }
-    ensures { λ r. ⌜ r ≡ minusTo (along (now (a .entry)) a0 sa) (along (now (b .entry)) b0 sb) z k ⌝ }
-{
-    let begun = minus_points_inside(a, a0, sa, b, b0, sb, bounds_of(z), k);
-    let mut sum = begun.sum;
-    let done = begun.done;
-    for t in done..k {
-        sum = minus_product(sum, at_inside(a, a0 + t * sa), at_inside(b, b0 + t * sb));
-    }
-    scalar_of(sum)
-}
-
-// z less k products of two such runs, which is -(-z + ..) by its bits. Where every place is inside it has a loop of its own:
-// with that of plus_dot for both, which the compiler then calls, a whole run takes 1 % longer.
+// z less k products of two such runs: -(-z + ..), which has the same bits.
 pub fn minus_dot(
     a: &[f64],
     a0: usize,
@@ -215,10 +168,9 @@ pub fn minus_dot(
 ) -> Scalar
     ensures { λ r. ⌜ r ≡ minusTo (along (now (a .entry)) a0 sa) (along (now (b .entry)) b0 sb) z k ⌝ }
 {
-    if is_plain(a0, sa, a.len(), b0, sb, b.len(), z, k) {
-        return minus_inside(a, a0, sa, b, b0, sb, z, k);
-    }
-    plus_cut(a, a0, sa, b, b0, sb, z.neg(), k).neg()
+    let la = a.len();
+    let lb = b.len();
+    plus_dot(&a[..la], a0, sa, &b[..lb], b0, sb, z.neg(), k).neg()
 }
 
 // rows_minus where the bounds of z are proper.
@@ -284,7 +236,9 @@ pub fn row_dot(a: &[f64], a0: usize, b: &[f64], b0: usize, k: usize) -> Scalar
     if is_row_inside(a0, k, a.len()) && is_row_inside(b0, k, b.len()) {
         return row_inside(a, a0, b, b0, k);
     }
-    plus_cut(a, a0, 1, b, b0, 1, Scalar::ZERO, k)
+    let la = a.len();
+    let lb = b.len();
+    plus_dot(&a[..la], a0, 1, &b[..lb], b0, 1, Scalar::ZERO, k)
 }
 
 // Two sums.
@@ -398,13 +352,15 @@ pub fn two_rows(a: &[f64], a0: usize, a1: usize, b: &[f64], b0: usize, k: usize)
     ensures { λ r. ⌜ (r .first ≡ dotTo (along (now (a .entry)) a0 1) (along (now (b .entry)) b0 1) k)
         × (r .second ≡ dotTo (along (now (a .entry)) a1 1) (along (now (b .entry)) b0 1) k) ⌝ }
 {
-    if are_rows_inside(a0, a1, a.len(), b0, b.len(), k) {
+    let la = a.len();
+    let lb = b.len();
+    if are_rows_inside(a0, a1, la, b0, lb, k) {
         let zero = bounds_of(Scalar::ZERO);
-        return two_inside(a, a0, a1, 1, b, b0, zero, zero, k);
+        return two_inside(&a[..la], a0, a1, 1, &b[..lb], b0, zero, zero, k);
     }
     Two {
-        first: plus_cut(a, a0, 1, b, b0, 1, Scalar::ZERO, k),
-        second: plus_cut(a, a1, 1, b, b0, 1, Scalar::ZERO, k),
+        first: plus_dot(&a[..la], a0, 1, &b[..lb], b0, 1, Scalar::ZERO, k),
+        second: plus_dot(&a[..la], a1, 1, &b[..lb], b0, 1, Scalar::ZERO, k),
     }
 }
 
@@ -433,21 +389,20 @@ pub fn two_minus(
     ensures { λ r. ⌜ (r .first ≡ minusTo (along (now (a .entry)) a0 sa) (along (now (b .entry)) b0 1) y k)
         × (r .second ≡ minusTo (along (now (a .entry)) a1 sa) (along (now (b .entry)) b0 1) z k) ⌝ }
 {
+    let la = a.len();
+    let lb = b.len();
     let first = bounds_of(y.neg());
     let second = bounds_of(z.neg());
-    if are_runs_inside(a0, a1, sa, a.len(), b0, b.len(), k)
-        && is_proper(first)
-        && is_proper(second)
-    {
-        let sums = two_inside(a, a0, a1, sa, b, b0, first, second, k);
+    if are_runs_inside(a0, a1, sa, la, b0, lb, k) && is_proper(first) && is_proper(second) {
+        let sums = two_inside(&a[..la], a0, a1, sa, &b[..lb], b0, first, second, k);
         return Two {
             first: sums.first.neg(),
             second: sums.second.neg(),
         };
     }
     Two {
-        first: minus_dot(a, a0, sa, b, b0, 1, y, k),
-        second: minus_dot(a, a1, sa, b, b0, 1, z, k),
+        first: plus_dot(&a[..la], a0, sa, &b[..lb], b0, 1, y.neg(), k).neg(),
+        second: plus_dot(&a[..la], a1, sa, &b[..lb], b0, 1, z.neg(), k).neg(),
     }
 }
 

@@ -1,40 +1,37 @@
--- `minus_dot` meets its contract: its own loop gives the difference, and so does the sum with the signs turned.
+-- `minus_dot` meets its contract: the sum with the signs turned has the difference's bits.
 use borrow.Author.Needs.{needs}
 use Rattle.linear.proofs.Sums.{negated-back}
+use Rattle.linear.proofs.SumBounds.{anew, anew-length}
 use Rattle.linear.proofs.dots.minus_dot.Statement.{statement}
 use Rattle.linear.proofs.dots.minus_dot.Tie as tie
 
-is-plain-requires : tie.Need-is-plain-requires
-is-plain-requires c κs = search needs
+slice-aggregate-plus-dot : tie.Need-slice-aggregate-plus-dot
+slice-aggregate-plus-dot c = anew-length (c .before .before .before .args .a .now)
 
-minus-inside-requires : tie.Need-minus-inside-requires
-minus-inside-requires c κs = c .before .is-plain .ensures (c .if1 .taken)
-
-returns : tie.Need-returns
-returns c = c .minus-inside .ensures
+slice-aggregate-plus-dot-2 : tie.Need-slice-aggregate-plus-dot-2
+slice-aggregate-plus-dot-2 c = anew-length (c .before .before .before .before .args .b .now)
 
 neg-requires : tie.Need-neg-requires
 neg-requires c κs = search needs
 
-plus-cut-requires : tie.Need-plus-cut-requires
-plus-cut-requires c κs = tt
+plus-dot-requires : tie.Need-plus-dot-requires
+plus-dot-requires c κs = tt
 
 neg-requires-2 : tie.Need-neg-requires-2
 neg-requires-2 c κs = search needs
 
-returns-2 : tie.Need-returns-2
-returns-2 c =
-    negated-back _ _ _ _ (c .before .before .neg .ensures .value) (c .before .plus-cut .ensures)
-    (c .neg2 .ensures .value)
+returns : tie.Need-returns
+returns c =
+    let s = rw (anew, anew) at (c .before .plus-dot .ensures) in
+    negated-back _ _ _ _ (c .before .before .neg .ensures .value) s (c .neg2 .ensures .value)
 
 pub minus-dot-spec : {M : Type 1} → statement M
 minus-dot-spec =
     tie.close
     (tie.spec
-    is-plain-requires
-    minus-inside-requires
-    returns
+    slice-aggregate-plus-dot
+    slice-aggregate-plus-dot-2
     neg-requires
-    plus-cut-requires
+    plus-dot-requires
     neg-requires-2
-    returns-2)
+    returns)

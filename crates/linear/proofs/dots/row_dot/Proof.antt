@@ -1,6 +1,7 @@
 -- `row_dot` meets its contract: both ways give the sum.
 use borrow.Author.Needs.{needs}
 use lib.Ieee.{ofBits}
+use Rattle.linear.proofs.SumBounds.{anew, anew-length}
 use Rattle.linear.proofs.dots.row_dot.Statement.{statement}
 use Rattle.linear.proofs.dots.row_dot.Tie as tie
 
@@ -19,12 +20,18 @@ row-inside-requires c κs = (
 returns : tie.Need-returns
 returns c = c .row-inside .ensures
 
-plus-cut-requires : tie.Need-plus-cut-requires
-plus-cut-requires c κs = tt
+slice-aggregate-plus-dot : tie.Need-slice-aggregate-plus-dot
+slice-aggregate-plus-dot c = anew-length (c .before .before .before .before .before .args .a .now)
+
+slice-aggregate-plus-dot-2 : tie.Need-slice-aggregate-plus-dot-2
+slice-aggregate-plus-dot-2 c = anew-length (c .before .before .before .before .before .before .args .b .now)
+
+plus-dot-requires : tie.Need-plus-dot-requires
+plus-dot-requires c κs = tt
 
 returns-2 : tie.Need-returns-2
 unfolding ofBits
-returns-2 c = c .plus-cut .ensures
+returns-2 c = rw (anew, anew) at (c .plus-dot .ensures)
 
 pub row-dot-spec : {M : Type 1} → statement M
 row-dot-spec =
@@ -34,5 +41,7 @@ row-dot-spec =
     is-row-inside-requires-2
     row-inside-requires
     returns
-    plus-cut-requires
+    slice-aggregate-plus-dot
+    slice-aggregate-plus-dot-2
+    plus-dot-requires
     returns-2)

@@ -1,9 +1,10 @@
--- `two_minus` meets its contract: both sums from the negated starts, negated, and else each difference by itself.
+-- `two_minus` meets its contract: both sums from the negated starts, negated, and else each of them by itself.
 use mathlib.Core.Path.{sym, _∙_}
 use borrow.Author.Needs.{needs}
 use Rattle.interval.proofs.Given.{yes}
 use Rattle.linear.proofs.Sums.{negated-back}
 use Rattle.linear.proofs.BoundLaws.{bounds-back}
+use Rattle.linear.proofs.SumBounds.{anew, anew-length, anew-inside}
 use Rattle.linear.proofs.dots.two_minus.Statement.{statement}
 use Rattle.linear.proofs.dots.two_minus.Tie as tie
 
@@ -28,16 +29,32 @@ is-proper-requires c κs = search needs
 is-proper-requires-2 : tie.Need-is-proper-requires-2
 is-proper-requires-2 c κs = search needs
 
+slice-aggregate-two-inside : tie.Need-slice-aggregate-two-inside
+slice-aggregate-two-inside c =
+    anew-length
+    (c .before .before .before .before .before .before .before .before .before .before .before .before .before
+    .args .a .now)
+
+slice-aggregate-two-inside-2 : tie.Need-slice-aggregate-two-inside-2
+slice-aggregate-two-inside-2 c =
+    anew-length
+    (c .before .before .before .before .before .before .before .before .before .before .before .before .before
+    .before .args .b .now)
+
 two-inside-requires : tie.Need-two-inside-requires
 two-inside-requires c κs =
-    let i = c .before .before .before .before .before .are-runs-inside .ensures
-    (c .before .before .before .before .if1 .taken) in (
-      i .0,
-      i .1,
-      i .2,
-      yes (sym (c .before .before .before .is-proper .ensures) ∙ c .before .before .if2 .taken),
-      yes
-          (sym (c .before .is-proper2 .ensures) ∙ c .if3 .taken),
+    let k = c .before .before .before .before .before .before .before in
+    let i = k .are-runs-inside .ensures (c .before .before .before .before .before .before .if1 .taken) in
+    let p = yes
+    (sym (c .before .before .before .before .before .is-proper .ensures)
+    ∙ c .before .before .before .before .if2 .taken) in
+    let q = yes (sym (c .before .before .before .is-proper2 .ensures) ∙ c .before .before .if3 .taken) in
+    let a = k .before .before .before .before .before .before .before .args in (
+      anew-inside (a .a .now) (a .a0) (a .sa) (a .k) (i .0),
+      anew-inside (a .a .now) (a .a1) (a .sa) (a .k) (i .1),
+      anew-inside (a .b .now) (a .b0) 1 (a .k) (i .2),
+      p,
+      q,
     )
 
 neg-requires-3 : tie.Need-neg-requires-3
@@ -48,8 +65,8 @@ neg-requires-4 c κs = search needs
 
 returns : tie.Need-returns
 returns c =
-    let k = c .before .before .before .before .before .before .before .before .before in
-    let s = c .before .before .two-inside .ensures in
+    let k = c .before .before .before .before .before .before .before .before .before .before .before in
+    let s = simp anew at (c .before .before .two-inside .ensures) in
     let first = bounds-back (k .before .before .bounds-of .ensures) ∙ k .before .before .before .neg .ensures .value in
     let second = bounds-back (k .bounds-of2 .ensures) ∙ k .before .neg2 .ensures .value in (
       negated-back _ _ _ _ first (s .0) (c .before .neg3 .ensures .value),
@@ -57,14 +74,52 @@ returns c =
           (c .neg4 .ensures .value),
     )
 
-minus-dot-requires : tie.Need-minus-dot-requires
-minus-dot-requires c κs = tt
+slice-aggregate-plus-dot : tie.Need-slice-aggregate-plus-dot
+slice-aggregate-plus-dot c =
+    anew-length (c .before .before .before .before .before .before .before .before .before .args .a .now)
 
-minus-dot-requires-2 : tie.Need-minus-dot-requires-2
-minus-dot-requires-2 c κs = tt
+slice-aggregate-plus-dot-2 : tie.Need-slice-aggregate-plus-dot-2
+slice-aggregate-plus-dot-2 c =
+    anew-length (c .before .before .before .before .before .before .before .before .before .before .args .b .now)
+
+neg-requires-5 : tie.Need-neg-requires-5
+neg-requires-5 c κs = search needs
+
+plus-dot-requires : tie.Need-plus-dot-requires
+plus-dot-requires c κs = tt
+
+neg-requires-6 : tie.Need-neg-requires-6
+neg-requires-6 c κs = search needs
+
+slice-aggregate-plus-dot-3 : tie.Need-slice-aggregate-plus-dot-3
+slice-aggregate-plus-dot-3 c =
+    anew-length
+    (c .before .before .before .before .before .before .before .before .before .before .before .before .before
+    .before .args .a .now)
+
+slice-aggregate-plus-dot-4 : tie.Need-slice-aggregate-plus-dot-4
+slice-aggregate-plus-dot-4 c =
+    anew-length
+    (c .before .before .before .before .before .before .before .before .before .before .before .before .before
+    .before .before .args .b .now)
+
+neg-requires-7 : tie.Need-neg-requires-7
+neg-requires-7 c κs = search needs
+
+plus-dot-requires-2 : tie.Need-plus-dot-requires-2
+plus-dot-requires-2 c κs = tt
+
+neg-requires-8 : tie.Need-neg-requires-8
+neg-requires-8 c κs = search needs
 
 returns-2 : tie.Need-returns-2
-returns-2 c = (c .before .minus-dot .ensures, c .minus-dot2 .ensures)
+returns-2 c =
+    let k = c .before .before .before .before .before in
+    let first = rw (anew, anew) at (k .before .plus-dot .ensures) in
+    let second = rw (anew, anew) at (c .before .plus-dot2 .ensures) in (
+      negated-back _ _ _ _ (k .before .before .neg5 .ensures .value) first (k .neg6 .ensures .value),
+      negated-back _ _ _ _ (c .before .before .neg7 .ensures .value) second (c .neg8 .ensures .value),
+    )
 
 pub two-minus-spec : {M : Type 1} → statement M
 two-minus-spec =
@@ -77,10 +132,20 @@ two-minus-spec =
     are-runs-inside-requires
     is-proper-requires
     is-proper-requires-2
+    slice-aggregate-two-inside
+    slice-aggregate-two-inside-2
     two-inside-requires
     neg-requires-3
     neg-requires-4
     returns
-    minus-dot-requires
-    minus-dot-requires-2
+    slice-aggregate-plus-dot
+    slice-aggregate-plus-dot-2
+    neg-requires-5
+    plus-dot-requires
+    neg-requires-6
+    slice-aggregate-plus-dot-3
+    slice-aggregate-plus-dot-4
+    neg-requires-7
+    plus-dot-requires-2
+    neg-requires-8
     returns-2)

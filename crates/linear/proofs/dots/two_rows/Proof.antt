@@ -1,11 +1,8 @@
 -- `two_rows` meets its contract: both ways give both sums.
-use mathlib.Core.Path.{_∙_, ap}
 use borrow.Author.Needs.{needs}
 use lib.Ieee.{ofBits}
-use Rattle.interval.specs.declared.Scalar.{Scalar}
-use Rattle.linear.specs.Dot.{plusTo}
 use Rattle.linear.proofs.BoundLaws.{bounds-back}
-use Rattle.linear.proofs.SumBounds.{zero-bounds}
+use Rattle.linear.proofs.SumBounds.{anew, anew-length, anew-inside, zero-bounds}
 use Rattle.linear.proofs.dots.two_rows.Statement.{statement}
 use Rattle.linear.proofs.dots.two_rows.Tie as tie
 
@@ -15,26 +12,54 @@ are-rows-inside-requires c κs = search needs
 bounds-of-requires : tie.Need-bounds-of-requires
 bounds-of-requires c κs = search needs
 
+slice-aggregate-two-inside : tie.Need-slice-aggregate-two-inside
+slice-aggregate-two-inside c = anew-length (c .before .before .before .before .before .before .args .a .now)
+
+slice-aggregate-two-inside-2 : tie.Need-slice-aggregate-two-inside-2
+slice-aggregate-two-inside-2 c = anew-length (c .before .before .before .before .before .before .before .args .b .now)
+
 two-inside-requires : tie.Need-two-inside-requires
 unfolding ofBits
 two-inside-requires c κs =
-    let i = c .before .before .are-rows-inside .ensures (c .before .if1 .taken) in
-    let p = zero-bounds (c .bounds-of .ensures) .proper in
-    (i .0, i .1, i .2, p, p)
+    let i = c .before .before .before .before .are-rows-inside .ensures (c .before .before .before .if1 .taken) in
+    let p = zero-bounds (c .before .before .bounds-of .ensures) .proper in
+    let a = c .before .before .before .before .before .before .before .args in (
+      anew-inside (a .a .now) (a .a0) 1 (a .k) (i .0),
+      anew-inside (a .a .now) (a .a1) 1 (a .k) (i .1),
+      anew-inside
+          (a .b .now) (a .b0) 1 (a .k) (i .2),
+      p,
+      p,
+    )
 
 returns : tie.Need-returns
 unfolding ofBits
-returns c = rw (bounds-back (c .before .bounds-of .ensures)) at (c .two-inside .ensures)
+returns c = simp (anew, bounds-back (c .before .before .before .bounds-of .ensures)) at (c .two-inside .ensures)
 
-plus-cut-requires : tie.Need-plus-cut-requires
-plus-cut-requires c κs = tt
+slice-aggregate-plus-dot : tie.Need-slice-aggregate-plus-dot
+slice-aggregate-plus-dot c = anew-length (c .before .before .before .before .before .args .a .now)
 
-plus-cut-requires-2 : tie.Need-plus-cut-requires-2
-plus-cut-requires-2 c κs = tt
+slice-aggregate-plus-dot-2 : tie.Need-slice-aggregate-plus-dot-2
+slice-aggregate-plus-dot-2 c = anew-length (c .before .before .before .before .before .before .args .b .now)
+
+plus-dot-requires : tie.Need-plus-dot-requires
+plus-dot-requires c κs = tt
+
+slice-aggregate-plus-dot-3 : tie.Need-slice-aggregate-plus-dot-3
+slice-aggregate-plus-dot-3 c =
+    anew-length (c .before .before .before .before .before .before .before .before .args .a .now)
+
+slice-aggregate-plus-dot-4 : tie.Need-slice-aggregate-plus-dot-4
+slice-aggregate-plus-dot-4 c =
+    anew-length (c .before .before .before .before .before .before .before .before .before .args .b .now)
+
+plus-dot-requires-2 : tie.Need-plus-dot-requires-2
+plus-dot-requires-2 c κs = tt
 
 returns-2 : tie.Need-returns-2
 unfolding ofBits
-returns-2 c = (c .before .plus-cut .ensures, c .plus-cut2 .ensures)
+returns-2 c =
+    (rw (anew, anew) at (c .before .before .before .plus-dot .ensures), rw (anew, anew) at (c .plus-dot2 .ensures))
 
 pub two-rows-spec : {M : Type 1} → statement M
 two-rows-spec =
@@ -42,8 +67,14 @@ two-rows-spec =
     (tie.spec
     are-rows-inside-requires
     bounds-of-requires
+    slice-aggregate-two-inside
+    slice-aggregate-two-inside-2
     two-inside-requires
     returns
-    plus-cut-requires
-    plus-cut-requires-2
+    slice-aggregate-plus-dot
+    slice-aggregate-plus-dot-2
+    plus-dot-requires
+    slice-aggregate-plus-dot-3
+    slice-aggregate-plus-dot-4
+    plus-dot-requires-2
     returns-2)
