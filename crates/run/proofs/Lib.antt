@@ -5,6 +5,7 @@ pub mod FilterLaws
 pub mod Dampings
 pub mod PointLaws
 pub mod CurvatureLaws
+pub mod FactorLaws
 pub mod CorrectionLaws
 pub mod Booleans
 pub mod Slots

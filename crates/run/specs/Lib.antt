@@ -1,6 +1,7 @@
 pub mod Scratch
 pub mod Rows
 pub mod Curvature
+pub mod Factored
 pub mod Model
 pub mod Basis
 pub mod Directions

@@ -1,11 +1,14 @@
 // The curvature that Gauss-Newton leaves out: n rows of n.
 ghost use mathlib.Core.Bool.{not, _||_};
+ghost use mathlib.Core.List.{List};
 ghost use mathlib.Core.Path.{_≡_};
 ghost use Prim.Native.Nat.{_*_, _<_, _≤_};
+ghost use lib.Ieee.{Float};
 ghost use lib.ListN.{length};
 ghost use Rattle.interval.specs.Result as scalar;
 ghost use Rattle.interval.specs.Scalar.{zeroS, subOf, inverseOf, isSharp, definitelyNotEqual};
 ghost use Rattle.linear.specs.Answers.{doneOf};
+ghost use Rattle.linear.specs.Cholesky.{factorOf};
 ghost use Rattle.linear.specs.Choose.{chooseOf};
 ghost use Rattle.linear.specs.Dot.{dotTo};
 ghost use Rattle.linear.specs.Flat.{at, along};
@@ -13,6 +16,7 @@ ghost use Rattle.linear.specs.Results.{bind};
 ghost use Rattle.linear.specs.Substitution.{storeR};
 ghost use Rattle.run.specs.Scratch.{vector, fillTo};
 ghost use Rattle.run.specs.Rows.{constraintsOf, evaluationOf};
+ghost use Rattle.run.specs.Factored.{Factored};
 ghost use Rattle.run.specs.Curvature.{learnedOf, alongOf, turnedAt, turnedOf, chosenSum, rankOneStep, rankOneOf, correctedBy, updatedBy, updateCurvature};
 use crate::rows::chosen_slopes;
 use crate::rows::chosen_values;
@@ -26,6 +30,8 @@ use linear::Done;
 use linear::LinearError;
 use linear::at;
 use linear::choose;
+use linear::gram_factor;
+use linear::minus_factored;
 use linear::minus_solved;
 use linear::put;
 use linear::row_dot;
@@ -82,6 +88,29 @@ pub fn along_constraints(n: usize, m: usize, xs: &[f64], v: &[f64], out: &mut [f
     let slopes = &jc[..q];
     products(n, m, slopes, v, &mut rhs[..k]);
     minus_solved(m, n, slopes, &rhs[..k], &v[..w], out)
+}
+
+// The same by the constraints' slopes, chosen, and the factor of their products, so that these are worked out once for
+// several vectors.
+fn along_factored(
+    n: usize,
+    m: usize,
+    slopes: &[f64],
+    l: &[f64],
+    left_out: &[bool],
+    v: &[f64],
+    out: &mut [f64],
+) -> Done
+    requires { ⌜ (n ≤ 12) × ((m ≤ 12) × ((2 * n ≤ length (now v)) × (length (now out) ≡ 2 * n))) ⌝ }
+    ensures { λ r. ⌜ ((xs : List Float) →
+        Factored (constraintsOf n m xs) (now (slopes .entry)) (factorOf (now (l .entry)) (now («left_out» .entry))) →
+        doneOf r (now (out .exit)) ≡ alongOf (constraintsOf n m xs) (now (v .entry))) ⌝ }
+{
+    let k = 2 * m;
+    let w = 2 * n;
+    let mut rhs = [0.0; 24];
+    products(n, m, slopes, v, &mut rhs[..k]);
+    minus_factored(m, n, slopes, l, left_out, &rhs[..k], &v[..w], out)
 }
 
 // One entry of how far the gradient of the Lagrangian turned; r has the sum's new values, chosen.
@@ -190,9 +219,21 @@ pub fn corrected_by(n: usize, b: &mut [f64], y: &[f64], bs: &[f64], s: &[f64]) -
 }
 
 // The update, from y and the step s along the constraints.
-pub fn updated(n: usize, m: usize, xs: &[f64], b: &mut [f64], y: &[f64], s: &[f64]) -> Done
+fn updated(
+    n: usize,
+    m: usize,
+    slopes: &[f64],
+    l: &[f64],
+    left_out: &[bool],
+    b: &mut [f64],
+    y: &[f64],
+    s: &[f64],
+) -> Done
     requires { ⌜ (n ≤ 12) × ((m ≤ 12) × (length (now y) ≡ 24)) ⌝ }
-    ensures { λ r. ⌜ doneOf r (now (b .exit)) ≡ updatedBy n (constraintsOf n m (now (xs .entry))) (now (b .entry)) (now (y .entry)) (now (s .entry)) ⌝ }
+    ensures { λ r. ⌜ ((xs : List Float) →
+        Factored (constraintsOf n m xs) (now (slopes .entry)) (factorOf (now (l .entry)) (now («left_out» .entry))) →
+        doneOf r (now (b .exit))
+        ≡ updatedBy n (constraintsOf n m xs) (now (b .entry)) (now (y .entry)) (now (s .entry))) ⌝ }
 {
     let w = 2 * n;
     let mut bs = [0.0; 24];
@@ -203,11 +244,40 @@ pub fn updated(n: usize, m: usize, xs: &[f64], b: &mut [f64], y: &[f64], s: &[f6
     if !d.definitely_not_equal(Scalar::ZERO) {
         return Done::Finished;
     }
-    let end = along_constraints(n, m, xs, y, &mut y_along[..w]);
+    let end = along_factored(n, m, slopes, l, left_out, y, &mut y_along[..w]);
     let Done::Finished = end else {
         return end;
     };
     corrected_by(n, b, &y_along[..w], bent, s)
+}
+
+// The curvature b, updated from the step between two points with their rows, by the slopes and the factor at the first.
+fn update_factored(
+    n: usize,
+    m: usize,
+    s: usize,
+    b: &mut [f64],
+    step: &[f64],
+    xs: &[f64],
+    next: &[f64],
+    lambda: &[f64],
+    slopes: &[f64],
+    l: &[f64],
+    left_out: &[bool],
+) -> Done
+    requires { ⌜ (n ≤ 12) × ((m ≤ 12) × ((s ≤ 24) × ((length (now step) ≡ 24)
+        × Factored (constraintsOf n m (now xs)) (now slopes) (factorOf (now l) (now «left_out»))))) ⌝ }
+    ensures { λ r. ⌜ doneOf r (now (b .exit)) ≡ updateCurvature n (now (b .entry)) (now (step .entry)) (evaluationOf n m s (now (xs .entry))) (evaluationOf n m s (now (next .entry))) (now (lambda .entry)) ⌝ }
+{
+    let w = 2 * n;
+    let mut y = [0.0; 24];
+    let mut s_along = [0.0; 24];
+    let end = along_factored(n, m, slopes, l, left_out, step, &mut s_along[..w]);
+    let Done::Finished = end else {
+        return end;
+    };
+    turned(n, m, s, xs, next, lambda, &mut y);
+    updated(n, m, slopes, l, left_out, b, &y, &s_along[..w])
 }
 
 // The curvature b, updated from the step between two points with their rows.
@@ -224,13 +294,28 @@ pub fn update_curvature(
     requires { ⌜ (n ≤ 12) × ((m ≤ 12) × ((s ≤ 24) × (length (now step) ≡ 24))) ⌝ }
     ensures { λ r. ⌜ doneOf r (now (b .exit)) ≡ updateCurvature n (now (b .entry)) (now (step .entry)) (evaluationOf n m s (now (xs .entry))) (evaluationOf n m s (now (next .entry))) (now (lambda .entry)) ⌝ }
 {
-    let w = 2 * n;
-    let mut y = [0.0; 24];
-    let mut s_along = [0.0; 24];
-    let end = along_constraints(n, m, xs, step, &mut s_along[..w]);
+    let q = 2 * (m * n);
+    let e = 2 * (m * m);
+    let mut jc = [0.0; 288];
+    let mut g = [0.0; 288];
+    let mut l = [0.0; 288];
+    let mut left_out = [false; 12];
+    chosen_slopes(xs, constraints(n, m), &mut jc[..q]);
+    let end = gram_factor(m, n, &jc[..q], &mut g[..e], &mut l[..e], &mut left_out[..m]);
     let Done::Finished = end else {
         return end;
     };
-    turned(n, m, s, xs, next, lambda, &mut y);
-    updated(n, m, xs, b, &y, &s_along[..w])
+    update_factored(
+        n,
+        m,
+        s,
+        b,
+        step,
+        xs,
+        next,
+        lambda,
+        &jc[..q],
+        &l[..e],
+        &left_out[..m],
+    )
 }

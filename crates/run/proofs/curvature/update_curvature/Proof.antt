@@ -1,31 +1,74 @@
--- `update_curvature` meets its contract: the update from the step along the constraints, or the refusal.
-use mathlib.Core.Path.{refl, sym}
+-- `update_curvature` meets its contract: with the factor the update is the definition's, and without one it is refused.
+use mathlib.Core.Path.{sym, _∙_}
 use Prim.Native.Nat.{_*_, _≤_}
 use native.Mathlib.Omega.{arith}
-use lib.Ieee.{ofBits}
 use lib.Seq.{length-take-le}
-use Rattle.run.specs.Rows.{evaluationOf}
-use Rattle.run.specs.Curvature.{updateCurvature}
-use Rattle.run.proofs.CurvatureLaws.{handed-on, updates-by}
+use Rattle.linear.specs.Cholesky.{factorOf}
+use Rattle.run.proofs.FactorLaws.{factored, unfactored}
 use Rattle.run.proofs.Prefixes.{front-room, front-kept}
+use Rattle.run.proofs.RowLaws.{few, constraints-small}
 use borrow.Author.Needs.{needs}
 use Rattle.run.proofs.curvature.update_curvature.Statement.{statement}
 use Rattle.run.proofs.curvature.update_curvature.Tie as tie
 
-short : (s : tie.Start) → 2 * s .args .n ≤ 24
-short s = omega (arith, s .pre .0)
+room : (s : tie.Start) → 2 * (s .args .m * s .args .n) ≤ 288
+room s = omega (arith, few (s .pre .1 .0) (s .pre .0))
 
-mul-w : tie.Need-mul-w
-mul-w c = search needs
+square : (s : tie.Start) → 2 * (s .args .m * s .args .m) ≤ 288
+square s = omega (arith, few (s .pre .1 .0) (s .pre .1 .0))
 
-array-borrow-prefix-s-along : tie.Need-array-borrow-prefix-s-along
-array-borrow-prefix-s-along c = search needs
+mul-q : tie.Need-mul-q
+mul-q c = omega (arith, room (c .before .before .before .before .before))
 
-slice-aggregate-along-constraints : tie.Need-slice-aggregate-along-constraints
-slice-aggregate-along-constraints c = sym (length-take-le _ _ (short (c .before .before .before .before .before .before)))
+mul-q-2 : tie.Need-mul-q-2
+mul-q-2 c = omega (arith, room (c .before .before .before .before .before))
 
-along-constraints-requires : tie.Need-along-constraints-requires
-along-constraints-requires c κs = let s = c .before .before .before .before .before .before in let p = s .pre in (p .0, (p .1 .0, (omega (arith, p .0, p .1 .1 .1), length-take-le _ _ (short s))))
+mul-e : tie.Need-mul-e
+mul-e c = omega (arith, square (c .before .before .before .before .before))
+
+mul-e-2 : tie.Need-mul-e-2
+mul-e-2 c = omega (arith, square (c .before .before .before .before .before))
+
+constraints-requires : tie.Need-constraints-requires
+constraints-requires c κs = search needs
+
+array-borrow-prefix-jc : tie.Need-array-borrow-prefix-jc
+array-borrow-prefix-jc c = room (c .before .before .before .before .before .before)
+
+slice-aggregate-chosen-slopes : tie.Need-slice-aggregate-chosen-slopes
+slice-aggregate-chosen-slopes c = sym (length-take-le _ _ (room (c .before .before .before .before .before .before .before)))
+
+chosen-slopes-requires : tie.Need-chosen-slopes-requires
+chosen-slopes-requires c κs = let p = c .before .before .before .before .before .before .before .pre in rw (c .before .constraints .ensures) (constraints-small (p .0) (p .1 .0))
+
+array-share-prefix-jc : tie.Need-array-share-prefix-jc
+array-share-prefix-jc c = let k = c .before .chosen-slopes in front-room _ (k .last .1 .1 .0) _ (room (c .before .before .before .before .before .before .before .before .before)) (k .kept .1 .1 .0)
+
+slice-aggregate-gram-factor : tie.Need-slice-aggregate-gram-factor
+slice-aggregate-gram-factor c =
+    let k = c .before .before .chosen-slopes in
+    sym (length-take-le _ _ (front-room _ (k .last .1 .1 .0) _ (room (c .before .before .before .before .before .before .before .before .before .before)) (k .kept .1 .1 .0)))
+
+array-borrow-prefix-g : tie.Need-array-borrow-prefix-g
+array-borrow-prefix-g c = square (c .before .before .before .before .before .before .before .before .before .before)
+
+slice-aggregate-gram-factor-2 : tie.Need-slice-aggregate-gram-factor-2
+slice-aggregate-gram-factor-2 c = sym (length-take-le _ _ (square (c .before .before .before .before .before .before .before .before .before .before .before)))
+
+array-borrow-prefix-l : tie.Need-array-borrow-prefix-l
+array-borrow-prefix-l c = square (c .before .before .before .before .before .before .before .before .before .before .before)
+
+slice-aggregate-gram-factor-3 : tie.Need-slice-aggregate-gram-factor-3
+slice-aggregate-gram-factor-3 c = sym (length-take-le _ _ (square (c .before .before .before .before .before .before .before .before .before .before .before .before)))
+
+array-borrow-prefix-left-out : tie.Need-array-borrow-prefix-left-out
+array-borrow-prefix-left-out c = c .before .before .before .before .before .before .before .before .before .before .before .before .pre .1 .0
+
+slice-aggregate-gram-factor-4 : tie.Need-slice-aggregate-gram-factor-4
+slice-aggregate-gram-factor-4 c = sym (length-take-le _ _ (c .before .before .before .before .before .before .before .before .before .before .before .before .before .pre .1 .0))
+
+gram-factor-requires : tie.Need-gram-factor-requires
+gram-factor-requires c κs = tt
 
 enum-told : tie.Need-enum-told
 enum-told c = search needs
@@ -34,53 +77,98 @@ enum-told-2 : tie.Need-enum-told-2
 enum-told-2 c = search needs
 
 returns : tie.Need-returns
-unfolding updateCurvature
-returns c = handed-on _ _ _ (c .enum-told2 .given .1) (c .before .before .before .along-constraints .ensures)
+returns c =
+    let s = c .before .before .before .before .before .before .before .before .before .before .before .before .before .before .before .before .before .before .before in
+    let a = s .args in
+    let p = s .pre in
+    let k = c .before .before .before .before .before .before .before .before .before .before .before .chosen-slopes in
+    let fj = front-kept _ (k .last .1 .1 .0) _ (room s) (k .kept .1 .1 .0) in
+    let f = c .before .before .before .before .before .gram-factor .last in
+    let l = length-take-le _ _ (square s) in
+    unfactored (a .n) (a .m) (a .xs .now) (p .0) (p .1 .0) _ _ (factorOf (f .1 .1 .1 .1 .0) (f .1 .1 .1 .1 .1 .0)) _ (c .before .before .before .before .before .gram-factor .result)
+    (length-take-le _ _ (room s)) l l (length-take-le _ _ (p .1 .0)) (c .before .before .before .before .before .before .before .before .before .before .before .before .before .constraints .ensures) (k .ensures) fj
+    (c .before .before .before .before .before .gram-factor .ensures) (a .s) (a .b .now) (a .step .now) (a .next .now) (a .lambda .now) _
+    (c .enum-told2 .given .1)
 
-slice-aggregate-turned : tie.Need-slice-aggregate-turned
-slice-aggregate-turned c = search needs
+array-share-prefix-jc-2 : tie.Need-array-share-prefix-jc-2
+array-share-prefix-jc-2 c = let k = c .before .before .before .before .before .before .before .before .before .before .before .before .chosen-slopes in front-room _ (k .last .1 .1 .0) _ (room (c .before .before .before .before .before .before .before .before .before .before .before .before .before .before .before .before .before .before .before .before)) (k .kept .1 .1 .0)
 
-turned-requires : tie.Need-turned-requires
-unfolding ofBits
-turned-requires c κs = let p = c .before .before .before .before .before .before .before .before .before .before .before .pre in (p .0, (p .1 .0, (p .1 .1 .0, refl)))
+slice-aggregate-update-factored : tie.Need-slice-aggregate-update-factored
+slice-aggregate-update-factored c =
+    let k = c .before .before .before .before .before .before .before .before .before .before .before .before .before .chosen-slopes in
+    sym (length-take-le _ _ (front-room _ (k .last .1 .1 .0) _ (room (c .before .before .before .before .before .before .before .before .before .before .before .before .before .before .before .before .before .before .before .before .before)) (k .kept .1 .1 .0)))
 
-slice-aggregate-updated : tie.Need-slice-aggregate-updated
-slice-aggregate-updated c = search needs
+array-share-prefix-l : tie.Need-array-share-prefix-l
+array-share-prefix-l c = let k = c .before .before .before .before .before .before .before .gram-factor in front-room _ (k .last .1 .1 .1 .1 .0) _ (square (c .before .before .before .before .before .before .before .before .before .before .before .before .before .before .before .before .before .before .before .before .before)) (k .kept .1 .1 .1 .1 .0)
 
-array-share-prefix-s-along : tie.Need-array-share-prefix-s-along
-array-share-prefix-s-along c = front-room _ (c .before .before .before .before .before .before .before .before .along-constraints .last .1 .1 .1 .1 .0) _ (short (c .before .before .before .before .before .before .before .before .before .before .before .before .before .before .before)) (c .before .before .before .before .before .before .before .before .along-constraints .kept .1 .1 .1 .1 .0)
+slice-aggregate-update-factored-2 : tie.Need-slice-aggregate-update-factored-2
+slice-aggregate-update-factored-2 c =
+    let k = c .before .before .before .before .before .before .before .before .gram-factor in
+    sym (length-take-le _ _ (front-room _ (k .last .1 .1 .1 .1 .0) _ (square (c .before .before .before .before .before .before .before .before .before .before .before .before .before .before .before .before .before .before .before .before .before .before)) (k .kept .1 .1 .1 .1 .0)))
 
-slice-aggregate-updated-2 : tie.Need-slice-aggregate-updated-2
-slice-aggregate-updated-2 c = sym (length-take-le _ _ (front-room _ (c .before .before .before .before .before .before .before .before .before .along-constraints .last .1 .1 .1 .1 .0) _ (short (c .before .before .before .before .before .before .before .before .before .before .before .before .before .before .before .before)) (c .before .before .before .before .before .before .before .before .before .along-constraints .kept .1 .1 .1 .1 .0)))
+array-share-prefix-left-out : tie.Need-array-share-prefix-left-out
+array-share-prefix-left-out c = let k = c .before .before .before .before .before .before .before .before .gram-factor in front-room _ (k .last .1 .1 .1 .1 .1 .0) _ (c .before .before .before .before .before .before .before .before .before .before .before .before .before .before .before .before .before .before .before .before .before .before .pre .1 .0) (k .kept .1 .1 .1 .1 .1 .0)
 
-updated-requires : tie.Need-updated-requires
-updated-requires c κs = search needs
+slice-aggregate-update-factored-3 : tie.Need-slice-aggregate-update-factored-3
+slice-aggregate-update-factored-3 c =
+    let k = c .before .before .before .before .before .before .before .before .before .gram-factor in
+    sym (length-take-le _ _ (front-room _ (k .last .1 .1 .1 .1 .1 .0) _ (c .before .before .before .before .before .before .before .before .before .before .before .before .before .before .before .before .before .before .before .before .before .before .before .pre .1 .0) (k .kept .1 .1 .1 .1 .1 .0)))
+
+update-factored-requires : tie.Need-update-factored-requires
+update-factored-requires c κs =
+    let s = c .before .before .before .before .before .before .before .before .before .before .before .before .before .before .before .before .before .before .before .before .before .before .before in
+    let a = s .args in
+    let p = s .pre in
+    let k = c .before .before .before .before .before .before .before .before .before .before .before .before .before .before .before .chosen-slopes in
+    let fj = front-kept _ (k .last .1 .1 .0) _ (room s) (k .kept .1 .1 .0) in
+    let g = c .before .before .before .before .before .before .before .before .before .gram-factor in
+    let f = g .last in
+    let l = length-take-le _ _ (square s) in
+    let m = length-take-le _ _ (p .1 .0) in
+    let e = c .before .before .before .before .before .before .before .before .before .before .before .before .before .before .before .before .before .constraints .ensures in
+    let d =
+    factored (a .n) (a .m) (a .xs .now) (p .0) (p .1 .0) _ _ (factorOf (f .1 .1 .1 .1 .0) (f .1 .1 .1 .1 .1 .0)) _ (g .result)
+    (length-take-le _ _ (room s)) l l m e (k .ensures) fj (g .ensures) (g .kept .1 .1 .1 .1 .0 ∙ l) (g .kept .1 .1 .1 .1 .1 .0 ∙ m)
+    (c .before .before .before .before .enum-told .given .1) fj (front-kept _ (f .1 .1 .1 .1 .0) _ (square s) (g .kept .1 .1 .1 .1 .0))
+    (front-kept _ (f .1 .1 .1 .1 .1 .0) _ (p .1 .0) (g .kept .1 .1 .1 .1 .1 .0)) in
+    (p .0, (p .1 .0, (p .1 .1 .0, (p .1 .1 .1, d))))
 
 same-length : tie.Need-same-length
 same-length c = search needs
 
 returns-2 : tie.Need-returns-2
-returns-2 c =
-    let a = c .before .before .before .before .before .before .before .before .before .before .before .before .before .before .before .before .before .before .before .args in
-    let front = front-kept _ (c .before .before .before .before .before .before .before .before .before .before .before .before .along-constraints .last .1 .1 .1 .1 .0) _ (short (c .before .before .before .before .before .before .before .before .before .before .before .before .before .before .before .before .before .before .before)) (c .before .before .before .before .before .before .before .before .before .before .before .before .along-constraints .kept .1 .1 .1 .1 .0) in
-    updates-by (a .n) (a .b .now) (a .step .now) (evaluationOf (a .n) (a .m) (a .s) (a .xs .now)) (evaluationOf (a .n) (a .m) (a .s) (a .next .now)) (a .lambda .now) (c .before .before .before .before .before .before .before .before .before .enum-told .given .1) (c .before .before .before .before .before .before .before .before .before .before .before .before .along-constraints .ensures) front (c .before .before .before .before .before .before .before .turned .ensures) (c .before .before .updated .ensures)
+returns-2 c = c .before .before .update-factored .ensures
 
 pub update-curvature-spec : {M : Type 1} → statement M
 update-curvature-spec =
     tie.close
     (tie.spec
-    mul-w
-    array-borrow-prefix-s-along
-    slice-aggregate-along-constraints
-    along-constraints-requires
+    mul-q
+    mul-q-2
+    mul-e
+    mul-e-2
+    constraints-requires
+    array-borrow-prefix-jc
+    slice-aggregate-chosen-slopes
+    chosen-slopes-requires
+    array-share-prefix-jc
+    slice-aggregate-gram-factor
+    array-borrow-prefix-g
+    slice-aggregate-gram-factor-2
+    array-borrow-prefix-l
+    slice-aggregate-gram-factor-3
+    array-borrow-prefix-left-out
+    slice-aggregate-gram-factor-4
+    gram-factor-requires
     enum-told
     enum-told-2
     returns
-    slice-aggregate-turned
-    turned-requires
-    slice-aggregate-updated
-    array-share-prefix-s-along
-    slice-aggregate-updated-2
-    updated-requires
+    array-share-prefix-jc-2
+    slice-aggregate-update-factored
+    array-share-prefix-l
+    slice-aggregate-update-factored-2
+    array-share-prefix-left-out
+    slice-aggregate-update-factored-3
+    update-factored-requires
     same-length
     returns-2)

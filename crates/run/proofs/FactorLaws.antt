@@ -1,0 +1,98 @@
+-- One factor of the constraints' products for both parts along them that an update of the curvature asks for.
+use Prim.Native.Nat.{ℕ, _+_, _*_, _≤_}
+use mathlib.Core.Bool.{Bool}
+use mathlib.Core.List.{List}
+use mathlib.Core.Path.{_≡_, sym, ap, _∙_}
+use native.Mathlib.Omega.{arith}
+use borrow.Author.Tests.{le-leb, eq-eqb}
+use lib.Ieee.{Float}
+use lib.ListN.{length, take}
+use lib.Seq.{length-take-le}
+use Rattle.interval.specs.Result.{Res, ok, refused}
+use Rattle.linear.specs.Answers.{doneOf, numberOf}
+use Rattle.linear.specs.Calls.{blank, gramFactorReply, minusFactoredReply}
+use Rattle.linear.specs.Cholesky.{Factor, factorOf}
+use Rattle.linear.specs.Choose.{chooseOf}
+use Rattle.linear.specs.Dot.{dotTo}
+use Rattle.linear.specs.Flat.{at, along, zeros, listTo}
+use Rattle.linear.specs.Replies.{replied}
+use Rattle.linear.specs.Results.{bind}
+use Rattle.linear.specs.Solved.{gramFactorOf, minusFactoredOf, minusSolvedOf}
+use Rattle.linear.specs.declared.answers.Done.{Done}
+use Rattle.linear.specs.declared.answers.Done.the-variants as done
+use Rattle.linear.specs.declared.answers.LinearError.{LinearError}
+use Rattle.linear.proofs.Lists.{length-listTo}
+use Rattle.linear.proofs.Replied.{done-is}
+use Rattle.linear.proofs.SolvedLaws.{solved-by-factor, solved-refused}
+use Rattle.run.specs.Curvature.{alongOf, updateCurvature}
+use Rattle.run.specs.Factored.{Factored}
+use Rattle.run.specs.Rows.{Evaluation, constraintSet, constraintsOf, evaluationOf}
+use Rattle.run.specs.Scratch.{fillTo, chosenOf}
+use Rattle.run.specs.declared.rows.RowSet.{RowSet}
+use Rattle.run.proofs.CurvatureLaws.{along-lists}
+use Rattle.run.proofs.ScratchLaws.{fill-whole}
+
+-- the calls, with counts up to 24 and slices of the right lengths
+module _ (r : Done) (m n : ℕ) (hm : m ≤ 24) (hn : n ≤ 24) (jc : List Float) (lj : length jc ≡ 2 * (m * n)) where
+  factor-result : (g : List Float) (f x : Factor) →
+      length g ≡ 2 * (m * m) → length (f .l) ≡ 2 * (m * m) → length (f .left-out) ≡ m →
+      replied r x ≡ gramFactorReply m n jc g f → doneOf r x ≡ gramFactorOf m n jc
+  unfolding gramFactorReply
+  factor-result g f x p q s e =
+      done-is r x (blank m) _ (rw (le-leb _ _ hm, le-leb _ _ hn, eq-eqb _ _ lj, eq-eqb _ _ p, eq-eqb _ _ q, eq-eqb _ _ s) at e)
+
+  minus-result : (f : Factor) (rhs from y x : List Float) →
+      length (f .l) ≡ 2 * (m * m) → length (f .left-out) ≡ m → length rhs ≡ 2 * m → length from ≡ 2 * n →
+      length y ≡ 2 * n →
+      replied r x ≡ minusFactoredReply m n jc f rhs from y → doneOf r x ≡ minusFactoredOf m n jc f rhs from
+  unfolding minusFactoredReply
+  minus-result f rhs from y x p q s t u e =
+      done-is r x (zeros (2 * n)) _
+      (rw (le-leb _ _ hm, le-leb _ _ hn, eq-eqb _ _ lj, eq-eqb _ _ p, eq-eqb _ _ q, eq-eqb _ _ s, eq-eqb _ _ t, eq-eqb _ _ u) at e)
+
+module _ (n m : ℕ) (xs : List Float) (hn : n ≤ 12) (hm : m ≤ 12) where
+  -- a part along the constraints by the factor; rhs′ is the front of the array that was written
+  pub along-by : (v jc rhs out : List Float) (f : Factor) → 2 * n ≤ length v → Factored (constraintsOf n m xs) jc f →
+      (rhs₀ : List Float) {rhs′ : List Float} (r : Done) (x : List Float) →
+      length out ≡ 2 * n → length rhs₀ ≡ 2 * m → rhs′ ≡ rhs →
+      rhs ≡ fillTo rhs₀ 0 (λ i. dotTo (along jc (i * n) 1) (at v) n) m →
+      replied r x ≡ minusFactoredReply m n jc f rhs′ (take (2 * n) v) out →
+      doneOf r x ≡ alongOf (constraintsOf n m xs) v
+  along-by v jc rhs out f hv F rhs₀ r x lo lr fr er e₀ =
+      let e : replied r x ≡ minusFactoredReply m n jc f rhs (take (2 * n) v) out = rw fr at e₀ in
+      let wr = er ∙ fill-whole rhs₀ _ m lr in
+      let kj : length jc ≡ 2 * (m * n) = rw (F .slopes) (length-listTo _ (m * n)) in
+      let kr : length rhs ≡ 2 * m = rw wr (length-listTo _ m) in
+      minus-result r m n (omega arith) (omega arith) jc kj f rhs (take (2 * n) v) out x (F .entries) (F .marks) kr
+      (length-take-le _ _ hv) lo e
+      ∙ sym (solved-by-factor m n jc rhs (take (2 * n) v) f (F .factor))
+      ∙ along-lists n m xs v jc rhs out hn hm hv (F .slopes) wr
+
+  -- jc′ and jc″ are the front of the array that was written, l′ and left′ those of the factor's
+  module _ (g : List Float) (f₀ f : Factor) (jc₀ : List Float) (r : Done) {jc jc′ : List Float} {set : RowSet}
+      (lj : length jc₀ ≡ 2 * (m * n)) (lg : length g ≡ 2 * (m * m))
+      (ll : length (f₀ .l) ≡ 2 * (m * m)) (lf : length (f₀ .left-out) ≡ m)
+      (es : set ≡ constraintSet n m) (ej : jc ≡ chosenOf jc₀ xs (set .slopes) (set .count * set .n))
+      (fj : jc′ ≡ jc) (e : replied r f ≡ gramFactorReply m n jc′ g f₀) where
+    written : jc ≡ listTo (λ p. chooseOf (at xs (m + p))) (m * n)
+    written = rw es at ej ∙ fill-whole jc₀ _ (m * n) lj
+
+    ended : doneOf r f ≡ gramFactorOf m n jc
+    ended =
+        let k : length jc ≡ 2 * (m * n) = rw written (length-listTo _ (m * n)) in
+        factor-result r m n (omega arith) (omega arith) jc k g f₀ f lg ll lf (rw fj at e)
+
+    pub factored : {jc″ l′ : List Float} {left′ : List Bool} →
+        length (f .l) ≡ 2 * (m * m) → length (f .left-out) ≡ m →
+        r ≡ done.Finished → jc″ ≡ jc → l′ ≡ f .l → left′ ≡ f .left-out →
+        Factored (constraintsOf n m xs) jc″ (factorOf l′ left′)
+    factored kl kf h ej″ el ef =
+        rw (ej″, el, ef)
+        (record { slopes = written; factor = sym ended ∙ ap (λ (z : Done). doneOf z f) h; entries = kl; marks = kf })
+
+    pub unfactored : (s : ℕ) (b step next lambda x : List Float) {k : LinearError} → r ≡ done.Refused k →
+        doneOf r x ≡ updateCurvature n b step (evaluationOf n m s xs) (evaluationOf n m s next) lambda
+    unfolding updateCurvature alongOf bind
+    unfactored s b step next lambda x {k} h =
+        let q : gramFactorOf m n jc ≡ refused (numberOf k) = sym ended ∙ ap (λ (z : Done). doneOf z f) h in
+        rw (h, ← written, solved-refused m n jc _ _ _ q)
