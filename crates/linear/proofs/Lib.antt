@@ -19,6 +19,7 @@ pub mod SolvedLaws
 pub mod Reflections
 pub mod SquareLaws
 pub mod RootLaws
+pub mod NormSquares
 pub mod NormLaws
 pub mod NormSizes
 pub mod NormLow

@@ -11,6 +11,10 @@ unfoldable pub largestTo : (ℕ → Scalar) → ℕ → Scalar
 largestTo f zero = zeroS
 largestTo f (suc n) = maxOf (largestTo f n) (upper (absOf (f n)))
 
+-- each of a list times one scalar
+abbrev pub times : (ℕ → Scalar) → Scalar → ℕ → Scalar
+times f i j = mulOf (f j) i
+
 -- the sum of the squares of the first n, each over g
 unfoldable pub scaledSquares : (ℕ → Scalar) → Scalar → ℕ → Res Scalar
 unfolding bind

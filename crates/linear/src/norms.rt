@@ -1,11 +1,13 @@
 // The length of a list.
 ghost use mathlib.Core.Path.{_≡_};
+ghost use Prim.Native.Nat.{_<_};
 ghost use Rattle.interval.specs.Result as scalar;
 ghost use Rattle.interval.specs.Scalar.{mulOf};
 ghost use Rattle.linear.specs.Answers.{resultOf};
 ghost use Rattle.linear.specs.Calls.{normReply};
+ghost use Rattle.linear.specs.Dot.{dotTo};
 ghost use Rattle.linear.specs.Flat.{at};
-ghost use Rattle.linear.specs.Norm.{largestTo, scaledSquares, scaledRoot, normOf};
+ghost use Rattle.linear.specs.Norm.{largestTo, times, scaledSquares, scaledRoot, normOf};
 use crate::answers::Answer;
 use crate::answers::LinearError;
 use crate::dots::dot_of;
@@ -37,22 +39,26 @@ fn square(q: Scalar) -> Scalar
     q.mul(q)
 }
 
-// The sum of the squares of the first n, each over g.
-fn scaled_squares(v: &[f64], g: Scalar, n: usize) -> ScalarResult
-    ensures { λ r. ⌜ scalar.resultOf r ≡ scaledSquares (at (now (v .entry))) g n ⌝ }
+// The sum of the squares of the first n, each times i.
+fn squares_times(v: &[f64], i: Scalar, n: usize) -> Scalar
+    ensures { λ r. ⌜ r ≡ dotTo (times (at (now (v .entry))) i) (times (at (now (v .entry))) i) n ⌝ }
 {
     let mut sum = Scalar::ZERO;
-    for i in 0..n {
-        match at(v, i).div(g) {
-            ScalarResult::Value(q) => {
-                sum = sum.add(square(q));
-            }
-            ScalarResult::Refused(e) => {
-                return ScalarResult::Refused(e);
-            }
-        }
+    for j in 0..n {
+        sum = sum.add(square(at(v, j).mul(i)));
     }
-    ScalarResult::Value(sum)
+    sum
+}
+
+// The sum of the squares of the first n, each over g: times its inverse, so that there is one for all of them.
+fn scaled_squares(v: &[f64], g: Scalar, n: usize) -> ScalarResult
+    requires { ⌜ 0 < n ⌝ }
+    ensures { λ r. ⌜ scalar.resultOf r ≡ scaledSquares (at (now (v .entry))) g n ⌝ }
+{
+    match g.inverse() {
+        ScalarResult::Value(i) => ScalarResult::Value(squares_times(v, i, n)),
+        ScalarResult::Refused(e) => ScalarResult::Refused(e),
+    }
 }
 
 fn scaled_root(g: Scalar, squares: ScalarResult) -> ScalarResult

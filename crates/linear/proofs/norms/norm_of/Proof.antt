@@ -1,7 +1,10 @@
 -- `norm_of` meets its contract: the test on the greatest size decides the arm.
+use mathlib.Core.Path.{sym, _∙_}
 use borrow.Author.Needs.{needs}
 use lib.Ieee.{ofBits}
+use Rattle.linear.specs.Flat.{at}
 use Rattle.linear.specs.Norm.{normOf}
+use Rattle.linear.proofs.NormSquares.{some-size}
 use Rattle.linear.proofs.norms.norm_of.Statement.{statement}
 use Rattle.linear.proofs.norms.norm_of.Tie as tie
 
@@ -12,7 +15,11 @@ definitely-greater-requires : tie.Need-definitely-greater-requires
 definitely-greater-requires c κs = search needs
 
 scaled-squares-requires : tie.Need-scaled-squares-requires
-scaled-squares-requires c κs = search needs
+unfolding ofBits
+scaled-squares-requires c κs =
+    let a = c .before .before .before .before .args in
+    some-size (at (a .v .now)) (a .n)
+    (rw (← c .before .before .largest .ensures) (sym (c .before .definitely-greater .ensures) ∙ c .if1 .taken))
 
 scaled-root-requires : tie.Need-scaled-root-requires
 scaled-root-requires c κs = search needs
@@ -21,7 +28,12 @@ returns : tie.Need-returns
 unfolding normOf ofBits
 returns c =
     let k = c .before .before in
-    rw (← k .before .before .largest .ensures, ← k .before .definitely-greater .ensures, k .if1 .taken, ← c .before .scaled-squares .ensures) (c .scaled-root .ensures)
+    rw (
+      ← k .before .before .largest .ensures,
+      ← k .before .definitely-greater .ensures,
+      k .if1 .taken,
+      ← c .before .scaled-squares .ensures,
+    ) (c .scaled-root .ensures)
 
 dot-of-requires : tie.Need-dot-of-requires
 dot-of-requires c κs = search needs
@@ -33,7 +45,12 @@ returns-2 : tie.Need-returns-2
 unfolding normOf ofBits
 returns-2 c =
     let k = c .before .before in
-    rw (← k .before .before .largest .ensures, ← k .before .definitely-greater .ensures, k .if1 .left, ← c .before .dot-of .ensures) (c .sqrt .ensures .value)
+    rw (
+      ← k .before .before .largest .ensures,
+      ← k .before .definitely-greater .ensures,
+      k .if1 .left,
+      ← c .before .dot-of .ensures,
+    ) (c .sqrt .ensures .value)
 
 pub norm-of-spec : {M : Type 1} → statement M
 norm-of-spec =
