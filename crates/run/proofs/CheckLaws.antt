@@ -127,6 +127,13 @@ few-scalars {n} {m} {s} a b d =
     let k : n + 1 ≤ 13 = omega arith in
     mul-le-mul h k
 
+-- a check, passed or not
+pub checked :
+    (P : Left → Type 0) (b : Bool) (k : ℕ) (back : ℕ → Left) (next : Left) →
+    P (back k) → (b ≡ true → P next) → P (checks b k back next)
+checked P true k back next p h = h refl
+checked P false k back next p h = p
+
 -- ---- what is accepted
 
 refuse-accept : {A : Type 0} {j : ℕ} {k : Kind} → Refuse j ≡ Accept k → A

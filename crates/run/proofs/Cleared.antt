@@ -2,7 +2,7 @@
 -- area has +0 behind the numbers in use, and all that follows keeps that. A refusal by 1 to 4 leaves state and area as
 -- they were.
 use Prim.Native.Nat.{ℕ, zero, suc, _+_, _-_, _*_, _<_, _≤_}
-use mathlib.Core.Bool.{Bool, true, false, true≢false, _&&_}
+use mathlib.Core.Bool.{true, false, true≢false, _&&_}
 use mathlib.Core.Path.{_≡_, refl, sym, ap, _∙_}
 use mathlib.Core.List.{List, [], _∷_}
 use native.Mathlib.Nat.{not-suc-le-zero, le-of-suc-le-suc}
@@ -18,7 +18,7 @@ use Rattle.run.specs.Rows.{rowNumbers}
 use Rattle.run.specs.Area.{POINT, ROWS, CURVATURE, FILTER, SPARE, AREA, SIZES, Memory, areaOf, memoryOf}
 use Rattle.run.specs.Area.{begunMemory, slotsOf, startOf, usedIn}
 use Rattle.run.specs.Run.{Outcome, answered, answeredNone}
-use Rattle.run.specs.Calls.{Left, unchanged, leftBy, checks, sizesFit, allInDomain, stepFits, valid, noRun}
+use Rattle.run.specs.Calls.{Left, unchanged, leftBy, sizesFit, allInDomain, stepFits, valid, noRun}
 use Rattle.run.specs.Calls.{refusedByCheck, begunOf, beginOf, Accepted, replyOpen, replyOf, noneOpen, replyNoneOf}
 use Rattle.run.specs.Cleared.{Cleared, Replied, Demand1}
 use Rattle.run.specs.declared.state.Phase.{Phase}
@@ -27,7 +27,7 @@ use Rattle.run.specs.declared.state.Sizes.{Sizes}
 use Rattle.run.specs.declared.state.State.{State}
 use Rattle.run.proofs.AreaSlots.{Slots, slots-of, slot-read, slots-length, spare-read, cons-eq}
 use Rattle.run.proofs.Booleans.{and-left, and-right}
-use Rattle.run.proofs.CheckLaws.{Bounds, bounds, SizeBounds, size-bounds}
+use Rattle.run.proofs.CheckLaws.{Bounds, bounds, SizeBounds, size-bounds, checked}
 use Rattle.run.specs.Remainders.{Tidy, TidyMemory}
 use Rattle.run.proofs.Remainders.{tidy-zeros, tidy-padded, reads-tidy, all-tidy}
 use Rattle.run.proofs.Slots.{rows-fit}
@@ -123,23 +123,21 @@ module _ (st : State) (a : List Float) where
         unchanged = λ e. absurd (true≢false (sym e ∙ k .past-checks));
       }
 
-  checks-replied : (b : Bool) (k : ℕ) (next : Left) → k ≤ 4 → (b ≡ true → Replied st a next)
-      → Replied st a (checks b k (unchanged st a) next)
-  checks-replied true k next l h = h refl
-  checks-replied false k next l h = refused-replied k l
-
 pub reply-leaves : (st : State) (a rows : List Float) → Replied st a (replyOf st a rows)
 unfolding replyOf
-reply-leaves st a rows = checks-replied st a (valid st) 4 _ (omega arith) (λ v. opened (bounds st v) (st .phase))
+reply-leaves st a rows =
+    checked (Replied st a) (valid st) 4 (unchanged st a) _ (refused-replied st a 4 (omega arith))
+    (λ v. opened (bounds st v) (st .phase))
   where
     opened : Bounds st → (p : Phase) → Replied st a (replyOpen st a rows p)
     opened b Over = refused-replied st a 4 (omega arith)
     opened b (Open k) =
         let z = st .sizes in
         let many = eqb (length rows) (rowNumbers (z .n) (z .m) (z .s)) in
-        checks-replied st a (eqb (length a) AREA && many) 2 _ (omega arith)
+        checked (Replied st a) (eqb (length a) AREA && many) 2 (unchanged st a) _ (refused-replied st a 2 (omega arith))
         (λ e.
-        checks-replied st a (allInDomain rows ((z .m + z .s) * (z .n + 1))) 3 _ (omega arith)
+        checked (Replied st a) (allInDomain rows ((z .m + z .s) * (z .n + 1))) 3 (unchanged st a) _
+        (refused-replied st a 3 (omega arith))
         (λ d.
         let l = eqb-true _ _ (and-right (eqb (length a) AREA) many e) in
         kept-replied st a (answered k st (memoryOf st a) rows)
@@ -148,12 +146,14 @@ reply-leaves st a rows = checks-replied st a (valid st) 4 _ (omega arith) (λ v.
 
 pub reply-none-leaves : (st : State) (a : List Float) → Replied st a (replyNoneOf st a)
 unfolding replyNoneOf
-reply-none-leaves st a = checks-replied st a (valid st) 4 _ (omega arith) (λ v. opened (bounds st v) (st .phase))
+reply-none-leaves st a =
+    checked (Replied st a) (valid st) 4 (unchanged st a) _ (refused-replied st a 4 (omega arith))
+    (λ v. opened (bounds st v) (st .phase))
   where
     opened : Bounds st → (p : Phase) → Replied st a (noneOpen st a p)
     opened b Over = refused-replied st a 4 (omega arith)
     opened b (Open k) =
-        checks-replied st a (eqb (length a) AREA) 2 _ (omega arith)
+        checked (Replied st a) (eqb (length a) AREA) 2 (unchanged st a) _ (refused-replied st a 2 (omega arith))
         (λ e.
         kept-replied st a (answeredNone k st (memoryOf st a))
         (answered-none-kept st (memoryOf st a) (read-tidy st a b) k))
@@ -179,21 +179,19 @@ begun-tidy z start max b e =
 abbrev Begun : Left → Type 0
 Begun l = Accepted l → Cleared (l .state) (l .area)
 
-checks-begun : (a : List Float) (b : Bool) (k : ℕ) (next : Left) → (b ≡ true → Begun next)
-    → Begun (checks b k (unchanged noRun a) next)
-checks-begun a true k next h = h refl
-checks-begun a false k next h = λ e. absurd (let z : _≡_ {A = ℕ} 0 1 = cc in omega arith)
+not-accepted : (a : List Float) (k : ℕ) → Begun (unchanged noRun a k)
+not-accepted a k = λ e. absurd (let z : _≡_ {A = ℕ} 0 1 = cc in omega arith)
 
 pub begin-cleared : (z : Sizes) (start : List Float) (max : Scalar) (a : List Float) → Accepted (beginOf z start max a)
     → Cleared (beginOf z start max a .state) (beginOf z start max a .area)
 unfolding beginOf
 begin-cleared z start max a =
     let full = eqb (length start) (2 * z .n) in
-    checks-begun a (sizesFit z) 1 _
+    checked Begun (sizesFit z) 1 (unchanged noRun a) _ (not-accepted a 1)
     (λ p.
-    checks-begun a (full && eqb (length a) AREA) 2 _
+    checked Begun (full && eqb (length a) AREA) 2 (unchanged noRun a) _ (not-accepted a 2)
     (λ q.
-    checks-begun a (allInDomain start (z .n) && stepFits max) 3 _
+    checked Begun (allInDomain start (z .n) && stepFits max) 3 (unchanged noRun a) _ (not-accepted a 3)
     (λ r e.
     tidy-cleared (begunOf z start max .state) (begunMemory start)
     (begun-tidy z start max (size-bounds z p) (eqb-true _ _ (and-left full (eqb (length a) AREA) q))))))
@@ -205,16 +203,15 @@ begin-unchanged :
     refusedByCheck (b .answer) ≡ true → b .area ≡ a
 unfolding beginOf
 begin-unchanged z start max a =
-    kept (sizesFit z) 1 _
-    (kept (eqb (length start) (2 * z .n) && eqb (length a) AREA) 2 _
-    (kept (allInDomain start (z .n) && stepFits max) 3 _ (λ e. absurd (true≢false (sym e)))))
+    checked Same (sizesFit z) 1 (unchanged noRun a) _ (λ e. refl)
+    (λ p.
+    checked Same (eqb (length start) (2 * z .n) && eqb (length a) AREA) 2 (unchanged noRun a) _ (λ e. refl)
+    (λ q.
+    checked Same (allInDomain start (z .n) && stepFits max) 3 (unchanged noRun a) _ (λ e. refl)
+    (λ r e. absurd (true≢false (sym e)))))
   where
-    Kept′ : Left → Type 0
-    Kept′ l = refusedByCheck (l .answer) ≡ true → l .area ≡ a
-
-    kept : (b : Bool) (k : ℕ) (next : Left) → Kept′ next → Kept′ (checks b k (unchanged noRun a) next)
-    kept true k next h = h
-    kept false k next h = λ e. refl
+    Same : Left → Type 0
+    Same l = refusedByCheck (l .answer) ≡ true → l .area ≡ a
 
 pub demand1 : Demand1
 demand1 = record {

@@ -1,7 +1,7 @@
 -- Demand 3: begin makes the invariant true, each call keeps it and makes its claim, so the claim holds along every list
 -- of calls. A call that is refused by number changes nothing.
 use Prim.Native.Nat.{ℕ, _+_, _*_, _≤_, zero-le}
-use mathlib.Core.Bool.{Bool, true, false, not, cond, _&&_}
+use mathlib.Core.Bool.{true, false, not, cond, _&&_}
 use mathlib.Core.Logic.{⊎-elim}
 use mathlib.Core.Path.{_≡_, refl, sym, ap, _∙_, subst}
 use mathlib.Core.List.{List, [], _∷_}
@@ -17,7 +17,6 @@ use Rattle.run.specs.Area.{POINT, ROWS, CURVATURE, FILTER, AREA, ASKED, 
 use Rattle.run.specs.Calls.{
   Left,
   unchanged,
-  checks,
   sizesFit,
   allInDomain,
   stepFits,
@@ -62,7 +61,7 @@ use Rattle.run.specs.declared.state.Phase.the-variants.{Open, Over}
 use Rattle.run.specs.declared.state.Sizes.{Sizes}
 use Rattle.run.proofs.AreaSlots.{length-padded}
 use Rattle.run.proofs.Booleans.{clash, and-left, and-right}
-use Rattle.run.proofs.CheckLaws.{size-bounds}
+use Rattle.run.proofs.CheckLaws.{size-bounds, checked}
 use Rattle.run.proofs.Growths.{growth-begin, growth-positive}
 use Rattle.run.proofs.ExactLaws.{ExactLaws}
 use Rattle.run.proofs.Invariant.{Sound, Phased, Inv}
@@ -140,13 +139,6 @@ refused-kept h r c k v =
         forward = λ t. clash (changed h (answer.Refused k)) t stays;
       },
     )
-
--- a check, passed or not
-checked :
-    (P : Left → Type 0) (b : Bool) (k : ℕ) (back : ℕ → Left) (next : Left) →
-    P (back k) → (b ≡ true → P next) → P (checks b k back next)
-checked P true k back next p h = h refl
-checked P false k back next p h = p
 
 module _ (law : ExactLaws) (h : History) (r : Run) (v : Inv (r .state .sizes) h r) where
   -- what is refused by number
