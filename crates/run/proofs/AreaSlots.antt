@@ -168,6 +168,13 @@ read-end (x ∷ ls) e j d =
     rw (start-cons (length x) (map length ls) (length ls), add-assoc (length x) n j)
     (getD-append-add x (joined ls e) (n + j) d ∙ read-end ls e j d)
 
+drop-end : (ls : List (List Float)) (e : List Float) → drop (startOf (map length ls) (length ls)) (joined ls e) ≡ e
+unfolding startOf
+drop-end [] e = refl
+drop-end (x ∷ ls) e =
+    let n = startOf (map length ls) (length ls) in
+    rw (start-cons (length x) (map length ls) (length ls), drop-append-add x (joined ls e) n) (drop-end ls e)
+
 lengths-set : (ls : List (List Float)) (k : ℕ) (s : List Float) → map length (set ls k s) ≡ set (map length ls) k (length s)
 lengths-set [] k s = refl
 lengths-set (x ∷ ls) zero s = refl
@@ -245,6 +252,11 @@ module _ {ls : List (List Float)} {a : List Float} (h : Slots ls a) where
   slots-length =
       ap length (h .is) ∙ length-joined ls (zeros SPARE) ∙ ap₂ (λ (ns : List ℕ) (n : ℕ). total ns + n) (h .sized)
       (length-clear SPARE)
+
+  pub spare-drop : drop (startOf SIZES 9) a ≡ zeros SPARE
+  spare-drop =
+      let m : length ls ≡ 9 = sym (length-map ls (length {A = Float})) ∙ ap (length {A = ℕ}) (h .sized) in
+      rw (h .is, ← h .sized, ← m) (drop-end ls (zeros SPARE))
 
   pub spare-read : (j : ℕ) → getD a (startOf SIZES 9 + j) nan ≡ getD (zeros SPARE) j nan
   spare-read j =

@@ -2,10 +2,11 @@
 use mathlib.Core.Bool.{Bool, true, false, _||_}
 use mathlib.Core.Path.{_≡_, sym, ap, _∙_}
 use mathlib.Core.List.{List, _++_, map}
-use Prim.Native.Nat.{ℕ, _+_, _*_, _≤_}
+use Prim.Native.Nat.{ℕ, _+_, _-_, _*_, _≤_}
 use native.Mathlib.Omega.{arith}
 use lib.Ieee.{Float}
 use lib.ListN.{length, take, drop, length-map}
+use lib.Seq.{take-take}
 use Rattle.interval.specs.declared.Scalar.{Scalar}
 use Rattle.interval.specs.Result.{Res, ok, refused}
 use Rattle.interval.specs.Scalar.{two64, zeroS, degenerate, pick, addOf, subOf, mulOf, sharpen, upper, definitelyGreater, definitelyLess}
@@ -20,7 +21,7 @@ use Rattle.run.specs.Rows.{constraintsOf, evaluationOf, violationOf}
 use Rattle.run.specs.declared.state.Last.{Last}
 use Rattle.run.specs.declared.state.State.{State}
 use Rattle.run.proofs.AreaSlots.{slots-of, holds-of, wrote, slot-read, slot-length, part-back}
-use Rattle.run.proofs.LeaveLaws.{pick-yes, pick-no, standing-rows-read, cut-length}
+use Rattle.run.proofs.LeaveLaws.{pick-yes, pick-no, standing-rows-read, curvature-read, cut-length}
 use Rattle.run.proofs.ScratchLaws.{length-fillTo}
 
 -- ---- the slots of an area
@@ -134,6 +135,14 @@ module _ (length radius max : Scalar) {reach : Scalar} (e : reach ≡ mulOf (deg
   pub reach-near : (linear : Bool) {b : Bool} → b ≡ definitelyGreater reach radius → b ≡ false → radius ≡ reachOf length radius max linear
   reach-near linear q t =
       sym (pick-no (pick (linear || definitelyLess (mulOf (degenerate two64) length) max) (upper (mulOf (degenerate two64) length)) max) radius (ap (λ (x : Scalar). definitelyGreater x radius) (sym e) ∙ sym q ∙ t))
+
+-- the curvature's numbers in use, from its slot
+pub curvature-first :
+    (n : ℕ) {w : Memory} {a : List Float} → Holds w a → n ≤ 288 →
+    take (1992 + n - 1992) (drop 1992 a) ≡ take n (w .curvature)
+curvature-first n {w} {a} h f =
+    let k : 1992 + n - 1992 ≡ n = omega arith in
+    ap (λ (i : ℕ). take i (drop 1992 a)) k ∙ sym (take-take n 288 (drop 1992 a) f) ∙ ap (take n) (curvature-read h)
 
 -- the curvature after a step, from the slots
 pub learned-is : (n m s : ℕ) {w : Memory} {a b b′ : List Float} {r : Res (List Float)} → Holds w a → b ≡ b′

@@ -144,19 +144,40 @@ module _ {ls : List (List Float)} {a : List Float} (h : Slots ls a) where
         let u = subst (λ (i : ℕ). Tidy size i (getD ls k [])) (sym m) t in
         subst (λ (xs : List Float). Slots (set ls k xs) b) e (wrote-first (zeros n) (omega arith) u q)
 
+    -- and where they are those of a list that is +0 behind as many
+    pub wrote-used :
+        (xs : List Float) (n : ℕ) {b : List Float} → n ≤ getD SIZES k 0 → Tidy (getD SIZES k 0) n (getD ls k []) →
+        Tidy (getD SIZES k 0) n xs → b ≡ written a (startOf SIZES k) (take n xs) → Slots (set ls k xs) b
+    wrote-used xs n {b} f t u q =
+        let m = tidy-length u f in
+        let v = subst (λ (i : ℕ). Tidy (getD SIZES k 0) i (getD ls k [])) (sym m) t in
+        subst (λ (ys : List Float). Slots (set ls k ys) b) (tidy-is u f) (wrote-first (take n xs) (omega arith) v q)
+
   -- slot j over slot i, where both are +0 behind as many numbers
   pub copied-first :
       (i j n : ℕ) {b : List Float} → i < 9 → j < 9 → getD SIZES j 0 ≡ getD SIZES i 0 → n ≤ getD SIZES i 0 →
       Tidy (getD SIZES i 0) n (getD ls i []) → Tidy (getD SIZES i 0) n (getD ls j []) →
       b ≡ written a (startOf SIZES i) (take n (drop (startOf SIZES j) a)) → Slots (set ls i (getD ls j [])) b
   copied-first i j n {b} li lj e f t u q =
-      let xs : List Float = getD ls j [] in
-      let r : take n (drop (startOf SIZES j) a) ≡ take n xs =
+      let r : take n (drop (startOf SIZES j) a) ≡ take n (getD ls j []) =
       sym (take-take n (getD SIZES j 0) (drop (startOf SIZES j) a) (omega arith)) ∙ ap (take n) (slot-read h j lj) in
-      let m = tidy-length u f in
-      let v = subst (λ (k : ℕ). Tidy (getD SIZES i 0) k (getD ls i [])) (sym m) t in
-      subst (λ (ys : List Float). Slots (set ls i ys) b) (tidy-is u f)
-      (wrote-first i li (take n xs) (omega arith) v (q ∙ ap (λ (s : List Float). written a (startOf SIZES i) s) r))
+      wrote-used i li (getD ls j []) n f t u (q ∙ ap (λ (s : List Float). written a (startOf SIZES i) s) r)
+
+-- the first numbers of such a list, over a list of +0
+pub clear-over :
+    (size n : ℕ) {xs b c s : List Float} → n ≤ size → Tidy size n xs → b ≡ zeros size → s ≡ take n xs →
+    c ≡ written b 0 s → c ≡ xs
+clear-over size n {xs} {b} {c} {s} f t eb es q =
+    let y : List Float = take n xs in
+    let m : length y ≡ n = tidy-length t f in
+    let o : 0 + length y ≡ n = omega arith in
+    q
+    ∙ ap (λ (u : List Float). written u 0 s) eb
+    ∙ ap (λ (u : List Float). written (zeros size) 0 u) es
+    ∙ ap (λ (i : ℕ). y ++ drop i (zeros size)) o
+    ∙ ap (λ (u : List Float). y ++ u) (tidy-behind (tidy-zeros size n) f)
+    ∙ ap (λ (i : ℕ). y ++ zeros (size - i)) (sym m)
+    ∙ tidy-is t f
 
 pub tidy-fill : {size used : ℕ} {xs : List Float} → Tidy size used xs → (base : ℕ) (f : ℕ → Scalar) (k : ℕ)
     → 2 * (base + k) ≤ used → Tidy size used (fillTo xs base f k)

@@ -2,17 +2,17 @@
 use mathlib.Core.Bool.{Bool, true, false, not, _&&_}
 use mathlib.Core.Path.{_≡_, refl, sym, ap, subst, _∙_}
 use mathlib.Core.List.{List}
-use Prim.Native.Nat.{ℕ, _+_, _<_}
+use Prim.Native.Nat.{ℕ, _+_, _-_, _<_, _≤_}
 use native.Mathlib.Omega.{arith}
 use lib.Ieee.{Float}
 use lib.ListN.{take, drop}
 use Rattle.interval.specs.declared.Scalar.{Scalar}
 use Rattle.interval.specs.Enclosure.{Fits}
 use Rattle.interval.specs.Result.{Res, ok, refused}
-use Rattle.interval.specs.Scalar.{pick, isFinite, degenerate, divOf, sharpen}
+use Rattle.interval.specs.Scalar.{zero64, pick, isFinite, degenerate, divOf, sharpen}
 use Rattle.interval.specs.Scaling.{four64, quadrupled, isPositive}
 use Rattle.linear.specs.Flat.{zeros}
-use Rattle.run.specs.Area.{Memory, Holds}
+use Rattle.run.specs.Area.{Memory, Holds, startOf}
 use Rattle.run.specs.Curvature.{learnedOf}
 use Rattle.run.specs.Proposal.{Standing, movedOf, standingFor}
 use Rattle.run.specs.Rows.{constraintsOf, sumOf, sumSquared, violationOf}
@@ -29,6 +29,8 @@ use Rattle.run.specs.declared.state.Search.{Search}
 use Rattle.run.specs.declared.state.State.{State}
 use Rattle.run.specs.declared.state.Stop.{Stop}
 use Rattle.run.specs.declared.state.Stop.the-variants as stop
+use Rattle.run.proofs.AreaSlots.{slots-of, spare-drop}
+use Rattle.run.proofs.BasisLaws.{take-replicate}
 use Rattle.run.proofs.Dampings.{quadrupled-sound}
 use Rattle.run.proofs.LeaveLaws.{standing-read, standing-rows-read, curvature-read, or-next, or-refused, when, unless}
 use Rattle.run.proofs.SearchLaws.{damped-ap}
@@ -72,17 +74,50 @@ grown-bounded {t} {u} {st} y b l f e = go (isFinite (quadrupled (st .search .mu)
 pub standing-violation : (st : State) {w : Memory} {a : List Float} {x : Res Scalar} → Holds w a → x ≡ violationOf (constraintsOf (st .sizes .n) (st .sizes .m) (take 936 (drop 72 a))) → violationOf (standingAt st w .constraints) ≡ x
 standing-violation st h e = sym (e ∙ ap (λ (xs : List Float). violationOf (constraintsOf (st .sizes .n) (st .sizes .m) xs)) (standing-rows-read h))
 
+-- the curvature that is read, from its slot or of the last numbers
+pub bent-read :
+    (plain : Bool) {i : ℕ} {w : Memory} {a : List Float} → Holds w a → i ≡ pick plain 3080 1992 →
+    take (i + 288 - i) (drop i a) ≡ pick plain (zeros 288) (w .curvature)
+unfolding startOf
+bent-read plain {i} {w} {a} h e =
+    let n : i + 288 - i ≡ 288 = omega arith in
+    ap (λ (k : ℕ). take k (drop i a)) n ∙ ap (λ (k : ℕ). take 288 (drop k a)) e ∙ by plain
+  where
+    by : (b : Bool) → take 288 (drop (pick b 3080 1992) a) ≡ pick b (zeros 288) (w .curvature)
+    by true = ap (take 288) (spare-drop (slots-of h)) ∙ take-replicate 288 4920 zero64 (omega arith)
+    by false = curvature-read h
+
+pub bent-within : (plain : Bool) {i : ℕ} → i ≡ pick plain 3080 1992 → i ≤ 3080
+bent-within true e = omega arith
+bent-within false e = omega arith
+
 -- where a search from what is read of the slots is left
-module _ (st : State) {theta : Scalar} {w : Memory} {a b₀ b : List Float} {z : Model} (d lambda : List Float) (r : declared.Found) where
-  pub sought-by : Holds w a
-      → z ≡ record { n = st .sizes .n; m = st .sizes .m; s = st .sizes .s; f = sumSquared (sumOf (st .sizes .n) (st .sizes .m) (st .sizes .s) (take 936 (drop 72 a))); theta = theta }
-      → b₀ ≡ zeros 288 → b ≡ pick (st .search .plain) b₀ (take 288 (drop 1992 a)) → violationOf (standingAt st w .constraints) ≡ ok theta
-      → foundResult r d lambda (movedOf (z .n) (take 24 (drop 0 a)) d) ≡ searchOf (standingFor z (take 936 (drop 72 a)) b (take 24 (drop 0 a)) (st .moving)) (st .«max_step») (st .search)
-      → foundResult r d lambda (movedOf (st .sizes .n) (w .standing) d) ≡ soughtOf st w
-  sought-by h ez e₀ eb ev e =
-      let S : standingFor z (take 936 (drop 72 a)) b (take 24 (drop 0 a)) (st .moving) ≡ standingOf st w theta = rw (ez, eb, e₀, standing-read h, standing-rows-read h, curvature-read h) in
+module _ (st : State) {theta : Scalar} {w : Memory} {a b : List Float} {z : Model} (d lambda : List Float)
+    (r : declared.Found) where
+  pub sought-by :
+      Holds w a →
+      z
+      ≡ record {
+        n = st .sizes .n;
+        m = st .sizes .m;
+        s = st .sizes .s;
+        f = sumSquared (sumOf (st .sizes .n) (st .sizes .m) (st .sizes .s) (take 936 (drop 72 a)));
+        theta = theta;
+      } →
+      b ≡ pick (st .search .plain) (zeros 288) (w .curvature) →
+      violationOf (standingAt st w .constraints) ≡ ok theta →
+      foundResult r d lambda (movedOf (z .n) (take 24 (drop 0 a)) d)
+      ≡ searchOf (standingFor z (take 936 (drop 72 a)) b (take 24 (drop 0 a)) (st .moving)) (st .«max_step») (st
+      .search) →
+      foundResult r d lambda (movedOf (st .sizes .n) (w .standing) d) ≡ soughtOf st w
+  sought-by h ez eb ev e =
+      let S : standingFor z (take 936 (drop 72 a)) b (take 24 (drop 0 a)) (st .moving) ≡ standingOf st w theta =
+      rw (ez, eb, standing-read h, standing-rows-read h) in
       let x : movedOf (z .n) (take 24 (drop 0 a)) d ≡ movedOf (st .sizes .n) (w .standing) d = rw (ez, standing-read h) in
-      sym (ap (λ (y : List Float). foundResult r d lambda y) x) ∙ e ∙ ap (λ (y : Standing). searchOf y (st .«max_step») (st .search)) S ∙ sym (ap (soughtWith st w) ev)
+      sym (ap (λ (y : List Float). foundResult r d lambda y) x)
+      ∙ e
+      ∙ ap (λ (y : Standing). searchOf y (st .«max_step») (st .search)) S
+      ∙ sym (ap (soughtWith st w) ev)
 
 -- ---- what a call leaves
 

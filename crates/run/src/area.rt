@@ -1,7 +1,7 @@
 // The slots of the work area: what a call leaves in them.
 ghost use mathlib.Core.Path.{_≡_};
 ghost use mathlib.Core.List.{_++_};
-ghost use Prim.Native.Nat.{ℕ, _+_, _<_, _≤_};
+ghost use Prim.Native.Nat.{ℕ, _+_, _*_, _<_, _≤_};
 ghost use lib.ListN.{length, take, drop, getD};
 ghost use Rattle.linear.specs.Flat.{zeros};
 ghost use Rattle.run.specs.Area.{Memory, padded, written, Holds, startOf, tidiedTo, usedIn, memoryOf};
@@ -266,7 +266,7 @@ fn push(filter: &mut [f64], count: usize, f: Scalar, theta: Scalar)
 }
 
 // The landed point stands, with the curvature after it; the filter has the pair of the point that stood. Of the rows
-// those in use are copied.
+// and of the curvature the numbers in use are copied.
 pub fn with_taken(
     area: &mut [f64],
     z: Sizes,
@@ -280,10 +280,12 @@ pub fn with_taken(
     ensures { λ _. ⌜ ((w : Memory) → Holds w (now (area .entry)) →
         Tidy 936 (rowNumbers (z .n) (z .m) (z .s)) (w .standingRows) →
         Tidy 936 (rowNumbers (z .n) (z .m) (z .s)) (w .landedRows) →
+        Tidy 288 (2 * (z .n * z .n)) (w .curvature) → Tidy 288 (2 * (z .n * z .n)) (now (curvature .entry)) →
         Holds (withTaken w (now (curvature .entry)) (filterWith (w .filter) count f theta)) (now (area .exit))) ⌝ }
 {
     copy(area, LANDED, STANDING, POINT);
     copy(area, LANDED_ROWS, STANDING_ROWS, row_numbers(z));
-    place(area, CURVATURE, curvature);
+    let entries = 2 * (z.n * z.n);
+    place(area, CURVATURE, &curvature[0..entries]);
     push(&mut area[FILTER..SPARE], count, f, theta);
 }

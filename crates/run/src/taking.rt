@@ -1,7 +1,7 @@
 // A step taken: the damping, the radius and the curvature after it.
 ghost use mathlib.Core.Bool.{true};
 ghost use mathlib.Core.Path.{_≡_};
-ghost use Prim.Native.Nat.{_≤_};
+ghost use Prim.Native.Nat.{_*_, _≤_};
 ghost use lib.ListN.{length};
 ghost use Rattle.interval.specs.Scalar.{pick};
 ghost use Rattle.interval.specs.Scaling.{isPositive};
@@ -9,7 +9,7 @@ ghost use Rattle.linear.specs.Answers.{doneOf, resultOf};
 ghost use Rattle.linear.specs.Flat.{zeros};
 ghost use Rattle.run.specs.Area.{Memory, Holds};
 ghost use Rattle.run.specs.Curvature.{updateCurvature};
-ghost use Rattle.run.specs.Remainders.{Judging};
+ghost use Rattle.run.specs.Remainders.{Tidy, Judging};
 ghost use Rattle.run.specs.Rows.{evaluationOf, violationOf};
 ghost use Rattle.run.specs.Run.{Leaves, Underway, landedAt, held, linearOf, linearResult, shrunk, reachOf, take};
 ghost use Rattle.run.specs.Run.{takenWith};
@@ -21,7 +21,6 @@ use crate::state::Out;
 use crate::state::Sizes;
 use crate::state::State;
 use crate::states::standing_on;
-use crate::turns::bent;
 use crate::turns::iterate;
 use interval::Scalar;
 use interval::ScalarResult;
@@ -89,12 +88,27 @@ fn reach(length: Scalar, radius: Scalar, max: Scalar, linear: bool) -> Scalar
     max
 }
 
+// The curvature before the step, over +0 into b: none in plain. Of its slot the entries in use are copied.
+fn bent(plain: bool, n: usize, area: &[f64], b: &mut [f64])
+    requires { ⌜ (n ≤ 12) × ((length (now area) ≡ 8000) × (now b ≡ zeros 288)) ⌝ }
+    ensures { λ _. ⌜ ((w : Memory) → Holds w (now (area .entry)) → Tidy 288 (2 * (n * n)) (w .curvature) →
+        now (b .exit) ≡ pick plain (zeros 288) (w .curvature)) ⌝ }
+{
+    if !plain {
+        let e = area::CURVATURE + 2 * (n * n);
+        area::place(b, 0, &area[area::CURVATURE..e]);
+    }
+}
+
 // The curvature after the step, over +0 into b.
 fn learn(z: Sizes, plain: bool, area: &[f64], b: &mut [f64]) -> Done
     requires { ⌜ (z .n ≤ 12) × ((z .m ≤ 12) × ((z .s ≤ 24) × ((length (now area) ≡ 8000) × (now b ≡ zeros 288)))) ⌝ }
-    ensures { λ r. ⌜ ((w : Memory) → Holds w (now (area .entry)) → doneOf r (now (b .exit)) ≡ updateCurvature (z .n) (pick plain (zeros 288) (w .curvature)) (w .step) (evaluationOf (z .n) (z .m) (z .s) (w .standingRows)) (evaluationOf (z .n) (z .m) (z .s) (w .landedRows)) (w .multipliers)) ⌝ }
+    ensures { λ r. ⌜ ((w : Memory) → Holds w (now (area .entry)) → Tidy 288 (2 * (z .n * z .n)) (w .curvature) →
+        doneOf r (now (b .exit)) ≡ updateCurvature (z .n) (pick plain (zeros 288) (w .curvature)) (w .step)
+        (evaluationOf (z .n) (z .m) (z .s) (w .standingRows)) (evaluationOf (z .n) (z .m) (z .s) (w .landedRows))
+        (w .multipliers)) ⌝ }
 {
-    bent(plain, area, b);
+    bent(plain, z.n, area, b);
     update_curvature(
         z.n,
         z.m,

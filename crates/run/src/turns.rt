@@ -2,7 +2,7 @@
 ghost use mathlib.Core.Bool.{not, _&&_};
 ghost use mathlib.Core.Path.{_≡_};
 ghost use Prim.Native.Nat.{_≤_};
-ghost use lib.ListN.{length, take, drop};
+ghost use lib.ListN.{length};
 ghost use Rattle.interval.specs.Scalar.{pick};
 ghost use Rattle.linear.specs.Answers.{resultOf};
 ghost use Rattle.run.specs.Area.{Memory, Holds};
@@ -60,14 +60,14 @@ fn left_at(st: State, area: &mut [f64], found: Found, delta: &[f64], lambda: &[f
     }
 }
 
-// The curvature that a proposal goes by, over +0: none in plain.
-pub fn bent(plain: bool, area: &[f64], b: &mut [f64])
-    requires { ⌜ (length (now area) ≡ 8000) × (length (now b) ≡ 288) ⌝ }
-    ensures { λ _. ⌜ now (b .exit) ≡ pick plain (now (b .entry)) (take 288 (drop 1992 (now (area .entry)))) ⌝ }
+// Where the curvature that a proposal goes by begins. In plain there is none: the last numbers of the area are +0.
+fn curvature_from(plain: bool) -> usize
+    ensures { λ r. ⌜ r ≡ pick plain 3080 1992 ⌝ }
 {
-    if !plain {
-        area::place(b, 0, &area[area::CURVATURE..area::FILTER]);
+    if plain {
+        return area::SPARE;
     }
+    area::CURVATURE
 }
 
 // The numbers of the standing point's problem, from its rows and their violation.
@@ -100,14 +100,13 @@ fn seek_standing(
     let rows = &area[area::STANDING_ROWS..area::LANDED_ROWS];
     match standing {
         Answer::Value(theta) => {
-            let mut b = [0.0; 288];
             let moving = st.moving;
-            bent(from.plain, area, &mut b);
+            let curvature = curvature_from(from.plain);
             return seek(
                 model(st.sizes, rows, theta),
                 rows,
                 &area[area::STANDING..area::LANDED],
-                &b,
+                &area[curvature..curvature + area::ENTRIES],
                 &moving,
                 st.max_step,
                 from,

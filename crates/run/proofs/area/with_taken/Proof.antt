@@ -1,14 +1,17 @@
 -- `with_taken` meets its contract: four slots take what is written over them.
 use mathlib.Core.Path.{_≡_, refl, ap, _∙_}
 use mathlib.Core.List.{List}
+use Prim.Native.Nat.{ℕ, _-_, _*_}
 use native.Mathlib.Omega.{arith}
 use lib.Ieee.{Float}
-use lib.ListN.{length}
+use lib.ListN.{length, take}
 use Rattle.run.specs.Area.{startOf, written, withTaken}
 use Rattle.run.specs.Run.{filterWith}
 use Rattle.run.proofs.AreaSlots.{slots-of, holds-of, wrote, copied, slot-read, slot-length, part-back, length-filter}
 use Rattle.run.proofs.AreaSlots.{room}
-use Rattle.run.proofs.Remainders.{few-rows, rows-as, copied-first}
+use Rattle.run.proofs.LeaveLaws.{cut-length}
+use Rattle.run.proofs.Remainders.{few-rows, rows-as, copied-first, wrote-used}
+use Rattle.run.proofs.RowLaws.{few}
 use borrow.Author.Needs.{needs}
 use Rattle.run.proofs.area.with_taken.Statement.{statement}
 use Rattle.run.proofs.area.with_taken.Tie as tie
@@ -22,26 +25,51 @@ row-numbers-requires c κs = c .before .before .before .before .before .before .
 copy-requires-2 : tie.Need-copy-requires-2
 copy-requires-2 c κs =
     let s = c .before .before .before .before .before .before .before .before in
-    let few = few-rows (s .args .z) (s .pre .1 .0) (c .row-numbers .ensures) in (
-      omega (arith, few),
-      room 1008 936 few (omega arith) (omega (
+    let rows = few-rows (s .args .z) (s .pre .1 .0) (c .row-numbers .ensures) in (
+      omega (arith, rows),
+      room 1008 936 rows (omega arith) (omega (
         arith,
         c .before .before .before .before .copy .kept,
-        s
-            .pre .0,
+        s .pre .0,
       )),
     )
 
+mul-entries : tie.Need-mul-entries
+mul-entries c =
+    let s = c .before .before .before .before .before .before .before .before .before .before .before .before in
+    omega (arith, few {m = s .args .z .n} {n = s .args .z .n} (s .pre .1 .0 .0) (s .pre .1 .0 .0))
+
+mul-entries-2 : tie.Need-mul-entries-2
+mul-entries-2 c =
+    let s = c .before .before .before .before .before .before .before .before .before .before .before .before in
+    omega (arith, few {m = s .args .z .n} {n = s .args .z .n} (s .pre .1 .0 .0) (s .pre .1 .0 .0))
+
+sub-place : tie.Need-sub-place
+sub-place c = search needs
+
+part-place-start : tie.Need-part-place-start
+part-place-start c = search needs
+
+part-place-end : tie.Need-part-place-end
+part-place-end c =
+    let s = c .before .before .before .before .before .before .before .before .before .before .before .before .before in
+    omega (arith, few {m = s .args .z .n} {n = s .args .z .n} (s .pre .1 .0 .0) (s .pre .1 .0 .0), s .pre .1 .1 .0)
+
 place-requires : tie.Need-place-requires
 place-requires c κs =
-    let s = c .before .before .before .before .before .before .before .before .before .before .before .before in
+    let s = c .before .before .before .before .before .before .before .before .before .before .before .before .before
+    .before in
+    let n = s .args .z .n in
+    let fit = few {m = s .args .z .n} {n = s .args .z .n} (s .pre .1 .0 .0) (s .pre .1 .0 .0) in
+    let cut = cut-length (2 * (n * n) - 0) 0 (s .args .curvature .now) (omega (arith, fit, s .pre .1 .1 .0)) in
     omega (
       arith,
-      c .before .before .before .copy2 .kept,
-      c .before .before .before .before .before .before .before
-          .before .copy .kept,
+      fit,
+      cut,
+      c .before .before .before .before .before .copy2 .kept,
+      c .before .before .before .before
+          .before .before .before .before .before .before .copy .kept,
       s .pre .0,
-      s .pre .1 .1 .0,
     )
 
 sub-push : tie.Need-sub-push
@@ -56,27 +84,34 @@ part-push-end c = search needs
 push-requires : tie.Need-push-requires
 push-requires c κs =
     c .before .before .before .before .before .before .before .before .before .before .before .before .before .before
-    .before .before .pre .1 .1 .1
+    .before .before .before .before .pre .1 .1 .1
 
 same-length : tie.Need-same-length
 same-length c = search needs
 
 returns : tie.Need-returns
 unfolding startOf
-returns c w h t u =
+returns c w h t u b₀ b₁ =
     let s = c .before .before .before .before .before .before .before .before .before .before .before .before .before
-    .before .before .before .before .before .before in
+    .before .before .before .before .before .before .before .before in
     let a = s .args in
-    let e = c .before .before .before .before .before .before .before .before .before .before .before .row-numbers
-    .ensures in
-    let few = few-rows (a .z) (s .pre .1 .0) e in
+    let e = c .before .before .before .before .before .before .before .before .before .before .before .before .before
+    .row-numbers .ensures in
+    let rows = few-rows (a .z) (s .pre .1 .0) e in
     let h₁ = copied (slots-of h) 0 1 (omega arith) (omega arith) refl (c .before .before .before .before .before .before
-    .before .before .before .before .before .before .before .before .before .copy .ensures) in
+    .before .before .before .before .before .before .before .before .before .before .before .copy .ensures) in
     let h₂ = copied-first h₁ 3 4 (c .before .before .before .before .before .before .before .before .before .before
-    .before .row-numbers .result) (omega arith) (omega arith) refl few (rows-as e t) (rows-as e u)
-    (c .before .before .before .before .before .before .before .before .before .before .copy2 .ensures) in
-    let h₃ = wrote h₂ 7 (a .curvature .now) (omega arith) (s .pre .1 .1 .0) (c .before .before .before .before .before
-    .before .place .ensures) in
+    .before .before .before .row-numbers .result) (omega arith) (omega arith) refl rows (rows-as e t)
+    (rows-as e u) (c .before .before .before .before .before .before .before .before .before .before .before .before
+    .copy2 .ensures) in
+    let entries = 2 * (a .z .n * a .z .n) in
+    let fit = few {m = s .args .z .n} {n = s .args .z .n} (s .pre .1 .0 .0) (s .pre .1 .0 .0) in
+    let whole : entries - 0 ≡ entries = omega arith in
+    let before : List Float = c .before .before .before .before .before .before .before .before .before .before .before
+    .before .copy2 .last .0 in
+    let h₃ = wrote-used h₂ 7 (omega arith) (a .curvature .now) entries (omega (arith, fit)) b₀ b₁
+    (c .before .before .before .before .before .before .place .ensures ∙ ap (λ (i : ℕ). written before 1992 (take i (a
+    .curvature .now))) whole) in
     let pairs : List Float = filterWith (w .filter) (a .count) (a .f) (a .theta) in
     let after : List Float = c .before .before .before .before .before .before .place .last .0 in
     let is : c .before .before .push .last .0 ≡ pairs =
@@ -94,6 +129,11 @@ with-taken-spec =
     copy-requires
     row-numbers-requires
     copy-requires-2
+    mul-entries
+    mul-entries-2
+    sub-place
+    part-place-start
+    part-place-end
     place-requires
     sub-push
     part-push-start

@@ -1,20 +1,15 @@
 -- `learn` meets its contract: each part of the area is its slot.
-use mathlib.Core.List.{List}
-use mathlib.Core.Path.{ap, _∙_}
 use native.Mathlib.Omega.{arith}
-use lib.Ieee.{Float}
-use lib.ListN.{length, take, drop}
-use Rattle.interval.specs.Scalar.{pick}
-use Rattle.linear.specs.Flat.{zeros}
-use Rattle.run.proofs.AreaSlots.{length-clear}
-use Rattle.run.proofs.LeaveLaws.{curvature-read, cut-length}
+use Rattle.run.proofs.LeaveLaws.{cut-length}
 use Rattle.run.proofs.ReadLaws.{learned-is}
 use borrow.Author.Needs.{needs}
 use Rattle.run.proofs.taking.learn.Statement.{statement}
 use Rattle.run.proofs.taking.learn.Tie as tie
 
 bent-requires : tie.Need-bent-requires
-bent-requires c κs = let p = c .before .before .before .pre .1 .1 .1 in (p .0, ap length (p .1) ∙ length-clear 288)
+bent-requires c κs =
+    let p = c .before .before .before .pre in
+    (p .0, p .1 .1 .1)
 
 sub-update-curvature : tie.Need-sub-update-curvature
 sub-update-curvature c = search needs
@@ -61,11 +56,11 @@ same-length : tie.Need-same-length
 same-length c = search needs
 
 returns : tie.Need-returns
-returns c w h =
-    let s = c .before .before .before .before .before .before .before .before .before .before .before .before .before .before in
-    let a = s .args in
-    let b = c .before .before .before .before .before .before .before .before .before .before .bent .ensures ∙ ap (λ (x : List Float). pick (a .plain) x (take 288 (drop 1992 (a .area .now)))) (s .pre .1 .1 .1 .1) ∙ ap (λ (x : List Float). pick (a .plain) (zeros 288) x) (curvature-read h) in
-    learned-is (a .z .n) (a .z .m) (a .z .s) h b (c .before .before .update-curvature .ensures)
+returns c w h t =
+    let z = c .before .before .before .before .before .before .before .before .before .before .before .before .before
+    .before .args .z in
+    learned-is (z .n) (z .m) (z .s) h (c .before .before .before .before .before .before .before .before .before .before
+    .bent .ensures w h t) (c .before .before .update-curvature .ensures)
 
 pub learn-spec : {M : Type 1} → statement M
 learn-spec =

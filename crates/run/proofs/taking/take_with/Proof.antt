@@ -48,7 +48,8 @@ returns c w h =
     let a = c .before .before .before .before .before .before .before .before .before .before .before .before .args in
     let l = c .before .before .before .before .before .before .before .before .learn in
     let u = h .measured .uses in
-    let e = sym (l .ensures w (u .holds)) ∙ ap (λ (d : Done). doneOf d (l .last .1 .1 .1 .0)) (c .before .before .before
+    let e = sym (l .ensures w (u .holds) (u .tidy .curvature)) ∙ ap (λ (d : Done). doneOf d (l .last .1 .1 .1 .0)) (c
+    .before .before .before
     .before .before .e .given .1) in
     learned-refused (a .st) w (a .theta) (a .span) (a .mu) (a .radius) e (c .before .before .refuse .ensures w u)
 
@@ -107,7 +108,8 @@ returns-2 c w h =
     let b = l .last .1 .1 .1 .0 in
     let u = h .measured .uses in
     let t = u .tidy in
-    let e = sym (l .ensures w (u .holds)) ∙ ap (λ (d : Done). doneOf d b) (c .before .before .before .before .before
+    let e = sym (l .ensures w (u .holds) (u .tidy .curvature)) ∙ ap (λ (d : Done). doneOf d b) (c .before .before
+    .before .before .before
     .before .before .before .before .before .before .before .before .enum-told .given .1) in
     let f = c .before .before .before .before .before .before .before .before .before .before .sum-squared .result in
     let sum = c .before .before .before .before .before .before .before .before .before .before .sum-squared .ensures
@@ -116,7 +118,8 @@ returns-2 c w h =
     (withTaken w b (filterWith (w .filter) (a .st .counts .iterations) f (a .theta))) (c .before .before .before .before
     .before .before .before .with-taken .last .0) = record {
       holds = c .before .before .before .before .before .before .before .with-taken .ensures w (u .holds) (t
-          .standing-rows) (t .landed-rows);
+          .standing-rows) (t .landed-rows)
+          (t .curvature) (learned-tidy (a .st) w t e);
       tidy = taken-working (a .st) w t b f (a .theta) (learned-tidy (a .st) w t e);
     } in
     learned-known (a .st) w (a .theta) (a .span) (a .mu) (a .radius) e

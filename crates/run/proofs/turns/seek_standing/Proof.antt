@@ -1,10 +1,10 @@
--- `seek_standing` meets its contract: the violation decides, and then the search from a clear array and the slots.
+-- `seek_standing` meets its contract: the violation decides, and then the search from what the slots hold.
 use mathlib.Core.Bool.{Bool}
-use mathlib.Core.Path.{refl, sym, ap, _∙_}
-use lib.Ieee.{ofBits}
+use mathlib.Core.Path.{sym, ap, _∙_}
+use native.Mathlib.Omega.{arith}
 use Rattle.linear.specs.Answers.{resultOf}
 use Rattle.run.specs.Run.{soughtWith}
-use Rattle.run.proofs.SearchCalls.{sought-by}
+use Rattle.run.proofs.SearchCalls.{bent-read, bent-within, sought-by}
 use borrow.Author.Needs.{length-unmapped}
 use borrow.Author.Needs.{needs}
 use Rattle.run.proofs.turns.seek_standing.Statement.{statement}
@@ -22,16 +22,12 @@ part-rows-end c = search needs
 enum-known-standing : tie.Need-enum-known-standing
 enum-known-standing c = search needs
 
-slice-aggregate-bent : tie.Need-slice-aggregate-bent
-slice-aggregate-bent c = search needs
-
-bent-requires : tie.Need-bent-requires
-bent-requires c κs = (c .before .before .before .before .before .before .before .before .before .before .pre .0, refl)
+curvature-from-requires : tie.Need-curvature-from-requires
+curvature-from-requires c κs = search needs
 
 model-requires : tie.Need-model-requires
 model-requires c κs =
-    let b = c .before .before .before .before .before .before .before .before .before .before .before .before .pre .1 .0
-    in
+    let b = c .before .before .before .before .before .before .before .before .before .before .pre .1 .0 in
     (b .few-variables, (b .few-constraints, b .few-sums))
 
 sub-seek : tie.Need-sub-seek
@@ -43,19 +39,37 @@ part-seek-start c = search needs
 part-seek-end : tie.Need-part-seek-end
 part-seek-end c = search needs
 
-slice-aggregate-seek : tie.Need-slice-aggregate-seek
-slice-aggregate-seek c = search needs
+add-seek : tie.Need-add-seek
+add-seek c =
+    let s = c .before .before .before .before .before .before .before .before .before .before .before .before in
+    omega (arith, bent-within (s .args .st .search .plain) (c .before .before .curvature-from .ensures))
 
-slice-aggregate-seek-2 : tie.Need-slice-aggregate-seek-2
-slice-aggregate-seek-2 c =
+mul-seek : tie.Need-mul-seek
+mul-seek c =
+    let s = c .before .before .before .before .before .before .before .before .before .before .before .before in
+    omega (arith, bent-within (s .args .st .search .plain) (c .before .before .curvature-from .ensures))
+
+sub-seek-2 : tie.Need-sub-seek-2
+sub-seek-2 c = search needs
+
+part-seek-start-2 : tie.Need-part-seek-start-2
+part-seek-start-2 c = search needs
+
+part-seek-end-2 : tie.Need-part-seek-end-2
+part-seek-end-2 c =
+    let s = c .before .before .before .before .before .before .before .before .before .before .before .before in
+    omega (arith, bent-within (s .args .st .search .plain) (c .before .before .curvature-from .ensures), s .pre .0)
+
+slice-aggregate-seek : tie.Need-slice-aggregate-seek
+slice-aggregate-seek c =
     let s = c .before .before .before .before .before .before .before .before .before .before .before .before .before
-    .before .before .before in
+    .before in
     sym (length-unmapped Bool (s .args .st .moving) 12 (s .good .0 .1 .1 .1 .1 .1 .1 .1 .1 .1 .0 .1 .0 .1))
 
 seek-requires : tie.Need-seek-requires
 seek-requires c κs =
     let s = c .before .before .before .before .before .before .before .before .before .before .before .before .before
-    .before .before .before .before .before in
+    .before .before .before in
     let b = s .pre .1 .0 in
     let marks = length-unmapped Bool (s .args .st .moving) 12 (s .good .0 .1 .1 .1 .1 .1 .1 .1 .1 .1 .0 .1 .0 .1) in
     rw (c .before .before .before .before .before .model .ensures)
@@ -68,18 +82,17 @@ same-length-2 : tie.Need-same-length-2
 same-length-2 c = search needs
 
 returns : tie.Need-returns
-unfolding ofBits
 returns c w h =
     let st = c .before .before .before .before .before .before .before .before .before .before .before .before .before
-    .before .before .before .before .before .before .before .before .before .before .args .st in
+    .before .before .before .before .before .before .before .before .args .st in
     let k = c .before .before .before .before .seek in
     let l = k .last .1 .1 .1 .1 .1 .1 .1 in
+    let b = bent-read (st .search .plain) (h .uses .holds) (c .before .before .before .before .before .before .before
+    .before .before .before .before .curvature-from .ensures) in
     let v = sym (h .standing-is) ∙ ap resultOf (c .before .before .before .before .before .before .before .before
-    .before .before .before .before .before .before .before .before .standing .given .1) in
+    .before .before .before .before .before .before .standing .given .1) in
     sought-by st (l .0) (l .1 .0) (k .result) (h .uses .holds) (c .before .before .before .before .before .before
-    .before .before .before .before .model .ensures) refl (c .before .before .before .before .before .before .before
-    .before .before .before .before .before .bent .ensures) v
-    (k .ensures)
+    .before .before .before .before .model .ensures) b v (k .ensures)
 
 enum-known-standing-2 : tie.Need-enum-known-standing-2
 enum-known-standing-2 c = search needs
@@ -97,14 +110,17 @@ seek-standing-spec =
     part-rows-start
     part-rows-end
     enum-known-standing
-    slice-aggregate-bent
-    bent-requires
+    curvature-from-requires
     model-requires
     sub-seek
     part-seek-start
     part-seek-end
+    add-seek
+    mul-seek
+    sub-seek-2
+    part-seek-start-2
+    part-seek-end-2
     slice-aggregate-seek
-    slice-aggregate-seek-2
     seek-requires
     same-length
     same-length-2
