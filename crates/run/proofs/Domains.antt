@@ -1,11 +1,12 @@
 -- Rows in the domain are finite: an end between -2^400 and 2^400 is no infinity and no NaN. And they are floats, as all that were answered are.
-use Prim.Native.Nat.{ℕ, zero, suc, _+_, _*_, _<_}
+use Prim.Native.Nat.{ℕ, zero, suc, _+_, _*_, _/_, _<_}
 use mathlib.Core.Bool.{Bool, true, false, _&&_}
 use mathlib.Core.Logic.{⊎-elim}
-use mathlib.Core.Path.{_≡_, ap, _∙_}
+use mathlib.Core.Path.{_≡_, refl, sym, ap, _∙_}
 use mathlib.Core.List.{List, [], _∷_}
 use native.Mathlib.Nat.{not-suc-le-zero, le-of-suc-le-suc, eq-or-lt-of-le, add-mul, mul-le-mul-left}
 use native.Mathlib.Omega.{arith}
+use borrow.Author.Tests.{le-ltb}
 use lib.Dec.{T}
 use lib.Ieee.{Float, nan, inf, fin, binary64, fits, ofBits, neg, lt, le, eq}
 use lib.Ieee.Scale.{finite}
@@ -14,6 +15,7 @@ use Rattle.interval.specs.declared.Scalar.{Scalar}
 use Rattle.interval.specs.Enclosure.{Fits, Finite}
 use Rattle.interval.specs.Scalar.{pick}
 use Rattle.linear.specs.Flat.{at, inside}
+use Rattle.linear.proofs.FlatLaws.{at-outside}
 use Rattle.run.specs.Scratch.{allTo}
 use Rattle.run.specs.Rows.{rowNumbers}
 use Rattle.run.specs.Calls.{MOST, inDomain, allInDomain}
@@ -66,6 +68,24 @@ all-of : (p : ℕ → Bool) (k : ℕ) → allTo p k ≡ true → (i : ℕ) → i
 unfolding allTo
 all-of p zero e i h = absurd (not-suc-le-zero h)
 all-of p (suc k) e i h = ⊎-elim (λ q. ap p q ∙ and-right (allTo p k) (p k) e) (λ l. all-of p k (and-left (allTo p k) (p k) e) i l) (eq-or-lt-of-le (le-of-suc-le-suc h))
+
+-- ---- outside the list: a NaN, which is in no domain
+
+some-out : (p : ℕ → Bool) (k i : ℕ) → i < k → p i ≡ false → allTo p k ≡ false
+some-out p k i h e = by (allTo p k) refl
+  where
+    by : (b : Bool) → allTo p k ≡ b → b ≡ false
+    by true a = never (sym e ∙ all-of p k a i h)
+    by false a = refl
+
+out-of-domain : (xs : List Float) (i : ℕ) → inside xs i ≡ false → inDomain (at xs i) ≡ false
+unfolding le lt eq neg ofBits
+out-of-domain xs i e = ap inDomain (at-outside xs i e)
+
+pub none-beyond : (xs : List Float) (count : ℕ) → length xs / 2 < count → allInDomain xs count ≡ false
+none-beyond xs count h =
+    some-out (λ i. inDomain (at xs i)) count (length xs / 2) h
+    (out-of-domain xs (length xs / 2) (le-ltb (2 * (length xs / 2) + 1) (length xs) (omega arith)))
 
 -- ---- rows
 

@@ -196,13 +196,21 @@ pub fn in_domain(x: Scalar) -> bool
     (-most <= x.lo) & ((x.lo <= x.hi) & (x.hi <= most))
 }
 
-// Whether the first `count` are in the domain. Nearly always all are, so none is left out by a branch.
+// Whether the first `count` are in the domain. Nearly always all are, so none is left out by a branch, and one test
+// before the loop tells that all are inside the slice.
 pub fn all_in_domain(xs: &[f64], count: usize) -> bool
     ensures { λ r. ⌜ r ≡ allInDomain (now (xs .entry)) count ⌝ }
 {
+    if count > xs.len() / 2 {
+        return false;
+    }
     let mut inside = true;
     for i in 0..count {
-        inside = inside & in_domain(at(xs, i));
+        inside = inside
+            & in_domain(Scalar {
+                lo: xs[2 * i],
+                hi: xs[2 * i + 1],
+            });
     }
     inside
 }

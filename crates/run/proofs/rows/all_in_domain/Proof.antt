@@ -1,11 +1,17 @@
--- `all_in_domain` meets its contract: whether all so far are in the domain.
+-- `all_in_domain` meets its contract: whether all so far are in the domain, each read inside the slice; where the count
+-- goes beyond it, a NaN is among them.
 use borrow.Author.Needs.{needs}
-use mathlib.Core.Path.{_≡_, refl}
-use Prim.Native.Nat.{_≤_, _-_}
+use borrow.Author.Tests.{lt-ltb}
+use mathlib.Core.Path.{_≡_, refl, sym}
+use Prim.Native.Nat.{_+_, _*_, _≤_, _-_}
 use native.Mathlib.Nat.{le-antisymm}
 use native.Mathlib.Numerals.{add-one}
+use native.Mathlib.Omega.{arith}
+use lib.ListN.{length}
+use Rattle.linear.proofs.FlatLaws.{at-inside}
 use Rattle.run.specs.Calls.{allInDomain}
 use Rattle.run.specs.Scratch.{allTo}
+use Rattle.run.proofs.Domains.{none-beyond}
 use Rattle.run.proofs.rows.all_in_domain.Statement.{statement}
 use Rattle.run.proofs.rows.all_in_domain.Tie as tie
 
@@ -15,12 +21,33 @@ Inv-loop xs count inside₀ i₀ inside i = (i ≤ count) × (inside ≡ allInDo
 abbrev μ-loop : tie.MeasureT-loop
 μ-loop xs count inside₀ i₀ inside i = count - i
 
+returns : tie.Need-returns Inv-loop μ-loop
+returns c = let a = c .before .before .args in sym (none-beyond (a .xs .now) (a .count) (c .if1 .taken))
+
 loop-holds : tie.Need-loop-holds Inv-loop μ-loop
 unfolding allTo
 loop-holds c = (search needs, refl)
 
-at-requires : tie.Need-at-requires Inv-loop μ-loop
-at-requires c κs = search needs
+mul-t9 : tie.Need-mul-t9 Inv-loop μ-loop
+mul-t9 c = search needs
+
+mul-t10 : tie.Need-mul-t10 Inv-loop μ-loop
+mul-t10 c = search needs
+
+shared-slice-read-t12 : tie.Need-shared-slice-read-t12 Inv-loop μ-loop
+shared-slice-read-t12 c = search needs
+
+mul-t13 : tie.Need-mul-t13 Inv-loop μ-loop
+mul-t13 c = search needs
+
+add-t14 : tie.Need-add-t14 Inv-loop μ-loop
+add-t14 c = search needs
+
+mul-t15 : tie.Need-mul-t15 Inv-loop μ-loop
+mul-t15 c = search needs
+
+shared-slice-read-t17 : tie.Need-shared-slice-read-t17 Inv-loop μ-loop
+shared-slice-read-t17 c = search needs
 
 in-domain-requires : tie.Need-in-domain-requires Inv-loop μ-loop
 in-domain-requires c κs = search needs
@@ -34,11 +61,13 @@ loop-less c = search needs
 loop-again : tie.Need-loop-again Inv-loop μ-loop
 unfolding allTo
 loop-again c =
-    let l = c .before .before .before .loop in
-    (search needs, rw (add-one, c .in-domain .ensures, c .before .at .ensures, l .inv .1))
+    let l = c .before .before .before .before .loop in
+    let a = c .before .before .before .before .before .before .before .args in
+    let inside = lt-ltb (2 * l .i + 1) (length (a .xs .now)) (omega arith) in
+    (search needs, rw (add-one, c .in-domain .ensures, at-inside (a .xs .now) (l .i) inside, l .inv .1))
 
-returns : tie.Need-returns Inv-loop μ-loop
-returns c = rw (le-antisymm (c .before .loop .inv .0) (c .loop-test .left)) at (c .before .loop .inv .1)
+returns-2 : tie.Need-returns-2 Inv-loop μ-loop
+returns-2 c = rw (le-antisymm (c .before .loop .inv .0) (c .loop-test .left)) at (c .before .loop .inv .1)
 
 pub all-in-domain-spec : {M : Type 1} → statement M
 all-in-domain-spec =
@@ -46,10 +75,17 @@ all-in-domain-spec =
     (tie.spec
     Inv-loop
     μ-loop
+    returns
     loop-holds
-    at-requires
+    mul-t9
+    mul-t10
+    shared-slice-read-t12
+    mul-t13
+    add-t14
+    mul-t15
+    shared-slice-read-t17
     in-domain-requires
     add-i
     loop-less
     loop-again
-    returns)
+    returns-2)
