@@ -64,15 +64,35 @@ fn left_after(k: usize, r: usize, q: &[f64], left: &mut [f64], p: usize)
     }
 }
 
+// The same of rows p and p + 1.
+fn two_left_after(k: usize, r: usize, q: &[f64], left: &mut [f64], p: usize)
+    requires { ⌜ (k ≤ 12) × ((r ≤ 12) × (p < 11)) ⌝ }
+    ensures { λ _. ⌜ now (left .exit)
+        ≡ leftAfter k (now (q .entry)) (leftAfter k (now (q .entry)) (now (left .entry)) p r) (p + 1) r ⌝ }
+{
+    for t in 0..r {
+        two_parts_off(k, q, t, left, p);
+    }
+}
+
 // The unit directions, with what is left of them after Q, into a clear matrix.
 fn remainders(k: usize, r: usize, q: &[f64], left: &mut [f64])
     requires { ⌜ (k ≤ 12) × ((r ≤ 12) × (now left ≡ matrix)) ⌝ }
     ensures { λ _. ⌜ now (left .exit) ≡ remaindersTo k r (now (q .entry)) k ⌝ }
 {
-    for p in 0..k {
+    let half = k / 2;
+    for h in 0..half {
+        let p = 2 * h;
         put(left, 12 * p + p, Scalar::ONE);
-        left_after(k, r, q, left, p);
+        put(left, 12 * (p + 1) + (p + 1), Scalar::ONE);
+        two_left_after(k, r, q, left, p);
     }
+    if 2 * half == k {
+        return;
+    }
+    let p = 2 * half;
+    put(left, 12 * p + p, Scalar::ONE);
+    left_after(k, r, q, left, p);
 }
 
 // The remainders without their parts along row t of z.
