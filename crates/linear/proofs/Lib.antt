@@ -15,6 +15,7 @@ pub mod Pivots
 pub mod FactorEntries
 pub mod CholeskyRows
 pub mod LowerTriangle
+pub mod GramRows
 pub mod SolvedLaws
 pub mod Reflections
 pub mod SquareLaws

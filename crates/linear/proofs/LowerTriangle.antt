@@ -2,16 +2,15 @@
 use Prim.Native.Nat.{ℕ, zero, suc, _+_, _*_, _/_, _%_, _≤_, _<_}
 use mathlib.Core.Path.{_≡_, refl, sym, _∙_}
 use mathlib.Core.List.{List}
-use native.Mathlib.Nat.{le-refl, le-trans, le-suc}
+use native.Mathlib.Nat.{le-refl}
 use native.Mathlib.Omega.{arith}
-use borrow.Author.Tests.{le-ltb}
 use lib.Arith.{digits-lt, digits-div, digits-mod}
 use lib.Ieee.{Float}
 use Rattle.interval.specs.declared.Scalar.{Scalar}
-use Rattle.linear.specs.Flat.{along, listTo}
-use Rattle.linear.specs.Dot.{dotTo, minusTo}
+use Rattle.linear.specs.Flat.{listTo}
+use Rattle.linear.specs.Dot.{minusTo}
 use Rattle.linear.specs.Cholesky.{rowTo, pivotAt, markAt, factorAt, refusedTo, entry, marksTo, choleskyOf}
-use Rattle.linear.specs.Solved.{gramOf, gramAt, lowerGramOf}
+use Rattle.linear.specs.Solved.{gramOf, gramAt, LowerRows}
 use Rattle.linear.proofs.Agree.{minusTo-ext, listTo-ext}
 use Rattle.linear.proofs.Cells.{place-row}
 use Rattle.linear.proofs.Lists.{at-listTo}
@@ -22,8 +21,11 @@ SameBelow a b n = (i j : ℕ) → i < n → j ≤ i → a i j ≡ b i j
 
 module _ (a b : ℕ → ℕ → Scalar) (n : ℕ) (same : SameBelow a b n) where
   -- what is left of an entry, where the entries before it agree
-  left-same : (j i : ℕ) → j ≤ i → i < n → ((k : ℕ) → rowTo a j i k ≡ rowTo b j i k) → ((k : ℕ) → rowTo a j j k ≡ rowTo b j j k) → minusTo (rowTo a j i) (rowTo a j j) (a i j) j ≡ minusTo (rowTo b j i) (rowTo b j j) (b i j) j
-  left-same j i h l p q = rw (same i j l h) (minusTo-ext (rowTo a j i) (rowTo b j i) (rowTo a j j) (rowTo b j j) (b i j) j (λ t _. p t) (λ t _. q t))
+  left-same : (j i : ℕ) → j ≤ i → i < n → ((k : ℕ) → rowTo a j i k ≡ rowTo b j i k)
+      → ((k : ℕ) → rowTo a j j k ≡ rowTo b j j k) → minusTo (rowTo a j i) (rowTo a j j) (a i j) j ≡ minusTo
+      (rowTo b j i) (rowTo b j j) (b i j) j
+  left-same j i h l p q = rw (same i j l h)
+      (minusTo-ext (rowTo a j i) (rowTo b j i) (rowTo a j j) (rowTo b j j) (b i j) j (λ t _. p t) (λ t _. q t))
 
   rowTo-same : (j i : ℕ) → j ≤ i → i < n → (k : ℕ) → rowTo a j i k ≡ rowTo b j i k
   unfolding rowTo
@@ -89,9 +91,10 @@ module _ (n : ℕ) (f g : ℕ → ℕ → Scalar) (same : SameBelow f g n) where
   pub cholesky-entries : choleskyOf n (matrixOf n f) ≡ choleskyOf n (matrixOf n g)
   cholesky-entries = cholesky-lower n (matrixOf n f) (matrixOf n g) entries-same
 
--- the products of the lower triangle have the factor of all products
-pub cholesky-gram : (m n : ℕ) (jc : List Float) → choleskyOf m (lowerGramOf m n jc) ≡ choleskyOf m (gramOf m n jc)
-unfolding lowerGramOf gramOf gramAt
-cholesky-gram m n jc =
-    let all : ℕ → ℕ → Scalar = λ i j. dotTo (along jc (i * n) 1) (along jc (j * n) 1) n in
-    cholesky-entries m (gramAt n jc) all (λ i j h l. rw (le-ltb i j l))
+-- products that fill the lower triangle have the factor of all products
+pub cholesky-gram : (m n : ℕ) (jc g : List Float) → LowerRows (gramAt n jc) m m g → choleskyOf m g ≡ choleskyOf m
+    (gramOf m n jc)
+unfolding gramOf
+cholesky-gram m n jc g rows =
+    cholesky-lower m g (matrixOf m (gramAt n jc))
+    (λ i j h l. let k : j < m = omega arith in rows i j h l ∙ sym (entry-of m (gramAt n jc) i j h k))

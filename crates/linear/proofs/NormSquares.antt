@@ -5,7 +5,7 @@ use Prim.Native.Nat.{ℕ, zero, suc, _<_}
 use native.Mathlib.Nat.{not-suc-le-zero, zero-lt-suc}
 use lib.Ieee.{lt}
 use Rattle.interval.specs.declared.Scalar.{Scalar}
-use Rattle.interval.specs.Result.{Res, ok, refused}
+use Rattle.interval.specs.Result.{ok, refused}
 use Rattle.interval.specs.Scalar.{zeroS, inverseOf, definitelyGreater}
 use Rattle.interval.proofs.Division.{div-value, div-refused}
 use Rattle.linear.specs.Dot.{plusTo, dotTo}

@@ -14,7 +14,7 @@ use Rattle.linear.specs.Dot.{minusTo}
 use Rattle.linear.specs.Flat.{at, put, along, zeros}
 use Rattle.linear.specs.Replies.{replied, replyOf}
 use Rattle.linear.specs.Results.{bind}
-use Rattle.linear.specs.Solved.{gramOf, lowerGramOf, multipliersOf, minusAt, minusOf, minusSolvedOf, gramFactorOf, minusFactoredOf}
+use Rattle.linear.specs.Solved.{gramOf, gramAt, LowerRows, multipliersOf, minusAt, minusOf, minusSolvedOf, gramFactorOf, minusFactoredOf}
 use Rattle.linear.specs.Substitution.{solveOf}
 use Rattle.linear.specs.declared.answers.Done.{Done}
 use Rattle.linear.proofs.Folds.{bind-ok, bind-refused}
@@ -41,10 +41,10 @@ module _ (m n : ℕ) (jc rhs from : List Float) where
 
 -- ---- what the code works out
 module _ (m n : ℕ) (jc : List Float) where
-  pub gram-factor : (g : List Float) (r : Done) (f : Factor) → g ≡ lowerGramOf m n jc → replied r f ≡ replyOf (blank m) (choleskyOf m g)
-      → replied r f ≡ replyOf (blank m) (gramFactorOf m n jc)
+  pub gram-factor : (g : List Float) (r : Done) (f : Factor) → LowerRows (gramAt n jc) m m g
+      → replied r f ≡ replyOf (blank m) (choleskyOf m g) → replied r f ≡ replyOf (blank m) (gramFactorOf m n jc)
   unfolding gramFactorOf
-  gram-factor g r f e h = h ∙ ap (λ x. replyOf (blank m) x) (ap (choleskyOf m) e ∙ cholesky-gram m n jc)
+  gram-factor g r f e h = h ∙ ap (λ x. replyOf (blank m) x) (cholesky-gram m n jc g e)
 
   pub factor-done : (r : Done) (f : Factor) → replied r f ≡ replyOf (blank m) (gramFactorOf m n jc) → gramFactorOf m n jc ≡ doneOf r f
   factor-done r f h = sym (done-is r f (blank m) (gramFactorOf m n jc) h)

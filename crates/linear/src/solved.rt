@@ -6,13 +6,14 @@ ghost use Rattle.linear.specs.Calls.{blank, minusSolvedReply, gramFactor
 ghost use Rattle.linear.specs.Cholesky.{factorOf};
 ghost use Rattle.linear.specs.Flat.{zeros, put};
 ghost use Rattle.linear.specs.Replies.{replied, replyOf};
-ghost use Rattle.linear.specs.Solved.{gramAt, lowerGramOf, minusAt, minusOf, minusSolvedOf, gramFactorOf, minusFactoredOf};
+ghost use Rattle.linear.specs.Solved.{gramAt, LowerRows, minusAt, minusOf, minusSolvedOf, gramFactorOf, minusFactoredOf};
 use crate::answers::Done;
 use crate::answers::LinearError;
 use crate::choices::choose;
 use crate::dots::minus_dot;
 use crate::dots::row_dot;
 use crate::dots::two_minus;
+use crate::dots::two_rows;
 use crate::factor::factor_sized;
 use crate::flat::at;
 use crate::flat::clear;
@@ -21,25 +22,46 @@ use crate::substitution::cleared;
 use crate::substitution::solve_sized;
 use interval::Scalar;
 
-// The product of rows i and j; zero above the diagonal, where no factor reads it.
-fn gram_at(n: usize, jc: &[f64], i: usize, j: usize) -> Scalar
-    requires { ⌜ (n ≤ 24) × ((i < 24) × (j < 24)) ⌝ }
-    ensures { λ r. ⌜ r ≡ gramAt n (now (jc .entry)) i j ⌝ }
+// Rows i and i + 1 of the products, two of a column at a time, up to the second's diagonal.
+fn gram_rows(m: usize, n: usize, jc: &[f64], g: &mut [f64], i: usize)
+    requires { ⌜ (m ≤ 24) × ((n ≤ 24) × ((i + 1 < m) × ((length (now g) ≡ 2 * (m * m))
+        × LowerRows (gramAt n (now jc)) m i (now g)))) ⌝ }
+    ensures { λ _. ⌜ LowerRows (gramAt n (now (jc .entry))) m (i + 2) (now (g .exit)) ⌝ }
 {
-    if i < j {
-        return Scalar::ZERO;
+    let top = i * n;
+    let row = i * m;
+    for j in 0..i + 2 {
+        let d = two_rows(jc, top, top + n, jc, j * n, n);
+        put(g, row + j, d.first);
+        put(g, row + m + j, d.second);
     }
-    row_dot(jc, i * n, jc, j * n, n)
 }
 
-// The products of the rows, the lower triangle.
+// Row i of the products, up to the diagonal.
+fn gram_row(m: usize, n: usize, jc: &[f64], g: &mut [f64], i: usize)
+    requires { ⌜ (m ≤ 24) × ((n ≤ 24) × ((i < m) × ((length (now g) ≡ 2 * (m * m))
+        × LowerRows (gramAt n (now jc)) m i (now g)))) ⌝ }
+    ensures { λ _. ⌜ LowerRows (gramAt n (now (jc .entry))) m (i + 1) (now (g .exit)) ⌝ }
+{
+    let top = i * n;
+    let row = i * m;
+    for j in 0..i + 1 {
+        put(g, row + j, row_dot(jc, top, jc, j * n, n));
+    }
+}
+
+// The products of the rows, the lower triangle, which is all that a factor reads.
 fn gram(m: usize, n: usize, jc: &[f64], g: &mut [f64])
     requires { ⌜ (m ≤ 24) × ((n ≤ 24) × (length (now g) ≡ 2 * (m * m))) ⌝ }
-    ensures { λ _. ⌜ now (g .exit) ≡ lowerGramOf m n (now (jc .entry)) ⌝ }
+    ensures { λ _. ⌜ LowerRows (gramAt n (now (jc .entry))) m m (now (g .exit)) ⌝ }
 {
-    let q = m * m;
-    for p in 0..q {
-        put(g, p, gram_at(n, jc, p / m, p % m));
+    let half = m / 2;
+    for h in 0..half {
+        gram_rows(m, n, jc, g, 2 * h);
+    }
+    let i = 2 * half;
+    if i < m {
+        gram_row(m, n, jc, g, i);
     }
 }
 

@@ -1,5 +1,4 @@
 -- `dot_of` meets its contract: a run from the start on, by steps of 1, is the slice's own.
-use borrow.Author.Needs.{needs}
 use lib.Ieee.{ofBits}
 use Rattle.linear.proofs.Sums.{along-start}
 use Rattle.linear.proofs.dots.dot_of.Statement.{statement}

@@ -1,7 +1,6 @@
 -- `is_row_inside` meets its contract: the last place is inside.
 use mathlib.Core.Bool.{false≢true}
 use borrow.Author.Tests.{leb-true}
-use borrow.Author.Needs.{needs}
 use Rattle.linear.proofs.Walks.{inside-row}
 use Rattle.linear.proofs.flat.is_row_inside.Statement.{statement}
 use Rattle.linear.proofs.flat.is_row_inside.Tie as tie

@@ -1,72 +1,74 @@
--- `gram` meets its contract: the slice starts with the products stored so far, and is else as it was.
-use mathlib.Core.Path.{_≡_, sym, _∙_}
-use mathlib.Core.List.{_++_}
-use Prim.Native.Nat.{ℕ, _+_, _*_, _/_, _%_, _≤_, _<_, _-_}
-use native.Mathlib.Nat.{le-antisymm, le-trans}
+-- `gram` meets its contract: the rows so far are in place, two more at each turn, and a last one where they are odd.
+use Prim.Native.Nat.{ℕ, _+_, _*_, _/_, _≤_, _-_}
+use mathlib.Core.Path.{_≡_, _∙_, subst}
+use native.Mathlib.Nat.{le-antisymm, not-suc-le-zero}
 use native.Mathlib.Omega.{arith}
 use borrow.Author.Needs.{needs}
-use lib.ListN.{length, drop}
-use Rattle.interval.specs.declared.Scalar.{Scalar}
-use Rattle.linear.specs.Flat.{listTo}
-use Rattle.linear.specs.Solved.{gramAt, lowerGramOf}
+use lib.ListN.{length}
+use Rattle.linear.specs.Solved.{gramAt, LowerRows}
 use Rattle.linear.proofs.solved.gram.Statement.{statement}
 use Rattle.linear.proofs.solved.gram.Tie as tie
-use Rattle.linear.proofs.Cells.{product-small, square-positive, place-row, place-column}
-use Rattle.linear.proofs.Lists.{listTo-none, listTo-more, listTo-all}
 
 abbrev Inv-loop : tie.InvT-loop
-Inv-loop m n jc g₀ q p₀ g p = (p ≤ q) × (length g ≡ length g₀) × (g ≡ listTo (λ j. gramAt n jc (j / m) (j % m)) p ++ drop (2 * p) g₀)
+Inv-loop m n jc g₀ half h₀ g h =
+    (h ≤ half) × (length g ≡ length g₀) × LowerRows (gramAt n jc) m (2 * h) g
 
 abbrev μ-loop : tie.MeasureT-loop
-μ-loop m n jc g₀ q p₀ g p = q - p
-
-mul-q : tie.Need-mul-q Inv-loop μ-loop
-mul-q c = omega (arith, product-small {i = c .before .before .args .m} {n = c .before .before .args .m} (omega arith) (omega arith))
+μ-loop m n jc g₀ half h₀ g h = half - h
 
 loop-holds : tie.Need-loop-holds Inv-loop μ-loop
-loop-holds c = (search needs, search needs, sym (listTo-none _ _))
+loop-holds c = (search needs, search needs, λ r k hr hk. absurd (not-suc-le-zero hr))
 
--- m is not 0, since there is a place
-div-gram-at : tie.Need-div-gram-at Inv-loop μ-loop
-div-gram-at c = square-positive (c .before .before .before .before .before .args .m) {p = c .before .before .loop .p} (c .before .loop-test .taken)
+mul-gram-rows : tie.Need-mul-gram-rows Inv-loop μ-loop
+mul-gram-rows c = omega (arith, c .before .before .before .before .before .pre, c .before .loop-test .taken)
 
-rem-gram-at : tie.Need-rem-gram-at Inv-loop μ-loop
-rem-gram-at c = square-positive (c .before .before .before .before .before .args .m) {p = c .before .before .loop .p} (c .before .loop-test .taken)
+gram-rows-requires : tie.Need-gram-rows-requires Inv-loop μ-loop
+gram-rows-requires c κs =
+    let s = c .before .before .before .before .before in
+    let l = c .before .before .loop in
+    (s .pre .0, (s .pre .1 .0, (omega (arith, c .before .loop-test .taken), (l .inv .1 ∙ s .pre .1 .1, l .inv .2))))
 
-gram-at-requires : tie.Need-gram-at-requires Inv-loop μ-loop
-gram-at-requires c κs =
-    let t = c .before .loop-test .taken in
-    let p = c .before .before .before .before .before .pre in
-    (p .1 .0, (le-trans (place-row t) (p .0), le-trans (place-column t) (p .0)))
-
-put-requires : tie.Need-put-requires Inv-loop μ-loop
-put-requires c κs = tt
-
-add-p : tie.Need-add-p Inv-loop μ-loop
-add-p c = search needs
+add-h : tie.Need-add-h Inv-loop μ-loop
+add-h c = search needs
 
 loop-less : tie.Need-loop-less Inv-loop μ-loop
 loop-less c = search needs
 
 loop-again : tie.Need-loop-again Inv-loop μ-loop
 loop-again c =
-    let l = c .before .before .before .before .before .before .loop in
-    let s = c .before .before .before .before .before .before .before .before .before in
-    let a = s .args in
-    let f : ℕ → Scalar = λ j. gramAt (a .n) (a .jc .now) (j / a .m) (j % a .m) in
-    let e = rw (l .inv .2, c .before .before .before .gram-at .ensures) at (c .before .before .put .ensures) in
-    (search needs, search needs, e ∙ listTo-more f (l .p) (a .g .now) (omega (arith, s .pre)))
+    let l = c .before .before .before .before .before .loop in
+    let e : 2 * l .h + 2 ≡ 2 * (l .h + 1) = omega arith in
+    (search needs, search needs, rw e at (c .before .before .gram-rows .ensures))
+
+mul-i : tie.Need-mul-i Inv-loop μ-loop
+mul-i c = search needs
+
+gram-row-requires : tie.Need-gram-row-requires Inv-loop μ-loop
+gram-row-requires c κs =
+    let s = c .before .before .before .before .before .before in
+    let l = c .before .before .before .loop in
+    let e = le-antisymm (l .inv .0) (c .before .before .loop-test .left) in
+    (s .pre .0, (s .pre .1 .0, (c .before .if1 .taken, (l .inv .1 ∙ s .pre .1 .1, rw e at (l .inv .2)))))
 
 same-length : tie.Need-same-length Inv-loop μ-loop
 same-length c = search needs
 
 returns : tie.Need-returns Inv-loop μ-loop
-unfolding lowerGramOf
 returns c =
-    let s = c .before .before .before .before in
-    let a = s .args in
-    let e = rw (le-antisymm (c .before .loop .inv .0) (c .loop-test .left)) at (c .before .loop .inv .2) in
-    e ∙ listTo-all (λ j. gramAt (a .n) (a .jc .now) (j / a .m) (j % a .m)) (a .m * a .m) (a .g .now) (s .pre .1 .1)
+    let a = c .before .before .before .before .before .before .before .before .before .args in
+    let e : 2 * (a .m / 2) + 1 ≡ a .m = omega (arith, c .before .before .before .before .if1 .taken) in
+    rw e at (c .before .before .gram-row .ensures)
+
+same-length-2 : tie.Need-same-length-2 Inv-loop μ-loop
+same-length-2 c = search needs
+
+returns-2 : tie.Need-returns-2 Inv-loop μ-loop
+returns-2 c =
+    let l = c .before .before .loop in
+    let a = c .before .before .before .before .before .args in
+    let e : 2 * (a .m / 2) ≡ a .m = omega (arith, c .if1 .left) in
+    let h = le-antisymm (l .inv .0) (c .before .loop-test .left) in
+    subst (λ (i : ℕ). LowerRows (gramAt (a .n) (a .jc .now)) (a .m) i (l .g)) e (rw h at (l .inv .2))
 
 pub gram-spec : {M : Type 1} → statement M
 gram-spec =
@@ -74,14 +76,15 @@ gram-spec =
     (tie.spec
     Inv-loop
     μ-loop
-    mul-q
     loop-holds
-    div-gram-at
-    rem-gram-at
-    gram-at-requires
-    put-requires
-    add-p
+    mul-gram-rows
+    gram-rows-requires
+    add-h
     loop-less
     loop-again
+    mul-i
+    gram-row-requires
     same-length
-    returns)
+    returns
+    same-length-2
+    returns-2)

@@ -1,7 +1,6 @@
 -- `solved_in` meets its contract: the factor, then the values by it; its refusal clears the output.
 use mathlib.Core.Path.{_≡_, sym, ap, _∙_}
 use Prim.Native.Nat.{_*_}
-use native.Mathlib.Omega.{arith}
 use borrow.Author.Needs.{needs}
 use lib.ListN.{length}
 use Rattle.linear.specs.Cholesky.{factorOf}
