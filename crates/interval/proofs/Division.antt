@@ -3,7 +3,7 @@ use mathlib.Core.Path.{_≡_, refl, sym}
 use mathlib.Core.Bool.{Bool, true, false}
 use Prim.Native.Nat.{ℕ}
 use Rattle.interval.specs.declared.Scalar.{Scalar}
-use Rattle.interval.specs.Result.{Res, ok, refused}
+use Rattle.interval.specs.Result.{ok, refused}
 use Rattle.interval.specs.Scalar.{pick, mulOf, holdsZero, inverse, inverseOf, divOf}
 use Rattle.interval.proofs.Results.{refused-ok, ok-inj}
 
