@@ -39,7 +39,8 @@ module _ (r : Done) (m n : ℕ) (hm : m ≤ 24) (hn : n ≤ 24) (jc : List Float
       replied r x ≡ gramFactorReply m n jc g f → doneOf r x ≡ gramFactorOf m n jc
   unfolding gramFactorReply
   factor-result g f x p q s e =
-      done-is r x (blank m) _ (rw (le-leb _ _ hm, le-leb _ _ hn, eq-eqb _ _ lj, eq-eqb _ _ p, eq-eqb _ _ q, eq-eqb _ _ s) at e)
+      done-is r x (blank m) _ (rw
+      (le-leb _ _ hm, le-leb _ _ hn, eq-eqb _ _ lj, eq-eqb _ _ p, eq-eqb _ _ q, eq-eqb _ _ s) at e)
 
   minus-result : (f : Factor) (rhs from y x : List Float) →
       length (f .l) ≡ 2 * (m * m) → length (f .left-out) ≡ m → length rhs ≡ 2 * m → length from ≡ 2 * n →

@@ -1,4 +1,5 @@
--- The entries of J_rᵀ J_r + B across its diagonal: products of points commute, so where B has the same on both sides, so has the sum.
+-- The entries of J_rᵀ J_r + B across its diagonal: products of points commute, so where B has the same on both sides,
+-- so has the sum.
 use Prim.Native.Nat.{ℕ, zero, suc, _+_, _*_, _<_}
 use mathlib.Core.Bool.{Bool, true, false, not, cond}
 use mathlib.Core.Path.{_≡_, refl, sym, ap, ap₂, subst, _∙_}

@@ -1,4 +1,5 @@
--- The constraints' slopes, chosen, with the factor of their products: what `along` is worked out with, for several vectors.
+-- The constraints' slopes, chosen, with the factor of their products: what `along` is worked out with, for several
+-- vectors.
 use Prim.Native.Nat.{_+_, _*_}
 use mathlib.Core.List.{List}
 use mathlib.Core.Path.{_≡_}

@@ -267,7 +267,9 @@ fn update_factored(
 ) -> Done
     requires { ⌜ (n ≤ 12) × ((m ≤ 12) × ((s ≤ 24) × ((length (now step) ≡ 24)
         × Factored (constraintsOf n m (now xs)) (now slopes) (factorOf (now l) (now «left_out»))))) ⌝ }
-    ensures { λ r. ⌜ doneOf r (now (b .exit)) ≡ updateCurvature n (now (b .entry)) (now (step .entry)) (evaluationOf n m s (now (xs .entry))) (evaluationOf n m s (now (next .entry))) (now (lambda .entry)) ⌝ }
+    ensures { λ r. ⌜ doneOf r (now (b .exit))
+        ≡ updateCurvature n (now (b .entry)) (now (step .entry)) (evaluationOf n m s (now (xs .entry)))
+        (evaluationOf n m s (now (next .entry))) (now (lambda .entry)) ⌝ }
 {
     let w = 2 * n;
     let mut y = [0.0; 24];

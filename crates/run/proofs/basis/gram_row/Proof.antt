@@ -47,7 +47,11 @@ returns : tie.Need-returns
 returns c =
     let a = c .before .before .before .before .before .before .before .before .before .before .before .before .before .before .before .before .args in
     let g = c .before .before .before .before .before .before .before .before .before .before .before .before .gram-entries in
-    gram-on (a .k) (a .r) (a .q .now) (a .gram .now) (g .last .1 .1 .1 .0) (g .result) (g .ensures) (c .before .before .before .before .before .before .before .before .enum-told .given .1) (c .before .before .before .before .before .before .before .row-dot .ensures) (c .before .before .before .before .before .minus-dot .ensures) (c .before .before .before .sqrt .ensures .value) (c .before .before .store .ensures)
+    gram-on (a .k) (a .r) (a .q .now) (a .gram .now) (g .last .1 .1 .1 .0) (g .result) (g .ensures)
+    (c .before .before .before .before .before .before .before .before .enum-told .given .1)
+    (c .before .before .before .before .before .before .before .row-dot .ensures)
+    (c .before .before .before .before .before .minus-dot .ensures) (c .before .before .before .sqrt .ensures .value)
+    (c .before .before .store .ensures)
 
 enum-known-e : tie.Need-enum-known-e
 enum-known-e c = search needs

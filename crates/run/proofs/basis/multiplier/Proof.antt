@@ -46,7 +46,11 @@ same-length c = search needs
 returns : tie.Need-returns
 returns c =
     let a = c .before .before .before .before .before .before .before .before .before .before .before .before .args in
-    multiplier-is (a .k) (a .r) (a .q .now) (a .pull .now) (a .by-row .now) (a .u) (c .before .before .before .before .before .before .before .before .row-dot .ensures) (c .before .before .before .before .before .before .minus-dot .ensures) (c .before .before .before .before .at .ensures) (c .before .before .before .div .ensures .value) (c .before .before .store-chosen .ensures)
+    multiplier-is (a .k) (a .r) (a .q .now) (a .pull .now) (a .by-row .now) (a .u)
+    (c .before .before .before .before .before .before .before .before .row-dot .ensures)
+    (c .before .before .before .before .before .before .minus-dot .ensures)
+    (c .before .before .before .before .at .ensures) (c .before .before .before .div .ensures .value)
+    (c .before .before .store-chosen .ensures)
 
 pub multiplier-spec : {M : Type 1} → statement M
 multiplier-spec =

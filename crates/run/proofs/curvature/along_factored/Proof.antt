@@ -31,15 +31,19 @@ products-requires c κs = search needs
 
 array-share-prefix-rhs : tie.Need-array-share-prefix-rhs
 array-share-prefix-rhs c =
-    front-room _ (c .before .products .last .1 .1 .1 .1 .0) _ (high (c .before .before .before .before .before .before .before .before)) (c .before .products .kept .1 .1 .1 .1 .0)
+    front-room _ (c .before .products .last .1 .1 .1 .1 .0) _ (high
+    (c .before .before .before .before .before .before .before .before)) (c .before .products .kept .1 .1 .1 .1 .0)
 
 slice-aggregate-minus-factored : tie.Need-slice-aggregate-minus-factored
 slice-aggregate-minus-factored c =
     let k = c .before .before .products in
-    sym (length-take-le _ _ (front-room _ (k .last .1 .1 .1 .1 .0) _ (high (c .before .before .before .before .before .before .before .before .before)) (k .kept .1 .1 .1 .1 .0)))
+    sym (length-take-le _ _ (front-room _ (k .last .1 .1 .1 .1 .0) _ (high
+    (c .before .before .before .before .before .before .before .before .before)) (k .kept .1 .1 .1 .1 .0)))
 
 slice-aggregate-minus-factored-2 : tie.Need-slice-aggregate-minus-factored-2
-slice-aggregate-minus-factored-2 c = sym (length-take-le _ _ (c .before .before .before .before .before .before .before .before .before .before .pre .1 .1 .0))
+slice-aggregate-minus-factored-2 c =
+    sym (length-take-le _ _
+    (c .before .before .before .before .before .before .before .before .before .before .pre .1 .1 .0))
 
 minus-factored-requires : tie.Need-minus-factored-requires
 minus-factored-requires c κs = tt
@@ -49,7 +53,8 @@ same-length c = search needs
 
 returns : tie.Need-returns
 returns c = λ xs f.
-    let s = c .before .before .before .before .before .before .before .before .before .before .before .before .before .before in
+    let s = c .before .before .before .before .before .before .before .before .before .before .before .before .before
+    .before in
     let a = s .args in
     let p = s .pre in
     let k = c .before .before .before .before .before .before .before in

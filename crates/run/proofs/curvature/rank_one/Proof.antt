@@ -36,7 +36,9 @@ unfolding foldR
 loop-holds c = (search needs, search needs, λ vs e. refl)
 
 rank-one-at-requires : tie.Need-rank-one-at-requires Inv-loop μ-loop
-rank-one-at-requires c κs = square-positive (c .before .before .before .before .before .before .args .n) {p = c .before .before .loop .p} (c .before .loop-test .taken)
+rank-one-at-requires c κs =
+    square-positive (c .before .before .before .before .before .before .args .n) {p = c .before .before .loop .p}
+    (c .before .loop-test .taken)
 
 enum-told : tie.Need-enum-told Inv-loop μ-loop
 enum-told c = search needs
@@ -50,12 +52,17 @@ same-length c = search needs
 returns : tie.Need-returns Inv-loop μ-loop
 unfolding rankOneOf
 returns c =
-    let vs = c .before .before .before .before .before .before .before .before .before .before .before .before .args .vs in
+    let vs = c .before .before .before .before .before .before .before .before .before .before .before
+    .before .args .vs in
     let e = c .before .before .before .before .before .before .before .before .before .inverse .ensures in
-    broke-off _ _ _ (c .before .before .before .before .before .before .before .loop-test .taken) (c .before .before .before .before .before .before .before .before .loop .inv .2 vs e) (c .before .before .before .before .before .rank-one-at .ensures vs e) (c .before .e .given .1)
+    broke-off _ _ _ (c .before .before .before .before .before .before .before .loop-test .taken)
+    (c .before .before .before .before .before .before .before .before .loop .inv .2 vs e)
+    (c .before .before .before .before .before .rank-one-at .ensures vs e) (c .before .e .given .1)
 
 add-p : tie.Need-add-p Inv-loop μ-loop
-add-p c = let h = c .before .before .before .before .before .before .before .before .before .before .before .pre in omega (arith, few h h, c .before .before .before .before .before .before .loop-test .taken)
+add-p c =
+    let h = c .before .before .before .before .before .before .before .before .before .before .before .pre in omega
+    (arith, few h h, c .before .before .before .before .before .before .loop-test .taken)
 
 loop-less : tie.Need-loop-less Inv-loop μ-loop
 loop-less c = search needs
@@ -65,7 +72,8 @@ loop-again c = (
   search needs,
   search needs,
   λ vs e.
-      went-on _ _ (c .before .before .before .before .before .before .before .loop .inv .2 vs e) (c .before .before .before .before .rank-one-at .ensures vs e) (c .enum-told .given .1),
+      went-on _ _ (c .before .before .before .before .before .before .before .loop .inv .2 vs e)
+      (c .before .before .before .before .rank-one-at .ensures vs e) (c .enum-told .given .1),
 )
 
 same-length-2 : tie.Need-same-length-2 Inv-loop μ-loop
@@ -74,7 +82,8 @@ same-length-2 c = search needs
 returns-2 : tie.Need-returns-2 Inv-loop μ-loop
 unfolding rankOneOf
 returns-2 c =
-    let e = c .before .loop .inv .2 (c .before .before .before .before .before .args .vs) (c .before .before .inverse .ensures) in
+    let e = c .before .loop .inv .2 (c .before .before .before .before .before .args .vs)
+    (c .before .before .inverse .ensures) in
     sym (rw (le-antisymm (c .before .loop .inv .0) (c .loop-test .left)) at e)
 
 pub rank-one-spec : {M : Type 1} → statement M

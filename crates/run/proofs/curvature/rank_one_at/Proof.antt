@@ -44,7 +44,10 @@ same-length c = search needs
 returns : tie.Need-returns
 returns c = λ vs e.
     let a = c .before .before .before .before .before .before .before .before .before .before .args in
-    step (a .n) (a .v .now) vs (a .b .now) (a .p) (c .before .before .before .before .before .before .before .at .ensures) (c .before .before .before .before .before .before .at2 .ensures) (c .before .before .before .before .before .mul .ensures .value)
+    step (a .n) (a .v .now) vs (a .b .now) (a .p)
+    (c .before .before .before .before .before .before .before .at .ensures)
+    (c .before .before .before .before .before .before .at2 .ensures)
+    (c .before .before .before .before .before .mul .ensures .value)
     (c .before .before .before .quotient .ensures vs e) (c .before .before .add-chosen .ensures)
 
 pub rank-one-at-spec : {M : Type 1} → statement M

@@ -36,36 +36,51 @@ array-borrow-prefix-jc : tie.Need-array-borrow-prefix-jc
 array-borrow-prefix-jc c = room (c .before .before .before .before .before .before)
 
 slice-aggregate-chosen-slopes : tie.Need-slice-aggregate-chosen-slopes
-slice-aggregate-chosen-slopes c = sym (length-take-le _ _ (room (c .before .before .before .before .before .before .before)))
+slice-aggregate-chosen-slopes c =
+    sym (length-take-le _ _ (room (c .before .before .before .before .before .before .before)))
 
 chosen-slopes-requires : tie.Need-chosen-slopes-requires
-chosen-slopes-requires c κs = let p = c .before .before .before .before .before .before .before .pre in rw (c .before .constraints .ensures) (constraints-small (p .0) (p .1 .0))
+chosen-slopes-requires c κs =
+    let p = c .before .before .before .before .before .before .before .pre in rw (c .before .constraints .ensures)
+    (constraints-small (p .0) (p .1 .0))
 
 array-share-prefix-jc : tie.Need-array-share-prefix-jc
-array-share-prefix-jc c = let k = c .before .chosen-slopes in front-room _ (k .last .1 .1 .0) _ (room (c .before .before .before .before .before .before .before .before .before)) (k .kept .1 .1 .0)
+array-share-prefix-jc c =
+    let k = c .before .chosen-slopes in front-room _ (k .last .1 .1 .0) _ (room
+    (c .before .before .before .before .before .before .before .before .before)) (k .kept .1 .1 .0)
 
 slice-aggregate-gram-factor : tie.Need-slice-aggregate-gram-factor
 slice-aggregate-gram-factor c =
     let k = c .before .before .chosen-slopes in
-    sym (length-take-le _ _ (front-room _ (k .last .1 .1 .0) _ (room (c .before .before .before .before .before .before .before .before .before .before)) (k .kept .1 .1 .0)))
+    sym (length-take-le _ _ (front-room _ (k .last .1 .1 .0) _ (room
+    (c .before .before .before .before .before .before .before .before .before .before)) (k .kept .1 .1 .0)))
 
 array-borrow-prefix-g : tie.Need-array-borrow-prefix-g
 array-borrow-prefix-g c = square (c .before .before .before .before .before .before .before .before .before .before)
 
 slice-aggregate-gram-factor-2 : tie.Need-slice-aggregate-gram-factor-2
-slice-aggregate-gram-factor-2 c = sym (length-take-le _ _ (square (c .before .before .before .before .before .before .before .before .before .before .before)))
+slice-aggregate-gram-factor-2 c =
+    sym (length-take-le _ _ (square
+    (c .before .before .before .before .before .before .before .before .before .before .before)))
 
 array-borrow-prefix-l : tie.Need-array-borrow-prefix-l
-array-borrow-prefix-l c = square (c .before .before .before .before .before .before .before .before .before .before .before)
+array-borrow-prefix-l c =
+    square (c .before .before .before .before .before .before .before .before .before .before .before)
 
 slice-aggregate-gram-factor-3 : tie.Need-slice-aggregate-gram-factor-3
-slice-aggregate-gram-factor-3 c = sym (length-take-le _ _ (square (c .before .before .before .before .before .before .before .before .before .before .before .before)))
+slice-aggregate-gram-factor-3 c =
+    sym (length-take-le _ _ (square
+    (c .before .before .before .before .before .before .before .before .before .before .before .before)))
 
 array-borrow-prefix-left-out : tie.Need-array-borrow-prefix-left-out
-array-borrow-prefix-left-out c = c .before .before .before .before .before .before .before .before .before .before .before .before .pre .1 .0
+array-borrow-prefix-left-out c =
+    c .before .before .before .before .before .before .before .before .before .before .before .before .pre .1 .0
 
 slice-aggregate-gram-factor-4 : tie.Need-slice-aggregate-gram-factor-4
-slice-aggregate-gram-factor-4 c = sym (length-take-le _ _ (c .before .before .before .before .before .before .before .before .before .before .before .before .before .pre .1 .0))
+slice-aggregate-gram-factor-4 c =
+    sym (length-take-le _ _
+    (c .before .before .before .before .before .before .before .before .before .before .before .before
+    .before .pre .1 .0))
 
 gram-factor-requires : tie.Need-gram-factor-requires
 gram-factor-requires c κs = tt
@@ -78,58 +93,88 @@ enum-told-2 c = search needs
 
 returns : tie.Need-returns
 returns c =
-    let s = c .before .before .before .before .before .before .before .before .before .before .before .before .before .before .before .before .before .before .before in
+    let s = c .before .before .before .before .before .before .before .before .before .before .before .before .before
+    .before .before .before .before .before .before in
     let a = s .args in
     let p = s .pre in
     let k = c .before .before .before .before .before .before .before .before .before .before .before .chosen-slopes in
     let fj = front-kept _ (k .last .1 .1 .0) _ (room s) (k .kept .1 .1 .0) in
     let f = c .before .before .before .before .before .gram-factor .last in
     let l = length-take-le _ _ (square s) in
-    unfactored (a .n) (a .m) (a .xs .now) (p .0) (p .1 .0) _ _ (factorOf (f .1 .1 .1 .1 .0) (f .1 .1 .1 .1 .1 .0)) _ (c .before .before .before .before .before .gram-factor .result)
-    (length-take-le _ _ (room s)) l l (length-take-le _ _ (p .1 .0)) (c .before .before .before .before .before .before .before .before .before .before .before .before .before .constraints .ensures) (k .ensures) fj
-    (c .before .before .before .before .before .gram-factor .ensures) (a .s) (a .b .now) (a .step .now) (a .next .now) (a .lambda .now) _
+    unfactored (a .n) (a .m) (a .xs .now) (p .0) (p .1 .0) _ _ (factorOf (f .1 .1 .1 .1 .0) (f .1 .1 .1 .1 .1 .0)) _
+    (c .before .before .before .before .before .gram-factor .result)
+    (length-take-le _ _ (room s)) l l (length-take-le _ _ (p .1 .0))
+    (c .before .before .before .before .before .before .before .before .before .before .before .before
+    .before .constraints .ensures) (k .ensures) fj
+    (c .before .before .before .before .before .gram-factor .ensures) (a .s) (a .b .now) (a .step .now) (a .next .now)
+    (a .lambda .now) _
     (c .enum-told2 .given .1)
 
 array-share-prefix-jc-2 : tie.Need-array-share-prefix-jc-2
-array-share-prefix-jc-2 c = let k = c .before .before .before .before .before .before .before .before .before .before .before .before .chosen-slopes in front-room _ (k .last .1 .1 .0) _ (room (c .before .before .before .before .before .before .before .before .before .before .before .before .before .before .before .before .before .before .before .before)) (k .kept .1 .1 .0)
+array-share-prefix-jc-2 c =
+    let k = c .before .before .before .before .before .before .before .before .before .before .before
+    .before .chosen-slopes in front-room _ (k .last .1 .1 .0) _ (room
+    (c .before .before .before .before .before .before .before .before .before .before .before .before .before .before
+    .before .before .before .before .before .before)) (k .kept .1 .1 .0)
 
 slice-aggregate-update-factored : tie.Need-slice-aggregate-update-factored
 slice-aggregate-update-factored c =
-    let k = c .before .before .before .before .before .before .before .before .before .before .before .before .before .chosen-slopes in
-    sym (length-take-le _ _ (front-room _ (k .last .1 .1 .0) _ (room (c .before .before .before .before .before .before .before .before .before .before .before .before .before .before .before .before .before .before .before .before .before)) (k .kept .1 .1 .0)))
+    let k = c .before .before .before .before .before .before .before .before .before .before .before .before
+    .before .chosen-slopes in
+    sym (length-take-le _ _ (front-room _ (k .last .1 .1 .0) _ (room
+    (c .before .before .before .before .before .before .before .before .before .before .before .before .before .before
+    .before .before .before .before .before .before .before)) (k .kept .1 .1 .0)))
 
 array-share-prefix-l : tie.Need-array-share-prefix-l
-array-share-prefix-l c = let k = c .before .before .before .before .before .before .before .gram-factor in front-room _ (k .last .1 .1 .1 .1 .0) _ (square (c .before .before .before .before .before .before .before .before .before .before .before .before .before .before .before .before .before .before .before .before .before)) (k .kept .1 .1 .1 .1 .0)
+array-share-prefix-l c =
+    let k = c .before .before .before .before .before .before .before .gram-factor in front-room _
+    (k .last .1 .1 .1 .1 .0) _ (square
+    (c .before .before .before .before .before .before .before .before .before .before .before .before .before .before
+    .before .before .before .before .before .before .before)) (k .kept .1 .1 .1 .1 .0)
 
 slice-aggregate-update-factored-2 : tie.Need-slice-aggregate-update-factored-2
 slice-aggregate-update-factored-2 c =
     let k = c .before .before .before .before .before .before .before .before .gram-factor in
-    sym (length-take-le _ _ (front-room _ (k .last .1 .1 .1 .1 .0) _ (square (c .before .before .before .before .before .before .before .before .before .before .before .before .before .before .before .before .before .before .before .before .before .before)) (k .kept .1 .1 .1 .1 .0)))
+    sym (length-take-le _ _ (front-room _ (k .last .1 .1 .1 .1 .0) _ (square
+    (c .before .before .before .before .before .before .before .before .before .before .before .before .before .before
+    .before .before .before .before .before .before .before .before)) (k .kept .1 .1 .1 .1 .0)))
 
 array-share-prefix-left-out : tie.Need-array-share-prefix-left-out
-array-share-prefix-left-out c = let k = c .before .before .before .before .before .before .before .before .gram-factor in front-room _ (k .last .1 .1 .1 .1 .1 .0) _ (c .before .before .before .before .before .before .before .before .before .before .before .before .before .before .before .before .before .before .before .before .before .before .pre .1 .0) (k .kept .1 .1 .1 .1 .1 .0)
+array-share-prefix-left-out c =
+    let k = c .before .before .before .before .before .before .before .before .gram-factor in front-room _
+    (k .last .1 .1 .1 .1 .1 .0) _
+    (c .before .before .before .before .before .before .before .before .before .before .before .before .before .before
+    .before .before .before .before .before .before .before .before .pre .1 .0) (k .kept .1 .1 .1 .1 .1 .0)
 
 slice-aggregate-update-factored-3 : tie.Need-slice-aggregate-update-factored-3
 slice-aggregate-update-factored-3 c =
     let k = c .before .before .before .before .before .before .before .before .before .gram-factor in
-    sym (length-take-le _ _ (front-room _ (k .last .1 .1 .1 .1 .1 .0) _ (c .before .before .before .before .before .before .before .before .before .before .before .before .before .before .before .before .before .before .before .before .before .before .before .pre .1 .0) (k .kept .1 .1 .1 .1 .1 .0)))
+    sym (length-take-le _ _ (front-room _ (k .last .1 .1 .1 .1 .1 .0) _
+    (c .before .before .before .before .before .before .before .before .before .before .before .before .before .before
+    .before .before .before .before .before .before .before .before .before .pre .1 .0) (k .kept .1 .1 .1 .1 .1 .0)))
 
 update-factored-requires : tie.Need-update-factored-requires
 update-factored-requires c κs =
-    let s = c .before .before .before .before .before .before .before .before .before .before .before .before .before .before .before .before .before .before .before .before .before .before .before in
+    let s = c .before .before .before .before .before .before .before .before .before .before .before .before .before
+    .before .before .before .before .before .before .before .before .before .before in
     let a = s .args in
     let p = s .pre in
-    let k = c .before .before .before .before .before .before .before .before .before .before .before .before .before .before .before .chosen-slopes in
+    let k = c .before .before .before .before .before .before .before .before .before .before .before .before .before
+    .before .before .chosen-slopes in
     let fj = front-kept _ (k .last .1 .1 .0) _ (room s) (k .kept .1 .1 .0) in
     let g = c .before .before .before .before .before .before .before .before .before .gram-factor in
     let f = g .last in
     let l = length-take-le _ _ (square s) in
     let m = length-take-le _ _ (p .1 .0) in
-    let e = c .before .before .before .before .before .before .before .before .before .before .before .before .before .before .before .before .before .constraints .ensures in
+    let e = c .before .before .before .before .before .before .before .before .before .before .before .before .before
+    .before .before .before .before .constraints .ensures in
     let d =
-    factored (a .n) (a .m) (a .xs .now) (p .0) (p .1 .0) _ _ (factorOf (f .1 .1 .1 .1 .0) (f .1 .1 .1 .1 .1 .0)) _ (g .result)
-    (length-take-le _ _ (room s)) l l m e (k .ensures) fj (g .ensures) (g .kept .1 .1 .1 .1 .0 ∙ l) (g .kept .1 .1 .1 .1 .1 .0 ∙ m)
-    (c .before .before .before .before .enum-told .given .1) fj (front-kept _ (f .1 .1 .1 .1 .0) _ (square s) (g .kept .1 .1 .1 .1 .0))
+    factored (a .n) (a .m) (a .xs .now) (p .0) (p .1 .0) _ _ (factorOf (f .1 .1 .1 .1 .0) (f .1 .1 .1 .1 .1 .0)) _
+    (g .result)
+    (length-take-le _ _ (room s)) l l m e (k .ensures) fj (g .ensures) (g .kept .1 .1 .1 .1 .0 ∙ l)
+    (g .kept .1 .1 .1 .1 .1 .0 ∙ m)
+    (c .before .before .before .before .enum-told .given .1) fj (front-kept _ (f .1 .1 .1 .1 .0) _ (square s)
+    (g .kept .1 .1 .1 .1 .0))
     (front-kept _ (f .1 .1 .1 .1 .1 .0) _ (p .1 .0) (g .kept .1 .1 .1 .1 .1 .0)) in
     (p .0, (p .1 .0, (p .1 .1 .0, (p .1 .1 .1, d))))
 

@@ -45,17 +45,27 @@ same-length c = search needs
 returns : tie.Need-returns
 unfolding ofBits
 returns c = λ xs f.
-    let a = c .before .before .before .before .before .before .before .before .before .before .before .before .before .before .before .before .args in
-    leaves (a .n) (constraintsOf (a .n) (a .m) xs) (a .b .now) (a .y .now) (a .s .now) refl (c .before .before .before .before .before .before .before .products .ensures) (c .before .before .before .before .dot-of .ensures) (c .before .before .before .dot-of2 .ensures) (c .before .before .sub .ensures .value) (c .before .definitely-not-equal .ensures) (not-true _ (c .if1 .taken))
+    let a = c .before .before .before .before .before .before .before .before .before .before .before .before .before
+    .before .before .before .args in
+    leaves (a .n) (constraintsOf (a .n) (a .m) xs) (a .b .now) (a .y .now) (a .s .now) refl
+    (c .before .before .before .before .before .before .before .products .ensures)
+    (c .before .before .before .before .dot-of .ensures) (c .before .before .before .dot-of2 .ensures)
+    (c .before .before .sub .ensures .value) (c .before .definitely-not-equal .ensures) (not-true _ (c .if1 .taken))
 
 array-borrow-prefix-y-along : tie.Need-array-borrow-prefix-y-along
 array-borrow-prefix-y-along c = search needs
 
 slice-aggregate-along-factored : tie.Need-slice-aggregate-along-factored
-slice-aggregate-along-factored c = sym (length-take-le _ _ (short (c .before .before .before .before .before .before .before .before .before .before .before .before .before .before .before .before .before)))
+slice-aggregate-along-factored c =
+    sym (length-take-le _ _ (short
+    (c .before .before .before .before .before .before .before .before .before .before .before .before .before .before
+    .before .before .before)))
 
 along-factored-requires : tie.Need-along-factored-requires
-along-factored-requires c κs = let s = c .before .before .before .before .before .before .before .before .before .before .before .before .before .before .before .before .before in let p = s .pre in (p .0, (p .1 .0, (omega (arith, p .0, p .1 .1), length-take-le _ _ (short s))))
+along-factored-requires c κs =
+    let s = c .before .before .before .before .before .before .before .before .before .before .before .before .before
+    .before .before .before .before in let p = s .pre in
+    (p .0, (p .1 .0, (omega (arith, p .0, p .1 .1), length-take-le _ _ (short s))))
 
 enum-told : tie.Need-enum-told
 enum-told c = search needs
@@ -69,17 +79,37 @@ same-length-2 c = search needs
 returns-2 : tie.Need-returns-2
 unfolding ofBits
 returns-2 c = λ xs f.
-    let a = c .before .before .before .before .before .before .before .before .before .before .before .before .before .before .before .before .before .before .before .before .before .args in
-    updates (a .n) (constraintsOf (a .n) (a .m) xs) (a .b .now) (a .y .now) (a .s .now) refl (c .before .before .before .before .before .before .before .before .before .before .before .before .products .ensures) (c .before .before .before .before .before .before .before .before .before .dot-of .ensures) (c .before .before .before .before .before .before .before .before .dot-of2 .ensures) (c .before .before .before .before .before .before .before .sub .ensures .value) (c .before .before .before .before .before .before .definitely-not-equal .ensures) (not-false _ (c .before .before .before .before .before .if1 .left)) (handed-on _ _ _ (c .enum-told2 .given .1) (c .before .before .before .along-factored .ensures xs f))
+    let a = c .before .before .before .before .before .before .before .before .before .before .before .before .before
+    .before .before .before .before .before .before .before .before .args in
+    updates (a .n) (constraintsOf (a .n) (a .m) xs) (a .b .now) (a .y .now) (a .s .now) refl
+    (c .before .before .before .before .before .before .before .before .before .before .before
+    .before .products .ensures)
+    (c .before .before .before .before .before .before .before .before .before .dot-of .ensures)
+    (c .before .before .before .before .before .before .before .before .dot-of2 .ensures)
+    (c .before .before .before .before .before .before .before .sub .ensures .value)
+    (c .before .before .before .before .before .before .definitely-not-equal .ensures) (not-false _
+    (c .before .before .before .before .before .if1 .left)) (handed-on _ _ _ (c .enum-told2 .given .1)
+    (c .before .before .before .along-factored .ensures xs f))
 
 array-share-prefix-y-along : tie.Need-array-share-prefix-y-along
-array-share-prefix-y-along c = front-room _ (c .before .before .before .before .along-factored .last .1 .1 .1 .1 .1 .1 .0) _ (short (c .before .before .before .before .before .before .before .before .before .before .before .before .before .before .before .before .before .before .before .before .before .before)) (c .before .before .before .before .along-factored .kept .1 .1 .1 .1 .1 .1 .0)
+array-share-prefix-y-along c =
+    front-room _ (c .before .before .before .before .along-factored .last .1 .1 .1 .1 .1 .1 .0) _ (short
+    (c .before .before .before .before .before .before .before .before .before .before .before .before .before .before
+    .before .before .before .before .before .before .before .before))
+    (c .before .before .before .before .along-factored .kept .1 .1 .1 .1 .1 .1 .0)
 
 slice-aggregate-corrected-by : tie.Need-slice-aggregate-corrected-by
-slice-aggregate-corrected-by c = sym (length-take-le _ _ (front-room _ (c .before .before .before .before .before .along-factored .last .1 .1 .1 .1 .1 .1 .0) _ (short (c .before .before .before .before .before .before .before .before .before .before .before .before .before .before .before .before .before .before .before .before .before .before .before)) (c .before .before .before .before .before .along-factored .kept .1 .1 .1 .1 .1 .1 .0)))
+slice-aggregate-corrected-by c =
+    sym (length-take-le _ _ (front-room _
+    (c .before .before .before .before .before .along-factored .last .1 .1 .1 .1 .1 .1 .0) _ (short
+    (c .before .before .before .before .before .before .before .before .before .before .before .before .before .before
+    .before .before .before .before .before .before .before .before .before))
+    (c .before .before .before .before .before .along-factored .kept .1 .1 .1 .1 .1 .1 .0)))
 
 corrected-by-requires : tie.Need-corrected-by-requires
-corrected-by-requires c κs = c .before .before .before .before .before .before .before .before .before .before .before .before .before .before .before .before .before .before .before .before .before .before .before .pre .0
+corrected-by-requires c κs =
+    c .before .before .before .before .before .before .before .before .before .before .before .before .before .before
+    .before .before .before .before .before .before .before .before .before .pre .0
 
 same-length-3 : tie.Need-same-length-3
 same-length-3 c = search needs
@@ -87,10 +117,28 @@ same-length-3 c = search needs
 returns-3 : tie.Need-returns-3
 unfolding ofBits
 returns-3 c = λ xs f.
-    let s = c .before .before .before .before .before .before .before .before .before .before .before .before .before .before .before .before .before .before .before .before .before .before .before .before .before .before in
+    let s = c .before .before .before .before .before .before .before .before .before .before .before .before .before
+    .before .before .before .before .before .before .before .before .before .before .before .before .before in
     let a = s .args in
-    let front = front-kept _ (c .before .before .before .before .before .before .before .before .along-factored .last .1 .1 .1 .1 .1 .1 .0) _ (short s) (c .before .before .before .before .before .before .before .before .along-factored .kept .1 .1 .1 .1 .1 .1 .0) in
-    updates (a .n) (constraintsOf (a .n) (a .m) xs) (a .b .now) (a .y .now) (a .s .now) refl (c .before .before .before .before .before .before .before .before .before .before .before .before .before .before .before .before .before .products .ensures) (c .before .before .before .before .before .before .before .before .before .before .before .before .before .before .dot-of .ensures) (c .before .before .before .before .before .before .before .before .before .before .before .before .before .dot-of2 .ensures) (c .before .before .before .before .before .before .before .before .before .before .before .before .sub .ensures .value) (c .before .before .before .before .before .before .before .before .before .before .before .definitely-not-equal .ensures) (not-false _ (c .before .before .before .before .before .before .before .before .before .before .if1 .left)) (went-on _ (c .before .before .before .before .before .enum-told .given .1) (c .before .before .before .before .before .before .before .before .along-factored .ensures xs f) front (c .before .before .corrected-by .ensures))
+    let front = front-kept _
+    (c .before .before .before .before .before .before .before .before .along-factored .last .1 .1 .1 .1 .1 .1 .0) _
+    (short s) (c .before .before .before .before .before .before .before
+    .before .along-factored .kept .1 .1 .1 .1 .1 .1 .0) in
+    updates (a .n) (constraintsOf (a .n) (a .m) xs) (a .b .now) (a .y .now) (a .s .now) refl
+    (c .before .before .before .before .before .before .before .before .before .before .before .before .before .before
+    .before .before .before .products .ensures)
+    (c .before .before .before .before .before .before .before .before .before .before .before .before .before
+    .before .dot-of .ensures)
+    (c .before .before .before .before .before .before .before .before .before .before .before .before
+    .before .dot-of2 .ensures)
+    (c .before .before .before .before .before .before .before .before .before .before .before
+    .before .sub .ensures .value)
+    (c .before .before .before .before .before .before .before .before .before .before
+    .before .definitely-not-equal .ensures) (not-false _
+    (c .before .before .before .before .before .before .before .before .before .before .if1 .left)) (went-on _
+    (c .before .before .before .before .before .enum-told .given .1)
+    (c .before .before .before .before .before .before .before .before .along-factored .ensures xs f) front
+    (c .before .before .corrected-by .ensures))
 
 pub updated-spec : {M : Type 1} → statement M
 updated-spec =

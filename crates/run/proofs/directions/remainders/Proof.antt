@@ -1,5 +1,5 @@
--- `remainders` meets its contract: the slice is the definition's, of the directions so far, an even number of them, and at
--- the end of one more where k is odd.
+-- `remainders` meets its contract: the slice is the definition's, of the directions so far, an even number of them, and
+-- at the end of one more where k is odd.
 use mathlib.Core.Path.{_≡_, _∙_}
 use Prim.Native.Nat.{_+_, _*_, _/_, _≤_, _-_}
 use native.Mathlib.Omega.{arith}
@@ -62,12 +62,16 @@ loop-less c = search needs
 loop-again : tie.Need-loop-again Inv-loop μ-loop
 unfolding ofBits
 loop-again c =
-    let s = c .before .before .before .before .before .before .before .before .before .before .before .before .before .before .before .before in
-    let l = c .before .before .before .before .before .before .before .before .before .before .before .before .before .loop in (
+    let s = c .before .before .before .before .before .before .before .before .before .before .before .before .before
+    .before .before .before in
+    let l = c .before .before .before .before .before .before .before .before .before .before .before .before
+    .before .loop in (
       search needs,
       search needs,
       two-remainders (s .args .k) (s .args .r) (s .args .q .now) (l .h) (s .pre .0)
-          (l .inv .2) (c .before .before .before .before .before .before .before .before .before .before .put .ensures) (c .before .before .before .before .before .before .put2 .ensures) (c .before .before .two-left-after .ensures),
+          (l .inv .2) (c .before .before .before .before .before .before .before .before .before
+          .before .put .ensures) (c .before .before .before .before .before .before .put2 .ensures)
+          (c .before .before .two-left-after .ensures),
     )
 
 mul-if1 : tie.Need-mul-if1 Inv-loop μ-loop
@@ -79,7 +83,8 @@ same-length c = search needs
 returns : tie.Need-returns Inv-loop μ-loop
 returns c =
     let l = c .before .before .loop in
-    let e : 2 * l .h ≡ c .before .before .before .before .before .args .k = omega (arith, l .inv .0, c .before .loop-test .left, c .if1 .taken) in
+    let e : 2 * l .h ≡ c .before .before .before .before .before .args .k = omega
+    (arith, l .inv .0, c .before .loop-test .left, c .if1 .taken) in
     rw e at (l .inv .2)
 
 mul-p-2 : tie.Need-mul-p-2 Inv-loop μ-loop
@@ -95,7 +100,9 @@ put-requires-3 : tie.Need-put-requires-3 Inv-loop μ-loop
 put-requires-3 c κs = search needs
 
 left-after-requires : tie.Need-left-after-requires Inv-loop μ-loop
-left-after-requires c κs = let h = c .before .before .before .before .before .before .before .before .before .before .pre in (h .0, (h .1 .0, omega (arith, h .0, c .before .before .before .before .before .if1 .left)))
+left-after-requires c κs =
+    let h = c .before .before .before .before .before .before .before .before .before .before .pre in
+    (h .0, (h .1 .0, omega (arith, h .0, c .before .before .before .before .before .if1 .left)))
 
 same-length-2 : tie.Need-same-length-2 Inv-loop μ-loop
 same-length-2 c = search needs
@@ -103,10 +110,13 @@ same-length-2 c = search needs
 returns-2 : tie.Need-returns-2 Inv-loop μ-loop
 unfolding ofBits
 returns-2 c =
-    let a = c .before .before .before .before .before .before .before .before .before .before .before .before .before .args in
+    let a = c .before .before .before .before .before .before .before .before .before .before .before .before
+    .before .args in
     let l = c .before .before .before .before .before .before .before .before .before .before .loop in
-    let e : 2 * l .h ≡ 2 * (a .k / 2) = omega (arith, l .inv .0, c .before .before .before .before .before .before .before .before .before .loop-test .left) in
-    let n : 2 * (a .k / 2) + 1 ≡ a .k = omega (arith, c .before .before .before .before .before .before .before .before .if1 .left) in
+    let e : 2 * l .h ≡ 2 * (a .k / 2) = omega
+    (arith, l .inv .0, c .before .before .before .before .before .before .before .before .before .loop-test .left) in
+    let n : 2 * (a .k / 2) + 1 ≡ a .k = omega
+    (arith, c .before .before .before .before .before .before .before .before .if1 .left) in
     (rw (c .before .before .before .before .before .before .put3 .ensures) at (c .before .before .left-after .ensures))
     ∙ (rw n at (remainders-turn _ _ _ (2 * (a .k / 2)) (rw e at (l .inv .2))))
 

@@ -10,7 +10,8 @@ use Rattle.run.proofs.directions.two_left_after.Statement.{statement}
 use Rattle.run.proofs.directions.two_left_after.Tie as tie
 
 abbrev Inv-loop : tie.InvT-loop
-Inv-loop k r q left₀ p t₀ left t = (t ≤ r) × (length left ≡ length left₀) × (left ≡ leftAfter k q (leftAfter k q left₀ p t) (p + 1) t)
+Inv-loop k r q left₀ p t₀ left t =
+    (t ≤ r) × (length left ≡ length left₀) × (left ≡ leftAfter k q (leftAfter k q left₀ p t) (p + 1) t)
 
 abbrev μ-loop : tie.MeasureT-loop
 μ-loop k r q left₀ p t₀ left t = r - t
@@ -29,7 +30,9 @@ loop-less : tie.Need-loop-less Inv-loop μ-loop
 loop-less c = search needs
 
 loop-again : tie.Need-loop-again Inv-loop μ-loop
-loop-again c = let l = c .before .before .before .before .before .loop in (search needs, search needs, two-after _ _ _ _ (l .t) (c .before .before .before .before .before .before .before .before .pre .0) (l .inv .2) (c .before .before .two-parts-off .ensures))
+loop-again c =
+    let l = c .before .before .before .before .before .loop in
+    (search needs, search needs, two-after _ _ _ _ (l .t) (c .before .before .before .before .before .before .before .before .pre .0) (l .inv .2) (c .before .before .two-parts-off .ensures))
 
 same-length : tie.Need-same-length Inv-loop μ-loop
 same-length c = search needs

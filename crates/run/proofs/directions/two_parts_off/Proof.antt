@@ -51,11 +51,14 @@ same-length c = search needs
 
 returns : tie.Need-returns
 returns c =
-    let s = c .before .before .before .before .before .before .before .before .before .before .before .before .before .before in
+    let s = c .before .before .before .before .before .before .before .before .before .before .before .before .before
+    .before in
     let a = s .args in
     let d = c .before .before .before .before .before .before .before .before .before .before .two-rows .ensures in
-    two-off (a .k) (a .w .now) (a .t) (a .left .now) (a .p) (s .pre .0) (d .0) (d .1) (c .before .before .before .before .before .before .before .before .choose .ensures)
-    (c .before .before .before .before .before .before .before .minus-scaled .ensures) (c .before .before .before .choose2 .ensures) (c .before .before .minus-scaled2 .ensures)
+    two-off (a .k) (a .w .now) (a .t) (a .left .now) (a .p) (s .pre .0) (d .0) (d .1)
+    (c .before .before .before .before .before .before .before .before .choose .ensures)
+    (c .before .before .before .before .before .before .before .minus-scaled .ensures)
+    (c .before .before .before .choose2 .ensures) (c .before .before .minus-scaled2 .ensures)
 
 pub two-parts-off-spec : {M : Type 1} → statement M
 two-parts-off-spec =

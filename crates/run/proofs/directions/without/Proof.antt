@@ -1,4 +1,5 @@
--- `without` meets its contract: the slice is the definition's, of the remainders so far: an even number of them, and at the end one more where k is odd.
+-- `without` meets its contract: the slice is the definition's, of the remainders so far: an even number of them, and at
+-- the end one more where k is odd.
 use mathlib.Core.Path.{_≡_, _∙_}
 use native.Mathlib.Omega.{arith}
 use Prim.Native.Nat.{_+_, _*_, _/_, _≤_, _-_}
@@ -49,7 +50,8 @@ same-length c = search needs
 returns : tie.Need-returns Inv-loop μ-loop
 returns c =
     let l = c .before .before .loop in
-    let e : 2 * l .h ≡ c .before .before .before .before .before .args .k = omega (arith, l .inv .0, c .before .loop-test .left, c .if1 .taken) in
+    let e : 2 * l .h ≡ c .before .before .before .before .before .args .k = omega
+    (arith, l .inv .0, c .before .loop-test .left, c .if1 .taken) in
     rw e at (l .inv .2)
 
 mul-part-off : tie.Need-mul-part-off Inv-loop μ-loop
@@ -67,7 +69,8 @@ returns-2 : tie.Need-returns-2 Inv-loop μ-loop
 returns-2 c =
     let a = c .before .before .before .before .before .before .before .before .before .args in
     let l = c .before .before .before .before .before .before .loop in
-    let e : 2 * l .h ≡ 2 * (a .k / 2) = omega (arith, l .inv .0, c .before .before .before .before .before .loop-test .left) in
+    let e : 2 * l .h ≡ 2 * (a .k / 2) = omega
+    (arith, l .inv .0, c .before .before .before .before .before .loop-test .left) in
     let n : 2 * (a .k / 2) + 1 ≡ a .k = omega (arith, c .before .before .before .before .if1 .left) in
     c .before .before .part-off .ensures ∙ (rw n at (without-turn _ _ _ _ (2 * (a .k / 2)) (rw e at (l .inv .2))))
 

@@ -1,4 +1,5 @@
--- `bent_row` meets its contract: the row holds the products so far, an even number of them, and at the end one more where k is odd.
+-- `bent_row` meets its contract: the row holds the products so far, an even number of them, and at the end one more
+-- where k is odd.
 use mathlib.Core.Path.{_≡_, _∙_}
 use Prim.Native.Nat.{_+_, _*_, _/_, _≤_, _-_}
 use native.Mathlib.Omega.{arith}
@@ -14,7 +15,8 @@ use Rattle.run.proofs.free.bent_row.Tie as tie
 
 abbrev Inv-loop : tie.InvT-loop
 Inv-loop k h z t hz₀ half p₀ hz p =
-    (p ≤ half) × (length hz ≡ length hz₀) × (hz ≡ fillTo hz₀ (12 * t) (λ j. chooseOf (dotTo (row h j) (row z t) k)) (2 * p))
+    (p ≤ half) × (length hz ≡ length hz₀) × (hz ≡ fillTo hz₀ (12 * t) (λ j. chooseOf (dotTo (row h j) (row z t) k))
+    (2 * p))
 
 abbrev μ-loop : tie.MeasureT-loop
 μ-loop k h z t hz₀ half p₀ hz p = half - p
@@ -51,7 +53,8 @@ same-length c = search needs
 returns : tie.Need-returns Inv-loop μ-loop
 returns c =
     let l = c .before .before .loop in
-    let e : 2 * l .p ≡ c .before .before .before .before .before .before .args .k = omega (arith, l .inv .0, c .before .loop-test .left, c .if1 .taken) in
+    let e : 2 * l .p ≡ c .before .before .before .before .before .before .args .k = omega
+    (arith, l .inv .0, c .before .loop-test .left, c .if1 .taken) in
     rw e at (l .inv .2)
 
 mul-i : tie.Need-mul-i Inv-loop μ-loop
@@ -67,7 +70,8 @@ mul-bent-at : tie.Need-mul-bent-at Inv-loop μ-loop
 mul-bent-at c = search needs
 
 bent-at-requires : tie.Need-bent-at-requires Inv-loop μ-loop
-bent-at-requires c κs = omega (arith, c .before .before .before .before .before .before .before .pre .0, c .before .if1 .left)
+bent-at-requires c κs =
+    omega (arith, c .before .before .before .before .before .before .before .pre .0, c .before .if1 .left)
 
 put-requires : tie.Need-put-requires Inv-loop μ-loop
 put-requires c κs = search needs
@@ -79,9 +83,11 @@ returns-2 : tie.Need-returns-2 Inv-loop μ-loop
 returns-2 c =
     let a = c .before .before .before .before .before .before .before .before .before .before .before .args in
     let l = c .before .before .before .before .before .before .before .loop in
-    let e : 2 * l .p ≡ 2 * (a .k / 2) = omega (arith, l .inv .0, c .before .before .before .before .before .before .loop-test .left) in
+    let e : 2 * l .p ≡ 2 * (a .k / 2) = omega
+    (arith, l .inv .0, c .before .before .before .before .before .before .loop-test .left) in
     let n : 2 * (a .k / 2) + 1 ≡ a .k = omega (arith, c .before .before .before .before .before .if1 .left) in
-    c .before .before .put .ensures ∙ (rw n at (fill-turn _ _ _ (2 * (a .k / 2)) (rw e at (l .inv .2)) (c .before .before .before .bent-at .ensures)))
+    c .before .before .put .ensures ∙ (rw n at (fill-turn _ _ _ (2 * (a .k / 2)) (rw e at (l .inv .2))
+    (c .before .before .before .bent-at .ensures)))
 
 pub bent-row-spec : {M : Type 1} → statement M
 bent-row-spec =

@@ -51,10 +51,13 @@ same-length c = search needs
 
 returns : tie.Need-returns
 returns c =
-    let a = c .before .before .before .before .before .before .before .before .before .before .before .before .before .before .args in
+    let a = c .before .before .before .before .before .before .before .before .before .before .before .before .before
+    .before .args in
     let d = c .before .before .before .before .before .before .before .before .before .before .two-rows .ensures in
-    two-put (a .h .now) (a .z .now) (a .hz .now) (a .k) (a .t) (a .i) (d .0) (d .1) (c .before .before .before .before .before .before .before .before .choose .ensures)
-    (c .before .before .before .before .before .before .before .put .ensures) (c .before .before .before .choose2 .ensures) (c .before .before .put2 .ensures)
+    two-put (a .h .now) (a .z .now) (a .hz .now) (a .k) (a .t) (a .i) (d .0) (d .1)
+    (c .before .before .before .before .before .before .before .before .choose .ensures)
+    (c .before .before .before .before .before .before .before .put .ensures)
+    (c .before .before .before .choose2 .ensures) (c .before .before .put2 .ensures)
 
 pub two-bent-spec : {M : Type 1} → statement M
 two-bent-spec =

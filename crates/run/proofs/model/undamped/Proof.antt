@@ -46,7 +46,8 @@ undamped-row-requires c κs =
             p .1 .1 .1,
             λ t j ht hj.
                 ap (λ (x : List Float). at x (12 * t + j)) (l .inv .2)
-                ∙ at-fill-rows (zeros 336) f (a .k) (l .i) t j (p .0) ht hj (omega (arith, z, p .0, c .before .loop-test .taken)),
+                ∙ at-fill-rows (zeros 336) f (a .k) (l .i) t j (p .0) ht hj (omega
+                (arith, z, p .0, c .before .loop-test .taken)),
           ),
         ),
       ),

@@ -62,7 +62,8 @@ undamped-from-requires c κs =
         (
           p .1 .1 .1 .0,
           λ q.
-              across-kept (a .h .now) (entryAt (a .n) (a .index .now) (a .jr .now) (a .s) (a .b .now) (a .i)) (a .i) (l .j)
+              across-kept (a .h .now) (entryAt (a .n) (a .index .now) (a .jr .now) (a .s) (a .b .now) (a .i)) (a .i)
+              (l .j)
               (l .inv .2) hi q
               ∙ p .1 .1 .1 .1 (l .j) (a .i) q (p .1 .1 .0)
               ∙ ap (λ (z : Scalar). undampedAt (a .jr .now) (a .s) z (l .j) (a .i)) (sym e),
@@ -87,15 +88,18 @@ loop-less c = search needs
 
 loop-again : tie.Need-loop-again Inv-loop μ-loop
 loop-again c =
-    let a = c .before .before .before .before .before .before .before .before .before .before .before .before .before .before .before .before .args in
+    let a = c .before .before .before .before .before .before .before .before .before .before .before .before .before
+    .before .before .before .args in
     let l = c .before .before .before .before .before .before .before .before .before .before .loop in
     let v = c .before .before .before .before .before .before .before .along .ensures
     ∙ curvature-along (a .n) (a .b .now) (getD (a .index .now) (a .i) 0) (getD (a .index .now) (l .j) 0) in
-    let e = c .before .before .before .before .undamped-from .ensures ∙ ap (λ (z : Scalar). undampedAt (a .jr .now) (a .s) z (a .i) (l .j)) v in (
+    let e = c .before .before .before .before .undamped-from .ensures ∙ ap (λ (z : Scalar). undampedAt (a .jr .now)
+    (a .s) z (a .i) (l .j)) v in (
       search needs,
       search needs,
       c .before .before .put .ensures
-          ∙ fill-turn (a .h .now) (12 * a .i) (entryAt (a .n) (a .index .now) (a .jr .now) (a .s) (a .b .now) (a .i)) (l .j)
+          ∙ fill-turn (a .h .now) (12 * a .i) (entryAt (a .n) (a .index .now) (a .jr .now) (a .s) (a .b .now) (a .i))
+          (l .j)
           (l .inv .2) e,
     )
 

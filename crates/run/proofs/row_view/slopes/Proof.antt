@@ -1,5 +1,7 @@
--- `slopes` meets its contract: a walk of its MIR, by hand. The view is taken apart, and `slopes_from` is called on the slice and the place; all that the proof knows of it is that it meets its contract.
--- The view is Copy: what it owns is had twice, one copy is kept whole for the exit, and of the other what rows owns goes to the callee, beside the lifetime's token, which comes back.
+-- `slopes` meets its contract: a walk of its MIR, by hand. The view is taken apart, and `slopes_from` is called on the
+-- slice and the place; all that the proof knows of it is that it meets its contract. The view is Copy: what it owns is
+-- had twice, one copy is kept whole for the exit, and of the other what rows owns goes to the callee, beside the
+-- lifetime's token, which comes back.
 use mathlib.Core.Path.{_≡_, refl}
 use Prim.Native.Nat.{_*_, _<_, _^_}
 use mathlib.Core.List.{List, [], _∷_}

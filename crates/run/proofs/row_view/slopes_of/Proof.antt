@@ -1,5 +1,7 @@
--- `slopes_of` meets its contract: a walk of its MIR, by hand. The view that `viewed` returns is held in a local and passed to `slopes`; all that the proof knows of the two is that each meets its contract.
--- In a local of a body MIR erases the lifetime of the view's type, so the value is shown to have the type at `erased`: what the view owns does not say the lifetime's name.
+-- `slopes_of` meets its contract: a walk of its MIR, by hand. The view that `viewed` returns is held in a local and
+-- passed to `slopes`; all that the proof knows of the two is that each meets its contract. In a local of a body MIR
+-- erases the lifetime of the view's type, so the value is shown to have the type at `erased`: what the view owns does
+-- not say the lifetime's name.
 use mathlib.Core.Path.{_≡_, refl, ap, _∙_}
 use Prim.Native.Nat.{_*_}
 use mathlib.Core.List.{List, [], _∷_}

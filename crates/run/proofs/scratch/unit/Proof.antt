@@ -61,15 +61,19 @@ loop-less c = search needs
 loop-again : tie.Need-loop-again Inv-loop μ-loop
 loop-again c =
     let l = c .before .before .before .before .before .before .before .before .before .loop in
-    let a = c .before .before .before .before .before .before .before .before .before .before .before .before .before .args in
-    let x = c .before .before .before .before .before .before .before .at .ensures ∙ sym (along-row (a .v .now) (a .v0) (l .p)) in (
+    let a = c .before .before .before .before .before .before .before .before .before .before .before .before
+    .before .args in
+    let x = c .before .before .before .before .before .before .before .at .ensures ∙ sym (along-row (a .v .now)
+    (a .v0) (l .p)) in (
       search needs,
       search needs,
       λ len e.
           let d = c .before .before .before .before .before .quotient .ensures len e in
           let v = c .before .before .before .choose .ensures
-          ∙ ap chooseOf (c .before .before .before .before .or-zero .ensures ∙ ap orZero (d ∙ ap (λ z. divOf z len) x)) in
-          c .before .before .put .ensures ∙ fill-turn _ (a .t0) (unitAt (along (a .v .now) (a .v0) 1) len) (l .p) (l .inv .2 len e) v,
+          ∙ ap chooseOf (c .before .before .before .before .or-zero .ensures ∙ ap orZero (d ∙ ap
+          (λ z. divOf z len) x)) in
+          c .before .before .put .ensures ∙ fill-turn _ (a .t0) (unitAt (along (a .v .now) (a .v0) 1) len) (l .p)
+          (l .inv .2 len e) v,
     )
 
 same-length : tie.Need-same-length Inv-loop μ-loop
@@ -77,7 +81,8 @@ same-length c = search needs
 
 returns : tie.Need-returns Inv-loop μ-loop
 returns c =
-    let e = c .before .loop .inv .2 (c .before .before .before .before .before .args .length) (c .before .before .inverse .ensures) in
+    let e = c .before .loop .inv .2 (c .before .before .before .before .before .args .length)
+    (c .before .before .inverse .ensures) in
     rw (le-antisymm (c .before .loop .inv .0) (c .loop-test .left)) at e
 
 pub unit-spec : {M : Type 1} → statement M
