@@ -19,7 +19,7 @@ use Rattle.run.specs.Scratch.{fillTo, spreadTo}
 use Rattle.run.specs.Rows.{rowNumbers, constraintsOf, violationOf}
 use Rattle.run.specs.Curvature.{curvatureEntries}
 use Rattle.run.specs.Area.{POINT, ROWS, CURVATURE, FILTER, SIZES, Memory, padded, memoryOf, startOf, written}
-use Rattle.run.specs.Area.{Holds, withStart, slotsOf, usedIn, isOpen, isTried, isCorrected}
+use Rattle.run.specs.Area.{Holds, withStart, slotsOf, usedIn, usedOf, isOpen, isTried, isCorrected}
 use Rattle.run.specs.Remainders.{Tidy, TidyMemory, Uses, Measured, Compared, Working, Seeking, Judging, Limits}
 use Rattle.run.specs.Remainders.{allUsed, pointsUsed}
 use Rattle.run.specs.Run.{Bounded}
@@ -196,8 +196,10 @@ tidy-spread m places from (suc k) h =
 
 -- ---- what a call reads
 
-used-tidy : (a : List Float) (base size n : ℕ) → n ≤ size → Tidy size n (padded size (take n (drop base a)))
-used-tidy a base size n h =
+used-tidy : (a : List Float) (base size : ℕ) (inUse : Bool) (count : ℕ) → pick inUse count 0 ≤ size
+    → Tidy size (pick inUse count 0) (usedOf a base size inUse count)
+used-tidy a base size inUse count h =
+    let n = pick inUse count 0 in
     let l = length-take n (drop base a) in
     tidy-padded size n (take n (drop base a)) (omega arith) (omega arith)
 
@@ -206,17 +208,21 @@ pub reads-tidy :
     TidyMemory (usedIn st) (memoryOf st a)
 unfolding memoryOf
 reads-tidy st a l =
+    let z = st .sizes in
+    let rows = rowNumbers (z .n) (z .m) (z .s) in
+    let tried = isTried (st .phase) in
+    let corrected = isCorrected (st .phase) in
     let u = used-below st l in
     record {
-      standing = used-tidy a 0 POINT _ (u .0);
-      landed = used-tidy a 24 POINT _ (u .1 .0);
-      asked = used-tidy a 48 POINT _ (u .1 .1 .0);
-      standing-rows = used-tidy a 72 ROWS _ (u .1 .1 .1 .0);
-      landed-rows = used-tidy a 1008 ROWS _ (u .1 .1 .1 .1 .0);
-      step = used-tidy a 1944 POINT _ (u .1 .1 .1 .1 .1 .0);
-      multipliers = used-tidy a 1968 POINT _ (u .1 .1 .1 .1 .1 .1 .0);
-      curvature = used-tidy a 1992 CURVATURE _ (u .1 .1 .1 .1 .1 .1 .1 .0);
-      filter = used-tidy a 2280 FILTER _ (u .1 .1 .1 .1 .1 .1 .1 .1 .0);
+      standing = used-tidy a 0 POINT true (2 * z .n) (u .0);
+      landed = used-tidy a 24 POINT corrected (2 * z .n) (u .1 .0);
+      asked = used-tidy a 48 POINT (isOpen (st .phase)) (2 * z .n) (u .1 .1 .0);
+      standing-rows = used-tidy a 72 ROWS tried rows (u .1 .1 .1 .0);
+      landed-rows = used-tidy a 1008 ROWS corrected rows (u .1 .1 .1 .1 .0);
+      step = used-tidy a 1944 POINT tried (2 * z .n) (u .1 .1 .1 .1 .1 .0);
+      multipliers = used-tidy a 1968 POINT tried (2 * z .m) (u .1 .1 .1 .1 .1 .1 .0);
+      curvature = used-tidy a 1992 CURVATURE tried (2 * curvatureEntries (z .n)) (u .1 .1 .1 .1 .1 .1 .1 .0);
+      filter = used-tidy a 2280 FILTER tried (4 * st .counts .iterations) (u .1 .1 .1 .1 .1 .1 .1 .1 .0);
     }
 
 at-most : (b : Bool) (n : ℕ) → pick b n 0 ≤ n

@@ -231,12 +231,12 @@ fn with_next(area: &mut [f64], n: usize, delta: &[f64])
 
 // A trial asked, where the step leads: nothing has landed. Of the landed rows those in use are cleared.
 pub fn with_trial(area: &mut [f64], z: Sizes, delta: &[f64], lambda: &[f64])
-    requires { ⌜ (length (now area) ≡ 8000) × (((z .n ≤ 12) × ((z .m ≤ 12) × (z .s ≤ 24))) ×
-        ((length (now delta) ≡ 24) × (length (now lambda) ≡ 24))) ⌝ }
+    requires { ⌜ (length (now area) ≡ 8000) ×
+        (((z .n ≤ 12) × ((z .m ≤ 12) × (z .s ≤ 24))) × ((length (now delta) ≡ 24) × (length (now lambda) ≡ 24))) ⌝ }
     ensures { λ _. ⌜ ((w : Memory) → Holds w (now (area .entry)) →
         Tidy 936 (rowNumbers (z .n) (z .m) (z .s)) (w .landedRows) →
-        Holds (withTrial w (movedOf (z .n) (w .standing) (now (delta .entry))) (now (delta .entry)) (now (lambda .entry)))
-        (now (area .exit))) ⌝ }
+        Holds (withTrial w (movedOf (z .n) (w .standing) (now (delta .entry))) (now (delta .entry))
+        (now (lambda .entry))) (now (area .exit))) ⌝ }
 {
     with_next(area, z.n, delta);
     clear_from(area, LANDED, POINT);
@@ -248,8 +248,8 @@ pub fn with_trial(area: &mut [f64], z: Sizes, delta: &[f64], lambda: &[f64])
 // The asked point landed, with its rows, in a slot that is +0 behind as many.
 pub fn landed(area: &mut [f64], rows: &[f64])
     requires { ⌜ (length (now area) ≡ 8000) × (length (now rows) ≤ 936) ⌝ }
-    ensures { λ _. ⌜ ((w : Memory) → Holds w (now (area .entry)) → Tidy 936 (length (now (rows .entry))) (w .landedRows)
-        →
+    ensures { λ _. ⌜ ((w : Memory) → Holds w (now (area .entry)) →
+        Tidy 936 (length (now (rows .entry))) (w .landedRows) →
         Holds (withLanded w (now (rows .entry)) (w .step)) (now (area .exit))) ⌝ }
 {
     copy(area, ASKED, LANDED, POINT);
@@ -275,12 +275,12 @@ pub fn with_taken(
     f: Scalar,
     theta: Scalar,
 )
-    requires { ⌜ (length (now area) ≡ 8000) × (((z .n ≤ 12) × ((z .m ≤ 12) × (z .s ≤ 24))) ×
-        ((length (now curvature) ≡ 288) × (count < 200))) ⌝ }
+    requires { ⌜ (length (now area) ≡ 8000) ×
+        (((z .n ≤ 12) × ((z .m ≤ 12) × (z .s ≤ 24))) × ((length (now curvature) ≡ 288) × (count < 200))) ⌝ }
     ensures { λ _. ⌜ ((w : Memory) → Holds w (now (area .entry)) →
         Tidy 936 (rowNumbers (z .n) (z .m) (z .s)) (w .standingRows) →
-        Tidy 936 (rowNumbers (z .n) (z .m) (z .s)) (w .landedRows) →
-        Tidy 288 (2 * (z .n * z .n)) (w .curvature) → Tidy 288 (2 * (z .n * z .n)) (now (curvature .entry)) →
+        Tidy 936 (rowNumbers (z .n) (z .m) (z .s)) (w .landedRows) → Tidy 288 (2 * (z .n * z .n)) (w .curvature) →
+        Tidy 288 (2 * (z .n * z .n)) (now (curvature .entry)) →
         Holds (withTaken w (now (curvature .entry)) (filterWith (w .filter) count f theta)) (now (area .exit))) ⌝ }
 {
     copy(area, LANDED, STANDING, POINT);

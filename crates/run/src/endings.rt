@@ -38,8 +38,8 @@ fn number_of(e: LinearError) -> usize
 // The run is over with its counts; the area keeps the standing point alone.
 pub fn finish(st: State, area: &mut [f64], stop: Stop) -> Out
     requires { ⌜ (length (now area) ≡ 8000) × Limits (st .sizes) (st .counts .iterations) ⌝ }
-    ensures { λ r. ⌜ ((w : Memory) → Working st w (now (area .entry)) → Leaves (run.finish st w stop) r (now (area
-        .exit))) ⌝ }
+    ensures { λ r. ⌜ ((w : Memory) → Working st w (now (area .entry)) →
+        Leaves (run.finish st w stop) r (now (area .exit))) ⌝ }
 {
     only_standing(area, st.sizes, st.counts.iterations);
     Out {
@@ -56,8 +56,8 @@ pub fn finish(st: State, area: &mut [f64], stop: Stop) -> Out
 // The run is over with the number of a refusal; the area keeps the standing point alone.
 pub fn refuse(st: State, area: &mut [f64], e: LinearError) -> Out
     requires { ⌜ (length (now area) ≡ 8000) × Limits (st .sizes) (st .counts .iterations) ⌝ }
-    ensures { λ r. ⌜ ((w : Memory) → Working st w (now (area .entry)) → Leaves (run.refuse st w (numberOf e)) r (now
-        (area .exit))) ⌝ }
+    ensures { λ r. ⌜ ((w : Memory) → Working st w (now (area .entry)) →
+        Leaves (run.refuse st w (numberOf e)) r (now (area .exit))) ⌝ }
 {
     only_standing(area, st.sizes, st.counts.iterations);
     Out {

@@ -144,9 +144,9 @@ pub fn judge(
     step: &[f64],
 ) -> Judgement
     requires { ⌜ (n ≤ 12) × ((m ≤ 12) × ((s ≤ 24) × ((count < 65536) × (length (now step) ≡ 24)))) ⌝ }
-    ensures { λ r. ⌜ (resultOf landed ≡ violationOf (constraintsOf n m (now (next .entry))) → judgementOf r ≡ judgeOf n
-        (evaluationOf n m s (now (at .entry))) (evaluationOf n m s (now (next .entry))) theta (now (filter .entry))
-        count last (now (step .entry))) ⌝ }
+    ensures { λ r. ⌜ (resultOf landed ≡ violationOf (constraintsOf n m (now (next .entry))) →
+        judgementOf r ≡ judgeOf n (evaluationOf n m s (now (at .entry))) (evaluationOf n m s (now (next .entry))) theta
+        (now (filter .entry)) count last (now (step .entry))) ⌝ }
 {
     match norm_of(step, n) {
         Answer::Refused(e) => {

@@ -66,9 +66,8 @@ fn is_better(first: bool, j: Judged) -> bool
 // What follows a judgement, from a standing point with violation theta to the landed one.
 fn decide(st: State, area: &mut [f64], theta: Scalar, landed: Answer, j: Judged) -> Out
     requires { ⌜ (length (now area) ≡ 8000) × Underway st ⌝ }
-    ensures { λ r. ⌜ ((w : Memory) → Judging st theta (resultOf landed) w (now (area .entry)) → Leaves (decide st w
-        theta j) r (now (area
-        .exit))) ⌝ }
+    ensures { λ r. ⌜ ((w : Memory) → Judging st theta (resultOf landed) w (now (area .entry)) →
+        Leaves (decide st w theta j) r (now (area .exit))) ⌝ }
 {
     let last = st.last;
     if is_stuck(st.search.first, last, j) {
@@ -83,9 +82,9 @@ fn decide(st: State, area: &mut [f64], theta: Scalar, landed: Answer, j: Judged)
 // The judgement of the landed point, from a standing point with violation theta.
 fn judge_in(st: State, area: &[f64], theta: Scalar, landed: Answer) -> Judgement
     requires { ⌜ (length (now area) ≡ 8000) × Underway st ⌝ }
-    ensures { λ r. ⌜ ((w : Memory) → Judging st theta (resultOf landed) w (now (area .entry)) → judgementOf r ≡ judgeOf
-        (st .sizes .n) (standingAt st w) (landedAt st w) theta (w .filter) (st .counts .iterations) (st .last) (w
-        .step)) ⌝ }
+    ensures { λ r. ⌜ ((w : Memory) → Judging st theta (resultOf landed) w (now (area .entry)) →
+        judgementOf r ≡ judgeOf (st .sizes .n) (standingAt st w) (landedAt st w) theta (w .filter)
+        (st .counts .iterations) (st .last) (w .step)) ⌝ }
 {
     let last = st.last;
     judge(
@@ -106,9 +105,8 @@ fn judge_in(st: State, area: &[f64], theta: Scalar, landed: Answer) -> Judgement
 // The landed point is judged, from a standing point with violation theta.
 pub fn judge_landed(st: State, area: &mut [f64], theta: Scalar, landed: Answer) -> Out
     requires { ⌜ (length (now area) ≡ 8000) × Underway st ⌝ }
-    ensures { λ r. ⌜ ((w : Memory) → Judging st theta (resultOf landed) w (now (area .entry)) → Leaves (judge st w
-        theta) r (now (area .exit)))
-        ⌝ }
+    ensures { λ r. ⌜ ((w : Memory) → Judging st theta (resultOf landed) w (now (area .entry)) →
+        Leaves (judge st w theta) r (now (area .exit))) ⌝ }
 {
     match judge_in(st, area, theta, landed) {
         Judgement::Of(j) => {

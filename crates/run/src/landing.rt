@@ -47,9 +47,8 @@ pub enum Nearer {
 // The landed point is shifted back onto the constraints, and that point asked, or it is judged.
 fn correct(st: State, area: &mut [f64], theta: Scalar, landed: Answer) -> Out
     requires { ⌜ (length (now area) ≡ 8000) × Underway st ⌝ }
-    ensures { λ r. ⌜ ((w : Memory) → Judging st theta (resultOf landed) w (now (area .entry)) → Leaves (correct st w
-        theta) r (now (area
-        .exit))) ⌝ }
+    ensures { λ r. ⌜ ((w : Memory) → Judging st theta (resultOf landed) w (now (area .entry)) →
+        Leaves (correct st w theta) r (now (area .exit))) ⌝ }
 {
     let moving = st.moving;
     let mut next = [0.0; 24];
@@ -82,9 +81,8 @@ fn correct_or_judge(
     corrects: bool,
 ) -> Out
     requires { ⌜ (length (now area) ≡ 8000) × Underway st ⌝ }
-    ensures { λ r. ⌜ ((w : Memory) → Judging st theta (resultOf landed) w (now (area .entry)) → Leaves (pick corrects
-        (correct st w theta)
-        (judge st w theta)) r (now (area .exit))) ⌝ }
+    ensures { λ r. ⌜ ((w : Memory) → Judging st theta (resultOf landed) w (now (area .entry)) →
+        Leaves (pick corrects (correct st w theta) (judge st w theta)) r (now (area .exit))) ⌝ }
 {
     if corrects {
         return correct(st, area, theta, landed);
@@ -145,9 +143,8 @@ fn is_nearer(new: Answer, old: Answer) -> Nearer
 // A correction's rows, from a standing point with violation theta: kept where they are nearer than the landed ones.
 fn land_correction(st: State, area: &mut [f64], rows: &[f64], theta: Scalar) -> Out
     requires { ⌜ (length (now area) ≡ 8000) × ((length (now rows) ≡ rowNumbers (st .sizes .n) (st .sizes .m) (st .sizes .s)) × (Underway st × (st .counts .corrections ≤ 4))) ⌝ }
-    ensures { λ r. ⌜ ((w : Memory) → Seeking st (ok theta) w (now (area .entry)) → Leaves (landCorrection st w (now
-        (rows .entry))
-        theta) r (now (area .exit))) ⌝ }
+    ensures { λ r. ⌜ ((w : Memory) → Seeking st (ok theta) w (now (area .entry)) →
+        Leaves (landCorrection st w (now (rows .entry)) theta) r (now (area .exit))) ⌝ }
 {
     let new = rows::violation(rows, st.sizes.n, st.sizes.m);
     let old = landed_violation(st.sizes, area);
@@ -182,9 +179,8 @@ fn started(st: State, area: &mut [f64], rows: &[f64]) -> Out
 fn land_trial(st: State, area: &mut [f64], rows: &[f64], theta: Scalar) -> Out
     requires { ⌜ (length (now area) ≡ 8000) ×
         ((length (now rows) ≡ rowNumbers (st .sizes .n) (st .sizes .m) (st .sizes .s)) × Underway st) ⌝ }
-    ensures { λ r. ⌜ ((w : Memory) → Seeking st (ok theta) w (now (area .entry)) → Leaves (landTrial st w (now (rows
-        .entry))
-        theta) r (now (area .exit))) ⌝ }
+    ensures { λ r. ⌜ ((w : Memory) → Seeking st (ok theta) w (now (area .entry)) →
+        Leaves (landTrial st w (now (rows .entry)) theta) r (now (area .exit))) ⌝ }
 {
     area::landed(area, rows);
     let t = with_landed_number(st, 0);
@@ -217,9 +213,9 @@ fn landed_violation(z: Sizes, area: &[f64]) -> Answer
 // A trial's or a correction's rows.
 fn land(st: State, area: &mut [f64], rows: &[f64], trial: bool) -> Out
     requires { ⌜ (length (now area) ≡ 8000) × ((length (now rows) ≡ rowNumbers (st .sizes .n) (st .sizes .m) (st .sizes .s)) × (Underway st × (st .counts .corrections ≤ 4))) ⌝ }
-    ensures { λ r. ⌜ ((w : Memory) → Working st w (now (area .entry)) → Leaves (fromStanding st w (λ theta. pick trial
-        (landTrial st w (now (rows .entry)) theta) (landCorrection st w (now (rows .entry)) theta))) r (now (area
-        .exit))) ⌝ }
+    ensures { λ r. ⌜ ((w : Memory) → Working st w (now (area .entry)) →
+        Leaves (fromStanding st w (λ theta. pick trial (landTrial st w (now (rows .entry)) theta)
+        (landCorrection st w (now (rows .entry)) theta))) r (now (area .exit))) ⌝ }
 {
     match standing_violation(st.sizes, area) {
         Answer::Value(theta) => {
@@ -236,8 +232,8 @@ fn land(st: State, area: &mut [f64], rows: &[f64], trial: bool) -> Out
 
 fn correction_none(st: State, area: &mut [f64]) -> Out
     requires { ⌜ (length (now area) ≡ 8000) × Underway st ⌝ }
-    ensures { λ r. ⌜ ((w : Memory) → Working st w (now (area .entry)) → Leaves (answeredNone kinds.Correction st w) r
-        (now (area .exit))) ⌝ }
+    ensures { λ r. ⌜ ((w : Memory) → Working st w (now (area .entry)) →
+        Leaves (answeredNone kinds.Correction st w) r (now (area .exit))) ⌝ }
 {
     match standing_violation(st.sizes, area) {
         Answer::Value(theta) => {
@@ -275,8 +271,8 @@ pub fn answered(kind: Kind, st: State, area: &mut [f64], rows: &[f64]) -> Out
 // What follows an accepted answer with none.
 pub fn answered_none(kind: Kind, st: State, area: &mut [f64]) -> Out
     requires { ⌜ (length (now area) ≡ 8000) × (Bounded 1073741824 st × (phaseFits st (Open kind) ≡ true)) ⌝ }
-    ensures { λ r. ⌜ ((w : Memory) → Working st w (now (area .entry)) → Leaves (answeredNone kind st w) r (now (area
-        .exit))) ⌝ }
+    ensures { λ r. ⌜ ((w : Memory) → Working st w (now (area .entry)) →
+        Leaves (answeredNone kind st w) r (now (area .exit))) ⌝ }
 {
     match kind {
         Kind::Start => {

@@ -132,9 +132,8 @@ fn take_with(
     radius: Scalar,
 ) -> Out
     requires { ⌜ (length (now area) ≡ 8000) × (Underway st × (isPositive mu ≡ true)) ⌝ }
-    ensures { λ r. ⌜ ((w : Memory) → Judging st theta (resultOf landed) w (now (area .entry)) → Leaves (takenWith st w
-        theta span mu radius) r
-        (now (area .exit))) ⌝ }
+    ensures { λ r. ⌜ ((w : Memory) → Judging st theta (resultOf landed) w (now (area .entry)) →
+        Leaves (takenWith st w theta span mu radius) r (now (area .exit))) ⌝ }
 {
     let mut b = [0.0; 288];
     match learn(st.sizes, st.search.plain, area, &mut b) {
@@ -156,9 +155,8 @@ fn take_with(
 // The step of that length is taken, from a point with violation theta to the landed one.
 pub fn take(st: State, area: &mut [f64], theta: Scalar, landed: Answer, span: Scalar) -> Out
     requires { ⌜ (length (now area) ≡ 8000) × Underway st ⌝ }
-    ensures { λ r. ⌜ ((w : Memory) → Judging st theta (resultOf landed) w (now (area .entry)) → Leaves (take st w theta
-        span) r (now (area
-        .exit))) ⌝ }
+    ensures { λ r. ⌜ ((w : Memory) → Judging st theta (resultOf landed) w (now (area .entry)) →
+        Leaves (take st w theta span) r (now (area .exit))) ⌝ }
 {
     match linear_of(st, theta, landed) {
         Linear::Known(linear) => match st.search.mu.div(Scalar::degenerate(3.0)) {

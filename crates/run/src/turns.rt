@@ -40,11 +40,11 @@ use linear::LinearError;
 
 // What follows where a search was left, with the step and its multipliers.
 fn left_at(st: State, area: &mut [f64], found: Found, delta: &[f64], lambda: &[f64]) -> Out
-    requires { ⌜ (length (now area) ≡ 8000) × (Bounded 2147483648 st × ((length (now delta) ≡ 24) × (length (now lambda)
-        ≡ 24))) ⌝ }
-    ensures { λ r. ⌜ ((w : Memory) → Working st w (now (area .entry)) → Leaves (leftAt st w (foundResult found (now
-        (delta .entry)) (now (lambda .entry)) (movedOf (st .sizes .n) (w .standing) (now (delta .entry))))) r (now (area
-        .exit))) ⌝ }
+    requires { ⌜ (length (now area) ≡ 8000) ×
+        (Bounded 2147483648 st × ((length (now delta) ≡ 24) × (length (now lambda) ≡ 24))) ⌝ }
+    ensures { λ r. ⌜ ((w : Memory) → Working st w (now (area .entry)) →
+        Leaves (leftAt st w (foundResult found (now (delta .entry)) (now (lambda .entry))
+        (movedOf (st .sizes .n) (w .standing) (now (delta .entry))))) r (now (area .exit))) ⌝ }
 {
     match found {
         Found::Ask(x, t) => {
@@ -93,8 +93,9 @@ fn seek_standing(
     lambda: &mut [f64],
 ) -> Found
     requires { ⌜ (length (now area) ≡ 8000) × (Bounded 2147483648 st × ((length (now delta) ≡ 24) × (length (now lambda) ≡ 24))) ⌝ }
-    ensures { λ r. ⌜ ((w : Memory) → Seeking st (resultOf standing) w (now (area .entry)) → foundResult r (now (delta
-        .exit)) (now (lambda .exit)) (movedOf (st .sizes .n) (w .standing) (now (delta .exit))) ≡ soughtOf st w) ⌝ }
+    ensures { λ r. ⌜ ((w : Memory) → Seeking st (resultOf standing) w (now (area .entry)) →
+        foundResult r (now (delta .exit)) (now (lambda .exit))
+        (movedOf (st .sizes .n) (w .standing) (now (delta .exit))) ≡ soughtOf st w) ⌝ }
 {
     let from = st.search;
     let rows = &area[area::STANDING_ROWS..area::LANDED_ROWS];
@@ -123,8 +124,8 @@ fn seek_standing(
 // The search for a proposal from the standing point with its violation, until a question, the finish or a refusal.
 fn search(st: State, area: &mut [f64], standing: Answer) -> Out
     requires { ⌜ (length (now area) ≡ 8000) × Bounded 2147483648 st ⌝ }
-    ensures { λ r. ⌜ ((w : Memory) → Seeking st (resultOf standing) w (now (area .entry)) → Leaves (run.search st w) r
-        (now (area .exit))) ⌝ }
+    ensures { λ r. ⌜ ((w : Memory) → Seeking st (resultOf standing) w (now (area .entry)) →
+        Leaves (run.search st w) r (now (area .exit))) ⌝ }
 {
     let mut delta = [0.0; 24];
     let mut lambda = [0.0; 24];
@@ -135,9 +136,8 @@ fn search(st: State, area: &mut [f64], standing: Answer) -> Out
 // A new iteration, or the finish where the limit is reached.
 pub fn iterate(st: State, area: &mut [f64], standing: Answer) -> Out
     requires { ⌜ (length (now area) ≡ 8000) × Bounded 2147483648 st ⌝ }
-    ensures { λ r. ⌜ ((w : Memory) → Seeking st (resultOf standing) w (now (area .entry)) → Leaves (run.iterate st w) r
-        (now (area .exit)))
-        ⌝ }
+    ensures { λ r. ⌜ ((w : Memory) → Seeking st (resultOf standing) w (now (area .entry)) →
+        Leaves (run.iterate st w) r (now (area .exit))) ⌝ }
 {
     if st.sizes.limit <= st.counts.iterations {
         return finish(st, area, Stop::Budget);
@@ -148,9 +148,8 @@ pub fn iterate(st: State, area: &mut [f64], standing: Answer) -> Out
 // With that radius and more damping, while that is finite.
 fn grow(st: State, area: &mut [f64], radius: Scalar, why: Rejection, standing: Answer) -> Out
     requires { ⌜ (length (now area) ≡ 8000) × Bounded 1073741824 st ⌝ }
-    ensures { λ r. ⌜ ((w : Memory) → Seeking st (resultOf standing) w (now (area .entry)) → Leaves (run.grow (searching
-        st (withRadius
-        (rejectedFor (st .search) why) radius)) w) r (now (area .exit))) ⌝ }
+    ensures { λ r. ⌜ ((w : Memory) → Seeking st (resultOf standing) w (now (area .entry)) →
+        Leaves (run.grow (searching st (withRadius (rejectedFor (st .search) why) radius)) w) r (now (area .exit))) ⌝ }
 {
     match damp(st.search, radius, why) {
         Damped::On(y) => {
@@ -165,9 +164,8 @@ fn grow(st: State, area: &mut [f64], radius: Scalar, why: Rejection, standing: A
 // A step turned down: a quarter of the length tried is the radius, and more damping.
 pub fn turn_down(st: State, area: &mut [f64], why: Rejection, standing: Answer) -> Out
     requires { ⌜ (length (now area) ≡ 8000) × Bounded 1073741824 st ⌝ }
-    ensures { λ r. ⌜ ((w : Memory) → Seeking st (resultOf standing) w (now (area .entry)) → Leaves (run.turnDown st w
-        why) r (now (area
-        .exit))) ⌝ }
+    ensures { λ r. ⌜ ((w : Memory) → Seeking st (resultOf standing) w (now (area .entry)) →
+        Leaves (run.turnDown st w why) r (now (area .exit))) ⌝ }
 {
     match st.trial.tried.div(Scalar::degenerate(4.0)) {
         ScalarResult::Value(q) => {
@@ -194,9 +192,8 @@ fn may_retry(plain: bool, n: usize, area: &[f64]) -> bool
 // A step that is not lower: tried again without the curvature learned, once in an iteration, or turned down.
 pub fn not_lower(st: State, area: &mut [f64], standing: Answer) -> Out
     requires { ⌜ (length (now area) ≡ 8000) × Bounded 1073741824 st ⌝ }
-    ensures { λ r. ⌜ ((w : Memory) → Seeking st (resultOf standing) w (now (area .entry)) → Leaves (run.notLower st w) r
-        (now (area .exit)))
-        ⌝ }
+    ensures { λ r. ⌜ ((w : Memory) → Seeking st (resultOf standing) w (now (area .entry)) →
+        Leaves (run.notLower st w) r (now (area .exit))) ⌝ }
 {
     if may_retry(st.search.plain, st.sizes.n, area) {
         let mut y = reject(st.search, Rejection::NotLower);

@@ -25,8 +25,8 @@ array-read-t11 c = search needs
 returns : tie.Need-returns
 returns c =
     rw (c .before .before .before .phase .given .1, c .enum-told .given .1)
-    (ap (λ (us : List ℕ). getD us 0 0 ∷ (0 ∷ (getD us 2 0 ∷ (0 ∷ (0 ∷ (0 ∷ (0 ∷ (0 ∷ (0 ∷ []))))))))) (c .before .before
-    .before .before .before .all-used .ensures))
+    (ap (λ (us : List ℕ). getD us 0 0 ∷ (0 ∷ (getD us 2 0 ∷ (0 ∷ (0 ∷ (0 ∷ (0 ∷ (0 ∷ (0 ∷ [])))))))))
+    (c .before .before .before .before .before .all-used .ensures))
 
 enum-told-2 : tie.Need-enum-told-2
 enum-told-2 c = search needs
@@ -75,8 +75,8 @@ array-read-t35 c = search needs
 returns-4 : tie.Need-returns-4
 returns-4 c =
     rw (c .enum-told4 .given .1)
-    (ap (λ (us : List ℕ). getD us 0 0 ∷ (0 ∷ (0 ∷ (0 ∷ (0 ∷ (0 ∷ (0 ∷ (0 ∷ (0 ∷ []))))))))) (c .before .before .all-used
-    .ensures))
+    (ap (λ (us : List ℕ). getD us 0 0 ∷ (0 ∷ (0 ∷ (0 ∷ (0 ∷ (0 ∷ (0 ∷ (0 ∷ (0 ∷ [])))))))))
+    (c .before .before .all-used .ensures))
 
 pub in-use-spec : {M : Type 1} → statement M
 in-use-spec =

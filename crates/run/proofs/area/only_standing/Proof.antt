@@ -25,13 +25,13 @@ array-read-clear-from c = search needs
 clear-from-requires-3 : tie.Need-clear-from-requires-3
 clear-from-requires-3 c κs =
     let s = c .before .before .before .before .before .before .before .before .before .before .before in
-    room 72 936 (fits (s .args .z) (s .pre .1) (c .before .before .before .before .before .before .before .before
-    .before .all-used .ensures) 3 (omega arith)) (omega arith)
+    room 72 936 (fits (s .args .z) (s .pre .1)
+    (c .before .before .before .before .before .before .before .before .before .all-used .ensures) 3 (omega arith))
+    (omega arith)
     (omega (
       arith,
       c .before .before .before .clear-from2 .kept,
-      c .before .before .before .before .before .before
-          .before .clear-from .kept,
+      c .before .before .before .before .before .before .before .clear-from .kept,
       s .pre .0,
     ))
 
@@ -42,15 +42,14 @@ clear-from-requires-4 : tie.Need-clear-from-requires-4
 clear-from-requires-4 c κs =
     let s = c .before .before .before .before .before .before .before .before .before .before .before .before .before
     .before .before in
-    room 1008 936 (fits (s .args .z) (s .pre .1) (c .before .before .before .before .before .before .before .before
-    .before .before .before .before .before .all-used .ensures) 4 (omega arith)) (omega arith)
+    room 1008 936 (fits (s .args .z) (s .pre .1)
+    (c .before .before .before .before .before .before .before .before .before .before .before .before .before .all-used
+    .ensures) 4 (omega arith)) (omega arith)
     (omega (
       arith,
       c .before .before .before .clear-from3 .kept,
-      c .before .before .before .before .before .before
-          .before .clear-from2 .kept,
-      c .before .before .before .before .before .before .before .before .before .before
-          .before .clear-from .kept,
+      c .before .before .before .before .before .before .before .clear-from2 .kept,
+      c .before .before .before .before .before .before .before .before .before .before .before .clear-from .kept,
       s .pre .0,
     ))
 
@@ -67,23 +66,21 @@ clear-from-requires-7 : tie.Need-clear-from-requires-7
 clear-from-requires-7 c κs =
     let s = c .before .before .before .before .before .before .before .before .before .before .before .before .before
     .before .before .before .before .before .before .before .before .before .before .before .before .before .before in
-    room 1992 288 (fits (s .args .z) (s .pre .1) (c .before .before .before .before .before .before .before .before
-    .before .before .before .before .before .before .before .before .before .before .before .before .before .before
-    .before .before .before .all-used .ensures) 7 (omega arith)) (omega arith)
+    room 1992 288 (fits (s .args .z) (s .pre .1)
+    (c .before .before .before .before .before .before .before .before .before .before .before .before .before .before
+    .before .before .before .before .before .before .before .before .before .before .before .all-used .ensures) 7
+    (omega arith)) (omega arith)
     (omega (
       arith,
       c .before .before .before .clear-from6 .kept,
-      c .before .before .before .before .before .before
-          .before .clear-from5 .kept,
-      c .before .before .before .before .before .before .before .before .before .before
-          .before .clear-from4 .kept,
-      c .before .before .before .before .before .before .before .before .before .before
-          .before .before .before .before .before .clear-from3 .kept,
-      c .before .before .before .before .before .before
-          .before .before .before .before .before .before .before .before .before .before .before .before .before .clear-from2
-          .kept,
-      c .before .before .before .before .before .before .before .before .before .before .before .before .before
-          .before .before .before .before .before .before .before .before .before .before .clear-from .kept,
+      c .before .before .before .before .before .before .before .clear-from5 .kept,
+      c .before .before .before .before .before .before .before .before .before .before .before .clear-from4 .kept,
+      c .before .before .before .before .before .before .before .before .before .before .before .before .before .before
+          .before .clear-from3 .kept,
+      c .before .before .before .before .before .before .before .before .before .before .before .before .before .before
+          .before .before .before .before .before .clear-from2 .kept,
+      c .before .before .before .before .before .before .before .before .before .before .before .before .before .before
+          .before .before .before .before .before .before .before .before .before .clear-from .kept,
       s .pre .0,
     ))
 
@@ -95,28 +92,25 @@ clear-from-requires-8 c κs =
     let s = c .before .before .before .before .before .before .before .before .before .before .before .before .before
     .before .before .before .before .before .before .before .before .before .before .before .before .before .before
     .before .before .before .before in
-    room 2280 800 (fits (s .args .z) (s .pre .1) (c .before .before .before .before .before .before .before .before
+    room 2280 800 (fits (s .args .z) (s .pre .1)
+    (c .before .before .before .before .before .before .before .before .before .before .before .before .before .before
     .before .before .before .before .before .before .before .before .before .before .before .before .before .before
-    .before .before .before .before .before .before .before .all-used .ensures) 8 (omega arith)) (omega arith)
+    .before .all-used .ensures) 8 (omega arith)) (omega arith)
     (omega (
       arith,
       c .before .before .before .clear-from7 .kept,
-      c .before .before .before .before .before .before
-          .before .clear-from6 .kept,
-      c .before .before .before .before .before .before .before .before .before .before
-          .before .clear-from5 .kept,
-      c .before .before .before .before .before .before .before .before .before .before
-          .before .before .before .before .before .clear-from4 .kept,
-      c .before .before .before .before .before .before
-          .before .before .before .before .before .before .before .before .before .before .before .before .before .clear-from3
-          .kept,
-      c .before .before .before .before .before .before .before .before .before .before .before .before .before
-          .before .before .before .before .before .before .before .before .before .before .clear-from2 .kept,
-      c .before
-          .before .before .before .before .before .before .before .before .before .before .before .before .before .before
-          .before .before .before .before .before .before .before .before .before .before .before .before .clear-from .kept,
-      s
-          .pre .0,
+      c .before .before .before .before .before .before .before .clear-from6 .kept,
+      c .before .before .before .before .before .before .before .before .before .before .before .clear-from5 .kept,
+      c .before .before .before .before .before .before .before .before .before .before .before .before .before .before
+          .before .clear-from4 .kept,
+      c .before .before .before .before .before .before .before .before .before .before .before .before .before .before
+          .before .before .before .before .before .clear-from3 .kept,
+      c .before .before .before .before .before .before .before .before .before .before .before .before .before .before
+          .before .before .before .before .before .before .before .before .before .clear-from2 .kept,
+      c .before .before .before .before .before .before .before .before .before .before .before .before .before .before
+          .before .before .before .before .before .before .before .before .before .before .before .before .before
+          .clear-from .kept,
+      s .pre .0,
     ))
 
 same-length : tie.Need-same-length
@@ -137,23 +131,25 @@ returns c w h =
     .before .before .before .before .before .all-used .ensures in
     let t = h .tidy in
     let f : (k : ℕ) → k < 9 → getD us k 0 ≤ getD SIZES k 0 = fits z (s .pre .1) e in
-    let h₁ = wrote (slots-of (h .holds)) 1 (zeros 24) (omega arith) (length-clear 24) (c .before .before .before .before
+    let h₁ = wrote (slots-of (h .holds)) 1 (zeros 24) (omega arith) (length-clear 24)
+    (c .before .before .before .before .before .before .before .before .before .before .before .before .before .before
     .before .before .before .before .before .before .before .before .before .before .before .before .before .before
-    .before .before .before .before .before .before .before .before .before .before .before .before .clear-from
+    .before .before .clear-from .ensures) in
+    let h₂ = wrote h₁ 2 (zeros 24) (omega arith) (length-clear 24)
+    (c .before .before .before .before .before .before .before .before .before .before .before .before .before .before
+    .before .before .before .before .before .before .before .before .before .before .before .before .clear-from2
     .ensures) in
-    let h₂ = wrote h₁ 2 (zeros 24) (omega arith) (length-clear 24) (c .before .before .before .before .before .before
-    .before .before .before .before .before .before .before .before .before .before .before .before .before .before
-    .before .before .before .before .before .before .clear-from2 .ensures) in
     let h₃ = cleared-first h₂ 3 (omega arith) (getD us 3 0) (f 3 (omega arith)) (used-as e 3 (t .standing-rows))
     (c .before .before .before .before .before .before .before .before .before .before .before .before .before .before
     .before .before .before .before .before .before .before .before .clear-from3 .ensures) in
     let h₄ = cleared-first h₃ 4 (omega arith) (getD us 4 0) (f 4 (omega arith)) (used-as e 4 (t .landed-rows))
     (c .before .before .before .before .before .before .before .before .before .before .before .before .before .before
     .before .before .before .before .clear-from4 .ensures) in
-    let h₅ = wrote h₄ 5 (zeros 24) (omega arith) (length-clear 24) (c .before .before .before .before .before .before
-    .before .before .before .before .before .before .before .before .clear-from5 .ensures) in
-    let h₆ = wrote h₅ 6 (zeros 24) (omega arith) (length-clear 24) (c .before .before .before .before .before .before
-    .before .before .before .before .clear-from6 .ensures) in
+    let h₅ = wrote h₄ 5 (zeros 24) (omega arith) (length-clear 24)
+    (c .before .before .before .before .before .before .before .before .before .before .before .before .before .before
+    .clear-from5 .ensures) in
+    let h₆ = wrote h₅ 6 (zeros 24) (omega arith) (length-clear 24)
+    (c .before .before .before .before .before .before .before .before .before .before .clear-from6 .ensures) in
     let h₇ = cleared-first h₆ 7 (omega arith) (getD us 7 0) (f 7 (omega arith)) (used-as e 7 (t .curvature))
     (c .before .before .before .before .before .before .clear-from7 .ensures) in
     holds-of (onlyStanding w)

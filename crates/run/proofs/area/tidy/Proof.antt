@@ -44,8 +44,9 @@ returns c =
     let l = s .pre .1 in
     let e : c .before .before .before .before .before .before .tidy-slots .last .0 ≡ tidiedTo SIZES (usedIn (s .args .st)) a 9 ++ drop 3080 a =
     c .before .before .before .before .before .before .tidy-slots .ensures ∙ ap (λ (us : List ℕ). tidiedTo SIZES us a 9 ++ drop 3080 a) (c .before .before .before .before .before .before .before .before .before .before .in-use .ensures) in
-    let k = memory-holds (s .args .st) l a (s .pre .0) (tidied-end SIZES (usedIn (s .args .st)) a (used-fit (s .args
-    .st) l a (s .pre .0)) 4920 (omega (arith, s .pre .0)) e (c .before .before .clear-from .ensures)) in
+    let k = memory-holds (s .args .st) l a (s .pre .0)
+    (tidied-end SIZES (usedIn (s .args .st)) a (used-fit (s .args .st) l a (s .pre .0)) 4920 (omega (arith, s .pre .0))
+    e (c .before .before .clear-from .ensures)) in
     record { holds = k; tidy = reads-tidy (s .args .st) a l }
 
 pub tidy-spec : {M : Type 1} → statement M

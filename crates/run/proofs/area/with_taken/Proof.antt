@@ -67,8 +67,7 @@ place-requires c κs =
       fit,
       cut,
       c .before .before .before .before .before .copy2 .kept,
-      c .before .before .before .before
-          .before .before .before .before .before .before .copy .kept,
+      c .before .before .before .before .before .before .before .before .before .before .copy .kept,
       s .pre .0,
     )
 
@@ -98,8 +97,9 @@ returns c w h t u b₀ b₁ =
     let e = c .before .before .before .before .before .before .before .before .before .before .before .before .before
     .row-numbers .ensures in
     let rows = few-rows (a .z) (s .pre .1 .0) e in
-    let h₁ = copied (slots-of h) 0 1 (omega arith) (omega arith) refl (c .before .before .before .before .before .before
-    .before .before .before .before .before .before .before .before .before .before .before .copy .ensures) in
+    let h₁ = copied (slots-of h) 0 1 (omega arith) (omega arith) refl
+    (c .before .before .before .before .before .before .before .before .before .before .before .before .before .before
+    .before .before .before .copy .ensures) in
     let h₂ = copied-first h₁ 3 4 (c .before .before .before .before .before .before .before .before .before .before
     .before .before .before .row-numbers .result) (omega arith) (omega arith) refl rows (rows-as e t)
     (rows-as e u) (c .before .before .before .before .before .before .before .before .before .before .before .before
@@ -110,8 +110,8 @@ returns c w h t u b₀ b₁ =
     let before : List Float = c .before .before .before .before .before .before .before .before .before .before .before
     .before .copy2 .last .0 in
     let h₃ = wrote-used h₂ 7 (omega arith) (a .curvature .now) entries (omega (arith, fit)) b₀ b₁
-    (c .before .before .before .before .before .before .place .ensures ∙ ap (λ (i : ℕ). written before 1992 (take i (a
-    .curvature .now))) whole) in
+    (c .before .before .before .before .before .before .place .ensures ∙ ap
+    (λ (i : ℕ). written before 1992 (take i (a .curvature .now))) whole) in
     let pairs : List Float = filterWith (w .filter) (a .count) (a .f) (a .theta) in
     let after : List Float = c .before .before .before .before .before .before .place .last .0 in
     let is : c .before .before .push .last .0 ≡ pairs =

@@ -31,8 +31,7 @@ clear-from-requires-2 c κs =
     (omega (
       arith,
       c .before .before .before .before .clear-from .kept,
-      c .before .before .before .before .before
-          .before .before .before .with-next .kept,
+      c .before .before .before .before .before .before .before .before .with-next .kept,
       s .pre .0,
     ))
 
@@ -59,14 +58,16 @@ returns c w h t =
     let h₁ = wrote (slots-of h) 2 next (omega arith) (length-moved (a .z .n) (w .standing) (a .delta .now))
     (c .before .before .before .before .before .before .before .before .before .before .before .before .before .before
     .before .before .before .before .before .with-next .ensures ∙ read) in
-    let h₂ = wrote h₁ 1 (zeros 24) (omega arith) (length-clear 24) (c .before .before .before .before .before .before
-    .before .before .before .before .before .before .before .before .before .clear-from .ensures) in
-    let h₃ = cleared-first h₂ 4 (omega arith) (c .before .before .before .before .before .before .before .before .before
-    .before .before .row-numbers .result) (few-rows (a .z) (s .pre .1 .0) e)
+    let h₂ = wrote h₁ 1 (zeros 24) (omega arith) (length-clear 24)
+    (c .before .before .before .before .before .before .before .before .before .before .before .before .before .before
+    .before .clear-from .ensures) in
+    let h₃ = cleared-first h₂ 4 (omega arith)
+    (c .before .before .before .before .before .before .before .before .before .before .before .row-numbers .result)
+    (few-rows (a .z) (s .pre .1 .0) e)
     (rows-as e t) (c .before .before .before .before .before .before .before .before .before .before .clear-from2
     .ensures) in
-    let h₄ = wrote h₃ 5 (a .delta .now) (omega arith) (s .pre .1 .1 .0) (c .before .before .before .before .before
-    .before .place .ensures) in
+    let h₄ = wrote h₃ 5 (a .delta .now) (omega arith) (s .pre .1 .1 .0)
+    (c .before .before .before .before .before .before .place .ensures) in
     holds-of (withTrial w next (a .delta .now) (a .lambda .now))
     (wrote h₄ 6 (a .lambda .now) (omega arith) (s .pre .1 .1 .1) (c .before .before .place2 .ensures))
 

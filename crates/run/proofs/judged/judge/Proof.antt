@@ -28,8 +28,8 @@ enum-known-landed c = search needs
 returns-2 : tie.Need-returns-2
 unfolding judgeOf
 returns-2 c v =
-    let f = sym (c .before .before .before .before .before .before .norm-of .ensures) ∙ ap resultOf (c .before .before
-    .before .before .length .given .1) in
+    let f = sym (c .before .before .before .before .before .before .norm-of .ensures) ∙ ap resultOf
+    (c .before .before .before .before .length .given .1) in
     let g = sym v ∙ ap resultOf (c .before .landed .given .1) in
     sym (bind-ok _ f ∙ bind-refused _ g)
 
@@ -42,8 +42,8 @@ judged-at-requires c κs = search needs
 returns-3 : tie.Need-returns-3
 unfolding judgeOf
 returns-3 c v =
-    let f = sym (c .before .before .before .before .before .before .before .norm-of .ensures) ∙ ap resultOf (c .before
-    .before .before .before .before .length .given .1) in
+    let f = sym (c .before .before .before .before .before .before .before .norm-of .ensures) ∙ ap resultOf
+    (c .before .before .before .before .before .length .given .1) in
     let g = sym v ∙ ap resultOf (c .before .before .landed2 .given .1) in
     ap ok (c .judged-at .ensures) ∙ sym (bind-ok _ f ∙ bind-ok _ g)
 

@@ -17,8 +17,8 @@ same-length c = search needs
 returns : tie.Need-returns
 returns c w h =
     let a = c .before .before .before .before .before .before .before .args in decide-stuck (a .st) w (a .theta) (a .j)
-    (c .before .before .before .before .before .is-stuck .ensures) (c .before .before .before .before .if1 .taken) (c
-    .before .before .finish .ensures w (h .measured .uses))
+    (c .before .before .before .before .before .is-stuck .ensures) (c .before .before .before .before .if1 .taken)
+    (c .before .before .finish .ensures w (h .measured .uses))
 
 is-better-requires : tie.Need-is-better-requires
 is-better-requires c κs = search needs
@@ -40,10 +40,11 @@ same-length-3 c = search needs
 
 returns-3 : tie.Need-returns-3
 returns-3 c w h =
-    let a = c .before .before .before .before .before .before .before .before .before .args in decide-not (a .st) w (a
-    .theta) (a .j) (c .before .before .before .before .before .before .before .is-stuck .ensures) (c .before .before
-    .before .before .before .before .if1 .left) (c .before .before .before .before .before .is-better .ensures) (c
-    .before .before .before .before .if2 .left) (c .before .before .not-lower .ensures w (h .measured))
+    let a = c .before .before .before .before .before .before .before .before .before .args in decide-not (a .st) w
+    (a .theta) (a .j) (c .before .before .before .before .before .before .before .is-stuck .ensures)
+    (c .before .before .before .before .before .before .if1 .left)
+    (c .before .before .before .before .before .is-better .ensures) (c .before .before .before .before .if2 .left)
+    (c .before .before .not-lower .ensures w (h .measured))
 
 pub decide-spec : {M : Type 1} → statement M
 decide-spec =

@@ -22,8 +22,8 @@ same-length c = search needs
 returns : tie.Need-returns
 returns c w h =
     let a = c .before .before .before .before .before .before .before .before .before .before .args in
-    let e = sym (c .before .before .before .before .before .before .before .judge-in .ensures w h) ∙ ap judgementOf (c
-    .before .before .before .before .before .j .given .1) in
+    let e = sym (c .before .before .before .before .before .before .before .judge-in .ensures w h) ∙ ap judgementOf
+    (c .before .before .before .before .before .j .given .1) in
     judge-known (a .st) w (a .theta) e (c .before .before .decide .ensures w h)
 
 enum-known-e : tie.Need-enum-known-e
@@ -39,8 +39,8 @@ same-length-2 c = search needs
 returns-2 : tie.Need-returns-2
 returns-2 c w h =
     let a = c .before .before .before .before .before .before .before .before .before .before .args in
-    let e = sym (c .before .before .before .before .before .before .before .judge-in .ensures w h) ∙ ap judgementOf (c
-    .before .before .before .before .before .e .given .1) in
+    let e = sym (c .before .before .before .before .before .before .before .judge-in .ensures w h) ∙ ap judgementOf
+    (c .before .before .before .before .before .e .given .1) in
     judge-refused (a .st) w (a .theta) e (c .before .before .refuse .ensures w (h .measured .uses))
 
 pub judge-landed-spec : {M : Type 1} → statement M

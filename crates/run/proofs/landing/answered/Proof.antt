@@ -29,8 +29,8 @@ same-length c = search needs
 
 returns : tie.Need-returns
 returns c w h =
-    let a = c .before .before .before .before .before .before .before .before .args in answered-as (a .st) w (c .before
-    .before .before .before .enum-told .given .1) (a .rows .now) (c .before .before .started .ensures w h)
+    let a = c .before .before .before .before .before .before .before .before .args in answered-as (a .st) w
+    (c .before .before .before .before .enum-told .given .1) (a .rows .now) (c .before .before .started .ensures w h)
 
 enum-told-2 : tie.Need-enum-told-2
 enum-told-2 c = search needs
@@ -42,8 +42,7 @@ land-requires c κs =
       (
         p .1 .0,
         (
-          trial-underway (p .1 .1 .0) (c .before
-              .enum-told2 .given .1) (p .1 .1 .1 .1 .0),
+          trial-underway (p .1 .1 .0) (c .before .enum-told2 .given .1) (p .1 .1 .1 .1 .0),
           p .1 .1 .1 .0,
         ),
       ),
@@ -54,8 +53,9 @@ same-length-2 c = search needs
 
 returns-2 : tie.Need-returns-2
 returns-2 c w h =
-    let a = c .before .before .before .before .before .before .before .before .args in answered-as (a .st) w (c .before
-    .before .before .before .enum-told2 .given .1) (a .rows .now) (c .before .before .land .ensures w (works (a .st) h))
+    let a = c .before .before .before .before .before .before .before .before .args in answered-as (a .st) w
+    (c .before .before .before .before .enum-told2 .given .1) (a .rows .now)
+    (c .before .before .land .ensures w (works (a .st) h))
 
 enum-told-3 : tie.Need-enum-told-3
 enum-told-3 c = search needs
@@ -67,8 +67,7 @@ land-requires-2 c κs =
       (
         p .1 .0,
         (
-          correction-underway (p .1 .1 .0) (c
-              .before .enum-told3 .given .1) (p .1 .1 .1 .1 .0),
+          correction-underway (p .1 .1 .0) (c .before .enum-told3 .given .1) (p .1 .1 .1 .1 .0),
           p .1 .1 .1 .0,
         ),
       ),
@@ -79,8 +78,9 @@ same-length-3 c = search needs
 
 returns-3 : tie.Need-returns-3
 returns-3 c w h =
-    let a = c .before .before .before .before .before .before .before .before .args in answered-as (a .st) w (c .before
-    .before .before .before .enum-told3 .given .1) (a .rows .now) (c .before .before .land2 .ensures w (works (a .st)
+    let a = c .before .before .before .before .before .before .before .before .args in answered-as (a .st) w
+    (c .before .before .before .before .enum-told3 .given .1) (a .rows .now)
+    (c .before .before .land2 .ensures w (works (a .st)
     h))
 
 pub answered-spec : {M : Type 1} → statement M

@@ -37,8 +37,8 @@ returns-2 : tie.Need-returns-2
 returns-2 c w h =
     let st = c .before .before .before .before .before .before .before .before .before .args .st in
     let hs = measures st h (c .before .before .before .before .standing-violation .ensures w (h .holds)) in
-    none-as st w (c .before .before .before .before .before .before .enum-told2 .given .1) (c .before .before .turn-down
-    .ensures w hs)
+    none-as st w (c .before .before .before .before .before .before .enum-told2 .given .1)
+    (c .before .before .turn-down .ensures w hs)
 
 enum-told-3 : tie.Need-enum-told-3
 enum-told-3 c = search needs

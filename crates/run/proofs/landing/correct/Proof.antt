@@ -59,8 +59,8 @@ returns c w h =
     let a = c .before .before .before .before .before .before .before .before .before .before .before .before .before .before .before .args in
     let x = c .before .before .before .before .before .before .before .shift-from in
     correct-stays (a .st) w (a .theta) refl (shifted-read (a .st) (h .measured .uses .holds) (x .ensures))
-    (ap (λ (r : Shifted). shiftedOf r (x .last .1 .1 .1 .1 .1 .0)) (c .before .before .before .before .enum-told2 .given
-    .1))
+    (ap (λ (r : Shifted). shiftedOf r (x .last .1 .1 .1 .1 .1 .0))
+    (c .before .before .before .before .enum-told2 .given .1))
     (c .before .before .judge-landed .ensures w h)
 
 enum-known-shifted : tie.Need-enum-known-shifted
@@ -79,8 +79,8 @@ returns-2 c w h =
     let a = c .before .before .before .before .before .before .before .before .before .before .before .before .before .before .before .before .args in
     let x = c .before .before .before .before .before .before .before .before .shift-from in
     correct-refused (a .st) w (a .theta) refl (shifted-read (a .st) (h .measured .uses .holds) (x .ensures))
-    (ap (λ (r : Shifted). shiftedOf r (x .last .1 .1 .1 .1 .1 .0)) (c .before .before .before .before .before .shifted
-    .given .1))
+    (ap (λ (r : Shifted). shiftedOf r (x .last .1 .1 .1 .1 .1 .0))
+    (c .before .before .before .before .before .shifted .given .1))
     (c .before .before .refuse .ensures w (h .measured .uses))
 
 slice-aggregate-place : tie.Need-slice-aggregate-place
@@ -102,8 +102,8 @@ returns-3 c w h =
     let next = x .last .1 .1 .1 .1 .1 .0 in
     let k = h .measured .uses .holds in
     correct-asks (a .st) w (a .theta) refl (shifted-read (a .st) k (x .ensures))
-    (ap (λ (r : Shifted). shiftedOf r (x .last .1 .1 .1 .1 .1 .0)) (c .before .before .before .before .before .before
-    .enum-told .given .1))
+    (ap (λ (r : Shifted). shiftedOf r (x .last .1 .1 .1 .1 .1 .0))
+    (c .before .before .before .before .before .before .enum-told .given .1))
     (c .ask .ensures _ _ (asked-read k next (c .before .before .before .place .ensures) (x .kept .1 .1 .1 .1 .1 .0)))
 
 pub correct-spec : {M : Type 1} → statement M

@@ -29,8 +29,8 @@ returns : tie.Need-returns
 returns c w h =
     let st = c .before .before .before .before .before .before .before .before .before .before .before .before .args .st
     in
-    let v = c .before .before .before .before .before .before .before .before .before .standing-violation .ensures w (h
-    .holds) in
+    let v = c .before .before .before .before .before .before .before .before .before .standing-violation .ensures w
+    (h .holds) in
     let e = ap resultOf (c .before .before .before .before .before .before .before .theta .given .1) in
     let hj = compares st h (sym e ∙ v) (c .before .before .before .before .landed-violation .ensures w (h .holds)) in
     or-next st w (judge st w) (sym v ∙ e) (c .before .before .judge-landed .ensures w hj)
@@ -48,8 +48,9 @@ same-length-2 c = search needs
 returns-2 : tie.Need-returns-2
 returns-2 c w h =
     let st = c .before .before .before .before .before .before .before .before .before .before .args .st in or-refused
-    st w (judge st w) (sym (c .before .before .before .before .before .before .before .standing-violation .ensures w (h
-    .holds)) ∙ ap resultOf (c .before .before .before .before .before .e .given .1)) (c .before .before .refuse .ensures
+    st w (judge st w) (sym (c .before .before .before .before .before .before .before .standing-violation .ensures w
+    (h .holds)) ∙ ap resultOf (c .before .before .before .before .before .e .given .1))
+    (c .before .before .refuse .ensures
     w h)
 
 pub correction-none-spec : {M : Type 1} → statement M

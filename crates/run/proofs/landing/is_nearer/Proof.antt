@@ -27,8 +27,8 @@ enum-known-old-2 c = search needs
 
 returns-2 : tie.Need-returns-2
 returns-2 c =
-    sym (bind-ok _ (ap resultOf (c .before .before .before .before .new .given .1)) ∙ bind-refused _ (ap resultOf (c
-    .before .old2 .given .1)))
+    sym (bind-ok _ (ap resultOf (c .before .before .before .before .new .given .1)) ∙ bind-refused _
+    (ap resultOf (c .before .old2 .given .1)))
 
 enum-known-new-2 : tie.Need-enum-known-new-2
 enum-known-new-2 c = search needs

@@ -107,8 +107,9 @@ returns-2 c w h v =
     let d = x .last .1 .1 .1 .1 .0 in
     let s = shiftedStep (z .n) (w .step) d in
     let t = c .before .before .before .before .with-landed-number .ensures in
-    let hs = shifts (a .st) d (h .uses) (stepped (z .n) d (h .uses .holds) (c .before .before .before .before .before
-    .before .before .before .before .before .before .before .shifted-step .ensures)) in
+    let hs = shifts (a .st) d (h .uses) (stepped (z .n) d (h .uses .holds)
+    (c .before .before .before .before .before .before .before .before .before .before .before .before .shifted-step
+    .ensures)) in
     let hv = lands (a .st) (p .1 .1 .0 .bounded) (a .rows .now) (p .1 .0) hs
     (c .before .before .before .before .before .before .before .before .landed .ensures (withStep w s) (hs .holds)) in
     let hj = compares (a .st) hv (h .standing-is) (v ∙ sym (violation-padded z (a .rows .now) (p .1 .0))) in

@@ -27,8 +27,7 @@ land-trial-requires c κs =
       p .0,
       (
         p .1 .0,
-        p .1 .1
-            .0,
+        p .1 .1 .0,
       ),
     )
 
@@ -42,8 +41,8 @@ returns c w h =
     in
     let e = ap resultOf (c .before .before .before .before .before .before .theta .given .1) in
     let hs = measures (s .args .st) h (sym e ∙ v) in
-    or-next (s .args .st) w (next s w) (sym v ∙ e) (when _ _ (c .before .before .before .before .if1 .taken) (c .before
-    .before .land-trial .ensures w hs))
+    or-next (s .args .st) w (next s w) (sym v ∙ e)
+    (when _ _ (c .before .before .before .before .if1 .taken) (c .before .before .land-trial .ensures w hs))
 
 land-correction-requires : tie.Need-land-correction-requires
 land-correction-requires c κs = c .before .before .before .before .before .before .before .before .before .pre
@@ -58,8 +57,8 @@ returns-2 c w h =
     in
     let e = ap resultOf (c .before .before .before .before .before .before .theta .given .1) in
     let hs = measures (s .args .st) h (sym e ∙ v) in
-    or-next (s .args .st) w (next s w) (sym v ∙ e) (unless _ _ (c .before .before .before .before .if1 .left) (c .before
-    .before .land-correction .ensures w hs))
+    or-next (s .args .st) w (next s w) (sym v ∙ e)
+    (unless _ _ (c .before .before .before .before .if1 .left) (c .before .before .land-correction .ensures w hs))
 
 enum-known-e : tie.Need-enum-known-e
 enum-known-e c = search needs
@@ -68,8 +67,7 @@ refuse-requires : tie.Need-refuse-requires
 refuse-requires c κs =
     let p = c .before .before .before .before .before .before .before .before .pre in (
       p .0,
-      limits-of (p .1 .1 .0
-          .bounded),
+      limits-of (p .1 .1 .0 .bounded),
     )
 
 same-length-3 : tie.Need-same-length-3

@@ -54,8 +54,8 @@ returns c w h =
     ∙ ap nearerResult (c .before .before .before .before .before .before .kept .given .1) in
     correction-by (a .st) w (a .rows .now) (a .theta)
     (or-next (a .st) w (next (c .before .before .before .before .before .before .before .before .before .before .before
-    .before .before .before) w) e (when _ _ (c .before .before .before .before .if1 .taken) (c .before .before .keep
-    .ensures w h new)))
+    .before .before .before) w) e (when _ _ (c .before .before .before .before .if1 .taken)
+    (c .before .before .keep .ensures w h new)))
 
 judge-landed-requires : tie.Need-judge-landed-requires
 judge-landed-requires c κs =
@@ -79,8 +79,8 @@ returns-2 c w h =
     let hj = compares (a .st) (h .uses) (h .standing-is) old in
     correction-by (a .st) w (a .rows .now) (a .theta)
     (or-next (a .st) w (next (c .before .before .before .before .before .before .before .before .before .before .before
-    .before .before .before) w) e (unless _ _ (c .before .before .before .before .if1 .left) (c .before .before
-    .judge-landed .ensures w hj)))
+    .before .before .before) w) e (unless _ _ (c .before .before .before .before .if1 .left)
+    (c .before .before .judge-landed .ensures w hj)))
 
 enum-known-e : tie.Need-enum-known-e
 enum-known-e c = search needs

@@ -89,8 +89,8 @@ returns-2 c w h =
     (c .before .before .before .before .before .before .before .before .before .before .before .before .landed .ensures
     w (h .uses .holds)) in
     let v = c .before .before .before .before .before .before .before .landed-violation .ensures x (hv .holds) in
-    trial-refused (a .st) w (a .rows .now) (a .theta) t (sym v ∙ ap resultOf (c .before .before .before .before .before
-    .landed3 .given .1))
+    trial-refused (a .st) w (a .rows .now) (a .theta) t
+    (sym v ∙ ap resultOf (c .before .before .before .before .before .landed3 .given .1))
     (c .before .before .refuse .ensures x (works-as t hv))
 
 pub land-trial-spec : {M : Type 1} → statement M

@@ -49,8 +49,8 @@ returns c w h =
     let t = c .before .before .before .before .with-moving .ensures in
     let v = withStart w (a .rows .now) in
     let hv = starts (a .st) (p .1 .1 .0) (a .rows .now) (p .1 .0) h (p .1 .1 .1)
-    (c .before .before .before .before .before .before .before .before .before .with-start .ensures w (2 * a .st .sizes
-    .n)) in
+    (c .before .before .before .before .before .before .before .before .before .with-start .ensures w
+    (2 * a .st .sizes .n)) in
     let hs = measures (a .st) hv (c .before .before .before .before .before .standing-violation .ensures v (hv .holds))
     in
     started-known (a .st) w (a .rows .now) t (c .before .before .before .before .before .before .before .before .before

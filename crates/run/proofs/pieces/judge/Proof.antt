@@ -47,8 +47,7 @@ judge-requires c κs =
           (
             omega (
               arith,
-              c .before .before .before .before .before
-                  .if1 .left,
+              c .before .before .before .before .before .if1 .left,
             ),
             p .1,
           ),
@@ -61,11 +60,9 @@ unfolding judgeReply
 returns-3 c =
     rw (
       le-leb _ _ (c .before .before .before .before .before .before .if1 .left),
-      ← c .before .before .before .before
-          .before .fits2 .ensures,
+      ← c .before .before .before .before .before .fits2 .ensures,
       ← c .before .before .before .before .wants .ensures,
-      c .before .before .enum-told .given
-          .1,
+      c .before .before .enum-told .given .1,
     )
     (c .judge .ensures (c .before .violation .ensures))
 

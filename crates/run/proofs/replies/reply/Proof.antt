@@ -38,8 +38,7 @@ answered-requires c κs =
       (
         w .full,
         (
-          reply-bounded (a .st) _ v (w
-              .reply .opened),
+          reply-bounded (a .st) _ v (w .reply .opened),
           (bounds (a .st) v .corrections, (reply-phase (a .st) _ v (w .reply .opened), w .reply .opened)),
         ),
       ),

@@ -41,8 +41,9 @@ same-length c = search needs
 returns-2 : tie.Need-returns-2
 returns-2 c =
     let a = c .before .before .before .before .before .before .before .before .before .before .before .before .before .args in
-    leaves-left _ _ _ (c .before .before .answered-none .ensures (memoryOf (a .st) (a .area .now)) (works (a .st) (c
-    .before .before .before .before .before .before .tidy .ensures))) ∙ sym (none-accepted (a .st) (a .area .now) _ (sym
+    leaves-left _ _ _ (c .before .before .answered-none .ensures (memoryOf (a .st) (a .area .now))
+    (works (a .st) (c .before .before .before .before .before .before .tidy .ensures))) ∙ sym
+    (none-accepted (a .st) (a .area .now) _ (sym
     (c .before .before .before .before .before .before .before .before .before .before .before .check .ensures) ∙ c
     .before .before .before .before .before .before .before .before .before .kind .given .1))
 

@@ -49,8 +49,8 @@ take-with-requires : tie.Need-take-with-requires
 take-with-requires c κs =
     let s = c .before .before .before .before .before .before .before .before .before .before .before .before .before in
     let g = s .good .0 .1 .1 .1 .1 .0 .1 .1 .0 .1 .1 in
-    let third = sym (divided (c .before .before .before .before .before .before)) ∙ ap resultOf (c .before .before
-    .before .before .third .given .1) in
+    let third = sym (divided (c .before .before .before .before .before .before)) ∙ ap resultOf
+    (c .before .before .before .before .third .given .1) in
     let u = s .pre .1 in (
       s .pre .0,
       (
@@ -68,14 +68,15 @@ returns c w h =
     let a = c .before .before .before .before .before .before .before .before .before .before .before .before .before
     .before .before .before .args in
     let near = sym (c .before .before .before .before .before .before .before .before .before .before .before .before
-    .before .before .linear-of .ensures w (h .landed-is)) ∙ ap linearResult (c .before .before .before .before .before
-    .before .before .before .before .before .before .before .linear .given .1) in
+    .before .before .linear-of .ensures w (h .landed-is)) ∙ ap linearResult
+    (c .before .before .before .before .before .before .before .before .before .before .before .before .linear .given
+    .1) in
     let third = sym (divided (c .before .before .before .before .before .before .before .before .before)) ∙ ap resultOf
     (c .before .before .before .before .before .before .before .third .given .1) in
     take-known (a .st) w (a .theta) (a .span) near
-    (third-known (a .st) w (a .theta) (a .span) (c .before .before .before .before .before .before .before .before
-    .before .before .before .before .linear .given .0 .0) third (c .before .before .before .before .before .shrunk
-    .ensures)
+    (third-known (a .st) w (a .theta) (a .span)
+    (c .before .before .before .before .before .before .before .before .before .before .before .before .linear .given .0
+    .0) third (c .before .before .before .before .before .shrunk .ensures)
     (c .before .before .before .before .reach .ensures) (c .before .before .take-with .ensures w h))
 
 enum-known-e : tie.Need-enum-known-e
@@ -94,13 +95,13 @@ returns-2 c w h =
     let a = c .before .before .before .before .before .before .before .before .before .before .before .before .before
     .before .args in
     let near = sym (c .before .before .before .before .before .before .before .before .before .before .before .before
-    .linear-of .ensures w (h .landed-is)) ∙ ap linearResult (c .before .before .before .before .before .before .before
-    .before .before .before .linear .given .1) in
-    let third = sym (divided (c .before .before .before .before .before .before .before)) ∙ ap resultOf (c .before
-    .before .before .before .before .e .given .1) in
+    .linear-of .ensures w (h .landed-is)) ∙ ap linearResult
+    (c .before .before .before .before .before .before .before .before .before .before .linear .given .1) in
+    let third = sym (divided (c .before .before .before .before .before .before .before)) ∙ ap resultOf
+    (c .before .before .before .before .before .e .given .1) in
     take-known (a .st) w (a .theta) (a .span) near
-    (third-refused (a .st) w (a .theta) (a .span) (c .before .before .before .before .before .before .before .before
-    .before .before .linear .given .0 .0) third
+    (third-refused (a .st) w (a .theta) (a .span)
+    (c .before .before .before .before .before .before .before .before .before .before .linear .given .0 .0) third
     (c .before .before .refuse .ensures w (h .measured .uses)))
 
 enum-known-e-2 : tie.Need-enum-known-e-2

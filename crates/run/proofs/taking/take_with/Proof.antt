@@ -36,8 +36,7 @@ refuse-requires : tie.Need-refuse-requires
 refuse-requires c κs =
     let p = c .before .before .before .before .before .before .before .before .before .pre in (
       p .0,
-      limits-of (p .1 .0
-          .bounded),
+      limits-of (p .1 .0 .bounded),
     )
 
 same-length : tie.Need-same-length
@@ -48,9 +47,8 @@ returns c w h =
     let a = c .before .before .before .before .before .before .before .before .before .before .before .before .args in
     let l = c .before .before .before .before .before .before .before .before .learn in
     let u = h .measured .uses in
-    let e = sym (l .ensures w (u .holds) (u .tidy .curvature)) ∙ ap (λ (d : Done). doneOf d (l .last .1 .1 .1 .0)) (c
-    .before .before .before
-    .before .before .e .given .1) in
+    let e = sym (l .ensures w (u .holds) (u .tidy .curvature)) ∙ ap (λ (d : Done). doneOf d (l .last .1 .1 .1 .0))
+    (c .before .before .before .before .before .e .given .1) in
     learned-refused (a .st) w (a .theta) (a .span) (a .mu) (a .radius) e (c .before .before .refuse .ensures w u)
 
 sub-sum-squared : tie.Need-sub-sum-squared
@@ -76,13 +74,11 @@ with-taken-requires c κs =
       (
         (b .few-variables, (b .few-constraints, b .few-sums)),
         (
-          c .before
-              .before .before .before .before .before .before .before .learn .kept .1 .1 .1 .0,
+          c .before .before .before .before .before .before .before .before .learn .kept .1 .1 .1 .0,
           omega (
             arith,
             u .below,
-            b
-                .few-iterations,
+            b .few-iterations,
           ),
         ),
       ),
@@ -108,25 +104,25 @@ returns-2 c w h =
     let b = l .last .1 .1 .1 .0 in
     let u = h .measured .uses in
     let t = u .tidy in
-    let e = sym (l .ensures w (u .holds) (u .tidy .curvature)) ∙ ap (λ (d : Done). doneOf d b) (c .before .before
-    .before .before .before
-    .before .before .before .before .before .before .before .before .enum-told .given .1) in
+    let e = sym (l .ensures w (u .holds) (u .tidy .curvature)) ∙ ap (λ (d : Done). doneOf d b)
+    (c .before .before .before .before .before .before .before .before .before .before .before .before .before
+    .enum-told .given .1) in
     let f = c .before .before .before .before .before .before .before .before .before .before .sum-squared .result in
     let sum = c .before .before .before .before .before .before .before .before .before .before .sum-squared .ensures
     ∙ ap (λ (x : List Float). sumSquared (sumOf (z .n) (z .m) (z .s) x)) (standing-rows-read (u .holds)) in
     let kept : Working (standingOn (a .st) (a .span) (a .mu) (a .radius))
-    (withTaken w b (filterWith (w .filter) (a .st .counts .iterations) f (a .theta))) (c .before .before .before .before
-    .before .before .before .with-taken .last .0) = record {
-      holds = c .before .before .before .before .before .before .before .with-taken .ensures w (u .holds) (t
-          .standing-rows) (t .landed-rows)
+    (withTaken w b (filterWith (w .filter) (a .st .counts .iterations) f (a .theta)))
+    (c .before .before .before .before .before .before .before .with-taken .last .0) = record {
+      holds = c .before .before .before .before .before .before .before .with-taken .ensures w (u .holds)
+          (t .standing-rows) (t .landed-rows)
           (t .curvature) (learned-tidy (a .st) w t e);
       tidy = taken-working (a .st) w t b f (a .theta) (learned-tidy (a .st) w t e);
     } in
     learned-known (a .st) w (a .theta) (a .span) (a .mu) (a .radius) e
-    (stands-on (a .st) w (a .theta) (a .span) (a .mu) (a .radius) b (c .before .before .before .before .standing-on
-    .ensures) sum
-    (measures (standingOn (a .st) (a .span) (a .mu) (a .radius)) kept (h .landed-is)) (c .before .before .iterate
-    .ensures))
+    (stands-on (a .st) w (a .theta) (a .span) (a .mu) (a .radius) b
+    (c .before .before .before .before .standing-on .ensures) sum
+    (measures (standingOn (a .st) (a .span) (a .mu) (a .radius)) kept (h .landed-is))
+    (c .before .before .iterate .ensures))
 
 pub take-with-spec : {M : Type 1} → statement M
 take-with-spec =

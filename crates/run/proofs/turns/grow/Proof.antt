@@ -54,8 +54,7 @@ finish-requires : tie.Need-finish-requires
 finish-requires c κs =
     let p = c .before .before .before .before .before .before .before .pre in (
       p .0,
-      limits-as (c .before .with-search2
-          .ensures) (limits-of (p .1)),
+      limits-as (c .before .with-search2 .ensures) (limits-of (p .1)),
     )
 
 same-length-2 : tie.Need-same-length-2
@@ -66,8 +65,9 @@ unfolding within
 returns-2 c w h =
     let s = c .before .before .before .before .before .before .before .before .before .before in
     let t = c .before .before .before .before .with-search2 .ensures in
-    grow-stops (searching (s .args .st) (within s)) w (sym (c .before .before .before .before .before .before .y2 .given
-    .1) ∙ c .before .before .before .before .before .before .before .before .damp .ensures) t
+    grow-stops (searching (s .args .st) (within s)) w
+    (sym (c .before .before .before .before .before .before .y2 .given .1) ∙ c .before .before .before .before .before
+    .before .before .before .damp .ensures) t
     (c .before .before .finish .ensures w (works-as t (h .uses)))
 
 pub grow-spec : {M : Type 1} → statement M

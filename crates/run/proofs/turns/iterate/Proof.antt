@@ -16,8 +16,8 @@ same-length c = search needs
 returns : tie.Need-returns
 unfolding iterate
 returns c w h =
-    when _ _ (le-leb _ _ (c .before .before .before .before .if1 .taken)) (c .before .before .finish .ensures w (h
-    .uses))
+    when _ _ (le-leb _ _ (c .before .before .before .before .if1 .taken))
+    (c .before .before .finish .ensures w (h .uses))
 
 search-requires : tie.Need-search-requires
 search-requires c κs = search needs

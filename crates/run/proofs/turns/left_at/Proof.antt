@@ -17,8 +17,7 @@ with-trial-requires c κs =
       p .0,
       (
         (
-          b
-              .few-variables,
+          b .few-variables,
           (b .few-constraints, b .few-sums),
         ),
         p .1 .1,
@@ -43,8 +42,8 @@ returns c w h =
     let next = movedOf (a .st .sizes .n) (w .standing) (a .delta .now) in
     rw (c .before .before .before .before .before .before .before .found .given .1)
     (rw (c .before .with-trial-of .ensures (a .delta .now) (a .lambda .now) next) at (c .ask .ensures (withTrial w next
-    (a .delta .now) (a .lambda .now)) _ (c .before .before .before .before .with-trial .ensures w (h .holds) (h .tidy
-    .landed-rows))))
+    (a .delta .now) (a .lambda .now)) _ (c .before .before .before .before .with-trial .ensures w (h .holds)
+    (h .tidy .landed-rows))))
 
 enum-known-found-2 : tie.Need-enum-known-found-2
 enum-known-found-2 c = search needs
@@ -56,8 +55,7 @@ finish-requires : tie.Need-finish-requires
 finish-requires c κs =
     let p = c .before .before .before .before .before .before .before .before .pre in (
       p .0,
-      limits-as (c .before
-          .with-search .ensures) (limits-of (p .1 .0)),
+      limits-as (c .before .with-search .ensures) (limits-of (p .1 .0)),
     )
 
 same-length-2 : tie.Need-same-length-2
@@ -66,9 +64,9 @@ same-length-2 c = search needs
 returns-2 : tie.Need-returns-2
 unfolding leftAt
 returns-2 c w h =
-    rw (c .before .before .before .before .before .before .found2 .given .1) (rw (c .before .before .before .before
-    .with-search .ensures) at (c .before .before .finish .ensures w (works-as (c .before .before .before .before
-    .with-search .ensures) h)))
+    rw (c .before .before .before .before .before .before .found2 .given .1)
+    (rw (c .before .before .before .before .with-search .ensures) at
+    (c .before .before .finish .ensures w (works-as (c .before .before .before .before .with-search .ensures) h)))
 
 enum-known-found-3 : tie.Need-enum-known-found-3
 enum-known-found-3 c = search needs
@@ -80,8 +78,7 @@ refuse-requires : tie.Need-refuse-requires
 refuse-requires c κs =
     let p = c .before .before .before .before .before .before .before .before .pre in (
       p .0,
-      limits-as (c .before
-          .with-search2 .ensures) (limits-of (p .1 .0)),
+      limits-as (c .before .with-search2 .ensures) (limits-of (p .1 .0)),
     )
 
 same-length-3 : tie.Need-same-length-3
@@ -90,9 +87,9 @@ same-length-3 c = search needs
 returns-3 : tie.Need-returns-3
 unfolding leftAt
 returns-3 c w h =
-    rw (c .before .before .before .before .before .before .found3 .given .1) (rw (c .before .before .before .before
-    .with-search2 .ensures) at (c .before .before .refuse .ensures w (works-as (c .before .before .before .before
-    .with-search2 .ensures) h)))
+    rw (c .before .before .before .before .before .before .found3 .given .1)
+    (rw (c .before .before .before .before .with-search2 .ensures) at
+    (c .before .before .refuse .ensures w (works-as (c .before .before .before .before .with-search2 .ensures) h)))
 
 pub left-at-spec : {M : Type 1} → statement M
 left-at-spec =

@@ -45,10 +45,10 @@ returns : tie.Need-returns
 returns c w h =
     let st = c .before .before .before .before .before .before .before .before .before .before .before .args .st in
     let t = c .before .before .before .before .with-search .ensures in
-    retries st w (sym (c .before .before .before .before .before .before .before .before .may-retry .ensures w (h .uses
-    .holds)) ∙ c .before .before .before .before .before .before .before .if1 .taken) refl refl
-    (again st (c .before .before .before .before .before .before .reject .ensures) t) (c .before .before .search
-    .ensures w (seeks-as t h))
+    retries st w (sym (c .before .before .before .before .before .before .before .before .may-retry .ensures w
+    (h .uses .holds)) ∙ c .before .before .before .before .before .before .before .if1 .taken) refl refl
+    (again st (c .before .before .before .before .before .before .reject .ensures) t)
+    (c .before .before .search .ensures w (seeks-as t h))
 
 turn-down-requires : tie.Need-turn-down-requires
 turn-down-requires c κs = search needs
@@ -58,8 +58,9 @@ same-length-2 c = search needs
 
 returns-2 : tie.Need-returns-2
 returns-2 c w h =
-    turns-down (c .before .before .before .before .before .before .before .before .args .st) w (sym (c .before .before
-    .before .before .before .may-retry .ensures w (h .uses .holds)) ∙ c .before .before .before .before .if1 .left)
+    turns-down (c .before .before .before .before .before .before .before .before .args .st) w
+    (sym (c .before .before .before .before .before .may-retry .ensures w (h .uses .holds)) ∙ c .before .before .before
+    .before .if1 .left)
     (c .before .before .turn-down .ensures w h)
 
 pub not-lower-spec : {M : Type 1} → statement M

@@ -32,8 +32,8 @@ same-length c = search needs
 returns : tie.Need-returns
 returns c w h =
     search-by (c .before .before .before .before .before .before .before .before .before .before .before .before .before
-    .args .st) w (c .before .before .before .before .before .before .before .before .seek-standing .ensures w h) (c
-    .before .before .left-at .ensures w (h .uses))
+    .args .st) w (c .before .before .before .before .before .before .before .before .seek-standing .ensures w h)
+    (c .before .before .left-at .ensures w (h .uses))
 
 pub search-spec : {M : Type 1} → statement M
 search-spec =

@@ -87,12 +87,14 @@ returns c w h =
     .before .before .before .before .before .before .before .before .args .st in
     let k = c .before .before .before .before .seek in
     let l = k .last .1 .1 .1 .1 .1 .1 .1 in
-    let b = bent-read (st .search .plain) (h .uses .holds) (c .before .before .before .before .before .before .before
-    .before .before .before .before .curvature-from .ensures) in
-    let v = sym (h .standing-is) ∙ ap resultOf (c .before .before .before .before .before .before .before .before
-    .before .before .before .before .before .before .standing .given .1) in
-    sought-by st (l .0) (l .1 .0) (k .result) (h .uses .holds) (c .before .before .before .before .before .before
-    .before .before .before .before .model .ensures) b v (k .ensures)
+    let b = bent-read (st .search .plain) (h .uses .holds)
+    (c .before .before .before .before .before .before .before .before .before .before .before .curvature-from .ensures)
+    in
+    let v = sym (h .standing-is) ∙ ap resultOf
+    (c .before .before .before .before .before .before .before .before .before .before .before .before .before .before
+    .standing .given .1) in
+    sought-by st (l .0) (l .1 .0) (k .result) (h .uses .holds)
+    (c .before .before .before .before .before .before .before .before .before .before .model .ensures) b v (k .ensures)
 
 enum-known-standing-2 : tie.Need-enum-known-standing-2
 enum-known-standing-2 c = search needs

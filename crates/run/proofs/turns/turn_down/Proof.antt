@@ -51,8 +51,7 @@ refuse-requires : tie.Need-refuse-requires
 refuse-requires c κs =
     let p = c .before .before .before .before .before .before .before .before .before .pre in (
       p .0,
-      limits-as (c
-          .before .with-search .ensures) (limits-of (p .1)),
+      limits-as (c .before .with-search .ensures) (limits-of (p .1)),
     )
 
 same-length-2 : tie.Need-same-length-2
@@ -62,9 +61,9 @@ returns-2 : tie.Need-returns-2
 returns-2 c w h =
     let a = c .before .before .before .before .before .before .before .before .before .before .before .before .args in
     let t = c .before .before .before .before .with-search .ensures in
-    turn-refused (a .st) w (a .why) (c .before .before .before .before .before .reject .ensures) (divided (c .before
-    .before .before .before .before .before .before .before .before) (c .before .before .before .before .before .before
-    .before .e .given .1)) t
+    turn-refused (a .st) w (a .why) (c .before .before .before .before .before .reject .ensures)
+    (divided (c .before .before .before .before .before .before .before .before .before)
+    (c .before .before .before .before .before .before .before .e .given .1)) t
     (c .before .before .refuse .ensures w (works-as t (h .uses)))
 
 pub turn-down-spec : {M : Type 1} → statement M
