@@ -2,6 +2,7 @@
 use Prim.Native.Nat.{ℕ}
 use mathlib.Core.List.{List, [], _∷_}
 use mathlib.Core.Path.{ap}
+use native.Mathlib.Omega.{arith}
 use lib.ListN.{getD}
 use borrow.Author.Needs.{needs}
 use Rattle.run.proofs.area.in_use.Statement.{statement}
@@ -17,10 +18,10 @@ enum-told : tie.Need-enum-told
 enum-told c = search needs
 
 array-read-t8 : tie.Need-array-read-t8
-array-read-t8 c = search needs
+array-read-t8 c = omega arith
 
 array-read-t11 : tie.Need-array-read-t11
-array-read-t11 c = search needs
+array-read-t11 c = omega arith
 
 returns : tie.Need-returns
 returns c =
@@ -32,25 +33,25 @@ enum-told-2 : tie.Need-enum-told-2
 enum-told-2 c = search needs
 
 array-read-t14 : tie.Need-array-read-t14
-array-read-t14 c = search needs
+array-read-t14 c = omega arith
 
 array-read-t17 : tie.Need-array-read-t17
-array-read-t17 c = search needs
+array-read-t17 c = omega arith
 
 array-read-t20 : tie.Need-array-read-t20
-array-read-t20 c = search needs
+array-read-t20 c = omega arith
 
 array-read-t23 : tie.Need-array-read-t23
-array-read-t23 c = search needs
+array-read-t23 c = omega arith
 
 array-read-t26 : tie.Need-array-read-t26
-array-read-t26 c = search needs
+array-read-t26 c = omega arith
 
 array-read-t29 : tie.Need-array-read-t29
-array-read-t29 c = search needs
+array-read-t29 c = omega arith
 
 array-read-t32 : tie.Need-array-read-t32
-array-read-t32 c = search needs
+array-read-t32 c = omega arith
 
 returns-2 : tie.Need-returns-2
 returns-2 c =
@@ -70,7 +71,7 @@ enum-told-4 : tie.Need-enum-told-4
 enum-told-4 c = search needs
 
 array-read-t35 : tie.Need-array-read-t35
-array-read-t35 c = search needs
+array-read-t35 c = omega arith
 
 returns-4 : tie.Need-returns-4
 returns-4 c =

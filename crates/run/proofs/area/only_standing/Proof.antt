@@ -6,7 +6,6 @@ use Rattle.linear.specs.Flat.{zeros}
 use Rattle.run.specs.Area.{SIZES, startOf, onlyStanding}
 use Rattle.run.proofs.AreaSlots.{slots-of, holds-of, wrote, length-clear, room}
 use Rattle.run.proofs.Remainders.{fits, used-as, cleared-first}
-use borrow.Author.Needs.{needs}
 use Rattle.run.proofs.area.only_standing.Statement.{statement}
 use Rattle.run.proofs.area.only_standing.Tie as tie
 
@@ -14,13 +13,22 @@ all-used-requires : tie.Need-all-used-requires
 all-used-requires c κs = c .before .pre .1
 
 clear-from-requires : tie.Need-clear-from-requires
-clear-from-requires c κs = search needs
+clear-from-requires c κs =
+    omega (
+      arith,
+      c .before .before .before .pre .0,
+    )
 
 clear-from-requires-2 : tie.Need-clear-from-requires-2
-clear-from-requires-2 c κs = search needs
+clear-from-requires-2 c κs =
+    omega (
+      arith,
+      c .before .before .before .clear-from .kept,
+      c .before .before .before .before .before .before .before .pre .0,
+    )
 
 array-read-clear-from : tie.Need-array-read-clear-from
-array-read-clear-from c = search needs
+array-read-clear-from c = omega arith
 
 clear-from-requires-3 : tie.Need-clear-from-requires-3
 clear-from-requires-3 c κs =
@@ -36,7 +44,7 @@ clear-from-requires-3 c κs =
     ))
 
 array-read-clear-from-2 : tie.Need-array-read-clear-from-2
-array-read-clear-from-2 c = search needs
+array-read-clear-from-2 c = omega arith
 
 clear-from-requires-4 : tie.Need-clear-from-requires-4
 clear-from-requires-4 c κs =
@@ -54,13 +62,30 @@ clear-from-requires-4 c κs =
     ))
 
 clear-from-requires-5 : tie.Need-clear-from-requires-5
-clear-from-requires-5 c κs = search needs
+clear-from-requires-5 c κs =
+    omega (
+      arith,
+      c .before .before .before .clear-from4 .kept,
+      c .before .before .before .before .before .before .before .clear-from3 .kept,
+      c .before .before .before .before .before .before .before .before .before .before .before .clear-from2 .kept,
+      c .before .before .before .before .before .before .before .before .before .before .before .before .before .before .before .clear-from .kept,
+      c .before .before .before .before .before .before .before .before .before .before .before .before .before .before .before .before .before .before .before .pre .0,
+    )
 
 clear-from-requires-6 : tie.Need-clear-from-requires-6
-clear-from-requires-6 c κs = search needs
+clear-from-requires-6 c κs =
+    omega (
+      arith,
+      c .before .before .before .clear-from5 .kept,
+      c .before .before .before .before .before .before .before .clear-from4 .kept,
+      c .before .before .before .before .before .before .before .before .before .before .before .clear-from3 .kept,
+      c .before .before .before .before .before .before .before .before .before .before .before .before .before .before .before .clear-from2 .kept,
+      c .before .before .before .before .before .before .before .before .before .before .before .before .before .before .before .before .before .before .before .clear-from .kept,
+      c .before .before .before .before .before .before .before .before .before .before .before .before .before .before .before .before .before .before .before .before .before .before .before .pre .0,
+    )
 
 array-read-clear-from-3 : tie.Need-array-read-clear-from-3
-array-read-clear-from-3 c = search needs
+array-read-clear-from-3 c = omega arith
 
 clear-from-requires-7 : tie.Need-clear-from-requires-7
 clear-from-requires-7 c κs =
@@ -85,7 +110,7 @@ clear-from-requires-7 c κs =
     ))
 
 array-read-clear-from-4 : tie.Need-array-read-clear-from-4
-array-read-clear-from-4 c = search needs
+array-read-clear-from-4 c = omega arith
 
 clear-from-requires-8 : tie.Need-clear-from-requires-8
 clear-from-requires-8 c κs =
@@ -114,7 +139,18 @@ clear-from-requires-8 c κs =
     ))
 
 same-length : tie.Need-same-length
-same-length c = search needs
+same-length c =
+    omega (
+      arith,
+      c .before .before .clear-from8 .kept,
+      c .before .before .before .before .before .before .clear-from7 .kept,
+      c .before .before .before .before .before .before .before .before .before .before .clear-from6 .kept,
+      c .before .before .before .before .before .before .before .before .before .before .before .before .before .before .clear-from5 .kept,
+      c .before .before .before .before .before .before .before .before .before .before .before .before .before .before .before .before .before .before .clear-from4 .kept,
+      c .before .before .before .before .before .before .before .before .before .before .before .before .before .before .before .before .before .before .before .before .before .before .clear-from3 .kept,
+      c .before .before .before .before .before .before .before .before .before .before .before .before .before .before .before .before .before .before .before .before .before .before .before .before .before .before .clear-from2 .kept,
+      c .before .before .before .before .before .before .before .before .before .before .before .before .before .before .before .before .before .before .before .before .before .before .before .before .before .before .before .before .before .before .clear-from .kept,
+    )
 
 returns : tie.Need-returns
 unfolding startOf
