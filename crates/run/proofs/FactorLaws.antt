@@ -8,7 +8,7 @@ use borrow.Author.Tests.{le-leb, eq-eqb}
 use lib.Ieee.{Float}
 use lib.ListN.{length, take}
 use lib.Seq.{length-take-le}
-use Rattle.interval.specs.Result.{Res, ok, refused}
+use Rattle.interval.specs.Result.{refused}
 use Rattle.linear.specs.Answers.{doneOf, numberOf}
 use Rattle.linear.specs.Calls.{blank, gramFactorReply, minusFactoredReply}
 use Rattle.linear.specs.Cholesky.{Factor, factorOf}
@@ -17,7 +17,7 @@ use Rattle.linear.specs.Dot.{dotTo}
 use Rattle.linear.specs.Flat.{at, along, zeros, listTo}
 use Rattle.linear.specs.Replies.{replied}
 use Rattle.linear.specs.Results.{bind}
-use Rattle.linear.specs.Solved.{gramFactorOf, minusFactoredOf, minusSolvedOf}
+use Rattle.linear.specs.Solved.{gramFactorOf, minusFactoredOf}
 use Rattle.linear.specs.declared.answers.Done.{Done}
 use Rattle.linear.specs.declared.answers.Done.the-variants as done
 use Rattle.linear.specs.declared.answers.LinearError.{LinearError}
@@ -26,7 +26,7 @@ use Rattle.linear.proofs.Replied.{done-is}
 use Rattle.linear.proofs.SolvedLaws.{solved-by-factor, solved-refused}
 use Rattle.run.specs.Curvature.{alongOf, updateCurvature}
 use Rattle.run.specs.Factored.{Factored}
-use Rattle.run.specs.Rows.{Evaluation, constraintSet, constraintsOf, evaluationOf}
+use Rattle.run.specs.Rows.{constraintSet, constraintsOf, evaluationOf}
 use Rattle.run.specs.Scratch.{fillTo, chosenOf}
 use Rattle.run.specs.declared.rows.RowSet.{RowSet}
 use Rattle.run.proofs.CurvatureLaws.{along-lists}

@@ -12,7 +12,7 @@ use lib.Ieee.{Float, nan, inf, fin, binary64, mul, round, unlike, up, down, eq, 
 use lib.Ieee.Bits.{ofBits-toBits}
 use lib.ListN.{length, length-replicate}
 use Rattle.interval.specs.declared.Scalar.{Scalar}
-use Rattle.interval.specs.Scalar.{zero64, zeroS, pick, spread, addOf, mulOf, couldBeEqual, sharpen}
+use Rattle.interval.specs.Scalar.{zeroS, pick, spread, addOf, mulOf, couldBeEqual, sharpen}
 use Rattle.linear.specs.Choose.{chooseOf}
 use Rattle.linear.specs.Dot.{plusTo}
 use Rattle.linear.specs.Flat.{inside, at, along, put, zeros}
