@@ -22,5 +22,6 @@ pub mod SquareLaws
 pub mod RootLaws
 pub mod NormSquares
 pub mod NormLaws
+pub mod LargestEnds
 pub mod NormSizes
 pub mod NormLow

@@ -14,16 +14,20 @@ use crate::dots::dot_of;
 use crate::flat::at;
 use interval::Scalar;
 use interval::ScalarResult;
+use interval::greater_of;
 
-// The greatest size among the first n.
+// The greatest size among the first n, by two upper bounds: both ends are worked out at once, whatever their signs.
 fn largest(v: &[f64], n: usize) -> Scalar
     ensures { λ r. ⌜ r ≡ largestTo (at (now (v .entry))) n ⌝ }
 {
-    let mut m = Scalar::ZERO;
+    let mut below = 0.0;
+    let mut above = 0.0;
     for i in 0..n {
-        m = m.max(at(v, i).abs().upper());
+        let x = at(v, i);
+        below = greater_of(below, -x.lo);
+        above = greater_of(above, x.hi);
     }
-    m
+    Scalar::degenerate(greater_of(below, above))
 }
 
 // The least float above 0.
