@@ -5,7 +5,7 @@ use native.Mathlib.Omega.{arith}
 use Rattle.interval.specs.Result.{Res, ok, refused}
 use Rattle.linear.specs.Answers.{doneOf, numberOf}
 use Rattle.linear.specs.Results.{bind}
-use Rattle.linear.specs.Replies.{replied, replyOf}
+use Rattle.linear.specs.Replies.{Reply, replied, replyOf, beside}
 use Rattle.linear.specs.declared.answers.Done.{Done}
 use Rattle.linear.specs.declared.answers.Done.the-variants as d
 
@@ -20,3 +20,14 @@ pub done-then : {A B : Type 0} (r : Done) (f : A → B) (x : A) {s : Res A} → 
 unfolding bind
 done-then d.Finished f x e = rw (← e)
 done-then (d.Refused k) f x e = rw (← e)
+
+-- ---- beside something else that is lent
+module _ {A B : Type 0} (z : A) (clear : B) {x : B} (r : Done) where
+  pub replied-beside : (s : Res B) → replied r x ≡ replyOf clear s → replied r (z, x) ≡ replyOf (z, clear) (beside z s)
+  replied-beside (ok y) e = ap (λ (p : Reply B). record { ended = p .ended; out = (z, p .out) }) e
+  replied-beside (refused k) e = ap (λ (p : Reply B). record { ended = p .ended; out = (z, p .out) }) e
+
+  pub replied-apart : {w : A} (s : Res B) → replied r (w, x) ≡ replyOf (z, clear) (beside z s)
+      → replied r x ≡ replyOf clear s
+  replied-apart (ok y) e = ap (λ (p : Reply (A × B)). record { ended = p .ended; out = p .out .1 }) e
+  replied-apart (refused k) e = ap (λ (p : Reply (A × B)). record { ended = p .ended; out = p .out .1 }) e

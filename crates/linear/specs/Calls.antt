@@ -15,7 +15,7 @@ use Rattle.linear.specs.Cholesky.{Factor, choleskyOf}
 use Rattle.linear.specs.Substitution.{solveOf}
 use Rattle.linear.specs.Householder.{leastSquaresOf}
 use Rattle.linear.specs.Solved.{minusSolvedOf, gramFactorOf, minusFactoredOf}
-use Rattle.linear.specs.Replies.{Reply, replyOf, checked, checkedValue}
+use Rattle.linear.specs.Replies.{Reply, replyOf, beside, checked, checkedValue}
 
 -- the greatest count of rows or columns
 abbrev pub limit : ℕ
@@ -58,15 +58,17 @@ minusSolvedReply m n jc rhs from out =
     (checked (eqb (length rhs) (2 * m)) 2 out
     (checked (eqb (length from) (2 * n)) 2 out (checked (eqb (length out) (2 * n)) 2 out (replyOf (zeros (2 * n)) (minusSolvedOf m n jc rhs from)))))))
 
--- g is scratch
-unfoldable pub gramFactorReply : ℕ → ℕ → List Float → List Float → Factor → Reply Factor
+-- g is scratch: it is clear afterwards, beside the factor
+unfoldable pub gramFactorReply : ℕ → ℕ → List Float → List Float → Factor → Reply (List Float × Factor)
 gramFactorReply m n jc g f =
-    checked (leb m limit) 1 f
-    (checked (leb n limit) 1 f
-    (checked (eqb (length jc) (2 * (m * n))) 2 f
-    (checked (eqb (length g) (2 * (m * m))) 2 f
-    (checked (eqb (length (f .l)) (2 * (m * m))) 2 f
-    (checked (eqb (length (f .left-out)) m) 2 f (replyOf (blank m) (gramFactorOf m n jc)))))))
+    let lent : List Float × Factor = (g, f) in
+    let clear = zeros (2 * (m * m)) in
+    checked (leb m limit) 1 lent
+    (checked (leb n limit) 1 lent
+    (checked (eqb (length jc) (2 * (m * n))) 2 lent
+    (checked (eqb (length g) (2 * (m * m))) 2 lent
+    (checked (eqb (length (f .l)) (2 * (m * m))) 2 lent
+    (checked (eqb (length (f .left-out)) m) 2 lent (replyOf (clear, blank m) (beside clear (gramFactorOf m n jc))))))))
 
 unfoldable pub minusFactoredReply : ℕ → ℕ → List Float → Factor → List Float → List Float → List Float
     → Reply (List Float)

@@ -21,6 +21,11 @@ forget (refused k) = refused k
 abbrev pub replyOf : {A : Type 0} → A → Res A → Reply A
 replyOf clear r = record { ended = forget r; out = kept clear r }
 
+-- the result beside something else that is lent
+abbrev pub beside : {A B : Type 0} → A → Res B → Res (A × B)
+beside z (ok x) = ok (z, x)
+beside z (refused k) = refused k
+
 -- the check b, of the number k: where it fails the output stays as it was
 abbrev pub checked : {A : Type 0} → Bool → ℕ → A → Reply A → Reply A
 checked true k x r = r

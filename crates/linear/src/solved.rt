@@ -6,7 +6,8 @@ ghost use Rattle.linear.specs.Calls.{blank, minusSolvedReply, gramFactor
 ghost use Rattle.linear.specs.Cholesky.{factorOf};
 ghost use Rattle.linear.specs.Flat.{zeros, put};
 ghost use Rattle.linear.specs.Replies.{replied, replyOf};
-ghost use Rattle.linear.specs.Solved.{gramAt, LowerRows, minusAt, minusOf, minusSolvedOf, gramFactorOf, minusFactoredOf};
+ghost use Rattle.linear.specs.Solved.{gramAt, LowerRows, minusAt, minusOf, minusSolvedOf, gramFactorOf};
+ghost use Rattle.linear.specs.Solved.{minusFactoredOf};
 use crate::answers::Done;
 use crate::answers::LinearError;
 use crate::choices::choose;
@@ -307,7 +308,8 @@ pub fn minus_solved(
     solved_sized(m, n, jc, rhs, from, out)
 }
 
-// L with L Lᵀ = J Jᵀ, for several right-hand sides by minus_factored; J has m rows of n, and g is scratch.
+// L with L Lᵀ = J Jᵀ, for several right-hand sides by minus_factored; J has m rows of n, and g is scratch, clear
+// afterwards.
 pub fn gram_factor(
     m: usize,
     n: usize,
@@ -316,7 +318,7 @@ pub fn gram_factor(
     l: &mut [f64],
     left_out: &mut [bool],
 ) -> Done
-    ensures { λ r. ⌜ replied r (factorOf (now (l .exit)) (now («left_out» .exit)))
+    ensures { λ r. ⌜ replied r (now (g .exit), factorOf (now (l .exit)) (now («left_out» .exit)))
         ≡ gramFactorReply m n (now (jc .entry)) (now (g .entry))
         (factorOf (now (l .entry)) (now («left_out» .entry))) ⌝ }
 {
@@ -338,7 +340,9 @@ pub fn gram_factor(
     if left_out.len() != m {
         return Done::Refused(LinearError::WrongLength);
     }
-    gram_factor_sized(m, n, jc, g, l, left_out)
+    let d = gram_factor_sized(m, n, jc, g, l, left_out);
+    clear(g);
+    d
 }
 
 // minus_solved by the factor of gram_factor.

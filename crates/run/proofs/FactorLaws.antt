@@ -22,7 +22,7 @@ use Rattle.linear.specs.declared.answers.Done.{Done}
 use Rattle.linear.specs.declared.answers.Done.the-variants as done
 use Rattle.linear.specs.declared.answers.LinearError.{LinearError}
 use Rattle.linear.proofs.Lists.{length-listTo}
-use Rattle.linear.proofs.Replied.{done-is}
+use Rattle.linear.proofs.Replied.{done-is, replied-apart}
 use Rattle.linear.proofs.SolvedLaws.{solved-by-factor, solved-refused}
 use Rattle.run.specs.Curvature.{alongOf, updateCurvature}
 use Rattle.run.specs.Factored.{Factored}
@@ -34,13 +34,13 @@ use Rattle.run.proofs.ScratchLaws.{fill-whole}
 
 -- the calls, with counts up to 24 and slices of the right lengths
 module _ (r : Done) (m n : ℕ) (hm : m ≤ 24) (hn : n ≤ 24) (jc : List Float) (lj : length jc ≡ 2 * (m * n)) where
-  factor-result : (g : List Float) (f x : Factor) →
+  factor-result : (g : List Float) (f x : Factor) {g′ : List Float} →
       length g ≡ 2 * (m * m) → length (f .l) ≡ 2 * (m * m) → length (f .left-out) ≡ m →
-      replied r x ≡ gramFactorReply m n jc g f → doneOf r x ≡ gramFactorOf m n jc
+      replied r (g′, x) ≡ gramFactorReply m n jc g f → doneOf r x ≡ gramFactorOf m n jc
   unfolding gramFactorReply
   factor-result g f x p q s e =
-      done-is r x (blank m) _ (rw
-      (le-leb _ _ hm, le-leb _ _ hn, eq-eqb _ _ lj, eq-eqb _ _ p, eq-eqb _ _ q, eq-eqb _ _ s) at e)
+      done-is r x (blank m) _ (replied-apart (zeros (2 * (m * m))) (blank m) r (gramFactorOf m n jc) (rw
+      (le-leb _ _ hm, le-leb _ _ hn, eq-eqb _ _ lj, eq-eqb _ _ p, eq-eqb _ _ q, eq-eqb _ _ s) at e))
 
   minus-result : (f : Factor) (rhs from y x : List Float) →
       length (f .l) ≡ 2 * (m * m) → length (f .left-out) ≡ m → length rhs ≡ 2 * m → length from ≡ 2 * n →
@@ -49,7 +49,16 @@ module _ (r : Done) (m n : ℕ) (hm : m ≤ 24) (hn : n ≤ 24) (jc : List Float
   unfolding minusFactoredReply
   minus-result f rhs from y x p q s t u e =
       done-is r x (zeros (2 * n)) _
-      (rw (le-leb _ _ hm, le-leb _ _ hn, eq-eqb _ _ lj, eq-eqb _ _ p, eq-eqb _ _ q, eq-eqb _ _ s, eq-eqb _ _ t, eq-eqb _ _ u) at e)
+      (rw (
+        le-leb _ _ hm,
+        le-leb _ _ hn,
+        eq-eqb _ _ lj,
+        eq-eqb _ _ p,
+        eq-eqb _ _ q,
+        eq-eqb _ _ s,
+        eq-eqb _ _ t,
+        eq-eqb _ _ u,
+      ) at e)
 
 module _ (n m : ℕ) (xs : List Float) (hn : n ≤ 12) (hm : m ≤ 12) where
   -- a part along the constraints by the factor; rhs′ is the front of the array that was written
@@ -70,11 +79,11 @@ module _ (n m : ℕ) (xs : List Float) (hn : n ≤ 12) (hm : m ≤ 12) where
       ∙ along-lists n m xs v jc rhs out hn hm hv (F .slopes) wr
 
   -- jc′ and jc″ are the front of the array that was written, l′ and left′ those of the factor's
-  module _ (g : List Float) (f₀ f : Factor) (jc₀ : List Float) (r : Done) {jc jc′ : List Float} {set : RowSet}
+  module _ (g : List Float) (f₀ f : Factor) (jc₀ : List Float) (r : Done) {g′ jc jc′ : List Float} {set : RowSet}
       (lj : length jc₀ ≡ 2 * (m * n)) (lg : length g ≡ 2 * (m * m))
       (ll : length (f₀ .l) ≡ 2 * (m * m)) (lf : length (f₀ .left-out) ≡ m)
       (es : set ≡ constraintSet n m) (ej : jc ≡ chosenOf jc₀ xs (set .slopes) (set .count * set .n))
-      (fj : jc′ ≡ jc) (e : replied r f ≡ gramFactorReply m n jc′ g f₀) where
+      (fj : jc′ ≡ jc) (e : replied r (g′, f) ≡ gramFactorReply m n jc′ g f₀) where
     written : jc ≡ listTo (λ p. chooseOf (at xs (m + p))) (m * n)
     written = rw es at ej ∙ fill-whole jc₀ _ (m * n) lj
 

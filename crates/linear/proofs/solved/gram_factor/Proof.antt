@@ -2,8 +2,13 @@
 use native.Mathlib.Omega.{arith}
 use borrow.Author.Needs.{needs}
 use borrow.Author.Tests.{le-leb, lt-leb, eq-eqb, ne-eqb}
-use Rattle.linear.specs.Calls.{gramFactorReply}
+use Prim.Native.Nat.{_*_}
+use mathlib.Core.Path.{_≡_}
+use lib.ListN.{length}
+use Rattle.linear.specs.Calls.{blank, gramFactorReply}
+use Rattle.linear.specs.Solved.{gramFactorOf}
 use Rattle.linear.proofs.Cells.{product-small}
+use Rattle.linear.proofs.Replied.{replied-beside}
 use Rattle.linear.proofs.solved.gram_factor.Statement.{statement}
 use Rattle.linear.proofs.solved.gram_factor.Tie as tie
 
@@ -78,6 +83,9 @@ returns-6 c =
 gram-factor-sized-requires : tie.Need-gram-factor-sized-requires
 gram-factor-sized-requires c κs = search needs
 
+clear-requires : tie.Need-clear-requires
+clear-requires c κs = search needs
+
 same-length : tie.Need-same-length
 same-length c = search needs
 
@@ -90,7 +98,12 @@ same-length-3 c = search needs
 returns-7 : tie.Need-returns-7
 unfolding gramFactorReply
 returns-7 c =
-    let k = c .before .before .before .before .before .before .before .before .before .before in
+    let f = c .before .before .before .before .before .before .before .before .before .before in
+    let k = f .before .before .before .before in
+    let a = k .before .before .before .before .before .before .before .before .before .before .args in
+    let m = a .m in
+    let size : length (f .gram-factor-sized .last .1 .1 .1 .0) ≡ 2 * (m * m) =
+    omega (arith, f .gram-factor-sized .kept, k .before .before .if4 .left) in
     rw (
       le-leb _ _ (k .before .before .before .before .before .if1 .left),
       le-leb _ _ (k .before .before .before .before .if2 .left),
@@ -98,7 +111,9 @@ returns-7 c =
       eq-eqb _ _ (k .before .before .if4 .left),
       eq-eqb _ _ (k .before .if5 .left),
       eq-eqb _ _ (k .if6 .left),
-    ) (c .before .before .before .before .before .before .gram-factor-sized .ensures)
+      rw size at (c .before .before .clear .ensures),
+    ) (replied-beside _ (blank m) (f .gram-factor-sized .result) (gramFactorOf m (a .n) (a .jc .now))
+    (f .gram-factor-sized .ensures))
 
 pub gram-factor-spec : {M : Type 1} → statement M
 gram-factor-spec =
@@ -117,6 +132,7 @@ gram-factor-spec =
     returns-5
     returns-6
     gram-factor-sized-requires
+    clear-requires
     same-length
     same-length-2
     same-length-3
