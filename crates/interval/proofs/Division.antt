@@ -1,4 +1,5 @@
--- A quotient is the product with the divisor's inverse, and is refused where that is: so one inverse serves many quotients.
+-- A quotient is the product with the divisor's inverse, and is refused where that is: so one inverse serves many
+-- quotients.
 use mathlib.Core.Path.{_≡_, refl, sym}
 use mathlib.Core.Bool.{Bool, true, false}
 use Prim.Native.Nat.{ℕ}
@@ -23,6 +24,7 @@ pub div-refused : (x y : Scalar) (n : ℕ) → inverseOf y ≡ refused n → div
 unfolding divOf inverseOf
 div-refused x y n e = by-test (holdsZero y) e
   where
-    by-test : (b : Bool) → pick b (refused 6) (ok (inverse y)) ≡ refused n → pick b (refused 6) (ok (mulOf x (inverse y))) ≡ refused n
+    by-test : (b : Bool) → pick b (refused 6) (ok (inverse y)) ≡ refused n
+        → pick b (refused 6) (ok (mulOf x (inverse y))) ≡ refused n
     by-test true e = cc
     by-test false e = absurd (refused-ok (sym e))

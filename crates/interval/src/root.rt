@@ -71,9 +71,9 @@ fn pattern_of(c: u64) -> u64
     c + 4602678819172646912
 }
 
-// About the root of c: a quadratic start y0 and two steps of Heron's rule, doubled and then doubled again, which needs no
-// halving. The sum rounds to the nearest whole number: with a half taken off it is rarely above the root, so the branches
-// of the loops that correct it are predicted.
+// About the root of c: a quadratic start y0 and two steps of Heron's rule, doubled and then doubled again, which needs
+// no halving. The sum rounds to the nearest whole number: with a half taken off it is rarely above the root, so the
+// branches of the loops that correct it are predicted.
 fn estimate(c: u64) -> u64
     requires { ⌜ (2 ^ 52 ≤ c) × (c < 2 ^ 54) ⌝ }
     ensures { λ q. ⌜ q < 2 ^ 28 ⌝ }

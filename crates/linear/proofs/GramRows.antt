@@ -1,4 +1,5 @@
--- Rows of a matrix that are filled column by column: the rows above are in place, and those that are being filled up to a column.
+-- Rows of a matrix that are filled column by column: the rows above are in place, and those that are being filled up
+-- to a column.
 use Prim.Native.Nat.{ℕ, _+_, _*_, _≤_, _<_}
 use mathlib.Core.Logic.{⊎-elim}
 use mathlib.Core.Path.{_≡_, refl, _∙_}

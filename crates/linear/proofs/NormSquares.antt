@@ -1,4 +1,5 @@
--- Squares over g are squares times its inverse: one for all, and refused where that is. A positive size is of a list that is not empty.
+-- Squares over g are squares times its inverse: one for all, and refused where that is. A positive size is of a list
+-- that is not empty.
 use mathlib.Core.Path.{_≡_, refl}
 use mathlib.Core.Bool.{true, false≢true}
 use Prim.Native.Nat.{ℕ, zero, suc, _<_}

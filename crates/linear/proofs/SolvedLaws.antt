@@ -14,7 +14,8 @@ use Rattle.linear.specs.Dot.{minusTo}
 use Rattle.linear.specs.Flat.{at, put, along, zeros}
 use Rattle.linear.specs.Replies.{replied, replyOf}
 use Rattle.linear.specs.Results.{bind}
-use Rattle.linear.specs.Solved.{gramOf, gramAt, LowerRows, multipliersOf, minusAt, minusOf, minusSolvedOf, gramFactorOf, minusFactoredOf}
+use Rattle.linear.specs.Solved.{gramOf, gramAt, LowerRows, multipliersOf, minusAt, minusOf, minusSolvedOf}
+use Rattle.linear.specs.Solved.{gramFactorOf, minusFactoredOf}
 use Rattle.linear.specs.Substitution.{solveOf}
 use Rattle.linear.specs.declared.answers.Done.{Done}
 use Rattle.linear.proofs.Folds.{bind-ok, bind-refused}
@@ -29,11 +30,13 @@ one-after-the-other (ok a) f g = refl
 one-after-the-other (refused k) f g = refl
 
 module _ (m n : ℕ) (jc rhs from : List Float) where
-  pub solved-in-two : minusSolvedOf m n jc rhs from ≡ bind (gramFactorOf m n jc) (λ f. minusFactoredOf m n jc f rhs from)
+  pub solved-in-two : minusSolvedOf m n jc rhs from
+      ≡ bind (gramFactorOf m n jc) (λ f. minusFactoredOf m n jc f rhs from)
   unfolding minusSolvedOf multipliersOf gramFactorOf minusFactoredOf
   solved-in-two = one-after-the-other (choleskyOf m (gramOf m n jc)) _ _
 
-  pub solved-by-factor : (f : Factor) → gramFactorOf m n jc ≡ ok f → minusSolvedOf m n jc rhs from ≡ minusFactoredOf m n jc f rhs from
+  pub solved-by-factor : (f : Factor) → gramFactorOf m n jc ≡ ok f
+      → minusSolvedOf m n jc rhs from ≡ minusFactoredOf m n jc f rhs from
   solved-by-factor f e = solved-in-two ∙ bind-ok _ e
 
   pub solved-refused : (k : ℕ) → gramFactorOf m n jc ≡ refused k → minusSolvedOf m n jc rhs from ≡ refused k
@@ -46,21 +49,24 @@ module _ (m n : ℕ) (jc : List Float) where
   unfolding gramFactorOf
   gram-factor g r f e h = h ∙ ap (λ x. replyOf (blank m) x) (cholesky-gram m n jc g e)
 
-  pub factor-done : (r : Done) (f : Factor) → replied r f ≡ replyOf (blank m) (gramFactorOf m n jc) → gramFactorOf m n jc ≡ doneOf r f
+  pub factor-done : (r : Done) (f : Factor) → replied r f ≡ replyOf (blank m) (gramFactorOf m n jc)
+      → gramFactorOf m n jc ≡ doneOf r f
   factor-done r f h = sym (done-is r f (blank m) (gramFactorOf m n jc) h)
 
-  pub minus-factored : (l : List Float) (left : List Bool) (rhs from k : List Float) (r : Done) → replied r k ≡ replyOf (zeros (2 * m)) (solveOf m l left rhs)
+  pub minus-factored : (l : List Float) (left : List Bool) (rhs from k : List Float) (r : Done)
+      → replied r k ≡ replyOf (zeros (2 * m)) (solveOf m l left rhs)
       → doneOf r (minusOf m n jc from k) ≡ minusFactoredOf m n jc (factorOf l left) rhs from
   unfolding minusFactoredOf
-  minus-factored l left rhs from k r h = done-then r (minusOf m n jc from) k (done-is r k (zeros (2 * m)) (solveOf m l left rhs) h)
+  minus-factored l left rhs from k r h =
+      done-then r (minusOf m n jc from) k (done-is r k (zeros (2 * m)) (solveOf m l left rhs) h)
 
 -- ---- the values
 module _ (m n : ℕ) (jc from k : List Float) where
-  pub value-at : (i : ℕ) {x d z : Scalar} → x ≡ chooseOf d → d ≡ minusTo (along jc i n) (along k 0 1) z m → z ≡ at from i
-      → x ≡ minusAt m n jc from k i
+  pub value-at : (i : ℕ) {x d z : Scalar} → x ≡ chooseOf d → d ≡ minusTo (along jc i n) (along k 0 1) z m
+      → z ≡ at from i → x ≡ minusAt m n jc from k i
   value-at i ex ed ez =
       ex ∙ ap chooseOf (ed ∙ ap (λ (z : Scalar). minusTo (along jc i n) (along k 0 1) z m) ez ∙ rw along-start)
 
-pub two-stored : (o : List Float) {p q : List Float} {v w x y : Scalar} (i : ℕ) → p ≡ put o i v → q ≡ put p (i + 1) w → v ≡ x → w ≡ y
-    → q ≡ put (put o i x) (i + 1) y
+pub two-stored : (o : List Float) {p q : List Float} {v w x y : Scalar} (i : ℕ) → p ≡ put o i v → q ≡ put p (i + 1) w
+    → v ≡ x → w ≡ y → q ≡ put (put o i x) (i + 1) y
 two-stored o i ep eq ev ew = rw (← ev, ← ew, ← ep) eq

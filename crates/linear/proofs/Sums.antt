@@ -33,7 +33,8 @@ minusTo-negated f g z (suc k) =
 
 pub negated-back : (f g : ℕ → Scalar) (z : Scalar) (k : ℕ) {n s r : Scalar}
     → n ≡ negOf z → s ≡ plusTo f g n k → r ≡ negOf s → r ≡ minusTo f g z k
-negated-back f g z k en es er = er ∙ ap negOf (es ∙ ap (λ (n : Scalar). plusTo f g n k) en) ∙ sym (minusTo-negated f g z k)
+negated-back f g z k en es er =
+    er ∙ ap negOf (es ∙ ap (λ (n : Scalar). plusTo f g n k) en) ∙ sym (minusTo-negated f g z k)
 
 pub holds : (b : Bool) → not b ≡ false → b ≡ true
 holds true h = refl

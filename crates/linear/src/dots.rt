@@ -1,6 +1,6 @@
-// Sums of products. A sum whose places are all inside its slices is worked out with no test of a place, by the two upper
-// bounds of an interval, and with one product for each term as long as both factors are points; the tests before it and
-// the walk that is cut off at the slice's end give the same for every start, base, step and count.
+// Sums of products. A sum whose places are all inside its slices is worked out with no test of a place, by the two
+// upper bounds of an interval, and with one product for each term as long as both factors are points; the tests before
+// it and the walk that is cut off at the slice's end give the same for every start, base, step and count.
 //
 // A slice that is handed on to a function which the compiler calls is made anew, `&a[..la]`: handed on as it came it is
 // copied at the entry, ahead of every test, from where the caller has only just stored its two halves, and the machine
@@ -228,8 +228,8 @@ fn row_inside(a: &[f64], a0: usize, b: &[f64], b0: usize, k: usize) -> Scalar
     scalar_of(sum)
 }
 
-// k products of a row of a, from a0 on, and one of b: plus_dot from zero by steps of 1, with a loop of its own, since most
-// sums are such.
+// k products of a row of a, from a0 on, and one of b: plus_dot from zero by steps of 1, with a loop of its own, since
+// most sums are such.
 pub fn row_dot(a: &[f64], a0: usize, b: &[f64], b0: usize, k: usize) -> Scalar
     ensures { λ r. ⌜ r ≡ dotTo (along (now (a .entry)) a0 1) (along (now (b .entry)) b0 1) k ⌝ }
 {
@@ -278,8 +278,10 @@ fn two_points_inside(
     requires { ⌜ Inside a0 sa k (length (now a)) × Inside a1 sa k (length (now a)) × Inside b0 1 k (length (now b))
         × T (isProper y) × T (isProper z) ⌝ }
     ensures { λ r. ⌜ (r .done ≤ k)
-        × Bounding (plusTo (along (now (a .entry)) a0 sa) (along (now (b .entry)) b0 1) (scalarOf y) (r .done)) (r .first)
-        × Bounding (plusTo (along (now (a .entry)) a1 sa) (along (now (b .entry)) b0 1) (scalarOf z) (r .done)) (r .second) ⌝ }
+        × Bounding (plusTo (along (now (a .entry)) a0 sa) (along (now (b .entry)) b0 1) (scalarOf y) (r .done))
+        (r .first)
+        × Bounding (plusTo (along (now (a .entry)) a1 sa) (along (now (b .entry)) b0 1) (scalarOf z) (r .done))
+        (r .second) ⌝ }
 {
     let mut first = y;
     let mut second = z;
@@ -304,8 +306,8 @@ fn two_points_inside(
     }
 }
 
-// y and z, and k products of two runs of a with a row of b, where every place is inside: the factors of the row are read
-// once, and neither sum waits for the other.
+// y and z, and k products of two runs of a with a row of b, where every place is inside: the factors of the row are
+// read once, and neither sum waits for the other.
 fn two_inside(
     a: &[f64],
     a0: usize,

@@ -4,8 +4,8 @@
 //
 // Public functions are total: they answer 1 where a count is above 24, then 2 where a slice has the wrong length, with
 // nothing written, and 5 or 6 in the Rust's order of operations, with the output slice all +0. Inputs are never
-// written. `at`, `along`, the sums of products and `minus_scaled` read NaN outside a slice, and `put` and `minus_scaled`
-// change nothing there.
+// written. `at`, `along`, the sums of products and `minus_scaled` read NaN outside a slice, and `put` and
+// `minus_scaled` change nothing there.
 mod answers;
 mod bounds;
 mod choices;

@@ -103,7 +103,8 @@ fn scaled_cut(v: &mut [f64], v0: usize, a: Scalar, w: &[f64], w0: usize, k: usiz
 // minus_scaled by the ends of a: a caller has just worked them out, and to read them from memory as a pair waits until
 // both are stored.
 fn scaled_by(v: &mut [f64], v0: usize, lo: f64, hi: f64, w: &[f64], w0: usize, k: usize)
-    ensures { λ _. ⌜ now (v .exit) ≡ minusScaled (now (v .entry)) v0 (record { lo = lo; hi = hi }) (now (w .entry)) w0 k ⌝ }
+    ensures { λ _. ⌜ now (v .exit)
+        ≡ minusScaled (now (v .entry)) v0 (record { lo = lo; hi = hi }) (now (w .entry)) w0 k ⌝ }
 {
     let a = Scalar { lo, hi };
     if both_inside(v0, 1, v.len(), w0, 1, w.len(), k) {

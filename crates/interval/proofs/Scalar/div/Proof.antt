@@ -1,4 +1,5 @@
--- `div` meets its contract: the divisor's inverse decides the refusal, and else the product with it encloses the quotient.
+-- `div` meets its contract: the divisor's inverse decides the refusal, and else the product with it encloses the
+-- quotient.
 use mathlib.Core.Path.{sym, _∙_, ap, subst}
 use Prim.Native.Nat.{_^_}
 use borrow.Author.Needs.{needs}
