@@ -43,7 +43,8 @@ use Rattle.run.proofs.ScratchLaws.{filled, fill-ext, fill-whole, prefix
 use Rattle.run.proofs.LinearCalls.{minus-solved-result}
 
 module _ (n m : ℕ) (xs v jc rhs out : List Float) (hn : n ≤ 12) (hm : m ≤ 12) (hv : 2 * n ≤ length v) where
-  pub along-lists : jc ≡ listTo (λ p. chooseOf (at xs (constraintsOf n m xs .slopes + p))) (m * n) → rhs ≡ listTo (λ i. dotTo (along jc (i * n) 1) (at v) n) m
+  pub along-lists : jc ≡ listTo (λ p. chooseOf (at xs (constraintsOf n m xs .slopes + p))) (m * n) → rhs ≡ listTo
+      (λ i. dotTo (along jc (i * n) 1) (at v) n) m
       → minusSolvedOf m n jc rhs (take (2 * n) v) ≡ alongOf (constraintsOf n m xs) v
   unfolding alongOf
   along-lists ej er = rw (prefix-list v n hv, er, ej)

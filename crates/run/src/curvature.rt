@@ -294,7 +294,8 @@ pub fn update_curvature(
     lambda: &[f64],
 ) -> Done
     requires { ⌜ (n ≤ 12) × ((m ≤ 12) × ((s ≤ 24) × (length (now step) ≡ 24))) ⌝ }
-    ensures { λ r. ⌜ doneOf r (now (b .exit)) ≡ updateCurvature n (now (b .entry)) (now (step .entry)) (evaluationOf n m s (now (xs .entry))) (evaluationOf n m s (now (next .entry))) (now (lambda .entry)) ⌝ }
+    ensures { λ r. ⌜ doneOf r (now (b .exit)) ≡ updateCurvature n (now (b .entry)) (now (step .entry))
+        (evaluationOf n m s (now (xs .entry))) (evaluationOf n m s (now (next .entry))) (now (lambda .entry)) ⌝ }
 {
     let q = 2 * (m * n);
     let e = 2 * (m * m);

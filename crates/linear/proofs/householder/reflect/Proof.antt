@@ -31,7 +31,9 @@ returns : tie.Need-returns
 unfolding ofBits
 returns c =
     let q = rw (c .before .before .before .before .before .q .given .1) at (c .before .before .before .before .before .before .before .div .ensures .value) in
-    reflect-ok _ _ _ _ _ (rw along-start at (c .before .before .before .before .before .before .before .before .before .row-dot .ensures)) (c .before .before .before .before .before .before .before .before .mul .ensures .value) q (c .before .before .minus-scaled .ensures)
+    reflect-ok _ _ _ _ _ (rw along-start at (c .before .before .before .before .before .before .before .before .before
+    .row-dot .ensures)) (c .before .before .before .before .before .before .before .before .mul .ensures .value) q (c
+    .before .before .minus-scaled .ensures)
 
 same-length-2 : tie.Need-same-length-2
 same-length-2 c = search needs
@@ -40,7 +42,8 @@ returns-2 : tie.Need-returns-2
 unfolding ofBits
 returns-2 c =
     let q = rw (c .before .q2 .given .1) at (c .before .before .before .div .ensures .value) in
-    reflect-refused _ _ _ _ _ (rw along-start at (c .before .before .before .before .before .row-dot .ensures)) (c .before .before .before .before .mul .ensures .value) q
+    reflect-refused _ _ _ _ _ (rw along-start at (c .before .before .before .before .before .row-dot .ensures)) (c
+    .before .before .before .before .mul .ensures .value) q
 
 pub reflect-spec : {M : Type 1} → statement M
 reflect-spec =

@@ -26,7 +26,8 @@ same-length-2 c = search needs
 returns : tie.Need-returns
 returns c =
     let s =
-    c .before .before .before .before .before .before .before .before .before .before .before .before .before .before .before .before .before .before .before .before in
+    c .before .before .before .before .before .before .before .before .before .before .before .before .before .before
+    .before .before .before .before .before .before in
     let a = s .args in
     let v = c .before .before .before .before .before .before .before .before .before .before .before .solve-sized in
     let w = c .before .before .before .before .before .before .minus in

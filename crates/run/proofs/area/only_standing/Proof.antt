@@ -68,8 +68,10 @@ clear-from-requires-5 c κs =
       c .before .before .before .clear-from4 .kept,
       c .before .before .before .before .before .before .before .clear-from3 .kept,
       c .before .before .before .before .before .before .before .before .before .before .before .clear-from2 .kept,
-      c .before .before .before .before .before .before .before .before .before .before .before .before .before .before .before .clear-from .kept,
-      c .before .before .before .before .before .before .before .before .before .before .before .before .before .before .before .before .before .before .before .pre .0,
+      c .before .before .before .before .before .before .before .before .before .before .before .before .before .before
+          .before .clear-from .kept,
+      c .before .before .before .before .before .before .before .before .before .before .before .before .before .before
+          .before .before .before .before .before .pre .0,
     )
 
 clear-from-requires-6 : tie.Need-clear-from-requires-6
@@ -79,9 +81,12 @@ clear-from-requires-6 c κs =
       c .before .before .before .clear-from5 .kept,
       c .before .before .before .before .before .before .before .clear-from4 .kept,
       c .before .before .before .before .before .before .before .before .before .before .before .clear-from3 .kept,
-      c .before .before .before .before .before .before .before .before .before .before .before .before .before .before .before .clear-from2 .kept,
-      c .before .before .before .before .before .before .before .before .before .before .before .before .before .before .before .before .before .before .before .clear-from .kept,
-      c .before .before .before .before .before .before .before .before .before .before .before .before .before .before .before .before .before .before .before .before .before .before .before .pre .0,
+      c .before .before .before .before .before .before .before .before .before .before .before .before .before .before
+          .before .clear-from2 .kept,
+      c .before .before .before .before .before .before .before .before .before .before .before .before .before .before
+          .before .before .before .before .before .clear-from .kept,
+      c .before .before .before .before .before .before .before .before .before .before .before .before .before .before
+          .before .before .before .before .before .before .before .before .before .pre .0,
     )
 
 array-read-clear-from-3 : tie.Need-array-read-clear-from-3
@@ -145,11 +150,18 @@ same-length c =
       c .before .before .clear-from8 .kept,
       c .before .before .before .before .before .before .clear-from7 .kept,
       c .before .before .before .before .before .before .before .before .before .before .clear-from6 .kept,
-      c .before .before .before .before .before .before .before .before .before .before .before .before .before .before .clear-from5 .kept,
-      c .before .before .before .before .before .before .before .before .before .before .before .before .before .before .before .before .before .before .clear-from4 .kept,
-      c .before .before .before .before .before .before .before .before .before .before .before .before .before .before .before .before .before .before .before .before .before .before .clear-from3 .kept,
-      c .before .before .before .before .before .before .before .before .before .before .before .before .before .before .before .before .before .before .before .before .before .before .before .before .before .before .clear-from2 .kept,
-      c .before .before .before .before .before .before .before .before .before .before .before .before .before .before .before .before .before .before .before .before .before .before .before .before .before .before .before .before .before .before .clear-from .kept,
+      c .before .before .before .before .before .before .before .before .before .before .before .before .before .before
+          .clear-from5 .kept,
+      c .before .before .before .before .before .before .before .before .before .before .before .before .before .before
+          .before .before .before .before .clear-from4 .kept,
+      c .before .before .before .before .before .before .before .before .before .before .before .before .before .before
+          .before .before .before .before .before .before .before .before .clear-from3 .kept,
+      c .before .before .before .before .before .before .before .before .before .before .before .before .before .before
+          .before .before .before .before .before .before .before .before .before .before .before .before .clear-from2
+          .kept,
+      c .before .before .before .before .before .before .before .before .before .before .before .before .before .before
+          .before .before .before .before .before .before .before .before .before .before .before .before .before .before
+          .before .before .clear-from .kept,
     )
 
 returns : tie.Need-returns

@@ -48,7 +48,14 @@ same-length c = search needs
 
 returns : tie.Need-returns
 unfolding gramStep
-returns c = rw (← c .before .before .before .before .before .before .before .before .before .row-dot .ensures, ← c .before .before .before .before .before .before .before .minus-dot .ensures, ← c .before .before .before .before .before .at .ensures, ← c .before .before .before .div .ensures .value) (c .before .before .store .ensures)
+returns c = rw (
+  ← c .before .before .before .before .before .before .before .before .before .row-dot .ensures,
+  ← c
+      .before .before .before .before .before .before .before .minus-dot .ensures,
+  ← c .before .before .before .before
+      .before .at .ensures,
+  ← c .before .before .before .div .ensures .value,
+) (c .before .before .store .ensures)
 
 pub gram-entry-spec : {M : Type 1} → statement M
 gram-entry-spec =

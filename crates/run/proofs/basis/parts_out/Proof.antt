@@ -52,8 +52,16 @@ loop-less c = search needs
 loop-again : tie.Need-loop-again Inv-loop μ-loop
 loop-again c =
     let a = c .before .before .before .before .before .before .before .before .before .before .before .before .before .before .before .before .args in
-    let l = c .before .before .before .before .before .before .before .before .before .before .before .before .loop in
-    (search needs, search needs, search needs, part-turn (a .k) (a .r) (a .q .now) _ (l .j) (l .inv .3) (part-is (a .k) (a .r) (a .q .now) (l .v) (l .coefficients) (l .j) (c .before .before .before .before .before .before .before .before .before .row-dot .ensures) (c .before .before .before .before .before .before .before .before .choose .ensures) (c .before .before .before .before .before .before .minus-scaled .ensures) (c .before .before .put .ensures)))
+    let l = c .before .before .before .before .before .before .before .before .before .before .before .before .loop in (
+      search needs,
+      search needs,
+      search needs,
+      part-turn (a .k) (a .r) (a .q .now) _ (l .j) (l .inv .3) (part-is (a .k)
+          (a .r) (a .q .now) (l .v) (l .coefficients) (l .j) (c .before .before .before .before .before .before .before
+          .before .before .row-dot .ensures) (c .before .before .before .before .before .before .before .before .choose
+          .ensures) (c .before .before .before .before .before .before .minus-scaled .ensures) (c .before .before .put
+          .ensures)),
+    )
 
 same-length : tie.Need-same-length Inv-loop μ-loop
 same-length c = search needs

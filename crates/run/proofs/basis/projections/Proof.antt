@@ -46,7 +46,11 @@ loop-again c =
     let s = c .before .before .before .before .before .before .before .before .before .before in
     let a = s .args in
     let f : ℕ → Scalar = λ t. dotTo (row (a .wide .now) (a .i)) (row (a .q .now) t) (a .k) in
-    let e = rw (c .before .before .before .before .before .before .loop .inv .2, c .before .before .before .row-dot .ensures) at (c .before .before .put .ensures) in
+    let e = rw (
+      c .before .before .before .before .before .before .loop .inv .2,
+      c .before .before .before .row-dot
+          .ensures,
+    ) at (c .before .before .put .ensures) in
     (search needs, search needs, e ∙ listTo-more f (c .before .before .before .before .before .before .loop .j) (a .b .now) (omega (arith, s .pre .1 .1, c .before .before .before .before .before .loop-test .taken)))
 
 same-length : tie.Need-same-length Inv-loop μ-loop

@@ -30,7 +30,11 @@ loop-holds : tie.Need-loop-holds Inv-loop μ-loop
 loop-holds c = (search needs, search needs, sym (fill-none _ _))
 
 mul-row-dot : tie.Need-mul-row-dot Inv-loop μ-loop
-mul-row-dot c = omega (arith, product-small {i = c .before .before .loop .i} {n = c .before .before .before .before .before .before .args .n} (omega arith) (omega arith))
+mul-row-dot c = omega (
+  arith,
+  product-small {i = c .before .before .loop .i} {n = c .before .before .before .before
+      .before .before .args .n} (omega arith) (omega arith),
+)
 
 row-dot-requires : tie.Need-row-dot-requires Inv-loop μ-loop
 row-dot-requires c κs = tt
@@ -45,7 +49,13 @@ loop-less : tie.Need-loop-less Inv-loop μ-loop
 loop-less c = search needs
 
 loop-again : tie.Need-loop-again Inv-loop μ-loop
-loop-again c = let a = c .before .before .before .before .before .before .before .before .before .before .args in (search needs, search needs, c .before .before .put .ensures ∙ fill-first (a .out .now) (by (a .n) (a .rows .now) (a .v .now)) (c .before .before .before .before .before .before .loop .i) (c .before .before .before .before .before .before .loop .inv .2) (rw along-start at (c .before .before .before .row-dot .ensures)))
+loop-again c = let a = c .before .before .before .before .before .before .before .before .before .before .args in (
+  search needs,
+  search needs,
+  c .before .before .put .ensures ∙ fill-first (a .out .now) (by (a .n) (a .rows .now)
+      (a .v .now)) (c .before .before .before .before .before .before .loop .i) (c .before .before .before .before
+      .before .before .loop .inv .2) (rw along-start at (c .before .before .before .row-dot .ensures)),
+)
 
 same-length : tie.Need-same-length Inv-loop μ-loop
 same-length c = search needs

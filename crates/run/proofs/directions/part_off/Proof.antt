@@ -28,7 +28,11 @@ same-length : tie.Need-same-length
 same-length c = search needs
 
 returns : tie.Need-returns
-returns c = rw (← c .before .before .before .before .before .row-dot .ensures, ← c .before .before .before .before .choose .ensures) (c .before .before .minus-scaled .ensures)
+returns c = rw (
+  ← c .before .before .before .before .before .row-dot .ensures,
+  ← c .before .before .before .before
+      .choose .ensures,
+) (c .before .before .minus-scaled .ensures)
 
 pub part-off-spec : {M : Type 1} → statement M
 part-off-spec =

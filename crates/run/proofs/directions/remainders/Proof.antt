@@ -36,22 +36,50 @@ put-requires : tie.Need-put-requires Inv-loop μ-loop
 put-requires c κs = search needs
 
 add-put-2 : tie.Need-add-put-2 Inv-loop μ-loop
-add-put-2 c = omega (arith, c .before .before .before .before .before .before .before .before .before .pre .0, c .before .before .before .before .before .loop-test .taken)
+add-put-2 c = omega (
+  arith,
+  c .before .before .before .before .before .before .before .before .before .pre .0,
+  c .before .before .before .before .before .loop-test .taken,
+)
 
 mul-put-2 : tie.Need-mul-put-2 Inv-loop μ-loop
-mul-put-2 c = omega (arith, c .before .before .before .before .before .before .before .before .before .pre .0, c .before .before .before .before .before .loop-test .taken)
+mul-put-2 c = omega (
+  arith,
+  c .before .before .before .before .before .before .before .before .before .pre .0,
+  c .before .before .before .before .before .loop-test .taken,
+)
 
 add-put-3 : tie.Need-add-put-3 Inv-loop μ-loop
-add-put-3 c = omega (arith, c .before .before .before .before .before .before .before .before .before .pre .0, c .before .before .before .before .before .loop-test .taken)
+add-put-3 c = omega (
+  arith,
+  c .before .before .before .before .before .before .before .before .before .pre .0,
+  c .before .before .before .before .before .loop-test .taken,
+)
 
 add-put-4 : tie.Need-add-put-4 Inv-loop μ-loop
-add-put-4 c = omega (arith, c .before .before .before .before .before .before .before .before .before .pre .0, c .before .before .before .before .before .loop-test .taken)
+add-put-4 c = omega (
+  arith,
+  c .before .before .before .before .before .before .before .before .before .pre .0,
+  c .before .before .before .before .before .loop-test .taken,
+)
 
 put-requires-2 : tie.Need-put-requires-2 Inv-loop μ-loop
 put-requires-2 c κs = search needs
 
 two-left-after-requires : tie.Need-two-left-after-requires Inv-loop μ-loop
-two-left-after-requires c κs = let h = c .before .before .before .before .before .before .before .before .before .before .before .before .before .pre in (h .0, (h .1 .0, omega (arith, h .0, c .before .before .before .before .before .before .before .before .before .loop-test .taken)))
+two-left-after-requires c κs = let h = c .before .before .before .before .before .before .before .before .before
+    .before .before .before .before .pre in (
+      h .0,
+      (
+        h .1 .0,
+        omega (
+          arith,
+          h .0,
+          c .before .before .before .before
+              .before .before .before .before .before .loop-test .taken,
+        ),
+      ),
+    )
 
 add-h : tie.Need-add-h Inv-loop μ-loop
 add-h c = search needs

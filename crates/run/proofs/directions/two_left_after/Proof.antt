@@ -31,8 +31,12 @@ loop-less c = search needs
 
 loop-again : tie.Need-loop-again Inv-loop μ-loop
 loop-again c =
-    let l = c .before .before .before .before .before .loop in
-    (search needs, search needs, two-after _ _ _ _ (l .t) (c .before .before .before .before .before .before .before .before .pre .0) (l .inv .2) (c .before .before .two-parts-off .ensures))
+    let l = c .before .before .before .before .before .loop in (
+      search needs,
+      search needs,
+      two-after _ _ _ _ (l .t) (c .before .before .before .before .before .before .before
+          .before .pre .0) (l .inv .2) (c .before .before .two-parts-off .ensures),
+    )
 
 same-length : tie.Need-same-length Inv-loop μ-loop
 same-length c = search needs

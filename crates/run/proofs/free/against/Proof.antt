@@ -52,7 +52,12 @@ loop-again c =
     let l = c .before .before .before .before .before .before .before .before .loop in
     let a = c .before .before .before .before .before .before .before .before .before .before .before .before .args in
     let f : ℕ → Scalar = λ j. chooseOf (negOf (dotTo (row (a .z .now) j) (at (a .force .now)) (a .k))) in
-    let v : c .before .before .before .choose .result ≡ f (l .t) = rw (← rw along-start at (c .before .before .before .before .before .before .row-dot .ensures), ← c .before .before .before .before .neg .ensures .value) (c .before .before .before .choose .ensures) in
+    let v : c .before .before .before .choose .result ≡ f (l .t) = rw (
+      ← rw along-start at (c .before .before .before
+          .before .before .before .row-dot .ensures),
+      ← c .before .before .before .before .neg .ensures .value,
+    ) (c .before
+    .before .before .choose .ensures) in
     let e = rw (l .inv .2, v) at (c .before .before .put .ensures) in
     (search needs, search needs, e ∙ listTo-more f (l .t) (a .out .now) (omega (arith, c .before .before .before .before .before .before .before .before .before .before .before .before .pre, c .before .before .before .before .before .before .before .loop-test .taken)))
 

@@ -38,8 +38,25 @@ slice-aggregate-fill-curve c = search needs
 fill-curve-requires : tie.Need-fill-curve-requires
 unfolding ofBits
 fill-curve-requires c κs =
-    let p = c .before .before .before .before .before .before .before .before .before .before .before .before .before .before .before .before .before .before .before .before .before .before .before .pre in
-    (subst Small (sym (c .before .before .before .before .before .before .before .before .before .before .before .before .before .before .before .before .sum .ensures)) (sum-small (p .0) (p .1 .0) (p .1 .1 .0)), (p .1 .1 .1 .0, (p .1 .1 .1 .1 .0, (p .1 .1 .1 .1 .1 .0, (p .1 .1 .1 .1 .1 .1 .1 .1, chosen-points _ _ _ 576 refl (c .before .before .before .before .before .slopes2 .ensures .1))))))
+    let p = c .before .before .before .before .before .before .before .before .before .before .before .before .before .before .before .before .before .before .before .before .before .before .before .pre in (
+      subst Small (sym (c .before .before .before .before .before .before .before .before .before .before .before
+          .before .before .before .before .before .sum .ensures)) (sum-small (p .0) (p .1 .0) (p .1 .1 .0)),
+      (
+        p .1 .1 .1
+            .0,
+        (
+          p .1 .1 .1 .1 .0,
+          (
+            p .1 .1 .1 .1 .1 .0,
+            (
+              p .1 .1 .1 .1 .1 .1 .1 .1,
+              chosen-points _ _ _ 576 refl (c .before
+                  .before .before .before .before .slopes2 .ensures .1),
+            ),
+          ),
+        ),
+      ),
+    )
 
 same-length : tie.Need-same-length
 same-length c = search needs
