@@ -11,7 +11,7 @@ use lib.Ieee.{Float, binary64, fits, nan}
 use lib.ListN.{length, getD, take, drop}
 use Rattle.interval.specs.declared.Scalar.{Scalar}
 use Rattle.interval.specs.Scalar.{pick}
-use Rattle.run.specs.Calls.{Left, leftOf, beginOf, Accepted}
+use Rattle.run.specs.Calls.{AfterCall, afterCall, beginOf, Accepted}
 use Rattle.run.specs.Demand.{
   same,
   Floats,
@@ -20,8 +20,8 @@ use Rattle.run.specs.Demand.{
   none,
   Allowed,
   runOf,
-  Played,
-  played,
+  CallResult,
+  callResult,
   History,
   entered,
   begun,
@@ -29,9 +29,9 @@ use Rattle.run.specs.Demand.{
   Claim,
   Along,
 }
-use Rattle.run.specs.declared.state.Out.{Out}
+use Rattle.run.specs.declared.state.Returned.{Returned}
 use Rattle.run.specs.declared.state.Sizes.{Sizes}
-use Rattle.run.proofs.Demand.{demand3}
+use Rattle.run.proofs.demand3.Demand.{demand3}
 use Rattle.call_list.specs.CallList.{
   noArea,
   isNone,
@@ -40,7 +40,7 @@ use Rattle.call_list.specs.CallList.{
   floats-take,
   floats-drop,
   callsOf,
-  playedOf,
+  callResultOf,
   playedTo,
   playedFrom,
   historyTo,
@@ -73,17 +73,17 @@ calls-allowed z (code ∷ codes) xs f =
 -- ---- demand 3 at the end of a list
 
 at-end :
-    (z : Sizes) (h : History) (p : Played) (cs : List Call) →
+    (z : Sizes) (h : History) (p : CallResult) (cs : List Call) →
     Along z h (p .run) cs →
     AllAllowed z cs → Clear (p .run) cs → Between z (historyTo h (p .run) cs) (playedTo p cs .run)
 unfolding Along Clear historyTo playedTo
 at-end z h p [] along free clear = along
 at-end z h p (d ∷ ds) along free clear =
-    let q = played (p .run) d in
+    let q = callResult (p .run) d in
     at-end z (entered h (p .run) d q) q ds (along .1 (free .0) (clear .0) .1) (free .1) (clear .1)
 
 at-last :
-    (z : Sizes) (h : History) (p : Played) (cs : List Call) (c : Call) →
+    (z : Sizes) (h : History) (p : CallResult) (cs : List Call) (c : Call) →
     let ds = cs ++ (c ∷ []) in
     Along z h (p .run) ds →
     AllAllowed z ds →
@@ -92,7 +92,7 @@ at-last :
 unfolding Along Clear historyTo playedTo
 at-last z h p [] c along free clear = along .1 (free .0) (clear .0) .0
 at-last z h p (d ∷ ds) c along free clear =
-    let q = played (p .run) d in
+    let q = callResult (p .run) d in
     at-last z (entered h (p .run) d q) q ds c (along .1 (free .0) (clear .0) .1) (free .1) (clear .1)
 
 -- one more code is one more call
@@ -109,7 +109,7 @@ snoc (d ∷ ds) code xs f =
     record { call = s .call; calls-are = ap (λ (cs : List Call). callOf d (take k xs) (floats-take k xs f) ∷ cs) (s .calls-are) }
 
 module _ (z : Sizes) (start : List Float) (max : Scalar) (a : List Float) where
-  abbrev b : Left
+  abbrev b : AfterCall
   b = beginOf z start max a
 
   abbrev Last : List Call → List Call → Type 0
@@ -138,7 +138,7 @@ module _ (z : Sizes) (start : List Float) (max : Scalar) (a : List Float) where
       (calls-allowed z codes xs f) clear
 
   plays :
-      (codes : List ℕ) (xs : List Float) (p : Played) (f : Floats xs) →
+      (codes : List ℕ) (xs : List Float) (p : CallResult) (f : Floats xs) →
       p ≡ playedFrom b (callsOf codes xs f) → Plays z start max a codes xs p
   plays codes xs p f e =
       record {
@@ -150,7 +150,7 @@ module _ (z : Sizes) (start : List Float) (max : Scalar) (a : List Float) where
       }
 
   -- where the loop ends
-  pub play-ends : (codes : List ℕ) (xs : List Float) (r₀ : Out) (a₀ : List Float) {p : Played} {i at : ℕ} → leftOf r₀ a₀ ≡ b → Playing (playedOf r₀ a₀) codes xs p i at → length codes ≤ i → ((j : ℕ) → T (fits binary64 (getD xs j nan))) → Plays z start max a codes xs p
+  pub play-ends : (codes : List ℕ) (xs : List Float) (r₀ : Returned) (a₀ : List Float) {p : CallResult} {i at : ℕ} → afterCall r₀ a₀ ≡ b → Playing (callResultOf r₀ a₀) codes xs p i at → length codes ≤ i → ((j : ℕ) → T (fits binary64 (getD xs j nan))) → Plays z start max a codes xs p
   play-ends codes xs r₀ a₀ {p} begins w over h =
       let f = floats-of xs nan h in
-      plays codes xs p f (play-all w over f ∙ ap (λ (l : Left). playedFrom l (callsOf codes xs f)) begins)
+      plays codes xs p f (play-all w over f ∙ ap (λ (l : AfterCall). playedFrom l (callsOf codes xs f)) begins)

@@ -11,9 +11,10 @@ use lib.Dec.{eqb, ltb}
 use lib.Ieee.{Float}
 use lib.ListN.{length, take, drop}
 use lib.Seq.{take-append-seam, drop-append-seam}
-use Rattle.run.specs.Area.{AREA}
-use Rattle.run.specs.Calls.{replyOpen, replyOf, noneOpen, replyNoneOf, valid, checks, unchanged}
-use Rattle.run.specs.Demand.{same, other, Floats, Call, rows, none, Allowed, Run, Played, playedBy, played}
+use Rattle.run.specs.Limits.{AREA}
+use Rattle.run.specs.Calls.{replyOpen, replyOf, noneOpen, replyNoneOf, checks, unchanged}
+use Rattle.run.specs.Checks.{valid}
+use Rattle.run.specs.Demand.{same, other, Floats, Call, rows, none, Allowed, Run, CallResult, callResultBy, callResult}
 use Rattle.run.specs.Rows.{rowNumbers}
 use Rattle.run.specs.declared.state.Phase.{Phase}
 use Rattle.run.specs.declared.state.Phase.the-variants.{Open, Over}
@@ -38,8 +39,8 @@ module _ (st : State) (a own : List Float) where
   none-refused :
       length a ≢ AREA →
       (v : Bool) (p : Phase) →
-      playedBy (checks v 4 (unchanged st a) (noneOpen st a p)) own
-      ≡ playedBy (checks v 4 (unchanged st []) (noneOpen st [] p)) own
+      callResultBy (checks v 4 (unchanged st a) (noneOpen st a p)) own
+      ≡ callResultBy (checks v 4 (unchanged st []) (noneOpen st [] p)) own
   none-refused x false p = refl
   none-refused x true Over = refl
   none-refused x true (Open k) = rw (ne-eqb (length a) AREA x) refl
@@ -59,19 +60,19 @@ module _ (st : State) (a own : List Float) where
       (xs : List Float) →
       (length a ≢ AREA) ⊎ (length xs ≢ rowNumbers (st .sizes .n) (st .sizes .m) (st .sizes .s)) →
       (v : Bool) (p : Phase) →
-      playedBy (checks v 4 (unchanged st a) (replyOpen st a xs p)) own
-      ≡ playedBy (checks v 4 (unchanged st []) (replyOpen st [] xs p)) own
+      callResultBy (checks v 4 (unchanged st a) (replyOpen st a xs p)) own
+      ≡ callResultBy (checks v 4 (unchanged st []) (replyOpen st [] xs p)) own
   rows-refused xs x false p = refl
   rows-refused xs x true Over = refl
   rows-refused xs x true (Open k) = rw (lengths xs (rowNumbers (st .sizes .n) (st .sizes .m) (st .sizes .s)) x) refl
 
-none-other : (r : Run) (a : List Float) → length a ≢ AREA → played r (none noArea) ≡ played r (none (other a))
+none-other : (r : Run) (a : List Float) → length a ≢ AREA → callResult r (none noArea) ≡ callResult r (none (other a))
 unfolding replyNoneOf
 none-other r a x = sym (none-refused (r .state) a (r .area) x (valid (r .state)) (r .state .phase))
 
 rows-other :
     (r : Run) (a xs : List Float) (f g : Floats xs) →
-    Allowed (r .state .sizes) (rows (other a) xs f) → played r (rows noArea xs g) ≡ played r (rows (other a) xs f)
+    Allowed (r .state .sizes) (rows (other a) xs f) → callResult r (rows noArea xs g) ≡ callResult r (rows (other a) xs f)
 unfolding replyOf
 rows-other r a xs f g x = sym (rows-refused (r .state) a (r .area) xs x (valid (r .state)) (r .state .phase))
 
@@ -82,7 +83,7 @@ floats-append [] ys f g = g
 floats-append (x ∷ xs) ys f g = (f .0, floats-append xs ys (f .1) g)
 
 -- a call keeps the sizes of the run
-played-sizes : (r : Run) (c : Call) → played r c .run .state .sizes ≡ r .state .sizes
+played-sizes : (r : Run) (c : Call) → callResult r c .run .state .sizes ≡ r .state .sizes
 played-sizes r (rows same xs f) = demand1 .replied (r .state) (r .area) xs .sizes-kept
 played-sizes r (rows (other a) xs f) = demand1 .replied (r .state) a xs .sizes-kept
 played-sizes r (none same) = demand1 .replied-none (r .state) (r .area) .sizes-kept
@@ -92,7 +93,7 @@ front :
     (z : Sizes) (code : ℕ) (c : Call) (cs : List Call) (xs : List Float) →
     Floats xs →
     countOf code ≡ length xs →
-    ((r : Run) (f : Floats xs) → r .state .sizes ≡ z → played r (callOf code xs f) ≡ played r c) →
+    ((r : Run) (f : Floats xs) → r .state .sizes ≡ z → callResult r (callOf code xs f) ≡ callResult r c) →
     Named z cs → Named z (c ∷ cs)
 unfolding playedTo callsOf
 front z code c cs xs g count-is call-is n =
@@ -105,14 +106,14 @@ front z code c cs xs g count-is call-is n =
     k = countOf code
 
     first :
-        (r : Run) (f : Floats (take k ys)) → r .state .sizes ≡ z → played r (callOf code (take k ys) f) ≡ played r c
+        (r : Run) (f : Floats (take k ys)) → r .state .sizes ≡ z → callResult r (callOf code (take k ys) f) ≡ callResult r c
     first r =
         subst
-        (λ (l : List Float). (f : Floats l) → r .state .sizes ≡ z → played r (callOf code l f) ≡ played r c)
+        (λ (l : List Float). (f : Floats l) → r .state .sizes ≡ z → callResult r (callOf code l f) ≡ callResult r c)
         (sym (ap (λ (j : ℕ). take j ys) count-is ∙ take-append-seam xs (n .numbers))) (call-is r)
 
     rest :
-        (p : Played) (f : Floats (drop k ys)) →
+        (p : CallResult) (f : Floats (drop k ys)) →
         p .run .state .sizes ≡ z → playedTo p (callsOf (n .codes) (drop k ys) f) ≡ playedTo p cs
     rest p =
         subst
@@ -121,12 +122,12 @@ front z code c cs xs g count-is call-is n =
         (sym (ap (λ (j : ℕ). drop j ys) count-is ∙ drop-append-seam xs (n .numbers))) (λ f. n .leaves f p)
 
     leaves :
-        (f : Floats ys) (p : Played) →
+        (f : Floats ys) (p : CallResult) →
         p .run .state .sizes ≡ z → playedTo p (callsOf (code ∷ n .codes) ys f) ≡ playedTo p (c ∷ cs)
     leaves f p e =
-        ap (λ (q : Played). playedTo q (callsOf (n .codes) (drop k ys) (floats-drop k ys f)))
+        ap (λ (q : CallResult). playedTo q (callsOf (n .codes) (drop k ys) (floats-drop k ys f)))
         (first (p .run) (floats-take k ys f) e)
-        ∙ rest (played (p .run) c) (floats-drop k ys f) (played-sizes (p .run) c ∙ e)
+        ∙ rest (callResult (p .run) c) (floats-drop k ys f) (played-sizes (p .run) c ∙ e)
 
 -- ---- the codes of rows
 

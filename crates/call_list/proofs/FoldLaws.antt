@@ -8,7 +8,7 @@ use lib.Dec.{T}
 use lib.Ieee.{Float, binary64, fits}
 use lib.ListN.{length, getD, take, drop, length-drop, drop-of-length-le}
 use lib.Seq.{drop-cons, drop-drop}
-use Rattle.run.specs.Demand.{Floats, Played, played}
+use Rattle.run.specs.Demand.{Floats, CallResult, callResult}
 use Rattle.call_list.specs.CallList.{countOf, callOf, floats-take, floats-drop, callsOf, Called, playedTo}
 
 -- ---- numbers of a slice
@@ -30,29 +30,29 @@ drop-min (suc k) (y ∷ ys) = ap (λ (j : ℕ). drop j (y ∷ ys)) (suc-min-suc 
 -- ---- the loop
 
 -- the codes and numbers that are left, played on from p, give whole
-pub record Rest (whole p : Played) (codes : List ℕ) (ys : List Float) : Type 0 where
+pub record Rest (whole p : CallResult) (codes : List ℕ) (ys : List Float) : Type 0 where
   pub floats : Floats ys
   pub same : playedTo p (callsOf codes ys floats) ≡ whole
 
-pub record Playing (p₀ : Played) (codes : List ℕ) (xs : List Float) (p : Played) (i at : ℕ) : Type 0 where
+pub record Playing (p₀ : CallResult) (codes : List ℕ) (xs : List Float) (p : CallResult) (i at : ℕ) : Type 0 where
   pub within : at ≤ length xs
   pub rest : (g : Floats xs) → Rest (playedTo p₀ (callsOf codes xs g)) p (drop i codes) (drop at xs)
 
-pub playing : (p : Played) (codes : List ℕ) (xs : List Float) → Playing p codes xs p 0 0
+pub playing : (p : CallResult) (codes : List ℕ) (xs : List Float) → Playing p codes xs p 0 0
 playing p codes xs = record { within = omega arith; rest = λ g. record { floats = g; same = refl } }
 
 -- one code and its numbers
-rest-more : {whole p q : Played} (code : ℕ) (codes : List ℕ) (ys : List Float) → Rest whole p (code ∷ codes) ys → Called (p .run) code (take (countOf code) ys) q → Rest whole q codes (drop (countOf code) ys)
+rest-more : {whole p q : CallResult} (code : ℕ) (codes : List ℕ) (ys : List Float) → Rest whole p (code ∷ codes) ys → Called (p .run) code (take (countOf code) ys) q → Rest whole q codes (drop (countOf code) ys)
 unfolding playedTo callsOf
 rest-more {whole} {p} {q} code codes ys r called =
     let k = countOf code in
     record {
       floats = floats-drop k ys (r .floats);
-      same = ap (λ (x : Played). playedTo x (callsOf codes (drop k ys) (floats-drop k ys (r .floats)))) (called (floats-take k ys (r .floats))) ∙ r .same;
+      same = ap (λ (x : CallResult). playedTo x (callsOf codes (drop k ys) (floats-drop k ys (r .floats)))) (called (floats-take k ys (r .floats))) ∙ r .same;
     }
 
-module _ {p₀ : Played} {codes : List ℕ} {xs : List Float} {p : Played} {i at : ℕ} (playing : Playing p₀ codes xs p i at) where
-  pub play-more : (d e : ℕ) {q : Played} → i < length codes → e ≡ at + min (countOf (getD codes i d)) (length xs - at) → Called (p .run) (getD codes i d) (take (e - at) (drop at xs)) q → Playing p₀ codes xs q (i + 1) e
+module _ {p₀ : CallResult} {codes : List ℕ} {xs : List Float} {p : CallResult} {i at : ℕ} (playing : Playing p₀ codes xs p i at) where
+  pub play-more : (d e : ℕ) {q : CallResult} → i < length codes → e ≡ at + min (countOf (getD codes i d)) (length xs - at) → Called (p .run) (getD codes i d) (take (e - at) (drop at xs)) q → Playing p₀ codes xs q (i + 1) e
   play-more d e {q} h at-end called = record { within = omega (arith, at-end, playing .within); rest = more }
     where
       ys : List Float

@@ -9,9 +9,9 @@ use lib.Ieee.{Float}
 use lib.ListN.{take, drop}
 use Rattle.interval.specs.declared.Scalar.{Scalar}
 use Rattle.interval.specs.Scalar.{pick}
-use Rattle.run.specs.Calls.{Left, Accepted, beginOf}
+use Rattle.run.specs.Calls.{AfterCall, Accepted, beginOf}
 use Rattle.run.specs.Demand.{
-  Lent,
+  LentArea,
   same,
   other,
   Floats,
@@ -21,9 +21,9 @@ use Rattle.run.specs.Demand.{
   Allowed,
   Run,
   runOf,
-  Played,
-  playedBy,
-  played,
+  CallResult,
+  callResultBy,
+  callResult,
   isArithmetic,
   History,
   entered,
@@ -32,17 +32,17 @@ use Rattle.run.specs.Demand.{
   Claim,
   Along,
 }
-use Rattle.run.specs.declared.state.Out.{Out}
+use Rattle.run.specs.declared.state.Returned.{Returned}
 use Rattle.run.specs.declared.state.Sizes.{Sizes}
 
 -- ---- the calls
 
 -- an area of no numbers, which refuses the call
-abbrev pub noArea : Lent
+abbrev pub noArea : LentArea
 noArea = other []
 
 -- a code is even over the area that the call before left, and odd over an area of no numbers
-abbrev pub lentOf : ℕ → Lent
+abbrev pub lentOf : ℕ → LentArea
 lentOf code = pick (eqb (code % 2) 0) same noArea
 
 -- 0 and 1 reply none
@@ -77,47 +77,47 @@ callsOf (code ∷ codes) xs f =
 -- ---- what they leave
 
 -- what a function returns, with the area after it
-abbrev pub playedOf : Out → List Float → Played
-playedOf r a = record { answer = r .answer; run = record { state = r .state; area = a } }
+abbrev pub callResultOf : Returned → List Float → CallResult
+callResultOf r a = record { event = r .event; run = record { state = r .state; area = a } }
 
 -- the call that a code names
-abbrev pub Called : Run → ℕ → List Float → Played → Type 0
-Called r code xs p = (f : Floats xs) → p ≡ played r (callOf code xs f)
+abbrev pub Called : Run → ℕ → List Float → CallResult → Type 0
+Called r code xs p = (f : Floats xs) → p ≡ callResult r (callOf code xs f)
 
 -- one call after another
-unfoldable pub playedTo : Played → List Call → Played
+unfoldable pub playedTo : CallResult → List Call → CallResult
 playedTo p [] = p
-playedTo p (c ∷ cs) = playedTo (played (p .run) c) cs
+playedTo p (c ∷ cs) = playedTo (callResult (p .run) c) cs
 
 -- begin, and then the calls
-abbrev pub playedFrom : Left → List Call → Played
-playedFrom b cs = playedTo (playedBy b (b .area)) cs
+abbrev pub playedFrom : AfterCall → List Call → CallResult
+playedFrom b cs = playedTo (callResultBy b (b .area)) cs
 
 -- what is read off their answers
 unfoldable pub historyTo : History → Run → List Call → History
 historyTo h r [] = h
 historyTo h r (c ∷ cs) =
-    let p = played r c in
+    let p = callResult r c in
     historyTo (entered h r c p) (p .run) cs
 
-abbrev pub historyFrom : Left → List Call → History
+abbrev pub historyFrom : AfterCall → List Call → History
 historyFrom b cs = historyTo (begun (runOf b)) (runOf b) cs
 
 -- none of them is refused by 5 or 6
 unfoldable pub Clear : Run → List Call → Type 0
 Clear r [] = Unit
 Clear r (c ∷ cs) =
-    let p = played r c in
-    (isArithmetic (p .answer) ≡ false) × Clear (p .run) cs
+    let p = callResult r c in
+    (isArithmetic (p .event) ≡ false) × Clear (p .run) cs
 
 -- ---- the contract of `play`: begin left b, and the calls that the codes name left p
 
 -- demand 3 of the last of the calls, before which the run was what the calls before it leave
-abbrev pub LastClaim : Sizes → Left → List Call → List Call → Played → Type 0
+abbrev pub LastClaim : Sizes → AfterCall → List Call → List Call → CallResult → Type 0
 LastClaim z b before calls p =
     Clear (runOf b) calls → Claim z (historyFrom b before) (historyFrom b calls) (playedFrom b before .run) p
 
-pub record ListPlayed (z : Sizes) (b : Left) (codes : List ℕ) (xs : List Float) (p : Played) : Type 0 where
+pub record ListPlayed (z : Sizes) (b : AfterCall) (codes : List ℕ) (xs : List Float) (p : CallResult) : Type 0 where
   pub floats : Floats xs
   pub is-fold : p ≡ playedFrom b (callsOf codes xs floats)
   -- demand 3 of the begin and all the calls
@@ -131,7 +131,7 @@ pub record ListPlayed (z : Sizes) (b : Left) (codes : List ℕ) (xs : List Float
       (before : List ℕ) (code : ℕ) →
       codes ≡ before ++ (code ∷ []) → LastClaim z b (callsOf before xs floats) (callsOf codes xs floats) p
 
-abbrev pub Plays : Sizes → List Float → Scalar → List Float → List ℕ → List Float → Played → Type 0
+abbrev pub Plays : Sizes → List Float → Scalar → List Float → List ℕ → List Float → CallResult → Type 0
 Plays z start max a codes xs p = ListPlayed z (beginOf z start max a) codes xs p
 
 -- ---- every list of demand 3 can be played
@@ -147,7 +147,7 @@ pub record Named (z : Sizes) (cs : List Call) : Type 0 where
   pub numbers : List Float
   pub floats : Floats numbers
   pub leaves :
-      (f : Floats numbers) (p : Played) →
+      (f : Floats numbers) (p : CallResult) →
       p .run .state .sizes ≡ z → playedTo p (callsOf codes numbers f) ≡ playedTo p cs
 
 abbrev pub EveryList : Type 0

@@ -3,15 +3,15 @@ ghost use mathlib.Core.Path.{_≡_};
 ghost use Prim.Native.Nat.{_+_, _-_, _≤_, min};
 ghost use lib.ListN.{length};
 ghost use Rattle.interval.specs.Scalar.{pick};
-ghost use Rattle.run.specs.Calls.{leftOf, replyOf, replyNoneOf};
-ghost use Rattle.call_list.specs.CallList.{countOf, playedOf, Called, Plays};
+ghost use Rattle.run.specs.Calls.{afterCall, replyOf, replyNoneOf};
+ghost use Rattle.call_list.specs.CallList.{countOf, callResultOf, Called, Plays};
 use interval::Scalar;
-use run::Out;
+use run::Returned;
 use run::State;
 
 // A reply with the rows, or with none.
-fn answer(st: State, area: &mut [f64], none: bool, rows: &[f64]) -> Out
-    ensures { λ r. ⌜ leftOf r (now (area .exit)) ≡ pick none (replyNoneOf st (now (area .entry))) (replyOf st (now (area .entry)) (now (rows .entry))) ⌝ }
+fn answer(st: State, area: &mut [f64], none: bool, rows: &[f64]) -> Returned
+    ensures { λ r. ⌜ afterCall r (now (area .exit)) ≡ pick none (replyNoneOf st (now (area .entry))) (replyOf st (now (area .entry)) (now (rows .entry))) ⌝ }
 {
     if none {
         return run::reply_none(st, area);
@@ -20,8 +20,8 @@ fn answer(st: State, area: &mut [f64], none: bool, rows: &[f64]) -> Out
 }
 
 // The call that a code names: over the area, or over no numbers of it.
-fn call(st: State, area: &mut [f64], code: usize, rows: &[f64]) -> Out
-    ensures { λ r. ⌜ Called (record { state = st; area = now (area .entry) }) code (now (rows .entry)) (playedOf r (now (area .exit))) ⌝ }
+fn call(st: State, area: &mut [f64], code: usize, rows: &[f64]) -> Returned
+    ensures { λ r. ⌜ Called (record { state = st; area = now (area .entry) }) code (now (rows .entry)) (callResultOf r (now (area .exit))) ⌝ }
 {
     if code % 2 == 0 {
         return answer(st, area, code < 2, rows);
@@ -56,8 +56,8 @@ pub fn play(
     area: &mut [f64],
     codes: &[usize],
     numbers: &[f64],
-) -> Out
-    ensures { λ r. ⌜ Plays (record { n = n; m = m; s = s; limit = limit }) (now (start .entry)) «max_step» (now (area .entry)) (now (codes .entry)) (now (numbers .entry)) (playedOf r (now (area .exit))) ⌝ }
+) -> Returned
+    ensures { λ r. ⌜ Plays (record { n = n; m = m; s = s; limit = limit }) (now (start .entry)) «max_step» (now (area .entry)) (now (codes .entry)) (now (numbers .entry)) (callResultOf r (now (area .exit))) ⌝ }
 {
     let mut out = run::begin(n, m, s, limit, start, max_step, area);
     let mut at = 0;

@@ -12,28 +12,32 @@ use lib.Ieee.{Float, ofBits, neg, lt, le, eq, ofInt, round}
 use lib.ListN.{length, length-append}
 use Rattle.interval.specs.declared.Scalar.{Scalar}
 use Rattle.linear.specs.Flat.{zeros}
-use Rattle.run.specs.Area.{AREA, POINT, SPARE, Memory, areaOf, begunMemory}
-use Rattle.run.specs.Calls.{Left, Accepted, unchanged, checks, sizesFit, valid, inDomain, allInDomain, stepFits, stateWith, noRun, firstMu, beginOf, begunOf}
+use Rattle.run.specs.Limits.{AREA}
+use Rattle.run.specs.Area.{POINT, SPARE, Memory, areaOf, begunMemory}
+use Rattle.run.specs.Calls.{AfterCall, Accepted, unchanged, checks, beginOf, begunOf}
+use Rattle.run.specs.Checks.{sizesFit, valid, inDomain, allInDomain, stepFits}
+use Rattle.run.specs.State.{stateWith, noRun}
+use Rattle.run.specs.Damping.{firstMu}
 use Rattle.run.specs.declared.state.Kind.the-variants as kind
 use Rattle.run.specs.declared.state.Phase.the-variants.{Open}
 use Rattle.run.specs.declared.state.Sizes.{Sizes}
 use Rattle.run.specs.declared.state.State.{State}
-use Rattle.run.proofs.AreaSlots.{length-clear, length-padded}
+use Rattle.run.proofs.AreaLaws.{length-clear, length-padded}
 use Rattle.run.proofs.Booleans.{and-left}
-use Rattle.run.proofs.Growths.{growth-begin, growth-positive}
-use Rattle.run.proofs.Outcomes.{sound-valid}
+use Rattle.run.proofs.DampingGrowth.{growth-begin, growth-positive}
+use Rattle.run.proofs.demand3.Endings.{sound-valid}
 use Rattle.known_answers.specs.KnownAnswers.{between}
 use Rattle.known_answers.proofs.Zeros.{zeros-all}
 
 -- a check, passed or not
-checked : (P : Left → Type 0) (b : Bool) (k : ℕ) (back : ℕ → Left) (next : Left) → P (back k) → (b ≡ true → P next) → P (checks b k back next)
+checked : (P : AfterCall → Type 0) (b : Bool) (k : ℕ) (back : ℕ → AfterCall) (next : AfterCall) → P (back k) → (b ≡ true → P next) → P (checks b k back next)
 checked P true k back next p h = h refl
 checked P false k back next p h = p
 
 abbrev pub begunState : Sizes → Scalar → State
 begunState z max = stateWith z firstMu max (Open kind.Start)
 
-pub record Begins (z : Sizes) (start : List Float) (max : Scalar) (b : Left) : Type 0 where
+pub record Begins (z : Sizes) (start : List Float) (max : Scalar) (b : AfterCall) : Type 0 where
   pub is : b ≡ begunOf z start max
   pub fit : sizesFit z ≡ true
   pub size : length start ≡ 2 * z .n
@@ -48,7 +52,7 @@ begins z start max a =
     checked IfAccepted (allInDomain start (z .n) && stepFits max) 3 (unchanged noRun a) _ (not-asked 3)
     (λ h q. record { is = refl; fit = fit; size = eqb-true _ _ (and-left (eqb (length start) (2 * z .n)) (eqb (length a) AREA) g) })))
   where
-    IfAccepted : Left → Type 0
+    IfAccepted : AfterCall → Type 0
     IfAccepted b = Accepted b → Begins z start max b
 
     not-asked : (k : ℕ) → IfAccepted (unchanged noRun a k)

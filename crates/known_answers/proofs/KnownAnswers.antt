@@ -13,12 +13,18 @@ use Rattle.interval.specs.Root.{nearestRoot}
 use Rattle.interval.specs.Scalar.{sqrtOf, clamped, fromRatio}
 use Rattle.linear.specs.Choose.{chooseOf}
 use Rattle.run.specs.Rows.{rowNumbers}
-use Rattle.run.specs.Scratch.{allTo}
-use Rattle.run.specs.Area.{AREA, Memory, areaOf, begunMemory, memoryOf}
-use Rattle.run.specs.Run.{started, iterate}
-use Rattle.run.specs.Calls.{Left, allInDomain, firstMu, stateWith, checkOf, checkRowsOf}
+use Rattle.run.specs.Vectors.{allTo}
+use Rattle.run.specs.Limits.{AREA}
+use Rattle.run.specs.Area.{Memory, areaOf, begunMemory, memoryOf}
+use Rattle.run.specs.Answered.{started}
+use Rattle.run.specs.Iterate.{iterate}
+use Rattle.run.specs.Calls.{AfterCall}
+use Rattle.run.specs.Checks.{allInDomain}
+use Rattle.run.specs.Damping.{firstMu}
+use Rattle.run.specs.State.{stateWith}
+use Rattle.run.specs.program.Checks.{checkOf, checkRowsOf}
 use Rattle.run.specs.declared.checks.Checked.the-variants.{Accept}
-use Rattle.run.specs.declared.state.Answer.the-variants.{Finish}
+use Rattle.run.specs.declared.state.Event.the-variants.{Finish}
 use Rattle.run.specs.declared.state.Kind.the-variants as kind
 use Rattle.run.specs.declared.state.Phase.the-variants.{Open}
 use Rattle.run.specs.declared.state.Sizes.{Sizes}
@@ -30,7 +36,7 @@ use Rattle.known_answers.proofs.NoVariables.{started-none}
 
 -- ---- a call to a run that has begun
 
-module _ (z : Sizes) (start : List Float) (max : Scalar) (b : Left) (g : Begins z start max b) where
+module _ (z : Sizes) (start : List Float) (max : Scalar) (b : AfterCall) (g : Begins z start max b) where
   whole : length (areaOf (begunMemory start)) ≡ AREA
   whole = begun-area start (let n = size-bounds z (g .fit) .n in omega (arith, n, g .size))
 
@@ -44,17 +50,17 @@ module _ (z : Sizes) (start : List Float) (max : Scalar) (b : Left) (g : Begins 
   accepted-rows rows l d = rw (accepted, eq-eqb _ _ l, d)
 
   none-answer : answerToNone b ≡ Finish stop.Infeasible 0 0 0
-  none-answer = ap answerToNone (g .is) ∙ ap (λ (o : Left). o .answer) (none-accepted (begunState z max) (areaOf (begunMemory start)) kind.Start accepted)
+  none-answer = ap answerToNone (g .is) ∙ ap (λ (o : AfterCall). o .event) (none-accepted (begunState z max) (areaOf (begunMemory start)) kind.Start accepted)
 
   rows-answer : (rows : List Float) → length rows ≡ rowNumbers (z .n) (z .m) (z .s) → allInDomain rows ((z .m + z .s) * (z .n + 1)) ≡ true
-      → answerTo b rows ≡ started (begunState z max) (memoryOf (begunState z max) (areaOf (begunMemory start))) rows .answer
+      → answerTo b rows ≡ started (begunState z max) (memoryOf (begunState z max) (areaOf (begunMemory start))) rows .event
   rows-answer rows l d =
-      ap (λ (o : Left). answerTo o rows) (g .is)
-      ∙ ap (λ (o : Left). o .answer) (rows-accepted (begunState z max) (areaOf (begunMemory start)) rows kind.Start (accepted-rows rows l d))
+      ap (λ (o : AfterCall). answerTo o rows) (g .is)
+      ∙ ap (λ (o : AfterCall). o .event) (rows-accepted (begunState z max) (areaOf (begunMemory start)) rows kind.Start (accepted-rows rows l d))
 
 -- ---- the table
 
-budget : (z : Sizes) (mu max : Scalar) (w : Memory) (rows : List Float) → z .limit ≡ 0 → started (stateWith z mu max (Open kind.Start)) w rows .answer ≡ Finish stop.Budget 0 0 0
+budget : (z : Sizes) (mu max : Scalar) (w : Memory) (rows : List Float) → z .limit ≡ 0 → started (stateWith z mu max (Open kind.Start)) w rows .event ≡ Finish stop.Budget 0 0 0
 unfolding started iterate
 budget z mu max w rows e = rw e
 
@@ -76,7 +82,7 @@ of-begin : OfBegin
 unfolding ofBits toBits neg add nextUp lt le eq div ofInt round fromRatio
 of-begin = record {
   accepted = λ n m s limit a fit l. begin-accepted (sizes n m s limit) a fit l;
-  p10 = (refl, λ z start max a q. ap (λ (b : Left). b .state .search .mu) (begins z start max a q .is));
+  p10 = (refl, λ z start max a q. ap (λ (b : AfterCall). b .state .search .mu) (begins z start max a q .is));
 }
 
 of-reply : OfReply

@@ -17,18 +17,24 @@ use Rattle.linear.specs.Norm.{largestTo, normOf}
 use Rattle.linear.specs.Cholesky.{choleskyOf, refusedTo}
 use Rattle.linear.specs.Substitution.{solveOf}
 use Rattle.linear.specs.Householder.{leastSquaresOf}
-use Rattle.run.specs.Scratch.{vector, fillTo, fillRows, anyTo, allFinite, combinedTo, spreadTo}
-use Rattle.run.specs.Rows.{evaluationOf, squaredOf, predictedOf, violationOf}
-use Rattle.run.specs.Model.{keptTo, dampedOf, gradientOf, problemOf, problemIn}
+use Rattle.run.specs.Vectors.{vector, fillTo, fillRows, anyTo, allFinite, combinedTo, spreadTo}
+use Rattle.run.specs.Rows.{evaluationOf}
+use Rattle.run.specs.Residuals.{squaredOf, predictedOf, violationOf}
+use Rattle.run.specs.Problem.{keptTo, dampedOf, gradientOf, problemOf}
+use Rattle.run.specs.program.Problem.{problemIn}
 use Rattle.run.specs.Basis.{basisOf, correctionOf, multipliersOf}
-use Rattle.run.specs.Directions.{directionsOf, directionsTo}
-use Rattle.run.specs.Step.{found, stepIn, pullOf, weightsOf, steppedBy, freeStep, keptStep, stepOf}
-use Rattle.run.specs.Proposal.{Standing, expectsOf, noDrop, proposalOf, standingWith}
+use Rattle.run.specs.NullSpace.{directionsOf, directionsTo}
+use Rattle.run.specs.Step.{found, steppedBy, freeStep, keptStep, stepOf}
+use Rattle.run.specs.program.Step.{stepIn}
+use Rattle.run.specs.Reduced.{pullOf, weightsOf}
+use Rattle.run.specs.Proposal.{Standing, expectsOf, noDrop, proposalOf}
+use Rattle.run.specs.program.Proposal.{standingWith}
 use Rattle.run.specs.Area.{Memory}
 use Rattle.run.specs.Search.{stops, flatOr, searchTo, searchOf}
-use Rattle.run.specs.Run.{started, iterate, search, leftAt}
-use Rattle.run.specs.Calls.{stateWith}
-use Rattle.run.specs.declared.state.Answer.the-variants.{Finish}
+use Rattle.run.specs.Answered.{started}
+use Rattle.run.specs.Iterate.{iterate, search, leftAt}
+use Rattle.run.specs.State.{stateWith}
+use Rattle.run.specs.declared.state.Event.the-variants.{Finish}
 use Rattle.run.specs.declared.state.Kind.the-variants as kind
 use Rattle.run.specs.declared.state.Phase.the-variants.{Open}
 use Rattle.run.specs.declared.state.Search.{Search}
@@ -82,6 +88,6 @@ unfolding searchOf searchTo
 search-none x rows b moving max y = rw (proposal-none x rows b moving (y .mu) (y .radius))
 
 -- in the first iteration
-pub started-none : (mu max : Scalar) (w : Memory) (rows : List Float) → started (stateWith (sizes 0 0 0 5) mu max (Open kind.Start)) w rows .answer ≡ Finish (stop.Flat 0 0) 0 0 0
+pub started-none : (mu max : Scalar) (w : Memory) (rows : List Float) → started (stateWith (sizes 0 0 0 5) mu max (Open kind.Start)) w rows .event ≡ Finish (stop.Flat 0 0) 0 0 0
 unfolding started iterate search violationOf leftAt squaredOf plusTo
 started-none mu max w rows = rw (norm-none _, root-of-zero, search-none _ _ _ _ _ _)

@@ -10,8 +10,8 @@ use Rattle.interval.specs.declared.Scalar.{Scalar}
 use Rattle.interval.specs.Scalar.{zero64, zeroS}
 use Rattle.linear.specs.Flat.{at, zeros}
 use Rattle.linear.proofs.FlatLaws.{at-inside}
-use Rattle.run.specs.Scratch.{allTo}
-use Rattle.run.proofs.AreaSlots.{length-clear}
+use Rattle.run.specs.Vectors.{allTo}
+use Rattle.run.proofs.AreaLaws.{length-clear}
 
 at-zeros : (n i : ℕ) → 2 * i + 1 < n → at (zeros n) i ≡ zeroS
 at-zeros n i h =

@@ -12,11 +12,13 @@ use Rattle.interval.specs.Result.{ok, refused}
 use Rattle.interval.specs.Scalar.{sqrtOf, couldBeEqual, definitelyLess, definitelyGreater}
 use Rattle.linear.specs.Choose.{chooseOf}
 use Rattle.linear.specs.Flat.{zeros}
-use Rattle.run.specs.Area.{AREA}
+use Rattle.run.specs.Limits.{AREA}
 use Rattle.run.specs.Rows.{rowNumbers}
-use Rattle.run.specs.Calls.{Left, Accepted, sizesFit, allInDomain, firstMu, beginOf, replyOf, replyNoneOf}
-use Rattle.run.specs.declared.state.Answer.{Answer}
-use Rattle.run.specs.declared.state.Answer.the-variants.{Finish}
+use Rattle.run.specs.Calls.{AfterCall, Accepted, beginOf, replyOf, replyNoneOf}
+use Rattle.run.specs.Checks.{sizesFit, allInDomain}
+use Rattle.run.specs.Damping.{firstMu}
+use Rattle.run.specs.declared.state.Event.{Event}
+use Rattle.run.specs.declared.state.Event.the-variants.{Finish}
 use Rattle.run.specs.declared.state.Sizes.{Sizes}
 use Rattle.run.specs.declared.state.Stop.the-variants as stop
 
@@ -34,11 +36,11 @@ abbrev pub sizes : ℕ → ℕ → ℕ → ℕ → Sizes
 sizes n m s limit = record { n = n; m = m; s = s; limit = limit }
 
 -- what a begun run answers to the start's rows, and to none
-abbrev pub answerTo : Left → List Float → Answer
-answerTo b rows = replyOf (b .state) (b .area) rows .answer
+abbrev pub answerTo : AfterCall → List Float → Event
+answerTo b rows = replyOf (b .state) (b .area) rows .event
 
-abbrev pub answerToNone : Left → Answer
-answerToNone b = replyNoneOf (b .state) (b .area) .answer
+abbrev pub answerToNone : AfterCall → Event
+answerToNone b = replyNoneOf (b .state) (b .area) .event
 
 -- of a scalar
 pub record OfScalars : Type 0 where

@@ -5,9 +5,9 @@ use interval::GeopError;
 use interval::Scalar;
 use interval::ScalarResult;
 use libc::STDOUT_FILENO;
-use run::Answer;
+use run::Event;
 use run::Kind;
-use run::Out;
+use run::Returned;
 use run::Stop;
 
 pub fn print(text: &[u8]) {
@@ -100,16 +100,16 @@ fn print_finish(stop: Stop, iterations: usize, turn_downs: usize, standing: usiz
 }
 
 // A line: the name of a case, and what a call of a run answered.
-pub fn print_case(name: &[u8], r: Out) {
+pub fn print_case(name: &[u8], r: Returned) {
     print(name);
     print(b": ");
-    let answer = r.answer;
+    let answer = r.event;
     match answer {
-        Answer::Question(number, kind, standing) => print_question(number, kind, standing),
-        Answer::Finish(stop, iterations, turn_downs, standing) => {
+        Event::Question(number, kind, standing) => print_question(number, kind, standing),
+        Event::Finish(stop, iterations, turn_downs, standing) => {
             print_finish(stop, iterations, turn_downs, standing)
         }
-        Answer::Refused(number) => {
+        Event::Refused(number) => {
             print(b"refusal ");
             print_number(number);
         }

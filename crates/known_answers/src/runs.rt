@@ -4,7 +4,7 @@ use crate::printing::print_case;
 use crate::printing::print_scalar;
 use float_bits::float_of;
 use interval::Scalar;
-use run::Out;
+use run::Returned;
 
 // The bits of 2^400, the greatest end.
 const MOST: u64 = 0x58F0000000000000;
@@ -14,7 +14,7 @@ fn unit() -> Scalar {
 }
 
 // A run of one variable, from 0, with steps up to 1.
-fn begin_one(m: usize, s: usize, limit: usize, area: &mut [f64]) -> Out {
+fn begin_one(m: usize, s: usize, limit: usize, area: &mut [f64]) -> Returned {
     let start = [0.0; 2];
     run::begin(1, m, s, limit, &start, unit(), area)
 }

@@ -30,13 +30,16 @@ use Rattle.linear.proofs.Agree.{normOf-ext, minusTo-ext, dotTo-ext}
 use Rattle.linear.proofs.Folds.{turn, ends, bind-value, bind-ok, bind-refused}
 use Rattle.linear.proofs.Reflections.{rows-positive}
 use Rattle.linear.proofs.Sums.{along-start}
-use Rattle.run.specs.Model.{Problem}
-use Rattle.run.specs.Basis.{Basis, Taken, noRows, packed, coefficientsIn, outsideAt, partOut, partsOut, gramStep, gramRow, extended, withDependent, rowStep, basisOf, orderAt, coefficientAt, correctionOf, multiplierStep, multipliersOf, basisBy, takenBy, problemBy, rankedOf}
+use Rattle.run.specs.Problem.{Problem}
+use Rattle.run.specs.Basis.{Basis, Taken, noRows, packed, coefficientsIn, outsideAt, partOut, partsOut}
+use Rattle.run.specs.Basis.{gramStep, gramRow, extended, withDependent, rowStep, basisOf, orderAt}
+use Rattle.run.specs.Basis.{coefficientAt, correctionOf, multiplierStep, multipliersOf}
+use Rattle.run.specs.program.Basis.{basisBy, takenBy, problemBy, rankedOf}
 use Rattle.run.specs.declared.basis.Rank.{Rank}
 use Rattle.run.specs.declared.basis.Rank.the-variants as rank
-use Rattle.run.specs.Scratch.{vector, row, column, entry, fillTo, minusScaled, unitAt, combinedTo, spreadTo}
-use Rattle.run.proofs.Parts.{at-behind, along-behind, along-take}
-use Rattle.run.proofs.ScratchLaws.{at-take, fill-ext}
+use Rattle.run.specs.Vectors.{vector, row, column, entry, fillTo, minusScaled, unitAt, combinedTo, spreadTo}
+use Rattle.run.proofs.Sublists.{at-behind, along-behind, along-take}
+use Rattle.run.proofs.VectorLaws.{at-take, fill-ext}
 
 pub part-turn : (k r : ℕ) (q : List Float) (z : Taken) (j : ℕ) {s t : Taken} → s ≡ partsOut k r q z j → t ≡ partOut k r q s j → t ≡ partsOut k r q z (j + 1)
 unfolding partsOut

@@ -10,15 +10,17 @@ use lib.Ieee.{Float}
 use lib.ListN.{length, take, drop}
 use Rattle.interval.specs.declared.Scalar.{Scalar}
 use Rattle.interval.specs.Scalar.{pick}
-use Rattle.run.specs.Area.{AREA}
-use Rattle.run.specs.Calls.{Left, checks, unchanged, sizesFit, allInDomain, stepFits, noRun, begunOf, beginOf, valid, pointAt, pointOf}
+use Rattle.run.specs.Limits.{AREA}
+use Rattle.run.specs.Calls.{AfterCall, checks, unchanged, begunOf, beginOf, pointAt, pointOf}
+use Rattle.run.specs.Checks.{sizesFit, allInDomain, stepFits, valid}
+use Rattle.run.specs.State.{noRun}
 use Rattle.run.specs.declared.state.Phase.{Phase}
 use Rattle.run.specs.declared.state.Sizes.{Sizes}
 use Rattle.run.specs.declared.state.State.{State}
 use Rattle.run.proofs.CheckLaws.{both, size-bounds}
 
 -- three checks by the number k that refuses: none is left where k is 0
-refused-by : {k : ℕ} (p q r : Bool) (back : ℕ → Left) (next : Left) → k ≡ pick p (pick q (pick r 0 3) 2) 1 → (k ≡ 0 → ⊥) → back k ≡ checks p 1 back (checks q 2 back (checks r 3 back next))
+refused-by : {k : ℕ} (p q r : Bool) (back : ℕ → AfterCall) (next : AfterCall) → k ≡ pick p (pick q (pick r 0 3) 2) 1 → (k ≡ 0 → ⊥) → back k ≡ checks p 1 back (checks q 2 back (checks r 3 back next))
 refused-by true true true back next e n = absurd (n e)
 refused-by true true false back next e n = ap back e
 refused-by true false r back next e n = ap back e

@@ -15,10 +15,14 @@ use lib.ListN.{length}
 use Rattle.interval.specs.Scalar.{pick}
 use Rattle.interval.specs.Scaling.{isPositive}
 use Rattle.run.specs.Rows.{rowNumbers}
-use Rattle.run.specs.Correction.{CORRECTIONS}
-use Rattle.run.specs.Area.{AREA, memoryOf}
-use Rattle.run.specs.Run.{answered, answeredNone}
-use Rattle.run.specs.Calls.{sizesFit, countsFit, phaseFits, valid, allInDomain, TURN-DOWNS, QUESTIONS, Left, unchanged, leftBy, checks, replyOpen, replyOf, noneOpen, replyNoneOf, checkOpen, checkOf, rowsCheck, thenRows, checkRowsOf}
+use Rattle.run.specs.Limits.{CORRECTIONS}
+use Rattle.run.specs.Limits.{AREA}
+use Rattle.run.specs.Area.{memoryOf}
+use Rattle.run.specs.Answered.{answered, answeredNone}
+use Rattle.run.specs.Checks.{sizesFit, countsFit, phaseFits, valid, allInDomain}
+use Rattle.run.specs.Limits.{TURN-DOWNS, QUESTIONS}
+use Rattle.run.specs.Calls.{AfterCall, unchanged, inArea, checks, replyOpen, replyOf, noneOpen, replyNoneOf}
+use Rattle.run.specs.program.Checks.{checkOpen, checkOf, rowsCheck, thenRows, checkRowsOf}
 use Rattle.run.specs.declared.checks.Checked.{Checked}
 use Rattle.run.specs.declared.checks.Checked.the-variants.{Refuse, Accept}
 use Rattle.run.specs.declared.state.Kind.{Kind}
@@ -129,7 +133,7 @@ few-scalars {n} {m} {s} a b d =
 
 -- a check, passed or not
 pub checked :
-    (P : Left → Type 0) (b : Bool) (k : ℕ) (back : ℕ → Left) (next : Left) →
+    (P : AfterCall → Type 0) (b : Bool) (k : ℕ) (back : ℕ → AfterCall) (next : AfterCall) →
     P (back k) → (b ≡ true → P next) → P (checks b k back next)
 checked P true k back next p h = h refl
 checked P false k back next p h = p
@@ -190,15 +194,15 @@ module _ (st : State) (area : ℕ) (rows : List Float) (k : Kind) where
 -- ---- a reply, after its checks
 
 module _ (st : State) (a : List Float) where
-  abbrev afterNone : Checked → Left
+  abbrev afterNone : Checked → AfterCall
   afterNone (Refuse k) = unchanged st a k
-  afterNone (Accept k) = leftBy (answeredNone k st (memoryOf st a))
+  afterNone (Accept k) = inArea (answeredNone k st (memoryOf st a))
 
   none-checked : replyNoneOf st a ≡ afterNone (checkOf st (length a))
   unfolding replyNoneOf checkOf
   none-checked = first (valid st)
     where
-      area-checked : (k : Kind) (b : Bool) → checks b 2 (unchanged st a) (leftBy (answeredNone k st (memoryOf st a))) ≡ afterNone (pick b (Accept k) (Refuse 2))
+      area-checked : (k : Kind) (b : Bool) → checks b 2 (unchanged st a) (inArea (answeredNone k st (memoryOf st a))) ≡ afterNone (pick b (Accept k) (Refuse 2))
       area-checked k true = refl
       area-checked k false = refl
 
@@ -213,28 +217,28 @@ module _ (st : State) (a : List Float) where
   pub none-refused : (k : ℕ) → checkOf st (length a) ≡ Refuse k → replyNoneOf st a ≡ unchanged st a k
   none-refused k e = none-checked ∙ ap afterNone e
 
-  pub none-accepted : (k : Kind) → checkOf st (length a) ≡ Accept k → replyNoneOf st a ≡ leftBy (answeredNone k st (memoryOf st a))
+  pub none-accepted : (k : Kind) → checkOf st (length a) ≡ Accept k → replyNoneOf st a ≡ inArea (answeredNone k st (memoryOf st a))
   none-accepted k e = none-checked ∙ ap afterNone e
 
 module _ (st : State) (a rows : List Float) where
-  abbrev afterRows : Checked → Left
+  abbrev afterRows : Checked → AfterCall
   afterRows (Refuse k) = unchanged st a k
-  afterRows (Accept k) = leftBy (answered k st (memoryOf st a) rows)
+  afterRows (Accept k) = inArea (answered k st (memoryOf st a) rows)
 
   rows-checked : replyOf st a rows ≡ afterRows (checkRowsOf st (length a) rows)
   unfolding replyOf checkOf checkRowsOf
   rows-checked = first (valid st)
     where
-      inside : (k : Kind) (d : Bool) → checks d 3 (unchanged st a) (leftBy (answered k st (memoryOf st a) rows)) ≡ afterRows (pick d (Accept k) (Refuse 3))
+      inside : (k : Kind) (d : Bool) → checks d 3 (unchanged st a) (inArea (answered k st (memoryOf st a) rows)) ≡ afterRows (pick d (Accept k) (Refuse 3))
       inside k true = refl
       inside k false = refl
 
-      full : (k : Kind) (c d : Bool) → checks c 2 (unchanged st a) (checks d 3 (unchanged st a) (leftBy (answered k st (memoryOf st a) rows))) ≡ afterRows (pick c (pick d (Accept k) (Refuse 3)) (Refuse 2))
+      full : (k : Kind) (c d : Bool) → checks c 2 (unchanged st a) (checks d 3 (unchanged st a) (inArea (answered k st (memoryOf st a) rows))) ≡ afterRows (pick c (pick d (Accept k) (Refuse 3)) (Refuse 2))
       full k true d = inside k d
       full k false d = refl
 
-      whole : (k : Kind) (b c d : Bool) (r : Checked) → afterRows r ≡ checks c 2 (unchanged st a) (checks d 3 (unchanged st a) (leftBy (answered k st (memoryOf st a) rows)))
-          → checks (b && c) 2 (unchanged st a) (checks d 3 (unchanged st a) (leftBy (answered k st (memoryOf st a) rows))) ≡ afterRows (pick b r (Refuse 2))
+      whole : (k : Kind) (b c d : Bool) (r : Checked) → afterRows r ≡ checks c 2 (unchanged st a) (checks d 3 (unchanged st a) (inArea (answered k st (memoryOf st a) rows)))
+          → checks (b && c) 2 (unchanged st a) (checks d 3 (unchanged st a) (inArea (answered k st (memoryOf st a) rows))) ≡ afterRows (pick b r (Refuse 2))
       whole k true c d r e = sym e
       whole k false c d r e = refl
 
@@ -258,5 +262,5 @@ module _ (st : State) (a rows : List Float) where
   pub rows-refused : (k : ℕ) → checkRowsOf st (length a) rows ≡ Refuse k → replyOf st a rows ≡ unchanged st a k
   rows-refused k e = rows-checked ∙ ap afterRows e
 
-  pub rows-accepted : (k : Kind) → checkRowsOf st (length a) rows ≡ Accept k → replyOf st a rows ≡ leftBy (answered k st (memoryOf st a) rows)
+  pub rows-accepted : (k : Kind) → checkRowsOf st (length a) rows ≡ Accept k → replyOf st a rows ≡ inArea (answered k st (memoryOf st a) rows)
   rows-accepted k e = rows-checked ∙ ap afterRows e

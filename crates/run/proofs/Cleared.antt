@@ -15,23 +15,28 @@ use lib.Seq.{getD-drop, getD-take}
 use Rattle.interval.specs.declared.Scalar.{Scalar}
 use Rattle.interval.specs.Scalar.{zero64}
 use Rattle.run.specs.Rows.{rowNumbers}
-use Rattle.run.specs.Area.{POINT, ROWS, CURVATURE, FILTER, SPARE, AREA, SIZES, Memory, areaOf, memoryOf}
-use Rattle.run.specs.Area.{begunMemory, slotsOf, startOf, usedIn}
-use Rattle.run.specs.Run.{Outcome, answered, answeredNone}
-use Rattle.run.specs.Calls.{Left, unchanged, leftBy, sizesFit, allInDomain, stepFits, valid, noRun}
+use Rattle.run.specs.Area.{POINT, ROWS, CURVATURE, FILTER, SPARE, SIZES, Memory, areaOf, memoryOf}
+use Rattle.run.specs.Limits.{AREA}
+use Rattle.run.specs.Area.{begunMemory, startOf, usedIn}
+use Rattle.run.specs.program.Area.{slotsOf}
+use Rattle.run.specs.Endings.{AfterSlots}
+use Rattle.run.specs.Answered.{answered, answeredNone}
+use Rattle.run.specs.Calls.{AfterCall, unchanged, inArea}
+use Rattle.run.specs.Checks.{sizesFit, allInDomain, stepFits, valid}
+use Rattle.run.specs.State.{noRun}
 use Rattle.run.specs.Calls.{refusedByCheck, begunOf, beginOf, Accepted, replyOpen, replyOf, noneOpen, replyNoneOf}
 use Rattle.run.specs.Cleared.{Cleared, Replied, Demand1}
 use Rattle.run.specs.declared.state.Phase.{Phase}
 use Rattle.run.specs.declared.state.Phase.the-variants.{Open, Over}
 use Rattle.run.specs.declared.state.Sizes.{Sizes}
 use Rattle.run.specs.declared.state.State.{State}
-use Rattle.run.proofs.AreaSlots.{Slots, slots-of, slot-read, slots-length, spare-read, cons-eq}
+use Rattle.run.proofs.AreaLaws.{Slots, slots-of, slot-read, slots-length, spare-read, cons-eq}
 use Rattle.run.proofs.Booleans.{and-left, and-right}
 use Rattle.run.proofs.CheckLaws.{Bounds, bounds, SizeBounds, size-bounds, checked}
-use Rattle.run.specs.Remainders.{Tidy, TidyMemory}
-use Rattle.run.proofs.Remainders.{tidy-zeros, tidy-padded, reads-tidy, all-tidy}
-use Rattle.run.proofs.Slots.{rows-fit}
-use Rattle.run.proofs.Tidied.{AtWork, Kept, answered-kept, answered-none-kept}
+use Rattle.run.specs.program.Area.{ZeroBehind, SlotsZeroBehind}
+use Rattle.run.proofs.ZeroBehind.{tidy-zeros, tidy-padded, reads-tidy, all-tidy}
+use Rattle.run.proofs.AreaRead.{rows-fit}
+use Rattle.run.proofs.ZeroBehindKept.{AtWork, Kept, answered-kept, answered-none-kept}
 
 -- ---- the area of a tidy memory
 
@@ -41,8 +46,8 @@ read-inside [] j d e h = absurd (not-suc-le-zero h)
 read-inside (x ∷ xs) zero d e h = refl
 read-inside (x ∷ xs) (suc j) d e h = read-inside xs j d e (le-of-suc-le-suc h)
 
-module _ (used : List ℕ) (w : Memory) (t : TidyMemory used w) where
-  slot-tidy : (k : ℕ) → k < 9 → Tidy (getD SIZES k 0) (getD used k 0) (getD (slotsOf w) k [])
+module _ (used : List ℕ) (w : Memory) (t : SlotsZeroBehind used w) where
+  slot-tidy : (k : ℕ) → k < 9 → ZeroBehind (getD SIZES k 0) (getD used k 0) (getD (slotsOf w) k [])
   slot-tidy zero h = t .standing
   slot-tidy (suc zero) h = t .landed
   slot-tidy (suc (suc zero)) h = t .asked
@@ -87,7 +92,7 @@ module _ (used : List ℕ) (w : Memory) (t : TidyMemory used w) where
       ap (λ (p : ℕ). getD (areaOf w) p nan) e ∙ spare-read area-slots j
       ∙ getD-replicate SPARE j zero64 nan (omega arith)
 
-tidy-cleared : (st : State) (w : Memory) → TidyMemory (usedIn st) w → Cleared st (areaOf w)
+tidy-cleared : (st : State) (w : Memory) → SlotsZeroBehind (usedIn st) w → Cleared st (areaOf w)
 tidy-cleared st w t =
     record {
       whole = slots-length (area-slots (usedIn st) w t);
@@ -115,7 +120,7 @@ module _ (st : State) (a : List Float) where
         unchanged = λ e. (refl, refl);
       }
 
-  kept-replied : (o : Outcome) → Kept (st .sizes) o → Replied st a (leftBy o)
+  kept-replied : (o : AfterSlots) → Kept (st .sizes) o → Replied st a (inArea o)
   kept-replied o k =
       record {
         sizes-kept = k .sizes-kept;
@@ -161,7 +166,7 @@ reply-none-leaves st a =
 -- ---- begin
 
 begun-tidy : (z : Sizes) (start : List Float) (max : Scalar) → SizeBounds z → length start ≡ 2 * z .n
-    → TidyMemory (usedIn (begunOf z start max .state)) (begunMemory start)
+    → SlotsZeroBehind (usedIn (begunOf z start max .state)) (begunMemory start)
 begun-tidy z start max b e =
     let point = tidy-padded POINT (2 * z .n) start (omega arith) (omega (arith, b .n)) in
     record {
@@ -176,7 +181,7 @@ begun-tidy z start max b e =
       filter = tidy-zeros FILTER 0;
     }
 
-abbrev Begun : Left → Type 0
+abbrev Begun : AfterCall → Type 0
 Begun l = Accepted l → Cleared (l .state) (l .area)
 
 not-accepted : (a : List Float) (k : ℕ) → Begun (unchanged noRun a k)
@@ -200,7 +205,7 @@ begin-cleared z start max a =
 begin-unchanged :
     (z : Sizes) (start : List Float) (max : Scalar) (a : List Float) →
     let b = beginOf z start max a in
-    refusedByCheck (b .answer) ≡ true → b .area ≡ a
+    refusedByCheck (b .event) ≡ true → b .area ≡ a
 unfolding beginOf
 begin-unchanged z start max a =
     checked Same (sizesFit z) 1 (unchanged noRun a) _ (λ e. refl)
@@ -210,8 +215,8 @@ begin-unchanged z start max a =
     checked Same (allInDomain start (z .n) && stepFits max) 3 (unchanged noRun a) _ (λ e. refl)
     (λ r e. absurd (true≢false (sym e)))))
   where
-    Same : Left → Type 0
-    Same l = refusedByCheck (l .answer) ≡ true → l .area ≡ a
+    Same : AfterCall → Type 0
+    Same l = refusedByCheck (l .event) ≡ true → l .area ≡ a
 
 pub demand1 : Demand1
 demand1 = record {

@@ -24,22 +24,22 @@ use Rattle.linear.specs.declared.answers.LinearError.{LinearError}
 use Rattle.linear.proofs.Agree.{dotTo-ext}
 use Rattle.linear.proofs.Lists.{length-listTo}
 use Rattle.linear.proofs.Sums.{along-start}
-use Rattle.run.specs.Scratch.{vector, fillTo, chosenOf}
+use Rattle.run.specs.Vectors.{vector, fillTo, chosenOf}
 use Rattle.run.specs.Rows.{Rows, Evaluation, constraintSet, constraintsOf}
 use Rattle.run.specs.declared.rows.RowSet.{RowSet}
 use Rattle.run.specs.Curvature.{
   alongOf,
-  turnedAt,
-  turnedOf,
+  lagrangianChangeAt,
+  lagrangianChange,
   rankOneOf,
   curvatureRow,
-  bentBy,
+  curvatureTimes,
   correctedBy,
   updatedBy,
   updateCurvature,
 }
-use Rattle.run.specs.Proposal.{bentOf}
-use Rattle.run.proofs.ScratchLaws.{filled, fill-ext, fill-whole, prefix-list}
+use Rattle.run.specs.Proposal.{curvatureAlong}
+use Rattle.run.proofs.VectorLaws.{filled, fill-ext, fill-whole, prefix-list}
 use Rattle.run.proofs.LinearCalls.{minus-solved-result}
 
 module _ (n m : ℕ) (xs v jc rhs out : List Float) (hn : n ≤ 12) (hm : m ≤ 12) (hv : 2 * n ≤ length v) where
@@ -76,9 +76,9 @@ unfolding bind
 went-on f h e k ey = rw (← e, h, ← k) ey
 
 pub turned-is : (n : ℕ) (e e′ : Evaluation) (lambda : List Float) {r₀ r y : List Float}
-    → r₀ ≡ zeros 48 → r ≡ chosenOf r₀ (e′ .sum .list) (e′ .sum .values) (e′ .sum .count) → y ≡ fillTo vector 0 (turnedAt e e′ lambda r) n
-    → y ≡ turnedOf n e e′ lambda
-unfolding turnedOf
+    → r₀ ≡ zeros 48 → r ≡ chosenOf r₀ (e′ .sum .list) (e′ .sum .values) (e′ .sum .count) → y ≡ fillTo vector 0 (lagrangianChangeAt e e′ lambda r) n
+    → y ≡ lagrangianChange n e e′ lambda
+unfolding lagrangianChange
 turned-is n e e′ lambda e₀ er ey = rw (ey, er, e₀)
 
 module _ (n : ℕ) (b y bs s : List Float) {v : List Float} {d vs : Scalar} {t : Bool}
@@ -94,7 +94,7 @@ module _ (n : ℕ) (b y bs s : List Float) {v : List Float} {d vs : Scalar} {t :
   uncorrected h = rw h at decided
 
 -- B s, filled row by row
-bent-is : (n : ℕ) (b s : List Float) {bs₀ bs : List Float} → bs₀ ≡ vector → bs ≡ fillTo bs₀ 0 (λ i. dotTo (along b (i * n) 1) (at s) n) n → bs ≡ bentBy n b s
+bent-is : (n : ℕ) (b s : List Float) {bs₀ bs : List Float} → bs₀ ≡ vector → bs ≡ fillTo bs₀ 0 (λ i. dotTo (along b (i * n) 1) (at s) n) n → bs ≡ curvatureTimes n b s
 bent-is n b s e₀ e =
     let same : (j : ℕ) → j * n + 0 ≡ j * n = λ j. omega arith in
     rw (e, e₀) (fill-ext vector 0 _ _ n (λ j h. rw (same j)))
@@ -105,10 +105,10 @@ pub bent-products :
     n ≤ 12 →
     bs₀ ≡ vector →
     bs ≡ fillTo bs₀ 0 (λ i. dotTo (along b (i * n) 1) (at s) n) n →
-    dotTo (along s 0 1) (along bs 0 1) n ≡ bentOf n b s
+    dotTo (along s 0 1) (along bs 0 1) n ≡ curvatureAlong n b s
 bent-products n b s {bs₀} {bs} h e₀ e =
     rw (along-start s, along-start bs, bent-is n b s e₀ e)
-    (dotTo-ext (at s) (at s) (at (bentBy n b s)) (λ i. dotTo (curvatureRow n b i) (at s) n) n (λ i l. refl)
+    (dotTo-ext (at s) (at s) (at (curvatureTimes n b s)) (λ i. dotTo (curvatureRow n b i) (at s) n) n (λ i l. refl)
     (filled vector (λ i. dotTo (curvatureRow n b i) (at s) n) n (omega arith)))
 
 module _ (n : ℕ) (c : Rows) (b y s : List Float) {bs₀ bs : List Float} {p q d : Scalar} {t : Bool}
@@ -126,7 +126,7 @@ module _ (n : ℕ) (c : Rows) (b y s : List Float) {bs₀ bs : List Float} {p q 
 
 -- the whole update; x′ is the front of the array that the step's part was written to
 pub updates-by : (n : ℕ) (b step : List Float) (e e′ : Evaluation) (lambda : List Float) {r : Done} {x x′ y : List Float} {s : Res (List Float)}
-    → r ≡ done.Finished → doneOf r x ≡ alongOf (e .constraints) step → x′ ≡ x → y ≡ turnedOf n e e′ lambda → s ≡ updatedBy n (e .constraints) b y x′
+    → r ≡ done.Finished → doneOf r x ≡ alongOf (e .constraints) step → x′ ≡ x → y ≡ lagrangianChange n e e′ lambda → s ≡ updatedBy n (e .constraints) b y x′
     → s ≡ updateCurvature n b step e e′ lambda
 unfolding updateCurvature
 updates-by n b step e e′ lambda h ex k ey es = went-on _ h ex k (rw (← ey) es)

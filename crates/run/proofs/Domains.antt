@@ -16,13 +16,14 @@ use Rattle.interval.specs.Enclosure.{Fits, Finite}
 use Rattle.interval.specs.Scalar.{pick}
 use Rattle.linear.specs.Flat.{at, inside}
 use Rattle.linear.proofs.FlatLaws.{at-outside}
-use Rattle.run.specs.Scratch.{allTo}
+use Rattle.run.specs.Vectors.{allTo}
 use Rattle.run.specs.Rows.{rowNumbers}
-use Rattle.run.specs.Calls.{MOST, inDomain, allInDomain}
+use Rattle.run.specs.Limits.{MOST}
+use Rattle.run.specs.Checks.{inDomain, allInDomain}
 use Rattle.run.specs.Demand.{Floats}
 use Rattle.run.specs.declared.state.Sizes.{Sizes}
 use Rattle.run.proofs.Booleans.{and-left, and-right, never}
-use Rattle.run.proofs.ExactLaws.{Good}
+use Rattle.run.proofs.demand3.ExactLaws.{Good}
 
 -- ---- floats
 

@@ -25,12 +25,12 @@ use Rattle.linear.proofs.Lists.{length-listTo}
 use Rattle.linear.proofs.Replied.{done-is, replied-apart}
 use Rattle.linear.proofs.SolvedLaws.{solved-by-factor, solved-refused}
 use Rattle.run.specs.Curvature.{alongOf, updateCurvature}
-use Rattle.run.specs.Factored.{Factored}
+use Rattle.run.specs.program.Curvature.{Factored}
 use Rattle.run.specs.Rows.{constraintSet, constraintsOf, evaluationOf}
-use Rattle.run.specs.Scratch.{fillTo, chosenOf}
+use Rattle.run.specs.Vectors.{fillTo, chosenOf}
 use Rattle.run.specs.declared.rows.RowSet.{RowSet}
 use Rattle.run.proofs.CurvatureLaws.{along-lists}
-use Rattle.run.proofs.ScratchLaws.{fill-whole}
+use Rattle.run.proofs.VectorLaws.{fill-whole}
 
 -- the calls, with counts up to 24 and slices of the right lengths
 module _ (r : Done) (m n : ℕ) (hm : m ≤ 24) (hn : n ≤ 24) (jc : List Float) (lj : length jc ≡ 2 * (m * n)) where

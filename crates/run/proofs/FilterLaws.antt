@@ -10,9 +10,9 @@ use mathlib.Core.List.{List, [], _∷_, _++_}
 use lib.Ieee.{Float}
 use lib.ListN.{length, getD, take, set, length-append}
 use Rattle.interval.specs.declared.Scalar.{Scalar}
-use Rattle.run.specs.Filter.{noPair, beatsPair, beatsPairs, pairAt, pairsTo}
-use Rattle.run.specs.Judgement.{beatsTo}
-use Rattle.run.specs.Scratch.{allTo}
+use Rattle.run.specs.program.Filter.{noPair, beatsPair, beatsPairs, pairAt, pairsTo}
+use Rattle.run.specs.Filter.{beatsTo}
+use Rattle.run.specs.Vectors.{allTo}
 use Rattle.run.specs.declared.filter.Pair.{Pair}
 
 -- the first i + 1 of a list whose i-th was set

@@ -21,9 +21,9 @@ use Rattle.linear.specs.Results.{bind}
 use Rattle.linear.specs.declared.answers.Done.{Done}
 use Rattle.linear.specs.declared.answers.Done.the-variants as done
 use Rattle.run.specs.Rows.{rowNumbers}
-use Rattle.run.specs.Calls.{sizesFit}
+use Rattle.run.specs.Checks.{sizesFit}
 use Rattle.run.specs.Pieces.{sizedOf, wantsOf, stepReplied, stepReplyOf}
-use Rattle.run.specs.Step.{endOf}
+use Rattle.run.specs.program.Step.{endOf}
 use Rattle.run.specs.declared.step.StepEnd.{StepEnd}
 use Rattle.run.specs.declared.step.StepEnd.the-variants as s
 use Rattle.run.proofs.Booleans.{never}

@@ -7,9 +7,9 @@ use lib.ListN.{length, length-replicate}
 use Rattle.interval.specs.declared.Scalar.{Scalar}
 use Rattle.interval.specs.Scalar.{zero64, addOf, sharpen}
 use Rattle.linear.specs.Flat.{at}
-use Rattle.run.specs.Proposal.{movedOf}
-use Rattle.run.specs.Scratch.{vector}
-use Rattle.run.proofs.ScratchLaws.{length-fillTo}
+use Rattle.run.specs.Vectors.{movedOf}
+use Rattle.run.specs.Vectors.{vector}
+use Rattle.run.proofs.VectorLaws.{length-fillTo}
 
 abbrev pub sharpSum : List Float → List Float → ℕ → Scalar
 sharpSum x d i = sharpen (addOf (at x i) (at d i))

@@ -18,11 +18,15 @@ use Rattle.linear.specs.Results.{bind}
 use Rattle.linear.proofs.FlatLaws.{at-inside}
 use Rattle.linear.proofs.Folds.{bind-ok, bind-refused}
 use Rattle.linear.proofs.Lists.{is-listTo}
-use Rattle.run.specs.Proposal.{Standing, noDrop, unresolved, noChange, ask, movedOf, sameOf, expectsOf, trialOf, cutOf, cutWithin, shortenedOf, withinOf, proposedBy, proposalOf, triedOf, standingWith, modelOf, pointOf}
-use Rattle.run.specs.Rows.{predictedOf}
-use Rattle.run.specs.Scratch.{vector, chosenOf, fillTo}
+use Rattle.run.specs.Proposal.{Standing, noDrop, unresolved, noChange, ask, expectsOf, trialOf, shortenedOf}
+use Rattle.run.specs.Proposal.{withinOf, proposedBy, proposalOf}
+use Rattle.run.specs.Vectors.{movedOf, sameOf}
+use Rattle.run.specs.Radius.{cutOf, cutWithin}
+use Rattle.run.specs.program.Proposal.{triedOf, standingWith, modelOf, pointOf}
+use Rattle.run.specs.Residuals.{predictedOf}
+use Rattle.run.specs.Vectors.{vector, chosenOf, fillTo}
 use Rattle.run.specs.Step.{Step, Stepped, found, stepOf}
-use Rattle.run.proofs.ScratchLaws.{length-fillTo, at-fill-in, at-fill-ahead, fill-whole}
+use Rattle.run.proofs.VectorLaws.{length-fillTo, at-fill-in, at-fill-ahead, fill-whole}
 
 at-clear : (n i : ℕ) → 2 * i + 1 < n → at (zeros n) i ≡ zeroS
 at-clear n i h =

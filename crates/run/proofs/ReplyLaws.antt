@@ -6,16 +6,18 @@ use mathlib.Core.Path.{_≡_, refl, sym, ap, _∙_}
 use native.Mathlib.Omega.{arith}
 use lib.Ieee.{Float}
 use Rattle.run.specs.Area.{areaOf}
-use Rattle.run.specs.Run.{Outcome, Leaves, Bounded}
-use Rattle.run.specs.Calls.{valid, phaseFits, leftOf, leftBy}
+use Rattle.run.specs.Endings.{AfterSlots}
+use Rattle.run.specs.program.Endings.{Leaves, Bounded}
+use Rattle.run.specs.Checks.{valid, phaseFits}
+use Rattle.run.specs.Calls.{afterCall, inArea}
 use Rattle.run.specs.declared.state.Kind.{Kind}
-use Rattle.run.specs.declared.state.Out.{Out}
+use Rattle.run.specs.declared.state.Returned.{Returned}
 use Rattle.run.specs.declared.state.Phase.the-variants.{Open}
 use Rattle.run.specs.declared.state.State.{State}
 use Rattle.run.proofs.CheckLaws.{bounds, open-mu}
 
-pub leaves-left : (o : Outcome) (r : Out) (a : List Float) → Leaves o r a → leftOf r a ≡ leftBy o
-leaves-left o r a h = rw (h .state-is, h .answer-is, h .held .is)
+pub leaves-left : (o : AfterSlots) (r : Returned) (a : List Float) → Leaves o r a → afterCall r a ≡ inArea o
+leaves-left o r a h = rw (h .state-is, h .event-is, h .held .is)
 
 module _ (st : State) (k : Kind) (v : valid st ≡ true) (p : st .phase ≡ Open k) where
   pub reply-phase : phaseFits st (Open k) ≡ true

@@ -15,7 +15,8 @@ use Rattle.linear.specs.Cholesky.{marksTo}
 use Rattle.linear.specs.Flat.{at, along}
 use Rattle.linear.proofs.Marks.{is-marksTo}
 use Rattle.linear.proofs.Sums.{along-row}
-use Rattle.run.specs.Rows.{Rows, Small, constraintSet, sumSet, slopeAt, slopesOf, slopesBy}
+use Rattle.run.specs.Rows.{Rows, constraintSet, sumSet, slopeAt, slopesOf, slopesBy}
+use Rattle.run.specs.program.Rows.{Small}
 
 -- products of counts
 pub few : {m n : ℕ} → m ≤ 12 → n ≤ 12 → m * n ≤ 144

@@ -13,13 +13,18 @@ use Rattle.interval.specs.Scalar.{pick, isFinite}
 use Rattle.interval.specs.Scaling.{quadrupled, isPositive}
 use Rattle.interval.proofs.Scaling.Positive.{positive-of}
 use Rattle.run.specs.Proposal.{Standing, Proposal, notPositive, noDrop, unresolved, noChange, ask, proposalOf}
-use Rattle.run.specs.Search.{Found, stops, refuses, rejectedFor, withRadius, grown, damped, follow, searchTo, DAMPINGS, goesOn, stopsAt, turnOf, turnResult}
+use Rattle.run.specs.Search.{Found, stops, refuses, follow, searchTo}
+use Rattle.run.specs.State.{rejectedFor, withRadius}
+use Rattle.run.specs.Damping.{grown, damped}
+use Rattle.run.specs.Limits.{DAMPINGS}
+use Rattle.run.specs.program.Damping.{goesOn, stopsAt}
+use Rattle.run.specs.program.Search.{turnOf, turnResult}
 use Rattle.run.specs.declared.search.Turn.{Turn}
 use Rattle.run.specs.declared.state.Search.{Search}
 use Rattle.run.specs.declared.state.Rejection.the-variants as why
 use Rattle.run.specs.declared.state.Stop.{Stop}
 use Rattle.run.specs.declared.state.Stop.the-variants as stop
-use Rattle.run.proofs.Growths.{Growth, growth-new, growth-few, growth-more}
+use Rattle.run.proofs.DampingGrowth.{Growth, growth-new, growth-few, growth-more}
 
 -- what is made of more damping, or of the stop
 pub damped-ap : {A B : Type 0} (f : A → B) (on : Search → A) (stopAt : Search → Stop → A) (x : Search) → f (damped on stopAt x) ≡ damped (λ y. f (on y)) (λ y s. f (stopAt y s)) x

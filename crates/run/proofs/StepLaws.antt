@@ -16,24 +16,32 @@ use Rattle.linear.specs.declared.answers.Done.{Done}
 use Rattle.linear.specs.declared.answers.Done.the-variants as done
 use Rattle.linear.specs.declared.answers.LinearError.{LinearError}
 use Rattle.linear.specs.Cholesky.{Factor, choleskyOf}
-use Rattle.run.specs.Scratch.{matrix, allFinite, spreadTo}
+use Rattle.run.specs.Vectors.{matrix, allFinite, spreadTo}
 use Rattle.run.specs.Rows.{Evaluation}
-use Rattle.run.specs.Model.{Kept, keptTo, Problem, problemOf, problemIn, dampedBy, dampedCurve, gradientIn}
-use Rattle.run.specs.Basis.{Basis, basisOf, correctionOf, multiplierStep, multipliersOf, basisBy, problemBy, rankedOf}
+use Rattle.run.specs.Problem.{Kept, keptTo, Problem, problemOf}
+use Rattle.run.specs.program.Problem.{problemIn, dampedBy, dampedFrom, gradientIn}
+use Rattle.run.specs.Basis.{Basis, basisOf, correctionOf, multiplierStep, multipliersOf}
+use Rattle.run.specs.program.Basis.{basisBy, problemBy, rankedOf}
 use Rattle.run.specs.declared.basis.Rank.{Rank}
 use Rattle.run.specs.declared.basis.Rank.the-variants as rank
 use Rattle.run.specs.declared.step.StepEnd.{StepEnd}
 use Rattle.run.specs.declared.step.StepEnd.the-variants as end
 use Rattle.run.specs.declared.step.Prepared.{Prepared}
 use Rattle.run.specs.declared.step.Prepared.the-variants as prepared
-use Rattle.run.specs.declared.directions.Found.{Found}
-use Rattle.run.specs.declared.directions.Found.the-variants as found
-use Rattle.run.specs.Directions.{Directions, directionsOf, spanOf, foundOf}
-use Rattle.run.specs.Step.{Stepped, notPositive, forceOf, pullOf, reducedOf, againstOf, Weights, weights, none, weightsOf, steppedBy, alongZ, freeStep, keptStep, spreadStep, stepOf, curved, spanned, solvedWith, addedTo, freePart, withMultipliers, endOf, spreadEnd, basisFor, correctedStep, basedStep, testedStep, rankOf, Few, readyOf, readyStep, framedStep, dampedStep, preparedStep}
+use Rattle.run.specs.declared.null_space.Found.{Found}
+use Rattle.run.specs.declared.null_space.Found.the-variants as found
+use Rattle.run.specs.NullSpace.{Directions, directionsOf}
+use Rattle.run.specs.program.NullSpace.{spanOf, foundOf}
+use Rattle.run.specs.Step.{Stepped, notPositive, steppedBy, alongZ, freeStep, keptStep, spreadStep, stepOf}
+use Rattle.run.specs.Reduced.{forceOf, pullOf, reducedOf, againstOf, Weights, weights, none, weightsOf}
+use Rattle.run.specs.program.Reduced.{curved, spanned, solvedWith, addedTo, freePart}
+use Rattle.run.specs.program.Step.{withMultipliers, endOf, spreadEnd, basisFor, stepFromCorrection, stepFromBasis}
+use Rattle.run.specs.program.Step.{testedStep, rankOf, Few, readyOf, readyStep, stepFromFactors, dampedStep}
+use Rattle.run.specs.program.Step.{preparedStep}
 use Rattle.run.proofs.BasisLaws.{basis-reads, rank-small}
-use Rattle.run.proofs.DirectionLaws.{directions-few}
-use Rattle.run.proofs.ScratchLaws.{at-rows-behind, at-clear, all-behind}
-use Rattle.run.proofs.Frames.{first-of-four, second-of-four, third-of-four, fourth-of-four}
+use Rattle.run.proofs.NullSpaceLaws.{directions-few}
+use Rattle.run.proofs.VectorLaws.{at-rows-behind, at-clear, all-behind}
+use Rattle.run.proofs.Concatenation.{first-of-four, second-of-four, third-of-four, fourth-of-four}
 
 -- the kept step, once its part along Z is added
 abbrev pub onward : Problem → Basis → Weights → Res Stepped
@@ -105,8 +113,8 @@ module _ (P : Problem) (b : Basis) (delta : List Float) where
   span-read (refused e) = refl
 
   pub corrected-by : {x : Res Directions} → x ≡ spanOf (directionsOf (P .k) (b .rank) (b .q))
-      → bind x (λ d. freeStep (curved (P .k) (P .h) (P .g)) (basisFor (b .rank) (b .q) (b .coefficients) (b .order)) delta d) ≡ correctedStep P b delta
-  unfolding correctedStep
+      → bind x (λ d. freeStep (curved (P .k) (P .h) (P .g)) (basisFor (b .rank) (b .q) (b .coefficients) (b .order)) delta d) ≡ stepFromCorrection P b delta
+  unfolding stepFromCorrection
   corrected-by e = rw e (span-read (directionsOf (P .k) (b .rank) (b .q)))
 
   each-read : (x : Res Directions)
@@ -115,18 +123,18 @@ module _ (P : Problem) (b : Basis) (delta : List Float) where
   each-read (ok d) = sym (free-read (curved (P .k) (P .h) (P .g)) (basisFor (b .rank) (b .q) (b .coefficients) (b .order)) delta d) ∙ free-read P b delta d
   each-read (refused e) = refl
 
-  pub corrected-read : correctedStep (curved (P .k) (P .h) (P .g)) (basisFor (b .rank) (b .q) (b .coefficients) (b .order)) delta ≡ correctedStep P b delta
-  unfolding correctedStep
+  pub corrected-read : stepFromCorrection (curved (P .k) (P .h) (P .g)) (basisFor (b .rank) (b .q) (b .coefficients) (b .order)) delta ≡ stepFromCorrection P b delta
+  unfolding stepFromCorrection
   corrected-read = each-read (directionsOf (P .k) (b .rank) (b .q))
 
 -- from the basis on, and over the kept variables
 module _ (P : Problem) where
-  pub based-refused : (b : Basis) {e : ℕ} → refused e ≡ correctionOf P b → refused e ≡ basedStep P b
-  unfolding basedStep bind
+  pub based-refused : (b : Basis) {e : ℕ} → refused e ≡ correctionOf P b → refused e ≡ stepFromBasis P b
+  unfolding stepFromBasis bind
   based-refused b e = rw (← e)
 
-  pub based-on : (b : Basis) {delta : List Float} {x : Res Stepped} → ok delta ≡ correctionOf P b → x ≡ correctedStep P b delta → x ≡ basedStep P b
-  unfolding basedStep bind
+  pub based-on : (b : Basis) {delta : List Float} {x : Res Stepped} → ok delta ≡ correctionOf P b → x ≡ stepFromCorrection P b delta → x ≡ stepFromBasis P b
+  unfolding stepFromBasis bind
   based-on b e ex = rw (← e) ex
 
   -- only the constraint values, the curvature and the gradient are read, and of the basis no Gram matrix
@@ -137,30 +145,30 @@ module _ (P : Problem) where
     abbrev bare : Basis
     bare = basisBy (b .rank) (b .q) [] (b .coefficients) (b .dependent) (b .order)
 
-    all-read : (x : Res (List Float)) → bind x (λ delta. correctedStep plain bare delta) ≡ bind x (λ delta. correctedStep P b delta)
+    all-read : (x : Res (List Float)) → bind x (λ delta. stepFromCorrection plain bare delta) ≡ bind x (λ delta. stepFromCorrection P b delta)
     unfolding bind
     all-read (ok delta) = sym (corrected-read plain bare delta) ∙ corrected-read P b delta
     all-read (refused e) = refl
 
-    based-read : basedStep plain bare ≡ basedStep P b
-    unfolding basedStep correctionOf
+    based-read : stepFromBasis plain bare ≡ stepFromBasis P b
+    unfolding stepFromBasis correctionOf
     based-read = all-read (correctionOf P b)
 
-  kept-by : keptStep P ≡ bind (basisOf P) (λ b. basedStep P b)
-  unfolding keptStep basedStep correctedStep
+  kept-by : keptStep P ≡ bind (basisOf P) (λ b. stepFromBasis P b)
+  unfolding keptStep stepFromBasis stepFromCorrection
   kept-by = refl
 
   module _ (q gram coefficients dependent : List Float) (order : List ℕ) where
-    each-based : (x : Rank) → bind (rankedOf x q [] coefficients dependent order) (basedStep plain) ≡ bind (rankedOf x q gram coefficients dependent order) (λ b. basedStep P b)
+    each-based : (x : Rank) → bind (rankedOf x q [] coefficients dependent order) (stepFromBasis plain) ≡ bind (rankedOf x q gram coefficients dependent order) (λ b. stepFromBasis P b)
     unfolding bind
     each-based (rank.Of r) = based-read (basisBy r q gram coefficients dependent order)
     each-based (rank.Refused e) = refl
 
     module _ (x : Rank) (e : rankedOf x q gram coefficients dependent order ≡ basisOf (problemBy (P .k) (P .m) (λ _. zeroS) (P .wide) (P .jc))) where
-      kept-based : {y : Res Stepped} → y ≡ bind (rankedOf x q [] coefficients dependent order) (basedStep plain) → y ≡ keptStep P
-      kept-based ey = ey ∙ each-based x ∙ ap (λ z. bind z (λ b. basedStep P b)) (e ∙ basis-reads P) ∙ sym kept-by
+      kept-based : {y : Res Stepped} → y ≡ bind (rankedOf x q [] coefficients dependent order) (stepFromBasis plain) → y ≡ keptStep P
+      kept-based ey = ey ∙ each-based x ∙ ap (λ z. bind z (λ b. stepFromBasis P b)) (e ∙ basis-reads P) ∙ sym kept-by
 
-      pub kept-on : {r : ℕ} {y : Res Stepped} → x ≡ rank.Of r → y ≡ basedStep plain (basisBy r q [] coefficients dependent order) → y ≡ keptStep P
+      pub kept-on : {r : ℕ} {y : Res Stepped} → x ≡ rank.Of r → y ≡ stepFromBasis plain (basisBy r q [] coefficients dependent order) → y ≡ keptStep P
       unfolding bind
       kept-on ex ey = kept-based (rw ex ey)
 
@@ -176,7 +184,7 @@ rank-bound P q gram coefficients dependent order (rank.Refused x) e = omega arit
 
 -- a frame, as it is read
 framed-is : (x : Prepared) (P : Problem) (order : List ℕ) (frame q c delta z : List Float) → length q ≡ 288 → length c ≡ 288 → length delta ≡ 24 → length z ≡ 288 → frame ≡ q ++ (c ++ (delta ++ z))
-    → framedStep x P order frame ≡ readyStep x P q c order delta z
+    → stepFromFactors x P order frame ≡ readyStep x P q c order delta z
 framed-is x P order frame q c delta z lq lc ld lz e =
     rw (first-of-four frame q c delta z lq lc ld lz e, second-of-four frame q c delta z lq lc ld lz e, third-of-four frame q c delta z lq lc ld lz e, fourth-of-four frame q c delta z lq lc ld lz e)
 
@@ -184,14 +192,14 @@ framed-is x P order frame q c delta z lq lc ld lz e =
 module _ (P : Problem) (b : Basis) (delta z : List Float) where
   ready-is : (d : Done) (f : Found) → doneOf d delta ≡ correctionOf P b
       → foundOf f z ≡ spanOf (directionsOf (P .k) (b .rank) (b .q))
-      → readyStep (readyOf d f (b .rank)) (curved (P .k) (P .h) (P .g)) (b .q) (b .coefficients) (b .order) delta z ≡ basedStep P b
+      → readyStep (readyOf d f (b .rank)) (curved (P .k) (P .h) (P .g)) (b .q) (b .coefficients) (b .order) delta z ≡ stepFromBasis P b
   unfolding bind
   ready-is done.Finished (found.Of count) ec ef = based-on P b ec (corrected-by P b delta ef)
   ready-is done.Finished (found.Refused e) ec ef = based-on P b ec (corrected-by P b delta ef)
   ready-is (done.Refused e) f ec ef = based-refused P b ec
 
   pub ready-framed : {x : Prepared} (frame : List Float) (d : Done) (f : Found) → length (b .q) ≡ 288 → length (b .coefficients) ≡ 288 → length delta ≡ 24 → length z ≡ 288 → frame ≡ b .q ++ (b .coefficients ++ (delta ++ z))
-      → x ≡ readyOf d f (b .rank) → doneOf d delta ≡ correctionOf P b → foundOf f z ≡ spanOf (directionsOf (P .k) (b .rank) (b .q)) → framedStep x (curved (P .k) (P .h) (P .g)) (b .order) frame ≡ basedStep P b
+      → x ≡ readyOf d f (b .rank) → doneOf d delta ≡ correctionOf P b → foundOf f z ≡ spanOf (directionsOf (P .k) (b .rank) (b .q)) → stepFromFactors x (curved (P .k) (P .h) (P .g)) (b .order) frame ≡ stepFromBasis P b
   ready-framed {x} frame d f lq lc ld lz e ex ec ef =
       framed-is x (curved (P .k) (P .h) (P .g)) (b .order) frame (b .q) (b .coefficients) delta z lq lc ld lz e
       ∙ ap (λ (y : Prepared). readyStep y (curved (P .k) (P .h) (P .g)) (b .q) (b .coefficients) (b .order) delta z) ex
@@ -211,41 +219,41 @@ module _ (k r : ℕ) (q z : List Float) (hk : k ≤ 12) (hr : r ≤ 12) where
 -- the step from it, where the correction is copied, or the refusal
 module _ {x : Prepared} (P : Problem) (order : List ℕ) (frame : List Float) where
   pub ready-on : {r count : ℕ} {kept : List Float} {y : Res Stepped} → x ≡ prepared.Ready r count → kept ≡ take 24 (drop 576 frame)
-      → y ≡ freeStep P (basisFor r (take 288 frame) (take 288 (drop 288 frame)) order) kept (spanned count (take 288 (drop 600 frame))) → y ≡ framedStep x P order frame
+      → y ≡ freeStep P (basisFor r (take 288 frame) (take 288 (drop 288 frame)) order) kept (spanned count (take 288 (drop 600 frame))) → y ≡ stepFromFactors x P order frame
   ready-on ex ek ey = rw ex (rw ek at ey)
 
-  pub ready-refused : {e : LinearError} → x ≡ prepared.Refused e → refused (numberOf e) ≡ framedStep x P order frame
+  pub ready-refused : {e : LinearError} → x ≡ prepared.Refused e → refused (numberOf e) ≡ stepFromFactors x P order frame
   ready-refused ex = rw ex
 
 -- H is finite where its first k rows are: behind them it is clear
 rows-finite : (k : ℕ) (curve : List Float) (mu : Scalar) → k ≤ 12 →
-    allFinite (dampedCurve k curve mu) 144 ≡ allFinite (dampedCurve k curve mu) (12 * k)
+    allFinite (dampedFrom k curve mu) 144 ≡ allFinite (dampedFrom k curve mu) (12 * k)
 unfolding dampedBy
 rows-finite k curve mu h =
     let m : (144 - 12 * k) + 12 * k ≡ 144 = omega (arith, h) in
-    rw m at (all-behind (λ i. isFinite (at (dampedCurve k curve mu) i)) (144 - 12 * k) (12 * k)
+    rw m at (all-behind (λ i. isFinite (at (dampedFrom k curve mu) i)) (144 - 12 * k) (12 * k)
     (λ t a b. ap isFinite (at-rows-behind matrix _ k k t h a ∙ at-clear 288 t (omega (arith, b, m)))))
 
 -- where H is finite
 module _ (k : ℕ) (x : Prepared) (order : List ℕ) (curve frame : List Float) (mu : Scalar)
-    {h : List Float} {finite : Bool} (hk : k ≤ 12) (eh : h ≡ dampedCurve k curve mu)
+    {h : List Float} {finite : Bool} (hk : k ≤ 12) (eh : h ≡ dampedFrom k curve mu)
     (ef : finite ≡ allFinite h (12 * k)) where
-  whole : finite ≡ allFinite (dampedCurve k curve mu) 144
+  whole : finite ≡ allFinite (dampedFrom k curve mu) 144
   whole = rw eh at ef ∙ sym (rows-finite k curve mu hk)
 
   pub damped-not : finite ≡ false → ok notPositive ≡ dampedStep k x order curve frame mu
   unfolding dampedStep
   damped-not q = rw (← whole, q)
 
-  pub damped-on : {y : Res Stepped} → finite ≡ true → y ≡ framedStep x (curved k h (gradientIn curve)) order frame → y ≡ dampedStep k x order curve frame mu
+  pub damped-on : {y : Res Stepped} → finite ≡ true → y ≡ stepFromFactors x (curved k h (gradientIn curve)) order frame → y ≡ dampedStep k x order curve frame mu
   unfolding dampedStep
   damped-on q ey = rw (← whole, q, ← eh) ey
 
 damped-tested : (k m : ℕ) (c : ℕ → Scalar) (wide jc : List Float) (x : Prepared) (order : List ℕ) (curve frame : List Float) (mu : Scalar)
-    → ((h g : List Float) → framedStep x (curved k h g) order frame ≡ keptStep (problemIn k m c wide jc h g))
-    → dampedStep k x order curve frame mu ≡ testedStep (problemIn k m c wide jc (dampedCurve k curve mu) (gradientIn curve))
+    → ((h g : List Float) → stepFromFactors x (curved k h g) order frame ≡ keptStep (problemIn k m c wide jc h g))
+    → dampedStep k x order curve frame mu ≡ testedStep (problemIn k m c wide jc (dampedFrom k curve mu) (gradientIn curve))
 unfolding dampedStep testedStep
-damped-tested k m c wide jc x order curve frame mu f = ap (λ (y : Res Stepped). pick (allFinite (dampedCurve k curve mu) 144) y (ok notPositive)) (f (dampedCurve k curve mu) (gradientIn curve))
+damped-tested k m c wide jc x order curve frame mu f = ap (λ (y : Res Stepped). pick (allFinite (dampedFrom k curve mu) 144) y (ok notPositive)) (f (dampedFrom k curve mu) (gradientIn curve))
 
 -- over all
 spread-tested : (k : Kept) (finite : Bool) (x : Res Stepped) → spreadEnd k (pick finite x (ok notPositive)) ≡ pick finite (bind x (λ y. ok (spreadStep k y))) (ok notPositive)
@@ -270,7 +278,7 @@ module _ (n : ℕ) (moving : List Bool) (x : Prepared) (order : List ℕ) (curve
   prepared-by ey ez = ez ∙ ap (spreadEnd k) ey ∙ rw ek
 
   pub prepared-is : (e : Evaluation) (b : List Float) (m : ℕ) (c : ℕ → Scalar) (wide jc : List Float)
-      → problemIn (k .count) m c wide jc (dampedCurve (k .count) curve mu) (gradientIn curve) ≡ problemOf n k e b mu
-      → ((h g : List Float) → framedStep x (curved (k .count) h g) order frame ≡ keptStep (problemIn (k .count) m c wide jc h g)) → preparedStep n moving x order curve frame mu ≡ stepOf n e b moving mu
+      → problemIn (k .count) m c wide jc (dampedFrom (k .count) curve mu) (gradientIn curve) ≡ problemOf n k e b mu
+      → ((h g : List Float) → stepFromFactors x (curved (k .count) h g) order frame ≡ keptStep (problemIn (k .count) m c wide jc h g)) → preparedStep n moving x order curve frame mu ≡ stepOf n e b moving mu
   prepared-is e b m c wide jc ep f =
       sym (prepared-by refl refl) ∙ step-is n e b moving mu ek (damped-tested (k .count) m c wide jc x order curve frame mu f ∙ ap testedStep ep) refl

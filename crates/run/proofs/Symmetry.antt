@@ -17,10 +17,10 @@ use Rattle.linear.specs.Choose.{chooseOf}
 use Rattle.linear.specs.Dot.{plusTo}
 use Rattle.linear.specs.Flat.{inside, at, along, put, zeros}
 use Rattle.linear.proofs.FlatLaws.{at-outside, put-outside, at-put-same, at-put-other}
-use Rattle.run.specs.Model.{undampedAt}
-use Rattle.run.specs.Scratch.{column, fillTo, chosenOf}
+use Rattle.run.specs.program.Problem.{undampedAt}
+use Rattle.run.specs.Vectors.{column, fillTo, chosenOf}
 use Rattle.run.proofs.Booleans.{never}
-use Rattle.run.proofs.ScratchLaws.{at-fill-other, at-clear}
+use Rattle.run.proofs.VectorLaws.{at-fill-other, at-clear}
 
 -- ---- numbers with the same bits
 

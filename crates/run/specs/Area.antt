@@ -1,14 +1,13 @@
 -- The work area (document 01, "Area"): 8,000 numbers in slots. A slot's used places are from its start; all else is +0 after a call.
-use Prim.Native.Nat.{ℕ, zero, suc, _+_, _-_, _*_}
+use Prim.Native.Nat.{ℕ, _+_, _-_, _*_, zero, suc}
 use mathlib.Core.Bool.{Bool, true, false}
-use mathlib.Core.Path.{_≡_}
-use mathlib.Core.List.{List, [], _∷_, _++_, map}
+use mathlib.Core.List.{List, _++_, [], _∷_}
 use lib.Ieee.{Float}
 use lib.ListN.{length, take, drop, getD}
 use Rattle.interval.specs.Scalar.{pick}
 use Rattle.linear.specs.Flat.{zeros}
-use Rattle.run.specs.Rows.{rowNumbers}
 use Rattle.run.specs.Curvature.{curvatureEntries}
+use Rattle.run.specs.Rows.{rowNumbers, Evaluation, evaluationOf}
 use Rattle.run.specs.declared.state.Kind.the-variants as kind
 use Rattle.run.specs.declared.state.Phase.{Phase}
 use Rattle.run.specs.declared.state.Phase.the-variants.{Open, Over}
@@ -29,9 +28,6 @@ FILTER = 800
 
 abbrev pub SPARE : ℕ
 SPARE = 4920
-
-abbrev pub AREA : ℕ
-AREA = 8000
 
 -- where the asked point's slot begins: behind the standing and the landed point
 abbrev pub ASKED : ℕ
@@ -199,17 +195,6 @@ withTaken w curvature filter = record {
   filter = filter;
 }
 
--- ---- slots in the area
-
--- a with s written from the place `base` on
-abbrev pub written : List Float → ℕ → List Float → List Float
-written a base s = take base a ++ s ++ drop (base + length s) a
-
--- the slots in order, and how many numbers each has
-abbrev pub slotsOf : Memory → List (List Float)
-slotsOf w =
-    w .standing ∷ (w .landed ∷ (w .asked ∷ (w .standingRows ∷ (w .landedRows ∷ (w .step ∷ (w .multipliers ∷ (w .curvature ∷ (w .filter ∷ []))))))))
-
 abbrev pub SIZES : List ℕ
 SIZES = POINT ∷ (POINT ∷ (POINT ∷ (ROWS ∷ (ROWS ∷ (POINT ∷ (POINT ∷ (CURVATURE ∷ (FILTER ∷ []))))))))
 
@@ -225,17 +210,22 @@ usedIn st =
     ∷ (pick (isOpen (st .phase)) (2 * n) 0
     ∷ (pick tried rows 0 ∷ (pick corrected rows 0 ∷ (pick tried (2 * n) 0 ∷ (pick tried (2 * st .sizes .m) 0 ∷ (pick tried (2 * curvatureEntries n) 0 ∷ (pick tried (4 * st .counts .iterations) 0 ∷ []))))))))
 
--- an area that holds w, each list of its slot's length
-pub record Holds (w : Memory) (a : List Float) : Type 0 where
-  pub sized : map length (slotsOf w) ≡ SIZES
-  pub is : a ≡ areaOf w
-
 -- where slot k begins
 unfoldable pub startOf : List ℕ → ℕ → ℕ
 startOf sizes zero = 0
 startOf sizes (suc k) = startOf sizes k + getD sizes k 0
 
--- the first k slots, each with so many numbers of an area and +0 behind
-unfoldable pub tidiedTo : List ℕ → List ℕ → List Float → ℕ → List Float
-tidiedTo sizes used a zero = []
-tidiedTo sizes used a (suc k) = tidiedTo sizes used a k ++ padded (getD sizes k 0) (take (getD used k 0) (drop (startOf sizes k) a))
+-- ---- what it reads: the rows of the standing and of the landed point
+
+abbrev pub rowsAt : State → List Float → Evaluation
+rowsAt st rows = evaluationOf (st .sizes .n) (st .sizes .m) (st .sizes .s) rows
+
+abbrev pub standingAt : State → Memory → Evaluation
+standingAt st w = rowsAt st (w .standingRows)
+
+abbrev pub landedAt : State → Memory → Evaluation
+landedAt st w = rowsAt st (w .landedRows)
+
+-- the curvature that a proposal goes by: none in plain
+abbrev pub curvatureOf : State → Memory → List Float
+curvatureOf st w = pick (st .search .plain) (zeros CURVATURE) (w .curvature)

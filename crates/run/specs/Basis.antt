@@ -1,25 +1,23 @@
 -- An orthonormal basis Q of the constraints' rows, by modified Gram-Schmidt, and each row's coefficients in it. Whether a row is independent of those before it is asked of the unsharpened rows.
-use Prim.Native.Nat.{ℕ, zero, suc, _+_, _-_, _*_, _/_, _%_}
+use Prim.Native.Nat.{ℕ, _*_, _/_, _%_, _+_, zero, suc, _-_}
 use mathlib.Core.Bool.{false}
-use mathlib.Core.List.{List, []}
+use mathlib.Core.List.{List}
 use lib.Dec.{ltb}
 use lib.Ieee.{Float}
-use lib.ListN.{getD, set, replicate}
+use lib.ListN.{replicate, set, getD}
+use Rattle.interval.specs.Result.{Res, ok}
+use Rattle.interval.specs.Scalar.{divOf, sqrtOf, sharpen, zeroS, pick, definitelyGreater, negOf}
 use Rattle.interval.specs.declared.Scalar.{Scalar}
-use Rattle.interval.specs.Result.{Res, ok, refused}
-use Rattle.interval.specs.Scalar.{zeroS, pick, negOf, divOf, sqrtOf, sharpen, definitelyGreater}
-use Rattle.linear.specs.Flat.{at, put, along, listTo}
-use Rattle.linear.specs.Answers.{numberOf}
-use Rattle.linear.specs.Results.{bind, foldR}
-use Rattle.linear.specs.Dot.{dotTo, minusTo}
 use Rattle.linear.specs.Choose.{chooseOf, sharpOf}
-use Rattle.linear.specs.Norm.{normOf}
-use Rattle.linear.specs.Substitution.{storeR, solveOf}
+use Rattle.linear.specs.Dot.{dotTo, minusTo}
+use Rattle.linear.specs.Flat.{listTo, at, put, along}
 use Rattle.linear.specs.Householder.{leastSquaresOf}
-use Rattle.run.specs.Scratch.{vector, matrix, row, column, entry, fillTo, minusScaled, unitAt, combinedTo, spreadTo}
-use Rattle.run.specs.Model.{Problem}
-use Rattle.run.specs.declared.basis.Rank.{Rank}
-use Rattle.run.specs.declared.basis.Rank.the-variants as rank
+use Rattle.linear.specs.Norm.{normOf}
+use Rattle.linear.specs.Results.{bind, foldR}
+use Rattle.linear.specs.Substitution.{solveOf, storeR}
+use Rattle.run.specs.Problem.{Problem}
+use Rattle.run.specs.Vectors.{matrix, entry, row, column, minusScaled, vector, fillTo, unitAt, combinedTo}
+use Rattle.run.specs.Vectors.{spreadTo}
 
 -- of the rows so far: `rank` vectors in q, the factor of their Gram matrix, the coefficients of the rows they came from, those of the other rows; order has from place 0 on which rows came into
 -- the basis, and from place 12 on which did not
@@ -135,20 +133,3 @@ multiplierStep k b pull byRow u =
 unfoldable pub multipliersOf : ℕ → Basis → List Float → Res (List Float)
 unfolding bind foldR
 multipliersOf k b pull = bind (foldR (multiplierStep k b pull) vector (b .rank)) (λ byRow. ok (spreadTo (b .order) byRow (b .rank)))
-
--- ---- by their parts, as the functions have them
-
-abbrev pub basisBy : ℕ → List Float → List Float → List Float → List Float → List ℕ → Basis
-basisBy rank q gram coefficients dependent order = record { rank = rank; q = q; gram = gram; coefficients = coefficients; dependent = dependent; order = order }
-
-abbrev pub takenBy : List Float → List Float → Taken
-takenBy v coefficients = record { v = v; coefficients = coefficients }
-
--- a problem's constraints: no more is read here
-abbrev pub problemBy : ℕ → ℕ → (ℕ → Scalar) → List Float → List Float → Problem
-problemBy k m c wide jc = record { k = k; m = m; c = c; wide = wide; jc = jc; h = []; g = [] }
-
--- what is written, or the refusal
-abbrev pub rankedOf : Rank → List Float → List Float → List Float → List Float → List ℕ → Res Basis
-rankedOf (rank.Of r) q gram coefficients dependent order = ok (basisBy r q gram coefficients dependent order)
-rankedOf (rank.Refused e) q gram coefficients dependent order = refused (numberOf e)

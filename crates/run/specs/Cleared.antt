@@ -6,10 +6,11 @@ use mathlib.Core.List.{List}
 use mathlib.Core.Path.{_≡_}
 use lib.Ieee.{Float, nan}
 use lib.ListN.{length, getD}
-use Rattle.interval.specs.declared.Scalar.{Scalar}
 use Rattle.interval.specs.Scalar.{zero64}
-use Rattle.run.specs.Area.{AREA, SPARE, SIZES, usedIn, startOf}
-use Rattle.run.specs.Calls.{Left, Accepted, refusedByCheck, beginOf, replyOf, replyNoneOf}
+use Rattle.interval.specs.declared.Scalar.{Scalar}
+use Rattle.run.specs.Area.{SPARE, SIZES, usedIn, startOf}
+use Rattle.run.specs.Calls.{AfterCall, refusedByCheck, Accepted, beginOf, replyOf, replyNoneOf}
+use Rattle.run.specs.Limits.{AREA}
 use Rattle.run.specs.declared.state.Sizes.{Sizes}
 use Rattle.run.specs.declared.state.State.{State}
 
@@ -22,10 +23,10 @@ pub record Cleared (st : State) (a : List Float) : Type 0 where
   pub spare : (i : ℕ) → AREA - SPARE ≤ i → i < AREA → getD a i nan ≡ zero64
 
 -- what a reply to a run leaves, where the run is the state st and the area a
-pub record Replied (st : State) (a : List Float) (l : Left) : Type 0 where
+pub record Replied (st : State) (a : List Float) (l : AfterCall) : Type 0 where
   pub sizes-kept : l .state .sizes ≡ st .sizes
-  pub cleared : refusedByCheck (l .answer) ≡ false → Cleared (l .state) (l .area)
-  pub unchanged : refusedByCheck (l .answer) ≡ true → (l .state ≡ st) × (l .area ≡ a)
+  pub cleared : refusedByCheck (l .event) ≡ false → Cleared (l .state) (l .area)
+  pub unchanged : refusedByCheck (l .event) ≡ true → (l .state ≡ st) × (l .area ≡ a)
 
 -- demand 1 of the memory (document 01): what every call leaves, on all contents
 pub record Demand1 : Type 0 where
@@ -36,6 +37,6 @@ pub record Demand1 : Type 0 where
   pub not-begun :
       (z : Sizes) (start : List Float) (max : Scalar) (a : List Float) →
       let b = beginOf z start max a in
-      refusedByCheck (b .answer) ≡ true → b .area ≡ a
+      refusedByCheck (b .event) ≡ true → b .area ≡ a
   pub replied : (st : State) (a rows : List Float) → Replied st a (replyOf st a rows)
   pub replied-none : (st : State) (a : List Float) → Replied st a (replyNoneOf st a)

@@ -3,17 +3,18 @@ use Prim.Native.Nat.{ℕ, _+_, _*_, _/_, _%_}
 use mathlib.Core.Bool.{Bool, not, _||_}
 use mathlib.Core.List.{List}
 use lib.Ieee.{Float}
-use Rattle.interval.specs.declared.Scalar.{Scalar}
 use Rattle.interval.specs.Result.{Res, ok, refused}
-use Rattle.interval.specs.Scalar.{zeroS, pick, addOf, subOf, mulOf, divOf, isSharp, definitelyNotEqual}
-use Rattle.linear.specs.Flat.{at, along, zeros, listTo}
-use Rattle.linear.specs.Results.{bind, foldR}
-use Rattle.linear.specs.Dot.{dotTo}
+use Rattle.interval.specs.Scalar.{zeroS, isSharp, definitelyNotEqual, addOf, subOf, mulOf, divOf, pick}
+use Rattle.interval.specs.declared.Scalar.{Scalar}
 use Rattle.linear.specs.Choose.{chooseOf}
-use Rattle.linear.specs.Substitution.{storeR}
+use Rattle.linear.specs.Dot.{dotTo}
+use Rattle.linear.specs.Flat.{at, along, listTo, zeros}
+use Rattle.linear.specs.Results.{foldR, bind}
 use Rattle.linear.specs.Solved.{minusSolvedOf}
-use Rattle.run.specs.Scratch.{vector, fillTo, anyTo, chosenOf}
-use Rattle.run.specs.Rows.{Rows, Evaluation, transposedAt}
+use Rattle.linear.specs.Substitution.{storeR}
+use Rattle.run.specs.Residuals.{transposedAt}
+use Rattle.run.specs.Rows.{Rows, Evaluation}
+use Rattle.run.specs.Vectors.{anyTo, vector, fillTo, chosenOf}
 
 -- the place of entry (i, j), the entry and the row
 abbrev pub curvaturePlace : ℕ → ℕ → ℕ → ℕ
@@ -40,14 +41,14 @@ alongOf c v =
     minusSolvedOf (c .count) (c .n) jc rhs (listTo (at v) (c .n))
 
 -- by how much the gradient of the Lagrangian turned, beyond what J_rᵀ J_r explains; r has the sum's new values, chosen
-abbrev pub turnedAt : Evaluation → Evaluation → List Float → List Float → ℕ → Scalar
-turnedAt e e′ lambda r j =
+abbrev pub lagrangianChangeAt : Evaluation → Evaluation → List Float → List Float → ℕ → Scalar
+lagrangianChangeAt e e′ lambda r j =
     subOf (addOf (subOf (transposedAt (e′ .constraints) lambda j) (transposedAt (e .constraints) lambda j)) (transposedAt (e′ .sum) r j)) (transposedAt (e .sum) r j)
 
-unfoldable pub turnedOf : ℕ → Evaluation → Evaluation → List Float → List Float
-turnedOf n e e′ lambda =
+unfoldable pub lagrangianChange : ℕ → Evaluation → Evaluation → List Float → List Float
+lagrangianChange n e e′ lambda =
     let r = chosenOf (zeros 48) (e′ .sum .list) (e′ .sum .values) (e′ .sum .count) in
-    fillTo vector 0 (turnedAt e e′ lambda r) n
+    fillTo vector 0 (lagrangianChangeAt e e′ lambda r) n
 
 -- b + v vᵀ / vs, entry by entry, each chosen
 abbrev pub chosenSum : Scalar → Res Scalar → Res Scalar
@@ -62,8 +63,8 @@ unfolding foldR
 rankOneOf n b v vs = foldR (rankOneStep n v vs) b (curvatureEntries n)
 
 -- B s
-abbrev pub bentBy : ℕ → List Float → List Float → List Float
-bentBy n b s = fillTo vector 0 (λ i. dotTo (curvatureRow n b i) (at s) n) n
+abbrev pub curvatureTimes : ℕ → List Float → List Float → List Float
+curvatureTimes n b s = fillTo vector 0 (λ i. dotTo (curvatureRow n b i) (at s) n) n
 
 -- with y along the constraints
 unfoldable pub correctedBy : ℕ → List Float → List Float → List Float → List Float → Res (List Float)
@@ -76,10 +77,10 @@ correctedBy n b y bs s =
 unfoldable pub updatedBy : ℕ → Rows → List Float → List Float → List Float → Res (List Float)
 unfolding bind
 updatedBy n c b y s =
-    let bs = bentBy n b s in
+    let bs = curvatureTimes n b s in
     pick (definitelyNotEqual (subOf (dotTo (at y) (at s) n) (dotTo (at bs) (at s) n)) zeroS) (bind (alongOf c y) (λ y′. correctedBy n b y′ bs s)) (ok b)
 
 -- `update_curvature`, from the step between two points with their rows
 unfoldable pub updateCurvature : ℕ → List Float → List Float → Evaluation → Evaluation → List Float → Res (List Float)
 unfolding bind
-updateCurvature n b step e e′ lambda = bind (alongOf (e .constraints) step) (λ s. updatedBy n (e .constraints) b (turnedOf n e e′ lambda) s)
+updateCurvature n b step e e′ lambda = bind (alongOf (e .constraints) step) (λ s. updatedBy n (e .constraints) b (lagrangianChange n e e′ lambda) s)

@@ -2,38 +2,29 @@
 -- answer, of the points they asked and of the rows they were given; lengths and damping are those that demand 2's
 -- definition (specs/Calls.antt) has for begin's numbers and the replies.
 use Prim.Native.Nat.{ℕ, _+_, _*_, _≤_}
-use mathlib.Core.Path.{_≡_}
-use mathlib.Core.Logic.{_⊎_, _≢_}
-use mathlib.Core.Bool.{Bool, true, false, not, cond, _&&_, _||_}
+use mathlib.Core.Bool.{Bool, false, _||_, cond, true, not, _&&_}
 use mathlib.Core.List.{List, [], _∷_}
+use mathlib.Core.Logic.{_⊎_, _≢_}
+use mathlib.Core.Path.{_≡_}
 use lib.Dec.{T, eqb}
 use lib.Ieee.{Float, binary64, fits}
 use lib.IntN.{ℤ}
 use lib.ListN.{length, take}
 use lib.Signed.{ltZ}
-use Rattle.interval.specs.declared.Scalar.{Scalar}
 use Rattle.interval.specs.Result.{ok}
-use Rattle.interval.specs.Scalar.{zeroS, pick, subOf, definitelyGreater}
+use Rattle.interval.specs.Scalar.{zeroS, pick, definitelyGreater, subOf}
 use Rattle.interval.specs.Scaling.{third}
+use Rattle.interval.specs.declared.Scalar.{Scalar}
 use Rattle.linear.specs.Squares.{squaresTo, ChosenEach, rescaledAll}
-use Rattle.run.specs.Rows.{Rows, rowNumbers, valueAt, constraintsOf, sumOf, violationOf}
+use Rattle.run.specs.Calls.{AfterCall, replyOf, replyNoneOf, pointOf, Accepted, beginOf}
+use Rattle.run.specs.Checks.{allInDomain, valid}
+use Rattle.run.specs.Damping.{firstMu}
 use Rattle.run.specs.Judgement.{sumChange, indefinite, contracts}
-use Rattle.run.specs.Area.{AREA}
-use Rattle.run.specs.Calls.{
-  Left,
-  Accepted,
-  allInDomain,
-  beginOf,
-  replyOf,
-  replyNoneOf,
-  pointOf,
-  valid,
-  firstMu,
-  TURN-DOWNS,
-  QUESTIONS,
-}
-use Rattle.run.specs.declared.state.Answer.{Answer}
-use Rattle.run.specs.declared.state.Answer.the-variants.{Question, Finish, Refused}
+use Rattle.run.specs.Limits.{AREA, TURN-DOWNS, QUESTIONS}
+use Rattle.run.specs.Residuals.{violationOf}
+use Rattle.run.specs.Rows.{rowNumbers, Rows, valueAt, constraintsOf, sumOf}
+use Rattle.run.specs.declared.state.Event.{Event}
+use Rattle.run.specs.declared.state.Event.the-variants.{Question, Finish, Refused}
 use Rattle.run.specs.declared.state.Last.{Last}
 use Rattle.run.specs.declared.state.Last.the-variants as last
 use Rattle.run.specs.declared.state.Sizes.{Sizes}
@@ -43,9 +34,9 @@ use Rattle.run.specs.declared.state.Stop.{Stop}
 -- ---- a list of calls
 
 -- the area that a call is lent: the one that the call before left, or any other
-pub data Lent : Type 0 where
-  same : Lent
-  other : List Float → Lent
+pub data LentArea : Type 0 where
+  same : LentArea
+  other : List Float → LentArea
 
 -- each number is one of binary64, as those of a slice of f64 are
 abbrev pub Floats : List Float → Type 0
@@ -54,8 +45,8 @@ Floats (x ∷ xs) = T (fits binary64 x) × Floats xs
 
 -- a reply with rows, of any length and contents, or none
 pub data Call : Type 0 where
-  rows : Lent → (xs : List Float) → Floats xs → Call
-  none : Lent → Call
+  rows : LentArea → (xs : List Float) → Floats xs → Call
+  none : LentArea → Call
 
 -- another area is lent only to a call that is refused for its length, that of the area or that of the rows
 abbrev pub Allowed : Sizes → Call → Type 0
@@ -69,66 +60,66 @@ pub record Run : Type 0 where
   pub state : State
   pub area : List Float
 
-abbrev pub runOf : Left → Run
+abbrev pub runOf : AfterCall → Run
 runOf l = record { state = l .state; area = l .area }
 
-pub record Played : Type 0 where
-  pub answer : Answer
+pub record CallResult : Type 0 where
+  pub event : Event
   pub run : Run
 
-abbrev pub playedBy : Left → List Float → Played
-playedBy l area = record { answer = l .answer; run = record { state = l .state; area = area } }
+abbrev pub callResultBy : AfterCall → List Float → CallResult
+callResultBy l area = record { event = l .event; run = record { state = l .state; area = area } }
 
-abbrev pub played : Run → Call → Played
-played r (rows same xs f) = let l = replyOf (r .state) (r .area) xs in playedBy l (l .area)
-played r (rows (other a) xs f) = playedBy (replyOf (r .state) a xs) (r .area)
-played r (none same) = let l = replyNoneOf (r .state) (r .area) in playedBy l (l .area)
-played r (none (other a)) = playedBy (replyNoneOf (r .state) a) (r .area)
+abbrev pub callResult : Run → Call → CallResult
+callResult r (rows same xs f) = let l = replyOf (r .state) (r .area) xs in callResultBy l (l .area)
+callResult r (rows (other a) xs f) = callResultBy (replyOf (r .state) a xs) (r .area)
+callResult r (none same) = let l = replyNoneOf (r .state) (r .area) in callResultBy l (l .area)
+callResult r (none (other a)) = callResultBy (replyNoneOf (r .state) a) (r .area)
 
 -- ---- what the answers tell
 
 -- 5 or 6
-abbrev pub isArithmetic : Answer → Bool
+abbrev pub isArithmetic : Event → Bool
 isArithmetic (Question k t s) = false
 isArithmetic (Finish e i t s) = false
 isArithmetic (Refused k) = eqb k 5 || eqb k 6
 
 -- the standing number that an answer names, or else the last one named
-abbrev pub standingBy : Answer → ℕ → ℕ
+abbrev pub standingBy : Event → ℕ → ℕ
 standingBy (Question k t s) before = s
 standingBy (Finish e i t s) before = s
 standingBy (Refused k) before = before
 
 -- the number of the last question asked
-abbrev pub askedBy : Answer → ℕ → ℕ
+abbrev pub askedBy : Event → ℕ → ℕ
 askedBy (Question k t s) before = k
 askedBy (Finish e i t s) before = before
 askedBy (Refused k) before = before
 
 -- the points asked so far, each under its question's number; the newest is the one that `point` hands out
-abbrev pub pointsBy : Answer → Run → (ℕ → List Float) → ℕ → List Float
+abbrev pub pointsBy : Event → Run → (ℕ → List Float) → ℕ → List Float
 pointsBy (Question k t s) r before = λ e. cond (eqb e k) (pointOf (r .state) (r .area)) (before e)
 pointsBy (Finish e i t s) r before = before
 pointsBy (Refused k) r before = before
 
-abbrev pub isRefused : Answer → Bool
+abbrev pub isRefused : Event → Bool
 isRefused (Question k t s) = false
 isRefused (Finish e i t s) = false
 isRefused (Refused k) = true
 
 -- what a question was answered: rows that were accepted, or none
-pub data Evaluated : Type 0 where
-  noRows : Evaluated
-  hasRows : List Float → Evaluated
+pub data AnsweredRows : Type 0 where
+  noRows : AnsweredRows
+  hasRows : List Float → AnsweredRows
 
 -- the rows that a call brought, where it was not refused
-abbrev pub accepted : Call → Answer → Bool
+abbrev pub accepted : Call → Event → Bool
 accepted (rows l xs f) a = not (isRefused a)
 accepted (none l) a = false
 
-abbrev pub evaluatedBy : Call → Evaluated
-evaluatedBy (rows l xs f) = hasRows xs
-evaluatedBy (none l) = noRows
+abbrev pub answeredBy : Call → AnsweredRows
+answeredBy (rows l xs f) = hasRows xs
+answeredBy (none l) = noRows
 
 -- the damping that an iteration begins with, after a step taken with the damping mu
 abbrev pub nextMu : Scalar → Scalar
@@ -142,27 +133,27 @@ pub record History : Type 0 where
   pub asked : ℕ
   pub changes : ℕ
   pub stood : List ℕ
-  pub rows : ℕ → Evaluated
+  pub rows : ℕ → AnsweredRows
   pub points : ℕ → List Float
   pub mu : Scalar
 
 -- standing changes where a question or finish names another number than the last did
-abbrev pub changed : History → Answer → Bool
+abbrev pub changed : History → Event → Bool
 changed h a = not (eqb (standingBy a (h .standing)) (h .standing))
 
-abbrev pub rowsBy : History → Call → Answer → ℕ → Evaluated
-rowsBy h c a = λ k. cond (accepted c a && eqb k (h .asked)) (evaluatedBy c) (h .rows k)
+abbrev pub rowsBy : History → Call → Event → ℕ → AnsweredRows
+rowsBy h c a = λ k. cond (accepted c a && eqb k (h .asked)) (answeredBy c) (h .rows k)
 
 -- after the call c from the run r, which left p
-abbrev pub entered : History → Run → Call → Played → History
+abbrev pub entered : History → Run → Call → CallResult → History
 entered h r c p = record {
-  standing = standingBy (p .answer) (h .standing);
-  asked = askedBy (p .answer) (h .asked);
-  changes = h .changes + cond (changed h (p .answer)) 1 0;
-  stood = cond (changed h (p .answer)) (standingBy (p .answer) (h .standing) ∷ h .stood) (h .stood);
-  rows = rowsBy h c (p .answer);
-  points = pointsBy (p .answer) (p .run) (h .points);
-  mu = cond (changed h (p .answer)) (nextMu (r .state .search .mu)) (h .mu);
+  standing = standingBy (p .event) (h .standing);
+  asked = askedBy (p .event) (h .asked);
+  changes = h .changes + cond (changed h (p .event)) 1 0;
+  stood = cond (changed h (p .event)) (standingBy (p .event) (h .standing) ∷ h .stood) (h .stood);
+  rows = rowsBy h c (p .event);
+  points = pointsBy (p .event) (p .run) (h .points);
+  mu = cond (changed h (p .event)) (nextMu (r .state .search .mu)) (h .mu);
 }
 
 -- after an accepted begin, which left r: question 0 is asked, and its point stands
@@ -188,15 +179,15 @@ pub record Fitting (z : Sizes) (xs : List Float) : Type 0 where
   pub length-is : length xs ≡ rowNumbers (z .n) (z .m) (z .s)
   pub in-domain : allInDomain xs ((z .m + z .s) * (z .n + 1)) ≡ true
 
-abbrev pub Answered : Sizes → Evaluated → Type 0
+abbrev pub Answered : Sizes → AnsweredRows → Type 0
 Answered z noRows = ⊥
 Answered z (hasRows xs) = Fitting z xs
 
 -- two questions had rows, and P holds of them
-abbrev pub OfRows : (List Float → List Float → Type 0) → Evaluated → Evaluated → Type 0
-OfRows P (hasRows xs) (hasRows ys) = P xs ys
-OfRows P (hasRows xs) noRows = ⊥
-OfRows P noRows y = ⊥
+abbrev pub BothWith : (List Float → List Float → Type 0) → AnsweredRows → AnsweredRows → Type 0
+BothWith P (hasRows xs) (hasRows ys) = P xs ys
+BothWith P (hasRows xs) noRows = ⊥
+BothWith P noRows y = ⊥
 
 -- ---- exact progress
 
@@ -215,8 +206,8 @@ LowerRows z xs ys =
     Falls (sumOf (z .n) (z .m) (z .s) xs) (sumOf (z .n) (z .m) (z .s) ys)
     ⊎ Falls (constraintsOf (z .n) (z .m) xs) (constraintsOf (z .n) (z .m) ys)
 
-abbrev pub Lower : Sizes → Evaluated → Evaluated → Type 0
-Lower z = OfRows (LowerRows z)
+abbrev pub Lower : Sizes → AnsweredRows → AnsweredRows → Type 0
+Lower z = BothWith (LowerRows z)
 
 -- against the point it replaced, which is the first of those that stood, and against every one before
 abbrev pub Progress : Sizes → History → History → Type 0
@@ -233,8 +224,8 @@ pub record UndecidedRows (z : Sizes) (xs ys : List Float) : Type 0 where
   pub sum-undecided : T (indefinite (sumChange (sumOf (z .n) (z .m) (z .s) xs) (sumOf (z .n) (z .m) (z .s) ys)))
   pub violation-undecided : T (indefinite (subOf before after))
 
-abbrev pub Undecided : Sizes → Evaluated → Evaluated → Type 0
-Undecided z = OfRows (UndecidedRows z)
+abbrev pub Undecided : Sizes → AnsweredRows → AnsweredRows → Type 0
+Undecided z = BothWith (UndecidedRows z)
 
 -- twice the length of the last step is definitely less than the length of the one before
 abbrev pub halves : Last → Last → Bool
@@ -263,26 +254,26 @@ pub record Between (z : Sizes) (h : History) (r : Run) : Type 0 where
   pub standing-point : take (2 * z .n) (r .area) ≡ h .points (h .standing)
 
 -- of one call in the list: h and r before it, h′ after it, p what it left
-pub record Claim (z : Sizes) (h h′ : History) (r : Run) (p : Played) : Type 0 where
+pub record Claim (z : Sizes) (h h′ : History) (r : Run) (p : CallResult) : Type 0 where
   -- the finish reports the counts, and `point` then gives the standing point
   pub reported :
       (e : Stop) (i t s : ℕ) →
-      p .answer ≡ Finish e i t s → (i ≡ h′ .changes) × (t ≡ p .run .state .search .«turned_down»)
+      p .event ≡ Finish e i t s → (i ≡ h′ .changes) × (t ≡ p .run .state .search .«turned_down»)
   pub finish-point :
       (e : Stop) (i t s : ℕ) →
-      p .answer ≡ Finish e i t s → pointOf (p .run .state) (p .run .area) ≡ h′ .points (h′ .standing)
+      p .event ≡ Finish e i t s → pointOf (p .run .state) (p .run .area) ≡ h′ .points (h′ .standing)
   -- at a change every point that stood, the new one first, was answered with rows
-  pub answered : T (changed h (p .answer)) → (e : ℕ) → In e (h′ .stood) → Answered z (h′ .rows e)
+  pub answered : T (changed h (p .event)) → (e : ℕ) → In e (h′ .stood) → Answered z (h′ .rows e)
   -- each change is exact progress or halves
-  pub forward : T (changed h (p .answer)) → Progress z h h′ ⊎ Halving z h h′ r (p .run)
+  pub forward : T (changed h (p .event)) → Progress z h h′ ⊎ Halving z h h′ r (p .run)
 
 -- after the begin, and of every call up to the first arithmetic refusal
 unfoldable pub Along : Sizes → History → Run → List Call → Type 0
 Along z h r [] = Between z h r
 Along z h r (c ∷ cs) =
-    let p = played r c in
+    let p = callResult r c in
     let h′ = entered h r c p in
-    Between z h r × (Allowed z c → isArithmetic (p .answer) ≡ false → Claim z h h′ r p × Along z h′ (p .run) cs)
+    Between z h r × (Allowed z c → isArithmetic (p .event) ≡ false → Claim z h h′ r p × Along z h′ (p .run) cs)
 
 -- demand 3: from every accepted begin, over all lists of calls
 abbrev pub Demand3 : Type 0

@@ -1,31 +1,24 @@
--- The filter as a list of pairs of intervals (document 01, "Proposal and judgement"), beside the flat numbers that it is kept in: what it means to beat each pair, and the pairs of the flat numbers.
-use Prim.Native.Nat.{ℕ, zero, suc}
+-- The filter (document 01, "Proposal and judgement"): f and the violation of every point that stood before.
+use Prim.Native.Nat.{ℕ, _*_, _+_}
 use mathlib.Core.Bool.{Bool, _||_}
-use mathlib.Core.List.{List, [], _∷_, _++_}
+use mathlib.Core.List.{List}
 use lib.Ieee.{Float}
-use lib.ListN.{getD, length}
+use Rattle.interval.specs.Scalar.{definitelyLess}
 use Rattle.interval.specs.declared.Scalar.{Scalar}
-use Rattle.interval.specs.Scalar.{zeroS, definitelyLess}
-use Rattle.run.specs.Judgement.{filterSum, filterViolation}
-use Rattle.run.specs.Scratch.{allTo}
-use Rattle.run.specs.declared.filter.Pair.{Pair}
+use Rattle.linear.specs.Flat.{at, put}
+use Rattle.run.specs.Vectors.{allTo}
 
--- f or theta is definitely less than the pair's
-unfoldable pub beatsPair : Pair → Scalar → Scalar → Bool
-beatsPair p f theta = definitelyLess f (p .f) || definitelyLess theta (p .violation)
+-- the filter: pair i is f and then the violation of the i-th point that stood before the present one
+abbrev pub filterSum : List Float → ℕ → Scalar
+filterSum filter i = at filter (2 * i)
 
--- what a place outside a list reads as
-abbrev pub noPair : Pair
-noPair = record { f = zeroS; violation = zeroS }
+abbrev pub filterViolation : List Float → ℕ → Scalar
+filterViolation filter i = at filter (2 * i + 1)
 
--- for each pair of a list
-unfoldable pub beatsPairs : List Pair → Scalar → Scalar → Bool
-beatsPairs pairs f theta = allTo (λ i. beatsPair (getD pairs i noPair) f theta) (length pairs)
+-- for each of the first pairs, f or theta is definitely less
+unfoldable pub beatsTo : List Float → Scalar → Scalar → ℕ → Bool
+beatsTo filter f theta count = allTo (λ i. definitelyLess f (filterSum filter i) || definitelyLess theta (filterViolation filter i)) count
 
--- the i-th pair of a flat filter, and its first
-abbrev pub pairAt : List Float → ℕ → Pair
-pairAt filter i = record { f = filterSum filter i; violation = filterViolation filter i }
-
-unfoldable pub pairsTo : List Float → ℕ → List Pair
-pairsTo filter zero = []
-pairsTo filter (suc i) = pairsTo filter i ++ (pairAt filter i ∷ [])
+-- the filter with the pair of the point that stood, behind those before it
+unfoldable pub filterWith : List Float → ℕ → Scalar → Scalar → List Float
+filterWith filter count f theta = put (put filter (2 * count) f) (2 * count + 1) theta

@@ -5,25 +5,28 @@ use mathlib.Core.List.{List}
 use lib.Dec.{leb, eqb}
 use lib.Ieee.{Float}
 use lib.ListN.{length}
-use Rattle.interval.specs.declared.Scalar.{Scalar}
 use Rattle.interval.specs.Result.{Res, ok, refused}
 use Rattle.interval.specs.Scalar.{pick}
+use Rattle.interval.specs.declared.Scalar.{Scalar}
 use Rattle.linear.specs.Answers.{numberOf}
 use Rattle.linear.specs.Flat.{zeros}
-use Rattle.linear.specs.Replies.{Reply, replyOf, checked, checkedValue}
+use Rattle.linear.specs.Replies.{checkedValue, Reply, replyOf, checked}
 use Rattle.linear.specs.Results.{bind}
-use Rattle.run.specs.Scratch.{vector, fillTo}
-use Rattle.run.specs.Rows.{rowNumbers, sumOf, constraintsOf, evaluationOf, squaredOf, transposedAt, predictedOf, movingOf}
-use Rattle.run.specs.Curvature.{learnedOf, alongOf, updateCurvature}
-use Rattle.run.specs.Proposal.{modelOf, expectsOf, cutWithin}
+use Rattle.run.specs.Corrected.{shiftOf}
+use Rattle.run.specs.Curvature.{alongOf, updateCurvature, learnedOf}
 use Rattle.run.specs.Judgement.{Judged, judgeOf}
-use Rattle.run.specs.Correction.{shiftOf}
+use Rattle.run.specs.Proposal.{expectsOf}
+use Rattle.run.specs.Radius.{cutWithin}
+use Rattle.run.specs.Residuals.{squaredOf, predictedOf, transposedAt, movingOf}
+use Rattle.run.specs.Rows.{rowNumbers, sumOf, constraintsOf, evaluationOf}
 use Rattle.run.specs.Step.{Stepped, found, notPositive, stepOf}
-use Rattle.run.specs.declared.step.StepEnd.{StepEnd}
-use Rattle.run.specs.declared.step.StepEnd.the-variants as s
+use Rattle.run.specs.Vectors.{vector, fillTo}
+use Rattle.run.specs.program.Proposal.{modelOf}
 use Rattle.run.specs.declared.pieces.Learning.{Learning}
 use Rattle.run.specs.declared.pieces.Learning.the-variants as learning
 use Rattle.run.specs.declared.state.Last.{Last}
+use Rattle.run.specs.declared.step.StepEnd.{StepEnd}
+use Rattle.run.specs.declared.step.StepEnd.the-variants as s
 
 -- n and m to 12, s to 24; then as many numbers as their rows have
 unfoldable pub sizedOf : ℕ → ℕ → ℕ → ℕ → Res (Unit {0})

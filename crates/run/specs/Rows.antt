@@ -1,18 +1,10 @@
 -- Rows as they are answered (document 01, "Rows"; the Rust's `Rows`): 2 (m + s) (n + 1) numbers, the constraint values, their slopes row by row, then the sum's. All is read at its place in the
 -- answered list.
-use Prim.Native.Nat.{ℕ, _+_, _*_, _<_, _≤_}
-use mathlib.Core.Bool.{Bool, false, _||_}
+use Prim.Native.Nat.{ℕ, _+_, _*_}
 use mathlib.Core.List.{List}
-use lib.Dec.{ltb}
 use lib.Ieee.{Float}
 use Rattle.interval.specs.declared.Scalar.{Scalar}
-use Rattle.interval.specs.Result.{Res}
-use Rattle.interval.specs.Scalar.{zeroS, pick, addOf, definitelyNotEqual}
 use Rattle.linear.specs.Flat.{at, along}
-use Rattle.linear.specs.Dot.{dotTo}
-use Rattle.linear.specs.Norm.{normOf}
-use Rattle.linear.specs.Cholesky.{marksTo}
-use Rattle.run.specs.Scratch.{anyTo}
 use Rattle.run.specs.declared.rows.RowSet.{RowSet}
 
 -- how many numbers an answer has
@@ -43,13 +35,6 @@ constraintsOf n m xs = rowsIn xs (constraintSet n m)
 abbrev pub sumOf : ℕ → ℕ → ℕ → List Float → Rows
 sumOf n m s xs = rowsIn xs (sumSet n m s)
 
--- small enough that no place is out of reach
-pub record Small (e : RowSet) : Type 0 where
-  pub few-variables : e .n ≤ 12
-  pub few-rows : e .count ≤ 24
-  pub values-near : e .values < 1000
-  pub slopes-near : e .slopes < 1000
-
 -- what an answer says at a point (the Rust's `Evaluation`)
 pub record Evaluation : Type 0 where
   pub constraints : Rows
@@ -70,34 +55,3 @@ slopesOf e i = along (e .list) (e .slopes + i * e .n) 1
 
 abbrev pub slopesBy : Rows → ℕ → ℕ → Scalar
 slopesBy e j = along (e .list) (e .slopes + j) (e .n)
-
--- `linearized`: value + slopes delta, over the first d variables. With d = 0 a zero is added to each value
-unfoldable pub linearizedAt : Rows → List Float → ℕ → ℕ → Scalar
-linearizedAt e delta d i = addOf (valueAt e i) (dotTo (slopesOf e i) (at delta) d)
-
--- `squared`: with d = 0 it is f, `squared(&[])`
-unfoldable pub squaredOf : Rows → List Float → ℕ → Scalar
-squaredOf e delta d = dotTo (linearizedAt e delta d) (linearizedAt e delta d) (e .count)
-
--- `transposed`: the slopes by variable j, each times its weight
-unfoldable pub transposedAt : Rows → List Float → ℕ → Scalar
-transposedAt e w j = dotTo (slopesBy e j) (at w) (e .count)
-
--- f of a point, and its violation, from its rows
-abbrev pub sumSquared : Rows → Scalar
-sumSquared e = squaredOf e (e .list) 0
-
-unfoldable pub violationOf : Rows → Res Scalar
-violationOf e = normOf (valueAt e) (e .count)
-
--- the violation that a step leads to, to first order
-unfoldable pub predictedOf : Rows → List Float → Res Scalar
-predictedOf e delta = normOf (linearizedAt e delta (e .n)) (e .count)
-
--- some slope by variable j is definitely not zero
-unfoldable pub dependsOn : Rows → ℕ → Bool
-dependsOn e j = anyTo (λ i. definitelyNotEqual (slopeAt e i j) zeroS) (e .count)
-
--- the moving marks: those of the variables that some residual definitely depends on
-unfoldable pub movingOf : ℕ → Evaluation → List Bool
-movingOf n e = marksTo (λ j. pick (ltb j n) (dependsOn (e .sum) j || dependsOn (e .constraints) j) false) 12

@@ -1,23 +1,23 @@
-// The slots of the work area: what a call leaves in them.
-ghost use mathlib.Core.Path.{_≡_};
+// The slots of the work area: their places, and what a call writes into them.
+ghost use Prim.Native.Nat.{_+_, _≤_, ℕ, _<_, _*_};
 ghost use mathlib.Core.List.{_++_};
-ghost use Prim.Native.Nat.{ℕ, _+_, _*_, _<_, _≤_};
+ghost use mathlib.Core.Path.{_≡_};
 ghost use lib.ListN.{length, take, drop, getD};
 ghost use Rattle.linear.specs.Flat.{zeros};
-ghost use Rattle.run.specs.Area.{Memory, padded, written, Holds, startOf, tidiedTo, usedIn, memoryOf};
-ghost use Rattle.run.specs.Area.{begunMemory, onlyStanding, withStart, withTrial, withLanded, withTaken};
-ghost use Rattle.run.specs.Proposal.{movedOf};
-ghost use Rattle.run.specs.Remainders.{Tidy, Uses, Limits, allUsed, pointsUsed};
+ghost use Rattle.run.specs.Area.{padded, startOf, usedIn, memoryOf, begunMemory, Memory, onlyStanding};
+ghost use Rattle.run.specs.Area.{withStart, withTrial, withLanded, withTaken};
+ghost use Rattle.run.specs.Filter.{filterWith};
 ghost use Rattle.run.specs.Rows.{rowNumbers};
-ghost use Rattle.run.specs.Run.{filterWith};
-use crate::points::moved;
+ghost use Rattle.run.specs.Vectors.{movedOf};
+ghost use Rattle.run.specs.program.Area.{written, clearedTo, Limits, allUsed, Uses, Holds, pointsUsed, ZeroBehind};
+use crate::filter::push;
 use crate::state::Kind;
 use crate::state::Phase;
 use crate::state::Sizes;
 use crate::state::State;
+use crate::vectors::moved;
 use interval::Scalar;
 use linear::clear;
-use linear::put;
 
 // Where each slot begins.
 pub const STANDING: usize = 0;
@@ -52,7 +52,7 @@ pub const ENTRIES: usize = 288;
 pub const PAIRS: usize = 800;
 
 // src from the place base on.
-pub fn place(area: &mut [f64], base: usize, src: &[f64])
+pub fn write(area: &mut [f64], base: usize, src: &[f64])
     requires { ⌜ base + length (now src) ≤ length (now area) ⌝ }
     ensures { λ _. ⌜ now (area .exit) ≡ written (now (area .entry)) base (now (src .entry)) ⌝ }
 {
@@ -76,7 +76,7 @@ pub fn slot(area: &mut [f64], base: usize, size: usize, src: &[f64])
     ensures { λ _. ⌜ now (area .exit) ≡ written (now (area .entry)) base (padded size (now (src .entry))) ⌝ }
 {
     let n = src.len();
-    place(area, base, src);
+    write(area, base, src);
     clear_from(area, base + n, size - n);
 }
 
@@ -91,9 +91,9 @@ fn copy(area: &mut [f64], from: usize, to: usize, count: usize)
 }
 
 // All but so many numbers of each slot +0.
-fn tidy_slots(area: &mut [f64], sizes: &[usize], used: &[usize])
+fn clear_unused_slots(area: &mut [f64], sizes: &[usize], used: &[usize])
     requires { ⌜ (length (now used) ≡ length (now sizes)) × ((startOf (now sizes) (length (now sizes)) ≤ length (now area)) × ((k : ℕ) → k < length (now sizes) → getD (now used) k 0 ≤ getD (now sizes) k 0)) ⌝ }
-    ensures { λ _. ⌜ now (area .exit) ≡ tidiedTo (now (sizes .entry)) (now (used .entry)) (now (area .entry)) (length (now (sizes .entry))) ++ drop (startOf (now (sizes .entry)) (length (now (sizes .entry)))) (now (area .entry)) ⌝ }
+    ensures { λ _. ⌜ now (area .exit) ≡ clearedTo (now (sizes .entry)) (now (used .entry)) (now (area .entry)) (length (now (sizes .entry))) ++ drop (startOf (now (sizes .entry)) (length (now (sizes .entry)))) (now (area .entry)) ⌝ }
 {
     let mut base = 0;
     for k in 0..sizes.len() {
@@ -161,7 +161,7 @@ fn in_use(st: State) -> [usize; 9]
 }
 
 // Every place that is not in use +0.
-pub fn tidy(area: &mut [f64], st: State)
+pub fn clear_unused(area: &mut [f64], st: State)
     requires { ⌜ (length (now area) ≡ 8000) × Limits (st .sizes) (st .counts .iterations) ⌝ }
     ensures { λ _. ⌜ Uses (usedIn st) (memoryOf st (now (area .entry))) (now (area .exit)) ⌝ }
 {
@@ -177,12 +177,12 @@ pub fn tidy(area: &mut [f64], st: State)
         PAIRS,
     ];
     let used = in_use(st);
-    tidy_slots(area, &sizes, &used);
+    clear_unused_slots(area, &sizes, &used);
     clear_from(area, SPARE, AREA - SPARE);
 }
 
 // After a begin: the start point stands and is asked.
-pub fn begun(area: &mut [f64], start: &[f64])
+pub fn write_begun(area: &mut [f64], start: &[f64])
     requires { ⌜ (length (now area) ≡ 8000) × (length (now start) ≤ 24) ⌝ }
     ensures { λ _. ⌜ Holds (begunMemory (now (start .entry))) (now (area .exit)) ⌝ }
 {
@@ -193,7 +193,7 @@ pub fn begun(area: &mut [f64], start: &[f64])
 
 // After a finish, or refusal 5 or 6: only the standing point. Behind the numbers in use all is +0 already, and at the
 // smallest drawings clearing is most of a call's time.
-pub fn only_standing(area: &mut [f64], z: Sizes, iterations: usize)
+pub fn keep_standing(area: &mut [f64], z: Sizes, iterations: usize)
     requires { ⌜ (length (now area) ≡ 8000) × Limits z iterations ⌝ }
     ensures { λ _. ⌜ ((w : Memory) → Uses (allUsed z iterations) w (now (area .entry)) →
         Holds (onlyStanding w) (now (area .exit))) ⌝ }
@@ -210,64 +210,55 @@ pub fn only_standing(area: &mut [f64], z: Sizes, iterations: usize)
 }
 
 // A start's answer. Before it only the two points are in use, so all else is +0 already.
-pub fn with_start(area: &mut [f64], rows: &[f64])
+pub fn write_start(area: &mut [f64], rows: &[f64])
     requires { ⌜ (length (now area) ≡ 8000) × (length (now rows) ≤ 936) ⌝ }
     ensures { λ _. ⌜ ((w : Memory) (point : ℕ) → Uses (pointsUsed point) w (now (area .entry)) →
         Holds (withStart w (now (rows .entry))) (now (area .exit))) ⌝ }
 {
     clear_from(area, ASKED, POINT);
-    place(area, STANDING_ROWS, rows);
+    write(area, STANDING_ROWS, rows);
 }
 
 // The point that a step leads to from the standing one is asked.
-fn with_next(area: &mut [f64], n: usize, delta: &[f64])
+fn write_next(area: &mut [f64], n: usize, delta: &[f64])
     requires { ⌜ length (now area) ≡ 8000 ⌝ }
     ensures { λ _. ⌜ now (area .exit) ≡ written (now (area .entry)) 48 (movedOf n (take 24 (drop 0 (now (area .entry)))) (now (delta .entry))) ⌝ }
 {
     let mut next = [0.0; 24];
     moved(n, &area[STANDING..LANDED], delta, &mut next);
-    place(area, ASKED, &next);
+    write(area, ASKED, &next);
 }
 
 // A trial asked, where the step leads: nothing has landed. Of the landed rows those in use are cleared.
-pub fn with_trial(area: &mut [f64], z: Sizes, delta: &[f64], lambda: &[f64])
+pub fn write_trial(area: &mut [f64], z: Sizes, delta: &[f64], lambda: &[f64])
     requires { ⌜ (length (now area) ≡ 8000) ×
         (((z .n ≤ 12) × ((z .m ≤ 12) × (z .s ≤ 24))) × ((length (now delta) ≡ 24) × (length (now lambda) ≡ 24))) ⌝ }
     ensures { λ _. ⌜ ((w : Memory) → Holds w (now (area .entry)) →
-        Tidy 936 (rowNumbers (z .n) (z .m) (z .s)) (w .landedRows) →
+        ZeroBehind 936 (rowNumbers (z .n) (z .m) (z .s)) (w .landedRows) →
         Holds (withTrial w (movedOf (z .n) (w .standing) (now (delta .entry))) (now (delta .entry))
         (now (lambda .entry))) (now (area .exit))) ⌝ }
 {
-    with_next(area, z.n, delta);
+    write_next(area, z.n, delta);
     clear_from(area, LANDED, POINT);
     clear_from(area, LANDED_ROWS, row_numbers(z));
-    place(area, STEP, delta);
-    place(area, MULTIPLIERS, lambda);
+    write(area, STEP, delta);
+    write(area, MULTIPLIERS, lambda);
 }
 
 // The asked point landed, with its rows, in a slot that is +0 behind as many.
-pub fn landed(area: &mut [f64], rows: &[f64])
+pub fn write_landed(area: &mut [f64], rows: &[f64])
     requires { ⌜ (length (now area) ≡ 8000) × (length (now rows) ≤ 936) ⌝ }
     ensures { λ _. ⌜ ((w : Memory) → Holds w (now (area .entry)) →
-        Tidy 936 (length (now (rows .entry))) (w .landedRows) →
+        ZeroBehind 936 (length (now (rows .entry))) (w .landedRows) →
         Holds (withLanded w (now (rows .entry)) (w .step)) (now (area .exit))) ⌝ }
 {
     copy(area, ASKED, LANDED, POINT);
-    place(area, LANDED_ROWS, rows);
-}
-
-// The filter with one pair more.
-fn push(filter: &mut [f64], count: usize, f: Scalar, theta: Scalar)
-    requires { ⌜ count < 200 ⌝ }
-    ensures { λ _. ⌜ now (filter .exit) ≡ filterWith (now (filter .entry)) count f theta ⌝ }
-{
-    put(filter, 2 * count, f);
-    put(filter, 2 * count + 1, theta);
+    write(area, LANDED_ROWS, rows);
 }
 
 // The landed point stands, with the curvature after it; the filter has the pair of the point that stood. Of the rows
 // and of the curvature the numbers in use are copied.
-pub fn with_taken(
+pub fn write_taken(
     area: &mut [f64],
     z: Sizes,
     curvature: &[f64],
@@ -278,14 +269,14 @@ pub fn with_taken(
     requires { ⌜ (length (now area) ≡ 8000) ×
         (((z .n ≤ 12) × ((z .m ≤ 12) × (z .s ≤ 24))) × ((length (now curvature) ≡ 288) × (count < 200))) ⌝ }
     ensures { λ _. ⌜ ((w : Memory) → Holds w (now (area .entry)) →
-        Tidy 936 (rowNumbers (z .n) (z .m) (z .s)) (w .standingRows) →
-        Tidy 936 (rowNumbers (z .n) (z .m) (z .s)) (w .landedRows) → Tidy 288 (2 * (z .n * z .n)) (w .curvature) →
-        Tidy 288 (2 * (z .n * z .n)) (now (curvature .entry)) →
+        ZeroBehind 936 (rowNumbers (z .n) (z .m) (z .s)) (w .standingRows) →
+        ZeroBehind 936 (rowNumbers (z .n) (z .m) (z .s)) (w .landedRows) → ZeroBehind 288 (2 * (z .n * z .n)) (w .curvature) →
+        ZeroBehind 288 (2 * (z .n * z .n)) (now (curvature .entry)) →
         Holds (withTaken w (now (curvature .entry)) (filterWith (w .filter) count f theta)) (now (area .exit))) ⌝ }
 {
     copy(area, LANDED, STANDING, POINT);
     copy(area, LANDED_ROWS, STANDING_ROWS, row_numbers(z));
     let entries = 2 * (z.n * z.n);
-    place(area, CURVATURE, &curvature[0..entries]);
+    write(area, CURVATURE, &curvature[0..entries]);
     push(&mut area[FILTER..SPARE], count, f, theta);
 }

@@ -1,19 +1,46 @@
-// The limits of a run, the run as it begins, and the checks of a reply in the order of document 01's table.
+// The checks of every call, in the order of document 01's table: numbers 4, 1, 2 and 3.
+ghost use Prim.Native.Nat.{_≤_, _*_};
+ghost use mathlib.Core.Bool.{_&&_};
 ghost use mathlib.Core.Path.{_≡_};
-ghost use Prim.Native.Nat.{_≤_};
+ghost use lib.Dec.{eqb};
+ghost use lib.ListN.{length};
+ghost use Rattle.interval.specs.Scalar.{pick};
 ghost use Rattle.interval.specs.Scaling.{isPositive};
-ghost use Rattle.run.specs.Calls.{sizesFit, countsFit, valid, stateWith, checkOf, checkRowsOf};
-use crate::rows::all_in_domain;
-use crate::state::Counts;
+ghost use Rattle.run.specs.Checks.{inDomain, allInDomain, sizesFit, countsFit, valid, stepFits};
+ghost use Rattle.run.specs.Limits.{AREA};
+ghost use Rattle.run.specs.program.Checks.{checkOf, checkRowsOf};
 use crate::state::Kind;
-use crate::state::Last;
 use crate::state::Phase;
-use crate::state::Rejection;
-use crate::state::Search;
 use crate::state::Sizes;
 use crate::state::State;
-use crate::state::Trial;
 use interval::Scalar;
+
+// Whether the ends are in order, with magnitudes of at most 2^400.
+pub fn in_domain(x: Scalar) -> bool
+    ensures { λ r. ⌜ r ≡ inDomain x ⌝ }
+{
+    let most = f64::from_bits(0x58F0000000000000);
+    (-most <= x.lo) & ((x.lo <= x.hi) & (x.hi <= most))
+}
+
+// Whether the first `count` are in the domain. Nearly always all are, so none is left out by a branch, and one test
+// before the loop tells that all are inside the slice.
+pub fn all_in_domain(xs: &[f64], count: usize) -> bool
+    ensures { λ r. ⌜ r ≡ allInDomain (now (xs .entry)) count ⌝ }
+{
+    if count > xs.len() / 2 {
+        return false;
+    }
+    let mut inside = true;
+    for i in 0..count {
+        inside = inside
+            & in_domain(Scalar {
+                lo: xs[2 * i],
+                hi: xs[2 * i + 1],
+            });
+    }
+    inside
+}
 
 // A refusal by its number, or the kind of the question that is answered.
 pub enum Checked {
@@ -90,42 +117,6 @@ pub fn valid(st: State) -> bool
     true
 }
 
-// A run before its first answer.
-pub fn state_with(z: Sizes, mu: Scalar, max: Scalar, phase: Phase) -> State
-    ensures { λ r. ⌜ r ≡ stateWith z mu max phase ⌝ }
-{
-    let moving = [false; 12];
-    let counts = Counts {
-        iterations: 0,
-        question: 0,
-        standing: 0,
-        landed: 0,
-        corrections: 0,
-    };
-    let search = Search {
-        mu,
-        radius: max,
-        turned_down: 0,
-        first: true,
-        plain: false,
-        rejected: Rejection::NoneYet,
-    };
-    let trial = Trial {
-        predicted: Scalar::ZERO,
-        tried: Scalar::ZERO,
-    };
-    State {
-        sizes: z,
-        counts,
-        search,
-        trial,
-        max_step: max,
-        last: Last::NoneYet,
-        phase,
-        moving,
-    }
-}
-
 // The checks of reply none, with an area of that length.
 pub fn check(st: State, area: usize) -> Checked
     ensures { λ r. ⌜ r ≡ checkOf st area ⌝ }
@@ -159,4 +150,29 @@ pub fn check_rows(st: State, area: usize, rows: &[f64]) -> Checked
         return Checked::Refuse(3);
     }
     first
+}
+
+// The number that refuses a begin, with an area of that length, or 0.
+pub fn refusal(z: Sizes, start: &[f64], max_step: Scalar, area: usize) -> usize
+    ensures { λ r. ⌜ r ≡ pick (sizesFit z) (pick (eqb (length (now (start .entry))) (2 * z .n) && eqb area AREA) (pick (allInDomain (now (start .entry)) (z .n) && stepFits «max_step») 0 3) 2) 1 ⌝ }
+{
+    if !sizes_fit(z) {
+        return 1;
+    }
+    if start.len() != 2 * z.n {
+        return 2;
+    }
+    if area != 8000 {
+        return 2;
+    }
+    if !all_in_domain(start, z.n) {
+        return 3;
+    }
+    if !in_domain(max_step) {
+        return 3;
+    }
+    if !max_step.definitely_greater(Scalar::ZERO) {
+        return 3;
+    }
+    0
 }

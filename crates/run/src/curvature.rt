@@ -1,29 +1,29 @@
 // The curvature that Gauss-Newton leaves out: n rows of n.
+ghost use Prim.Native.Nat.{_≤_, _*_, _<_};
 ghost use mathlib.Core.Bool.{not, _||_};
 ghost use mathlib.Core.List.{List};
 ghost use mathlib.Core.Path.{_≡_};
-ghost use Prim.Native.Nat.{_*_, _<_, _≤_};
 ghost use lib.Ieee.{Float};
 ghost use lib.ListN.{length};
 ghost use Rattle.interval.specs.Result as scalar;
-ghost use Rattle.interval.specs.Scalar.{zeroS, subOf, inverseOf, isSharp, definitelyNotEqual};
+ghost use Rattle.interval.specs.Scalar.{zeroS, isSharp, definitelyNotEqual, inverseOf, subOf};
 ghost use Rattle.linear.specs.Answers.{doneOf};
 ghost use Rattle.linear.specs.Cholesky.{factorOf};
 ghost use Rattle.linear.specs.Choose.{chooseOf};
 ghost use Rattle.linear.specs.Dot.{dotTo};
 ghost use Rattle.linear.specs.Flat.{at, along};
-ghost use Rattle.linear.specs.Results.{bind};
 ghost use Rattle.linear.specs.Substitution.{storeR};
-ghost use Rattle.run.specs.Scratch.{vector, fillTo};
+ghost use Rattle.run.specs.Curvature.{learnedOf, alongOf, lagrangianChangeAt, lagrangianChange, chosenSum, rankOneStep};
+ghost use Rattle.run.specs.Curvature.{rankOneOf, correctedBy, updatedBy, updateCurvature};
 ghost use Rattle.run.specs.Rows.{constraintsOf, evaluationOf};
-ghost use Rattle.run.specs.Factored.{Factored};
-ghost use Rattle.run.specs.Curvature.{learnedOf, alongOf, turnedAt, turnedOf, chosenSum, rankOneStep, rankOneOf, correctedBy, updatedBy, updateCurvature};
-use crate::rows::chosen_slopes;
-use crate::rows::chosen_values;
+ghost use Rattle.run.specs.Vectors.{fillTo, vector};
+ghost use Rattle.run.specs.program.Curvature.{Factored};
+use crate::residuals::chosen_slopes;
+use crate::residuals::chosen_values;
+use crate::residuals::transposed_at;
 use crate::rows::constraints;
 use crate::rows::sum;
-use crate::rows::transposed_at;
-use crate::scratch::quotient;
+use crate::vectors::quotient;
 use interval::Scalar;
 use interval::ScalarResult;
 use linear::Done;
@@ -114,7 +114,7 @@ fn along_factored(
 }
 
 // One entry of how far the gradient of the Lagrangian turned; r has the sum's new values, chosen.
-fn turned_at(
+fn lagrangian_change_at(
     n: usize,
     m: usize,
     s: usize,
@@ -125,7 +125,7 @@ fn turned_at(
     j: usize,
 ) -> Scalar
     requires { ⌜ (n ≤ 12) × ((m ≤ 12) × ((s ≤ 24) × (j < 65536))) ⌝ }
-    ensures { λ y. ⌜ y ≡ turnedAt (evaluationOf n m s (now (xs .entry))) (evaluationOf n m s (now (next .entry))) (now (lambda .entry)) (now (r .entry)) j ⌝ }
+    ensures { λ y. ⌜ y ≡ lagrangianChangeAt (evaluationOf n m s (now (xs .entry))) (evaluationOf n m s (now (next .entry))) (now (lambda .entry)) (now (r .entry)) j ⌝ }
 {
     let c = constraints(n, m);
     let q = sum(n, m, s);
@@ -135,15 +135,27 @@ fn turned_at(
 }
 
 // By how much the gradient of the Lagrangian turned between two points with their rows, beyond what the sum's slopes explain, into a clear vector.
-fn turned(n: usize, m: usize, s: usize, xs: &[f64], next: &[f64], lambda: &[f64], y: &mut [f64])
+fn lagrangian_change(
+    n: usize,
+    m: usize,
+    s: usize,
+    xs: &[f64],
+    next: &[f64],
+    lambda: &[f64],
+    y: &mut [f64],
+)
     requires { ⌜ (n ≤ 12) × ((m ≤ 12) × ((s ≤ 24) × (now y ≡ vector))) ⌝ }
-    ensures { λ _. ⌜ now (y .exit) ≡ turnedOf n (evaluationOf n m s (now (xs .entry))) (evaluationOf n m s (now (next .entry))) (now (lambda .entry)) ⌝ }
+    ensures { λ _. ⌜ now (y .exit) ≡ lagrangianChange n (evaluationOf n m s (now (xs .entry))) (evaluationOf n m s (now (next .entry))) (now (lambda .entry)) ⌝ }
 {
     let mut r = [0.0; 48];
     chosen_values(next, sum(n, m, s), &mut r);
     let values: &[f64] = &r;
     for j in 0..n {
-        put(y, j, turned_at(n, m, s, xs, next, lambda, values, j));
+        put(
+            y,
+            j,
+            lagrangian_change_at(n, m, s, xs, next, lambda, values, j),
+        );
     }
 }
 
@@ -278,7 +290,7 @@ fn update_factored(
     let Done::Finished = end else {
         return end;
     };
-    turned(n, m, s, xs, next, lambda, &mut y);
+    lagrangian_change(n, m, s, xs, next, lambda, &mut y);
     updated(n, m, slopes, l, left_out, b, &y, &s_along[..w])
 }
 

@@ -1,23 +1,23 @@
 // How a run's call ends: a question, the finish, a refusal.
+ghost use Prim.Native.Nat.{_<_, _^_};
 ghost use mathlib.Core.List.{List};
 ghost use mathlib.Core.Path.{_≡_};
-ghost use Prim.Native.Nat.{_+_, _<_, _^_};
 ghost use lib.Ieee.{Float};
 ghost use lib.ListN.{length};
 ghost use Rattle.linear.specs.Answers.{numberOf};
-ghost use Rattle.run.specs.Area.{Memory, Holds};
-ghost use Rattle.run.specs.Remainders.{Limits, Working};
-ghost use Rattle.run.specs.Run as run;
-ghost use Rattle.run.specs.Run.{Leaves};
-use crate::area::only_standing;
-use crate::state::Answer;
+ghost use Rattle.run.specs.Area.{Memory};
+ghost use Rattle.run.specs.Endings as run;
+ghost use Rattle.run.specs.program.Area.{Limits, Working, Holds};
+ghost use Rattle.run.specs.program.Endings.{Leaves};
+use crate::area::keep_standing;
+use crate::state::Event;
 use crate::state::Kind;
-use crate::state::Out;
 use crate::state::Phase;
+use crate::state::Returned;
 use crate::state::State;
 use crate::state::Stop;
-use crate::states::with_phase;
-use crate::states::with_question;
+use crate::state::with_phase;
+use crate::state::with_question;
 use interval::GeopError;
 use linear::LinearError;
 
@@ -36,15 +36,15 @@ fn number_of(e: LinearError) -> usize
 }
 
 // The run is over with its counts; the area keeps the standing point alone.
-pub fn finish(st: State, area: &mut [f64], stop: Stop) -> Out
+pub fn finish(st: State, area: &mut [f64], stop: Stop) -> Returned
     requires { ⌜ (length (now area) ≡ 8000) × Limits (st .sizes) (st .counts .iterations) ⌝ }
     ensures { λ r. ⌜ ((w : Memory) → Working st w (now (area .entry)) →
         Leaves (run.finish st w stop) r (now (area .exit))) ⌝ }
 {
-    only_standing(area, st.sizes, st.counts.iterations);
-    Out {
+    keep_standing(area, st.sizes, st.counts.iterations);
+    Returned {
         state: with_phase(st, Phase::Over),
-        answer: Answer::Finish(
+        event: Event::Finish(
             stop,
             st.counts.iterations,
             st.search.turned_down,
@@ -54,25 +54,25 @@ pub fn finish(st: State, area: &mut [f64], stop: Stop) -> Out
 }
 
 // The run is over with the number of a refusal; the area keeps the standing point alone.
-pub fn refuse(st: State, area: &mut [f64], e: LinearError) -> Out
+pub fn refuse(st: State, area: &mut [f64], e: LinearError) -> Returned
     requires { ⌜ (length (now area) ≡ 8000) × Limits (st .sizes) (st .counts .iterations) ⌝ }
     ensures { λ r. ⌜ ((w : Memory) → Working st w (now (area .entry)) →
         Leaves (run.refuse st w (numberOf e)) r (now (area .exit))) ⌝ }
 {
-    only_standing(area, st.sizes, st.counts.iterations);
-    Out {
+    keep_standing(area, st.sizes, st.counts.iterations);
+    Returned {
         state: with_phase(st, Phase::Over),
-        answer: Answer::Refused(number_of(e)),
+        event: Event::Refused(number_of(e)),
     }
 }
 
 // The next question, over an area that has its point.
-pub fn ask(st: State, kind: Kind, corrections: usize) -> Out
+pub fn ask(st: State, kind: Kind, corrections: usize) -> Returned
     requires { ⌜ st .counts .question < 2 ^ 32 ⌝ }
     ensures { λ r. ⌜ ((w : Memory) (a : List Float) → Holds w a → Leaves (run.question st w kind corrections) r a) ⌝ }
 {
-    Out {
+    Returned {
         state: with_question(st, kind, corrections),
-        answer: Answer::Question(st.counts.question + 1, kind, st.counts.standing),
+        event: Event::Question(st.counts.question + 1, kind, st.counts.standing),
     }
 }

@@ -1,14 +1,38 @@
-// The filter as a list of pairs of intervals, beside the flat numbers that it is kept in. The checker covers no function over a lent slice of structs: `beats_pairs` and `beats_first` are thin and proved by hand. The work on one pair is
-// `still_beats`, by value.
-ghost use mathlib.Core.Bool.{_&&_};
-ghost use mathlib.Core.Path.{_≡_};
+// The filter: f and the violation of every point that stood before the present one. A step is progress only where it is
+// definitely lower in one of the two than each of them, so a run cannot come back to where it was.
 ghost use Prim.Native.Nat.{_<_, _≤_};
+ghost use mathlib.Core.Bool.{_||_, _&&_};
+ghost use mathlib.Core.Path.{_≡_};
 ghost use lib.ListN.{take};
-ghost use Rattle.run.specs.Judgement.{beatsTo};
-ghost use Rattle.run.specs.Filter.{beatsPair, beatsPairs, pairAt, pairsTo};
-use crate::judged::beats;
+ghost use Rattle.interval.specs.Scalar.{definitelyLess};
+ghost use Rattle.run.specs.Filter.{filterSum, filterViolation, beatsTo, filterWith};
+ghost use Rattle.run.specs.program.Filter.{beatsPair, beatsPairs, pairAt, pairsTo};
 use interval::Scalar;
 use linear::at;
+use linear::put;
+
+fn beats_pair(filter: &[f64], f: Scalar, theta: Scalar, i: usize) -> bool
+    requires { ⌜ i < 65536 ⌝ }
+    ensures { λ r. ⌜ r ≡ definitelyLess f (filterSum (now (filter .entry)) i) || definitelyLess theta (filterViolation (now (filter .entry)) i) ⌝ }
+{
+    if f.definitely_less(at(filter, 2 * i)) {
+        return true;
+    }
+    theta.definitely_less(at(filter, 2 * i + 1))
+}
+
+// Whether f or theta is definitely less than in each of the filter's first pairs.
+pub fn beats(filter: &[f64], f: Scalar, theta: Scalar, count: usize) -> bool
+    requires { ⌜ count < 65536 ⌝ }
+    ensures { λ r. ⌜ r ≡ beatsTo (now (filter .entry)) f theta count ⌝ }
+{
+    for i in 0..count {
+        if !beats_pair(filter, f, theta, i) {
+            return false;
+        }
+    }
+    true
+}
 
 // f and the violation of a point that stood before.
 pub struct Pair {
@@ -86,4 +110,13 @@ pub fn beats_as_pairs(filter: &[f64], f: Scalar, theta: Scalar, count: usize) ->
         return beats(filter, f, theta, count);
     }
     beats_first(pairs_of(filter, count), count, f, theta)
+}
+
+// The filter with one pair more.
+pub fn push(filter: &mut [f64], count: usize, f: Scalar, theta: Scalar)
+    requires { ⌜ count < 200 ⌝ }
+    ensures { λ _. ⌜ now (filter .exit) ≡ filterWith (now (filter .entry)) count f theta ⌝ }
+{
+    put(filter, 2 * count, f);
+    put(filter, 2 * count + 1, theta);
 }

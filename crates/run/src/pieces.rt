@@ -1,30 +1,31 @@
 // The pieces of a run as calls of their own. They are total: 1 where a count is above its limit, then 2 where a slice has the wrong length, with nothing written; and 5 or 6 in the Rust's order of
 // operations, with what is written all +0. Rows have 2 (m + s) (n + 1) numbers, points and steps 24.
 ghost use mathlib.Core.Path.{_≡_};
-ghost use Prim.Native.Nat.{_≤_};
 ghost use lib.ListN.{length};
-ghost use Rattle.linear.specs.Answers.{resultOf, doneOf};
+ghost use Rattle.linear.specs.Answers.{doneOf, resultOf};
 ghost use Rattle.linear.specs.Flat.{zeros};
 ghost use Rattle.linear.specs.Replies.{replied, replyOf};
-ghost use Rattle.run.specs.Proposal.{expectedResult, cutWithin};
-ghost use Rattle.run.specs.Judgement.{judgementOf};
-ghost use Rattle.run.specs.Pieces.{sizedOf, wantsOf, reachOf, squaredReply, predictedReply, transposedReply, movingReply, judgeReply, expectsReply, cutReply, alongReply, shiftReply, updateReply, learnedReply, learningOf, stepReplied, stepReply};
+ghost use Rattle.run.specs.Pieces.{sizedOf, wantsOf, reachOf, squaredReply, predictedReply, transposedReply};
+ghost use Rattle.run.specs.Pieces.{movingReply, judgeReply, expectsReply, cutReply, alongReply, shiftReply};
+ghost use Rattle.run.specs.Pieces.{updateReply, stepReplied, stepReply, learnedReply, learningOf};
+ghost use Rattle.run.specs.program.Judgement.{judgementOf};
+ghost use Rattle.run.specs.program.Proposal.{expectedResult};
 use crate::checks::sizes_fit;
-use crate::correction;
+use crate::corrected;
 use crate::curvature;
-use crate::judged;
-use crate::judged::Judgement;
+use crate::judgement;
+use crate::judgement::Judgement;
 use crate::proposal;
 use crate::proposal::Expected;
-use crate::proposal::Model;
+use crate::proposal::StandingPoint;
+use crate::radius::cut_within;
+use crate::residuals;
 use crate::rows;
-use crate::scratch::norm_of;
 use crate::state::Last;
 use crate::state::Sizes;
 use crate::step;
 use crate::step::StepEnd;
 use interval::Scalar;
-use interval::ScalarResult;
 use linear::Answer;
 use linear::Done;
 use linear::LinearError;
@@ -82,7 +83,7 @@ fn fits(
     wants(wants(sized(n, m, s, xs.len()), a, wanted_a), b, wanted_b)
 }
 
-fn reach(n: usize, d: usize) -> usize
+fn variables_read(n: usize, d: usize) -> usize
     ensures { λ r. ⌜ r ≡ reachOf n d ⌝ }
 {
     if d == 0 {
@@ -95,13 +96,13 @@ fn reach(n: usize, d: usize) -> usize
 pub fn squared(n: usize, m: usize, s: usize, xs: &[f64], delta: &[f64], d: usize) -> Answer
     ensures { λ r. ⌜ resultOf r ≡ squaredReply n m s (now (xs .entry)) (now (delta .entry)) d ⌝ }
 {
-    match fits(n, m, s, xs, delta.len(), 24, d, reach(n, d)) {
+    match fits(n, m, s, xs, delta.len(), 24, d, variables_read(n, d)) {
         Done::Refused(e) => {
             return Answer::Refused(e);
         }
         Done::Finished => {}
     }
-    Answer::Value(rows::squared(xs, rows::sum(n, m, s), delta, d))
+    Answer::Value(residuals::squared(xs, rows::sum(n, m, s), delta, d))
 }
 
 // The violation that a step leads to, to first order.
@@ -114,7 +115,7 @@ pub fn predicted(n: usize, m: usize, s: usize, xs: &[f64], delta: &[f64]) -> Ans
         }
         Done::Finished => {}
     }
-    rows::predicted(xs, n, m, delta)
+    residuals::predicted(xs, n, m, delta)
 }
 
 // The slopes of the sum's rows by each variable, times their weights: 48 numbers in w, 24 in out.
@@ -127,7 +128,11 @@ pub fn transposed(n: usize, m: usize, s: usize, xs: &[f64], w: &[f64], out: &mut
     };
     clear(out);
     for j in 0..n {
-        put(out, j, rows::transposed_at(xs, rows::sum(n, m, s), w, j));
+        put(
+            out,
+            j,
+            residuals::transposed_at(xs, rows::sum(n, m, s), w, j),
+        );
     }
     fit
 }
@@ -140,7 +145,7 @@ pub fn moving(n: usize, m: usize, s: usize, xs: &[f64], marks: &mut [bool]) -> D
     let Done::Finished = fit else {
         return fit;
     };
-    let found = rows::moving(xs, n, m, s);
+    let found = residuals::moving(xs, n, m, s);
     for j in 0..12 {
         marks[j] = found[j];
     }
@@ -172,8 +177,8 @@ pub fn judge(
         }
         Done::Finished => {}
     }
-    let landed = rows::violation(next, n, m);
-    judged::judge(n, m, s, xs, next, theta, landed, filter, count, last, step)
+    let landed = residuals::violation(next, n, m);
+    judgement::judge(n, m, s, xs, next, theta, landed, filter, count, last, step)
 }
 
 // Whether the model expects the step to lower the sum or the violation, from f and theta: 288 numbers of curvature.
@@ -195,7 +200,7 @@ pub fn expects(
         }
         Done::Finished => {}
     }
-    proposal::expects(Model { n, m, s, f, theta }, xs, b, delta)
+    proposal::expects(StandingPoint { n, m, s, f, theta }, xs, b, delta)
 }
 
 // Clears what was written of a piece that was refused.
@@ -207,32 +212,6 @@ fn cleared(d: Done, x: &mut [f64]) -> Done
     };
     clear(x);
     d
-}
-
-// `cut`, of at most 12 variables.
-fn cut_within(n: usize, radius: Scalar, delta: &mut [f64]) -> Done
-    requires { ⌜ (n ≤ 12) × (length (now delta) ≡ 24) ⌝ }
-    ensures { λ r. ⌜ doneOf r (now (delta .exit)) ≡ cutWithin n radius (now (delta .entry)) ⌝ }
-{
-    match norm_of(delta, n) {
-        Answer::Refused(e) => {
-            return Done::Refused(e);
-        }
-        Answer::Value(length) => {
-            if !length.definitely_greater(radius) {
-                return Done::Finished;
-            }
-            match radius.div(length) {
-                ScalarResult::Refused(e) => {
-                    return Done::Refused(LinearError::Arithmetic(e));
-                }
-                ScalarResult::Value(shrink) => {
-                    proposal::cut(n, delta, shrink);
-                    return Done::Finished;
-                }
-            }
-        }
-    }
 }
 
 // A step cut to the radius where it is definitely longer: 24 numbers in delta.
@@ -270,7 +249,7 @@ pub fn shift(n: usize, m: usize, s: usize, xs: &[f64], moving: &[bool], d: &mut 
     let Done::Finished = fit else {
         return fit;
     };
-    cleared(correction::shift(n, m, xs, moving, d), d)
+    cleared(corrected::shift(n, m, xs, moving, d), d)
 }
 
 // The curvature b, updated from the step between two points with their rows: 288 numbers in b, 24 in step and lambda.

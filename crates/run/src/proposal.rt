@@ -1,30 +1,34 @@
 // What one damping proposes: a step, cut to the radius where it is definitely longer, and the point it leads to.
-ghost use mathlib.Core.Path.{_≡_};
-ghost use mathlib.Core.List.{List};
 ghost use Prim.Native.Nat.{_≤_};
+ghost use mathlib.Core.List.{List};
+ghost use mathlib.Core.Path.{_≡_};
 ghost use lib.Ieee.{Float};
 ghost use lib.ListN.{length};
 ghost use Rattle.interval.specs.Result.{ok};
-ghost use Rattle.interval.specs.Scalar.{zeroS, pick, subOf, definitelyGreater};
+ghost use Rattle.interval.specs.Scalar.{zeroS, subOf, definitelyGreater, pick};
 ghost use Rattle.linear.specs.Answers.{resultOf};
 ghost use Rattle.linear.specs.Choose.{chooseOf};
-ghost use Rattle.linear.specs.Flat.{at};
 ghost use Rattle.linear.specs.Results.{bind};
-ghost use Rattle.run.specs.Proposal.{ask, movedOf, bentOf, expectsOf, trialOf, triedOf, cutOf, shortenedOf, withinOf, proposalOf, standingFor, stillFor, modelFor, pointOf, expectedResult, proposalResult};
+ghost use Rattle.run.specs.Proposal.{curvatureAlong, expectsOf, ask, trialOf, shortenedOf, withinOf, proposalOf};
+ghost use Rattle.run.specs.Radius.{cutOf};
 ghost use Rattle.run.specs.Rows.{constraintsOf, evaluationOf};
-ghost use Rattle.run.specs.Step.{PreparedFor};
+ghost use Rattle.run.specs.Vectors.{movedOf};
+ghost use Rattle.run.specs.program.Proposal.{expectedResult, modelFor, proposalResult, triedOf, pointOf};
+ghost use Rattle.run.specs.program.Proposal.{stillFor, standingFor};
+ghost use Rattle.run.specs.program.Step.{PreparedFor};
 use crate::curvature::products;
-use crate::points::moved;
-use crate::points::same;
-use crate::rows::predicted;
-use crate::rows::squared;
+use crate::radius::cut;
+use crate::residuals::predicted;
+use crate::residuals::squared;
 use crate::rows::sum;
-use crate::scratch::norm_of;
 use crate::state::Search;
 use crate::state::Trial;
 use crate::step::Prepared;
 use crate::step::StepEnd;
 use crate::step::damped_step;
+use crate::vectors::moved;
+use crate::vectors::norm_of;
+use crate::vectors::same;
 use interval::Scalar;
 use interval::ScalarResult;
 use linear::Answer;
@@ -35,7 +39,7 @@ use linear::plus_dot;
 use linear::put;
 
 // The numbers of a standing point's problem: how many variables, constraint rows and sum rows there are, the sum f and the violation theta.
-pub struct Model {
+pub struct StandingPoint {
     pub n: usize,
     pub m: usize,
     pub s: usize,
@@ -61,9 +65,9 @@ pub enum Proposal {
 }
 
 // deltaᵀ B delta.
-fn bent(n: usize, b: &[f64], delta: &[f64]) -> Scalar
+fn curvature_along(n: usize, b: &[f64], delta: &[f64]) -> Scalar
     requires { ⌜ n ≤ 12 ⌝ }
-    ensures { λ r. ⌜ r ≡ bentOf n (now (b .entry)) (now (delta .entry)) ⌝ }
+    ensures { λ r. ⌜ r ≡ curvatureAlong n (now (b .entry)) (now (delta .entry)) ⌝ }
 {
     let mut rows = [0.0; 24];
     products(n, n, b, delta, &mut rows);
@@ -86,26 +90,16 @@ fn falls(theta: Scalar, predicted: Answer) -> Expected
 }
 
 // Whether the model expects the step to lower the sum or, asked only then, the violation.
-pub fn expects(model: Model, rows: &[f64], b: &[f64], delta: &[f64]) -> Expected
+pub fn expects(model: StandingPoint, rows: &[f64], b: &[f64], delta: &[f64]) -> Expected
     requires { ⌜ (model .n ≤ 12) × ((model .m ≤ 12) × (model .s ≤ 24)) ⌝ }
     ensures { λ r. ⌜ expectedResult r ≡ expectsOf (modelFor model (now (rows .entry)) (now (b .entry))) (now (delta .entry)) ⌝ }
 {
     let left = squared(rows, sum(model.n, model.m, model.s), delta, model.n);
-    let drop = model.f.sub(left).sub(bent(model.n, b, delta));
+    let drop = model.f.sub(left).sub(curvature_along(model.n, b, delta));
     if drop.definitely_greater(Scalar::ZERO) {
         return Expected::Drop;
     }
     falls(model.theta, predicted(rows, model.n, model.m, delta))
-}
-
-// A step times shrink, chosen.
-pub fn cut(n: usize, delta: &mut [f64], shrink: Scalar)
-    ensures { λ _. ⌜ now (delta .exit) ≡ cutOf n (now (delta .entry)) shrink ⌝ }
-{
-    for i in 0..n {
-        let d = at(delta, i);
-        put(delta, i, choose(d.mul(shrink)));
-    }
 }
 
 // The question, once the step's length is known.
@@ -162,7 +156,7 @@ fn trial(n: usize, m: usize, rows: &[f64], x: &[f64], delta: &mut [f64]) -> Prop
 
 // The point that a step leads to once it is cut, if the model still expects something of it.
 fn shortened(
-    model: Model,
+    model: StandingPoint,
     rows: &[f64],
     x: &[f64],
     b: &[f64],
@@ -188,7 +182,7 @@ fn shortened(
 
 // The point that a step leads to, cut where it is definitely longer than the radius.
 fn within(
-    model: Model,
+    model: StandingPoint,
     rows: &[f64],
     x: &[f64],
     b: &[f64],
@@ -220,7 +214,7 @@ fn within(
 
 // What a search's damping proposes, from what was prepared, within its radius; where it asks, delta and lambda hold the step and its multipliers.
 pub fn propose(
-    model: Model,
+    model: StandingPoint,
     rows: &[f64],
     x: &[f64],
     b: &[f64],

@@ -1,23 +1,12 @@
-// Rows as they are answered: constraint values, their slopes row by row, then the sum's. Everything is read through a view of the answered slice.
-ghost use mathlib.Core.Bool.{_||_};
+// One answer's rows: where the values and the slopes of the constraints and of the sum stand, and a view that reads them.
+ghost use Prim.Native.Nat.{_≤_, _+_, _*_, _<_};
 ghost use mathlib.Core.Path.{_≡_};
-ghost use Prim.Native.Nat.{_*_, _<_, _≤_};
-ghost use lib.ListN.{length};
-ghost use Rattle.linear.specs.Answers.{resultOf};
-ghost use Rattle.run.specs.Calls.{inDomain, allInDomain};
-ghost use Rattle.run.specs.Scratch.{fillTo, chosenOf};
-ghost use Rattle.run.specs.Rows.{rowsIn, Small, constraintSet, sumSet, constraintsOf, sumOf, valueAt, linearizedAt, squaredOf, transposedAt, sumSquared, violationOf, predictedOf, dependsOn, movingOf, evaluationOf};
-use crate::row_view::slope_of;
-use crate::row_view::slopes_of;
-use crate::row_view::value_of;
-use crate::scratch::norm_of;
+ghost use lib.ListN.{drop};
+ghost use Rattle.linear.specs.Flat.{at};
+ghost use Rattle.run.specs.Rows.{constraintSet, sumSet, rowsIn, valueAt, slopeAt};
+ghost use Rattle.run.specs.program.Rows.{Small};
 use interval::Scalar;
-use linear::Answer;
-use linear::at;
-use linear::choose;
-use linear::plus_dot;
-use linear::put;
-use linear::row_dot;
+use linear::along;
 
 // Rows of one kind: `count` values from the place `values` on, and n slopes for each from the place `slopes` on.
 pub struct RowSet {
@@ -51,166 +40,85 @@ pub fn sum(n: usize, m: usize, s: usize) -> RowSet
     }
 }
 
-// value + slopes delta, of row i, over the first d variables.
-pub fn linearized_at(xs: &[f64], e: RowSet, delta: &[f64], d: usize, i: usize) -> Scalar
+pub struct RowView<'a> {
+    pub rows: &'a [f64],
+    pub set: RowSet,
+}
+
+// ---- the work
+
+// Value i of those from the place `values` on.
+fn value_at(rows: &[f64], values: usize, i: usize) -> Scalar
+    ensures { λ r. ⌜ r ≡ at (now (rows .entry)) (values + i) ⌝ }
+{
+    along(rows, values, 1, i)
+}
+
+// Slope j of row i, of rows of n from the place `slopes` on.
+fn slope_at(rows: &[f64], slopes: usize, n: usize, i: usize, j: usize) -> Scalar
+    requires { ⌜ (slopes < 1000) × ((n ≤ 12) × (i < 65536)) ⌝ }
+    ensures { λ r. ⌜ r ≡ at (now (rows .entry)) (slopes + i * n + j) ⌝ }
+{
+    along(rows, slopes + i * n, 1, j)
+}
+
+// What stands from the place `slopes` on.
+fn slopes_from<'a>(rows: &'a [f64], slopes: usize) -> &'a [f64]
+    ensures { λ r. ⌜ now r ≡ drop (2 * slopes) (now (rows .entry)) ⌝ }
+{
+    if slopes <= rows.len() / 2 {
+        return &rows[2 * slopes..];
+    }
+    &rows[rows.len()..]
+}
+
+// ---- the view, made and taken apart
+fn viewed<'a>(rows: &'a [f64], set: RowSet) -> RowView<'a>
+    ensures { λ r. ⌜ (r .rows ≡ rows .entry) × (r .set ≡ set) ⌝ }
+{
+    RowView { rows, set }
+}
+
+fn value<'a>(v: RowView<'a>, i: usize) -> Scalar
+    ensures { λ r. ⌜ r ≡ valueAt (rowsIn (now (v .entry .rows)) (v .entry .set)) i ⌝ }
+{
+    value_at(v.rows, v.set.values, i)
+}
+
+fn slope<'a>(v: RowView<'a>, i: usize, j: usize) -> Scalar
+    requires { ⌜ Small (v .set) × (i < 65536) ⌝ }
+    ensures { λ r. ⌜ r ≡ slopeAt (rowsIn (now (v .entry .rows)) (v .entry .set)) i j ⌝ }
+{
+    slope_at(v.rows, v.set.slopes, v.set.n, i, j)
+}
+
+fn slopes<'a>(v: RowView<'a>) -> &'a [f64]
+    ensures { λ r. ⌜ now r ≡ drop (2 * v .entry .set .slopes) (now (v .entry .rows)) ⌝ }
+{
+    slopes_from(v.rows, v.set.slopes)
+}
+
+// ---- with plain parameters
+
+// The value of row i.
+pub fn value_of(xs: &[f64], e: RowSet, i: usize) -> Scalar
+    ensures { λ r. ⌜ r ≡ valueAt (rowsIn (now (xs .entry)) e) i ⌝ }
+{
+    value(viewed(xs, e), i)
+}
+
+// The slope of row i by variable j.
+pub fn slope_of(xs: &[f64], e: RowSet, i: usize, j: usize) -> Scalar
     requires { ⌜ Small e × (i < 65536) ⌝ }
-    ensures { λ r. ⌜ r ≡ linearizedAt (rowsIn (now (xs .entry)) e) (now (delta .entry)) d i ⌝ }
+    ensures { λ r. ⌜ r ≡ slopeAt (rowsIn (now (xs .entry)) e) i j ⌝ }
 {
-    let slopes = slopes_of(xs, e);
-    let total = row_dot(slopes, i * e.n, delta, 0, d);
-    value_of(xs, e, i).add(total)
+    slope(viewed(xs, e), i, j)
 }
 
-// |values + slopes delta|², over the first d variables: with d = 0, the sum of squares.
-pub fn squared(xs: &[f64], e: RowSet, delta: &[f64], d: usize) -> Scalar
-    requires { ⌜ Small e ⌝ }
-    ensures { λ r. ⌜ r ≡ squaredOf (rowsIn (now (xs .entry)) e) (now (delta .entry)) d ⌝ }
+// The slopes and what stands behind them, for sums over many: row i from i n on, those by variable j from j on by steps
+// of n.
+pub fn slopes_of(xs: &[f64], e: RowSet) -> &[f64]
+    ensures { λ r. ⌜ now r ≡ drop (2 * e .slopes) (now (xs .entry)) ⌝ }
 {
-    let count = e.count;
-    let mut out = [0.0; 48];
-    linearized(xs, e, delta, d, &mut out);
-    row_dot(&out, 0, &out, 0, count)
-}
-
-// The slopes by variable j, each times its weight.
-pub fn transposed_at(xs: &[f64], e: RowSet, w: &[f64], j: usize) -> Scalar
-    requires { ⌜ Small e × (j < 65536) ⌝ }
-    ensures { λ r. ⌜ r ≡ transposedAt (rowsIn (now (xs .entry)) e) (now (w .entry)) j ⌝ }
-{
-    let slopes = slopes_of(xs, e);
-    plus_dot(slopes, j, e.n, w, 0, 1, Scalar::ZERO, e.count)
-}
-
-// f of a point, from its rows.
-pub fn sum_squared(xs: &[f64], n: usize, m: usize, s: usize) -> Scalar
-    requires { ⌜ (n ≤ 12) × ((m ≤ 12) × (s ≤ 24)) ⌝ }
-    ensures { λ r. ⌜ r ≡ sumSquared (sumOf n m s (now (xs .entry))) ⌝ }
-{
-    squared(xs, sum(n, m, s), xs, 0)
-}
-
-// All values, from the start of `out` on.
-fn values(xs: &[f64], e: RowSet, out: &mut [f64])
-    ensures { λ _. ⌜ now (out .exit) ≡ fillTo (now (out .entry)) 0 (valueAt (rowsIn (now (xs .entry)) e)) (e .count) ⌝ }
-{
-    let count = e.count;
-    for i in 0..count {
-        put(out, i, value_of(xs, e, i));
-    }
-}
-
-// The same, chosen.
-pub fn chosen_values(xs: &[f64], e: RowSet, out: &mut [f64])
-    ensures { λ _. ⌜ now (out .exit) ≡ chosenOf (now (out .entry)) (now (xs .entry)) (e .values) (e .count) ⌝ }
-{
-    let count = e.count;
-    for i in 0..count {
-        put(out, i, choose(value_of(xs, e, i)));
-    }
-}
-
-// All slopes, row by row, chosen.
-pub fn chosen_slopes(xs: &[f64], e: RowSet, out: &mut [f64])
-    requires { ⌜ Small e ⌝ }
-    ensures { λ _. ⌜ now (out .exit) ≡ chosenOf (now (out .entry)) (now (xs .entry)) (e .slopes) (e .count * e .n) ⌝ }
-{
-    let n = e.n;
-    let count = e.count * n;
-    for p in 0..count {
-        put(out, p, choose(slope_of(xs, e, p / n, p % n)));
-    }
-}
-
-// The violation of a point, from its rows.
-pub fn violation(xs: &[f64], n: usize, m: usize) -> Answer
-    requires { ⌜ (m ≤ 12) × (2 * m ≤ length (now xs)) ⌝ }
-    ensures { λ r. ⌜ resultOf r ≡ violationOf (constraintsOf n m (now (xs .entry))) ⌝ }
-{
-    let mut c = [0.0; 24];
-    values(xs, constraints(n, m), &mut c);
-    norm_of(&c, m)
-}
-
-// All rows linearized, from the start of `out` on.
-fn linearized(xs: &[f64], e: RowSet, delta: &[f64], d: usize, out: &mut [f64])
-    requires { ⌜ Small e ⌝ }
-    ensures { λ _. ⌜ now (out .exit) ≡ fillTo (now (out .entry)) 0 (linearizedAt (rowsIn (now (xs .entry)) e) (now (delta .entry)) d) (e .count) ⌝ }
-{
-    let count = e.count;
-    for i in 0..count {
-        put(out, i, linearized_at(xs, e, delta, d, i));
-    }
-}
-
-// The violation that a step leads to, to first order.
-pub fn predicted(xs: &[f64], n: usize, m: usize, delta: &[f64]) -> Answer
-    requires { ⌜ (n ≤ 12) × (m ≤ 12) ⌝ }
-    ensures { λ r. ⌜ resultOf r ≡ predictedOf (constraintsOf n m (now (xs .entry))) (now (delta .entry)) ⌝ }
-{
-    let mut out = [0.0; 24];
-    linearized(xs, constraints(n, m), delta, n, &mut out);
-    norm_of(&out, m)
-}
-
-// Whether some slope by variable j is definitely not zero.
-pub fn depends_on(xs: &[f64], e: RowSet, j: usize) -> bool
-    requires { ⌜ Small e × (j < 65536) ⌝ }
-    ensures { λ r. ⌜ r ≡ dependsOn (rowsIn (now (xs .entry)) e) j ⌝ }
-{
-    let count = e.count;
-    for i in 0..count {
-        if slope_of(xs, e, i, j).definitely_not_equal(Scalar::ZERO) {
-            return true;
-        }
-    }
-    false
-}
-
-fn moves(xs: &[f64], n: usize, m: usize, s: usize, j: usize) -> bool
-    requires { ⌜ (n ≤ 12) × ((m ≤ 12) × ((s ≤ 24) × (j < 65536))) ⌝ }
-    ensures { λ r. ⌜ r ≡ dependsOn (sumOf n m s (now (xs .entry))) j || dependsOn (constraintsOf n m (now (xs .entry))) j ⌝ }
-{
-    if depends_on(xs, sum(n, m, s), j) {
-        return true;
-    }
-    depends_on(xs, constraints(n, m), j)
-}
-
-// Marks of the variables that some residual definitely depends on.
-pub fn moving(xs: &[f64], n: usize, m: usize, s: usize) -> [bool; 12]
-    requires { ⌜ (n ≤ 12) × ((m ≤ 12) × (s ≤ 24)) ⌝ }
-    ensures { λ r. ⌜ r ≡ movingOf n (evaluationOf n m s (now (xs .entry))) ⌝ }
-{
-    let mut marks = [false; 12];
-    for j in 0..n {
-        marks[j] = moves(xs, n, m, s, j);
-    }
-    marks
-}
-
-// Whether the ends are in order, with magnitudes of at most 2^400.
-pub fn in_domain(x: Scalar) -> bool
-    ensures { λ r. ⌜ r ≡ inDomain x ⌝ }
-{
-    let most = f64::from_bits(0x58F0000000000000);
-    (-most <= x.lo) & ((x.lo <= x.hi) & (x.hi <= most))
-}
-
-// Whether the first `count` are in the domain. Nearly always all are, so none is left out by a branch, and one test
-// before the loop tells that all are inside the slice.
-pub fn all_in_domain(xs: &[f64], count: usize) -> bool
-    ensures { λ r. ⌜ r ≡ allInDomain (now (xs .entry)) count ⌝ }
-{
-    if count > xs.len() / 2 {
-        return false;
-    }
-    let mut inside = true;
-    for i in 0..count {
-        inside = inside
-            & in_domain(Scalar {
-                lo: xs[2 * i],
-                hi: xs[2 * i + 1],
-            });
-    }
-    inside
+    slopes(viewed(xs, e))
 }

@@ -1,18 +1,25 @@
 // The search for a proposal, over dampings: left at the first question or stop.
-ghost use mathlib.Core.Path.{_≡_};
+ghost use Prim.Native.Nat.{_^_, _<_, _≤_};
 ghost use mathlib.Core.Bool.{true};
 ghost use mathlib.Core.List.{List};
-ghost use Prim.Native.Nat.{_^_, _<_, _≤_};
+ghost use mathlib.Core.Path.{_≡_};
 ghost use lib.Ieee.{Float};
 ghost use lib.ListN.{length};
 ghost use Rattle.interval.specs.Scaling.{isPositive};
-ghost use Rattle.run.specs.Proposal.{movedOf, standingFor, proposalResult};
+ghost use Rattle.run.specs.Damping.{damped};
 ghost use Rattle.run.specs.Rows.{evaluationOf};
+ghost use Rattle.run.specs.Search.{flatOr, follow, searchOf};
 ghost use Rattle.run.specs.Search as defined;
-ghost use Rattle.run.specs.Search.{rejectedFor, withRadius, anew, flatOr, damped, goesOn, stopsAt, follow, searchOf, turnOf, foundResult, turnResult};
-ghost use Rattle.run.specs.Step.{PreparedFor};
-use crate::proposal::Model;
+ghost use Rattle.run.specs.State.{rejectedFor, withRadius};
+ghost use Rattle.run.specs.Vectors.{movedOf};
+ghost use Rattle.run.specs.program.Damping.{goesOn, stopsAt};
+ghost use Rattle.run.specs.program.Proposal.{proposalResult, standingFor};
+ghost use Rattle.run.specs.program.Search.{turnOf, turnResult, foundResult};
+ghost use Rattle.run.specs.program.Step.{PreparedFor};
+use crate::damping::Damped;
+use crate::damping::damp;
 use crate::proposal::Proposal;
+use crate::proposal::StandingPoint;
 use crate::proposal::propose;
 use crate::state::Rejection;
 use crate::state::Search;
@@ -30,56 +37,10 @@ pub enum Found {
     Refused(Search, LinearError),
 }
 
-// Gone on with more damping, or stopped.
-pub enum Damped {
-    On(Search),
-    Stop(Search, Stop),
-}
-
 // Gone on, or left.
 pub enum Turn {
     On(Search),
     Leave(Found),
-}
-
-// A new iteration's.
-pub fn renew(x: Search, mu: Scalar, radius: Scalar) -> Search
-    ensures { λ r. ⌜ r ≡ anew x mu radius ⌝ }
-{
-    Search {
-        mu,
-        radius,
-        turned_down: x.turned_down,
-        first: true,
-        plain: false,
-        rejected: Rejection::NoneYet,
-    }
-}
-
-pub fn reject(x: Search, why: Rejection) -> Search
-    ensures { λ r. ⌜ r ≡ rejectedFor x why ⌝ }
-{
-    Search { rejected: why, ..x }
-}
-
-// Rejected, with that radius: four times the damping and a turn-down, while that damping is finite.
-pub fn damp(x: Search, radius: Scalar, why: Rejection) -> Damped
-    requires { ⌜ x .«turned_down» < 2 ^ 32 ⌝ }
-    ensures { λ r. ⌜ r ≡ damped goesOn stopsAt (rejectedFor (withRadius x radius) why) ⌝ }
-{
-    let mu = x.mu.mul(Scalar::degenerate(4.0)).sharpen();
-    let y = Search {
-        mu,
-        radius,
-        turned_down: x.turned_down + 1,
-        first: false,
-        plain: x.plain,
-        rejected: why,
-    };
-    if mu.is_finite() {
-        return Damped::On(y);
-    }
-    Damped::Stop(y, Stop::Damped(why))
 }
 
 // No expected drop.
@@ -94,7 +55,7 @@ fn flat(x: Search, independent: usize, m: usize) -> Stop
 }
 
 // Rejected, with that radius: gone on with more damping, or left.
-fn turned(x: Search, radius: Scalar, why: Rejection) -> Turn
+fn damp_or_leave(x: Search, radius: Scalar, why: Rejection) -> Turn
     requires { ⌜ x .«turned_down» < 2 ^ 32 ⌝ }
     ensures { λ r. ⌜ r ≡ turnOf (damped goesOn stopsAt (rejectedFor (withRadius x radius) why)) ⌝ }
 {
@@ -128,17 +89,17 @@ fn follow(p: Proposal, x: Search, m: usize, max: Scalar) -> Turn
             return Turn::Leave(Found::Refused(x, e));
         }
         Proposal::Unresolved => {
-            return turned(x, max, Rejection::Unresolved);
+            return damp_or_leave(x, max, Rejection::Unresolved);
         }
         Proposal::NotPositive => {
-            return turned(x, x.radius, Rejection::NotPositive);
+            return damp_or_leave(x, x.radius, Rejection::NotPositive);
         }
     }
 }
 
 // The search, from what no damping changes.
 fn seek_from(
-    model: Model,
+    model: StandingPoint,
     rows: &[f64],
     x: &[f64],
     b: &[f64],
@@ -186,7 +147,7 @@ fn seek_from(
 
 // The search from a standing point x with its model, rows, curvature b and moving marks.
 pub fn seek(
-    model: Model,
+    model: StandingPoint,
     rows: &[f64],
     x: &[f64],
     b: &[f64],

@@ -1,4 +1,10 @@
-// What a run carries from call to call, by value, and what a call answers.
+// What a run carries from call to call, by value, what a call returns, and the state changed in one part.
+ghost use Prim.Native.Nat.{_<_, _^_};
+ghost use mathlib.Core.List.{List};
+ghost use mathlib.Core.Path.{_≡_};
+ghost use lib.Ieee.{Float};
+ghost use Rattle.run.specs.State.{searching, moves, asking, landing, trying, standingOn, anew, rejectedFor};
+ghost use Rattle.run.specs.State.{stateWith};
 use interval::Scalar;
 
 pub enum Kind {
@@ -36,7 +42,7 @@ pub enum Stop {
     Budget,
 }
 
-pub enum Answer {
+pub enum Event {
     Question(usize, Kind, usize),
     Finish(Stop, usize, usize, usize),
     Refused(usize),
@@ -86,7 +92,135 @@ pub struct State {
     pub moving: [bool; 12],
 }
 
-pub struct Out {
+pub struct Returned {
     pub state: State,
-    pub answer: Answer,
+    pub event: Event,
+}
+
+pub fn with_search(st: State, search: Search) -> State
+    ensures { λ r. ⌜ r ≡ searching st search ⌝ }
+{
+    let mut t = st;
+    t.search = search;
+    t
+}
+
+pub fn with_phase(st: State, phase: Phase) -> State
+    ensures { λ r. ⌜ r ≡ record { sizes = st .sizes; counts = st .counts; search = st .search; trial = st .trial; «max_step» = st .«max_step»; last = st .last; phase = phase; moving = st .moving } ⌝ }
+{
+    State { phase, ..st }
+}
+
+pub fn with_moving(st: State, moving: [bool; 12]) -> State
+    ensures { λ r. ⌜ r ≡ moves st moving ⌝ }
+{
+    let mut t = st;
+    t.moving = moving;
+    t
+}
+
+// The next question, of that kind and after so many corrections.
+pub fn with_question(st: State, kind: Kind, corrections: usize) -> State
+    requires { ⌜ st .counts .question < 2 ^ 32 ⌝ }
+    ensures { λ r. ⌜ r ≡ asking st kind corrections ⌝ }
+{
+    let mut t = st;
+    let question = st.counts.question + 1;
+    t.counts.question = question;
+    t.counts.corrections = corrections;
+    with_phase(t, Phase::Open(kind))
+}
+
+// The open question's point landed, after so many corrections.
+pub fn with_landed_number(st: State, corrections: usize) -> State
+    ensures { λ r. ⌜ r ≡ landing st corrections ⌝ }
+{
+    let mut t = st;
+    t.counts.landed = st.counts.question;
+    t.counts.corrections = corrections;
+    t
+}
+
+// A search left with a trial, whose step, multipliers and point stand elsewhere.
+pub fn with_trial_of(st: State, search: Search, trial: Trial) -> State
+    ensures { λ r. ⌜ ((delta lambda next : List Float) → r ≡ trying st search (record { delta = delta; lambda = lambda; next = next; predicted = trial .predicted; tried = trial .tried })) ⌝ }
+{
+    let mut t = st;
+    t.search = search;
+    t.trial = trial;
+    t
+}
+
+// The landed point stands.
+pub fn standing_on(st: State, length: Scalar, mu: Scalar, radius: Scalar) -> State
+    requires { ⌜ st .counts .iterations < 2 ^ 32 ⌝ }
+    ensures { λ r. ⌜ r ≡ standingOn st length mu radius ⌝ }
+{
+    let c = st.counts;
+    State {
+        counts: Counts {
+            iterations: c.iterations + 1,
+            standing: c.landed,
+            ..c
+        },
+        search: renew(st.search, mu, radius),
+        last: Last::Taken(length),
+        ..st
+    }
+}
+
+// A new iteration's.
+pub fn renew(x: Search, mu: Scalar, radius: Scalar) -> Search
+    ensures { λ r. ⌜ r ≡ anew x mu radius ⌝ }
+{
+    Search {
+        mu,
+        radius,
+        turned_down: x.turned_down,
+        first: true,
+        plain: false,
+        rejected: Rejection::NoneYet,
+    }
+}
+
+pub fn reject(x: Search, why: Rejection) -> Search
+    ensures { λ r. ⌜ r ≡ rejectedFor x why ⌝ }
+{
+    Search { rejected: why, ..x }
+}
+
+// A run before its first answer.
+pub fn state_with(z: Sizes, mu: Scalar, max: Scalar, phase: Phase) -> State
+    ensures { λ r. ⌜ r ≡ stateWith z mu max phase ⌝ }
+{
+    let moving = [false; 12];
+    let counts = Counts {
+        iterations: 0,
+        question: 0,
+        standing: 0,
+        landed: 0,
+        corrections: 0,
+    };
+    let search = Search {
+        mu,
+        radius: max,
+        turned_down: 0,
+        first: true,
+        plain: false,
+        rejected: Rejection::NoneYet,
+    };
+    let trial = Trial {
+        predicted: Scalar::ZERO,
+        tried: Scalar::ZERO,
+    };
+    State {
+        sizes: z,
+        counts,
+        search,
+        trial,
+        max_step: max,
+        last: Last::NoneYet,
+        phase,
+        moving,
+    }
 }

@@ -1,34 +1,38 @@
 // The step over the kept variables and over all: what is tested of it, and how it ends.
+ghost use Prim.Native.Nat.{_≤_};
 ghost use mathlib.Core.Bool.{_&&_};
 ghost use mathlib.Core.List.{List, []};
 ghost use mathlib.Core.Path.{_≡_};
-ghost use Prim.Native.Nat.{_≤_};
 ghost use lib.Ieee.{Float};
 ghost use lib.ListN.{length, take, drop, replicate};
 ghost use Rattle.linear.specs.Answers.{doneOf};
 ghost use Rattle.linear.specs.Flat.{zeros};
-ghost use Rattle.run.specs.Basis.{basisBy};
-ghost use Rattle.run.specs.Model.{problemIn};
-ghost use Rattle.run.specs.Rows.{rowsIn, evaluationOf, valueAt};
-ghost use Rattle.run.specs.Scratch.{vector, allFinite};
-ghost use Rattle.run.specs.Step.{pullOf, freeStep, curved, spanned, endOf, withMultipliers, basisFor, basedStep, keptStep, stepOf, Few, framedStep, dampedStep, preparedStep, Framed, PreparedFor, readyOf};
-use crate::area::place;
+ghost use Rattle.run.specs.Reduced.{pullOf};
+ghost use Rattle.run.specs.Rows.{rowsIn, valueAt, evaluationOf};
+ghost use Rattle.run.specs.Step.{freeStep, keptStep, stepOf};
+ghost use Rattle.run.specs.Vectors.{vector, allFinite};
+ghost use Rattle.run.specs.program.Basis.{basisBy};
+ghost use Rattle.run.specs.program.Problem.{problemIn};
+ghost use Rattle.run.specs.program.Reduced.{curved, spanned};
+ghost use Rattle.run.specs.program.Step.{endOf, withMultipliers, basisFor, readyOf, stepFromBasis, Few, stepFromFactors};
+ghost use Rattle.run.specs.program.Step.{PreparedFor, dampedStep, PreparedSizes, preparedStep};
+use crate::area::write;
 use crate::basis::Rank;
 use crate::basis::basis;
 use crate::basis::correction;
 use crate::basis::multipliers;
-use crate::directions::Found;
-use crate::directions::free_directions;
-use crate::free::Along;
-use crate::free::free_part;
-use crate::free::pull;
-use crate::model::damped;
-use crate::model::keep;
-use crate::model::problem;
+use crate::null_space::Found;
+use crate::null_space::free_directions;
+use crate::problem::damped;
+use crate::problem::keep;
+use crate::problem::problem;
+use crate::reduced::WeightsEnd;
+use crate::reduced::free_part;
+use crate::reduced::pull;
 use crate::rows::RowSet;
 use crate::rows::constraints;
-use crate::scratch::all_finite;
-use crate::scratch::spread;
+use crate::vectors::all_finite;
+use crate::vectors::spread;
 use interval::Scalar;
 use linear::Done;
 use linear::LinearError;
@@ -99,16 +103,16 @@ fn free_step(
 {
     let mut p = [0.0; 24];
     match free_part(k, count, h, g, &frame[DIRECTIONS..FRAME], delta) {
-        Along::Found => {
+        WeightsEnd::Found => {
             if finite_pull(k, h, g, delta, &mut p) {
                 return multiplied(multipliers(k, r, frame, order, &p, lambda), r);
             }
             return StepEnd::NotPositive;
         }
-        Along::NotPositive => {
+        WeightsEnd::NotPositive => {
             return StepEnd::NotPositive;
         }
-        Along::Refused(e) => {
+        WeightsEnd::Refused(e) => {
             return StepEnd::Refused(e);
         }
     }
@@ -150,11 +154,11 @@ fn prepare_free(
     frame: &mut [f64],
 ) -> Prepared
     requires { ⌜ (k ≤ 12) × ((m ≤ 12) × ((r ≤ 12) × ((length (now q) ≡ 288) × ((length (now coefficients) ≡ 288) × ((length (now order) ≡ 24) × (now frame ≡ zeros 888)))))) ⌝ }
-    ensures { λ x. ⌜ ((h g : List Float) → framedStep x (curved k h g) (now (order .entry)) (now (frame .exit)) ≡ basedStep (problemIn k m (valueAt (rowsIn (now (xs .entry)) c)) [] [] h g) (basisBy r (now (q .entry)) [] (now (coefficients .entry)) (now (dependent .entry)) (now (order .entry)))) × Few x ⌝ }
+    ensures { λ x. ⌜ ((h g : List Float) → stepFromFactors x (curved k h g) (now (order .entry)) (now (frame .exit)) ≡ stepFromBasis (problemIn k m (valueAt (rowsIn (now (xs .entry)) c)) [] [] h g) (basisBy r (now (q .entry)) [] (now (coefficients .entry)) (now (dependent .entry)) (now (order .entry)))) × Few x ⌝ }
 {
     let mut left = [0.0; 288];
-    place(frame, 0, q);
-    place(frame, COEFFICIENTS, coefficients);
+    write(frame, 0, q);
+    write(frame, COEFFICIENTS, coefficients);
     let end = correction(
         k,
         m,
@@ -183,7 +187,7 @@ fn prepare_kept(
     frame: &mut [f64],
 ) -> Prepared
     requires { ⌜ (k ≤ 12) × ((m ≤ 12) × ((now order ≡ replicate 24 0) × (now frame ≡ zeros 888))) ⌝ }
-    ensures { λ x. ⌜ ((h g : List Float) → framedStep x (curved k h g) (now (order .exit)) (now (frame .exit)) ≡ keptStep (problemIn k m (valueAt (rowsIn (now (xs .entry)) c)) (now (wide .entry)) (now (jc .entry)) h g)) × Few x ⌝ }
+    ensures { λ x. ⌜ ((h g : List Float) → stepFromFactors x (curved k h g) (now (order .exit)) (now (frame .exit)) ≡ keptStep (problemIn k m (valueAt (rowsIn (now (xs .entry)) c)) (now (wide .entry)) (now (jc .entry)) h g)) × Few x ⌝ }
 {
     let mut q = [0.0; 288];
     let mut gram = [0.0; 288];
@@ -247,11 +251,11 @@ fn prepared_step(
     lambda: &mut [f64],
 ) -> StepEnd
     requires { ⌜ (k ≤ 12) × (Few prepared × ((length (now order) ≡ 24) × ((length (now frame) ≡ 888) × ((length (now kept) ≡ 24) × (length (now lambda) ≡ 24))))) ⌝ }
-    ensures { λ x. ⌜ endOf x (now (kept .exit)) (now (lambda .exit)) ≡ framedStep prepared (curved k (now (h .entry)) (now (g .entry))) (now (order .entry)) (now (frame .entry)) ⌝ }
+    ensures { λ x. ⌜ endOf x (now (kept .exit)) (now (lambda .exit)) ≡ stepFromFactors prepared (curved k (now (h .entry)) (now (g .entry))) (now (order .entry)) (now (frame .entry)) ⌝ }
 {
     match prepared {
         Prepared::Ready(r, count) => {
-            place(kept, 0, &frame[CORRECTION..DIRECTIONS]);
+            write(kept, 0, &frame[CORRECTION..DIRECTIONS]);
             return free_step(k, r, count, h, g, order, frame, kept, lambda);
         }
         Prepared::Refused(e) => {
@@ -271,7 +275,7 @@ fn kept_step(
     kept: &mut [f64],
     lambda: &mut [f64],
 ) -> StepEnd
-    requires { ⌜ (k ≤ 12) × (Framed prepared (now order) (now curve) (now frame) × ((length (now kept) ≡ 24) × (length (now lambda) ≡ 24))) ⌝ }
+    requires { ⌜ (k ≤ 12) × (PreparedSizes prepared (now order) (now curve) (now frame) × ((length (now kept) ≡ 24) × (length (now lambda) ≡ 24))) ⌝ }
     ensures { λ x. ⌜ endOf x (now (kept .exit)) (now (lambda .exit)) ≡ dampedStep k prepared (now (order .entry)) (now (curve .entry)) (now (frame .entry)) mu ⌝ }
 {
     let mut h = [0.0; 288];
@@ -305,7 +309,7 @@ pub fn damped_step(
     delta: &mut [f64],
     lambda: &mut [f64],
 ) -> StepEnd
-    requires { ⌜ (n ≤ 12) × ((length (now moving) ≡ 12) × (Framed prepared (now order) (now curve) (now frame) × ((length (now delta) ≡ 24) × (length (now lambda) ≡ 24)))) ⌝ }
+    requires { ⌜ (n ≤ 12) × ((length (now moving) ≡ 12) × (PreparedSizes prepared (now order) (now curve) (now frame) × ((length (now delta) ≡ 24) × (length (now lambda) ≡ 24)))) ⌝ }
     ensures { λ x. ⌜ endOf x (now (delta .exit)) (now (lambda .exit)) ≡ preparedStep n (now (moving .entry)) prepared (now (order .entry)) (now (curve .entry)) (now (frame .entry)) mu ⌝ }
 {
     let mut index = [0; 12];

@@ -6,7 +6,7 @@ use lib.Ieee.{Float}
 use Rattle.interval.specs.declared.Scalar.{Scalar}
 use Rattle.interval.specs.Result.{Res, ok, refused}
 use Rattle.interval.specs.Scalar.{zeroS, pick}
-use Rattle.run.specs.declared.judged.Judged.{Judged}
+use Rattle.run.specs.declared.judgement.Judged.{Judged}
 use Rattle.run.specs.declared.state.Last.{Last}
 use Rattle.run.specs.declared.state.Last.the-variants.{NoneYet, Taken}
 use Rattle.run.specs.Pieces.{Ending, independent, none, StepReply}

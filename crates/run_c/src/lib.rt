@@ -3,9 +3,9 @@
 ghost use mathlib.Core.Path.{_≡_};
 ghost use Rattle.yadzvego.specs.ScalarAnswer.{answerOf};
 ghost use Rattle.yadzvego.specs.Written.{written, writtenOf};
-ghost use Rattle.run.specs.Judgement.{judgementOf};
+ghost use Rattle.run.specs.program.Judgement.{judgementOf};
 ghost use Rattle.run.specs.Pieces.{squaredReply, predictedReply, transposedReply, movingReply, judgeReply, expectsReply, cutReply, alongReply, shiftReply, updateReply, learnedReply, learningOf, stepReply, endingOf};
-ghost use Rattle.run.specs.Proposal.{expectedResult};
+ghost use Rattle.run.specs.program.Proposal.{expectedResult};
 ghost use Rattle.run_c.specs.Replies.{decisionOf, judgedOf, lastOf, steppedOf, stepWritten, stepWrittenOf};
 use interval::Scalar;
 use run::Expected;

@@ -5,7 +5,7 @@ use crate::tokens::Token;
 use crate::tokens::is_number;
 use crate::tokens::next_token;
 use float_bits::bits_of;
-use run::Answer;
+use run::Event;
 use run::Kind;
 use run::Rejection;
 use run::Stop;
@@ -92,13 +92,13 @@ fn refusal(number: usize) -> [u64; 8] {
 }
 
 // The letter, and the numbers behind it.
-fn line_of(a: Answer) -> [u64; 8] {
+fn line_of(a: Event) -> [u64; 8] {
     match a {
-        Answer::Question(number, kind, standing) => question(number, kind, standing),
-        Answer::Finish(stop, iterations, turned, standing) => {
+        Event::Question(number, kind, standing) => question(number, kind, standing),
+        Event::Finish(stop, iterations, turned, standing) => {
             finish(stop, iterations, turned, standing)
         }
-        Answer::Refused(number) => refusal(number),
+        Event::Refused(number) => refusal(number),
     }
 }
 
@@ -186,7 +186,7 @@ fn same_rest(letter: u64, line: &[u64; 8], point: &[f64], numbers: usize) -> See
 }
 
 // Reads the answer that the list has next, with so many words for a point.
-pub fn same_answer(answer: Answer, point: &[f64], numbers: usize) -> Seen {
+pub fn same_answer(answer: Event, point: &[f64], numbers: usize) -> Seen {
     let line = line_of(answer);
     let t = next_token();
     let seen = same_letter(&line, t);

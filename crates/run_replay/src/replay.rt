@@ -10,7 +10,7 @@ use crate::tokens::read_numbers;
 use float_bits::float_of;
 use interval::Scalar;
 use libc::STDOUT_FILENO;
-use run::Out;
+use run::Returned;
 use run::State;
 
 const RUN: u64 = 0x72756E;
@@ -38,7 +38,7 @@ pub struct Tally {
 // A run as far as it was replayed.
 struct Progress {
     tally: Tally,
-    out: Out,
+    out: Returned,
 }
 
 // What begins a run, but for its start.
@@ -115,8 +115,8 @@ fn counted(t: Tally, seen: Seen) -> Tally {
 }
 
 // The answer to a call, where points have so many numbers.
-fn compared(t: Tally, out: Out, area: &[f64], numbers: usize) -> Tally {
-    let answer = out.answer;
+fn compared(t: Tally, out: Returned, area: &[f64], numbers: usize) -> Tally {
+    let answer = out.event;
     let state = out.state;
     counted(t, same_answer(answer, run::point(state, area), numbers))
 }
@@ -168,7 +168,7 @@ fn after(t: Tally, reply: Reply) -> Tally {
     }
 }
 
-fn made(reply: Reply, st: State, rows: &[f64], area: &mut [f64]) -> Out {
+fn made(reply: Reply, st: State, rows: &[f64], area: &mut [f64]) -> Returned {
     match reply {
         Reply::Rows(count) => run::reply(st, area, first_of(rows, count)),
         Reply::NoRows => run::reply_none(st, area),
@@ -194,7 +194,7 @@ fn replay_reply(p: Progress, numbers: usize, rows: &mut [f64], area: &mut [f64])
 
 fn replay_replies(
     before: Tally,
-    first: Out,
+    first: Returned,
     numbers: usize,
     rows: &mut [f64],
     area: &mut [f64],

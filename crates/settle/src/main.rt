@@ -17,8 +17,8 @@ use interval::Scalar;
 use linear::put;
 use report::print;
 use report::print_answer;
-use run::Answer;
-use run::Out;
+use run::Event;
+use run::Returned;
 use run::State;
 
 // No run has more: 5,500 for each of 200 iterations, and the start.
@@ -60,30 +60,30 @@ fn put_start(dr: Drawing, start: &mut [f64]) {
     }
 }
 
-fn is_question(a: Answer) -> bool {
+fn is_question(a: Event) -> bool {
     match a {
-        Answer::Question(_, _, _) => true,
-        Answer::Finish(_, _, _, _) => false,
-        Answer::Refused(_) => false,
+        Event::Question(_, _, _) => true,
+        Event::Finish(_, _, _, _) => false,
+        Event::Refused(_) => false,
     }
 }
 
 // Refused for an end outside the domain.
-fn is_outside(a: Answer) -> bool {
+fn is_outside(a: Event) -> bool {
     match a {
-        Answer::Question(_, _, _) => false,
-        Answer::Finish(_, _, _, _) => false,
-        Answer::Refused(number) => number == 3,
+        Event::Question(_, _, _) => false,
+        Event::Finish(_, _, _, _) => false,
+        Event::Refused(number) => number == 3,
     }
 }
 
 // Answers the open question with the rows at the asked point, or with none where they are outside the domain.
-fn answered(dr: Drawing, st: State, start: &[f64], rows: &mut [f64], area: &mut [f64]) -> Out
+fn answered(dr: Drawing, st: State, start: &[f64], rows: &mut [f64], area: &mut [f64]) -> Returned
     requires { ⌜ (dr .points ≤ 6) × (dr .rules ≤ 12) ⌝ }
 {
     rows_at(dr, start, run::point(st, area), rows);
     let out = run::reply(st, area, rows);
-    let answer = out.answer;
+    let answer = out.event;
     if is_outside(answer) {
         return run::reply_none(st, area);
     }
@@ -91,13 +91,13 @@ fn answered(dr: Drawing, st: State, start: &[f64], rows: &mut [f64], area: &mut 
 }
 
 // Answers until no question is open.
-fn settle_from(first: Out, dr: Drawing, start: &[f64], rows: &mut [f64], area: &mut [f64])
+fn settle_from(first: Returned, dr: Drawing, start: &[f64], rows: &mut [f64], area: &mut [f64])
     requires { ⌜ (dr .points ≤ 6) × (dr .rules ≤ 12) ⌝ }
 {
     let mut out = first;
     print_answer(out, area);
     for _ in 0..MOST_QUESTIONS {
-        let answer = out.answer;
+        let answer = out.event;
         let state = out.state;
         if !is_question(answer) {
             break;

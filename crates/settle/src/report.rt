@@ -4,9 +4,9 @@ use float_bits::print_word;
 use interval::Scalar;
 use libc::STDOUT_FILENO;
 use linear::at;
-use run::Answer;
-use run::Out;
+use run::Event;
 use run::Rejection;
+use run::Returned;
 use run::Stop;
 
 pub fn print(text: &[u8]) {
@@ -98,16 +98,16 @@ fn print_finish(stop: Stop, iterations: usize, turned: usize, standing: usize) {
 }
 
 // What a call answered, with the point that it leaves.
-pub fn print_answer(out: Out, area: &[f64]) {
-    let answer = out.answer;
+pub fn print_answer(out: Returned, area: &[f64]) {
+    let answer = out.event;
     let state = out.state;
     match answer {
-        Answer::Question(number, _, _) => print_question(number, run::point(state, area)),
-        Answer::Finish(stop, iterations, turned, standing) => {
+        Event::Question(number, _, _) => print_question(number, run::point(state, area)),
+        Event::Finish(stop, iterations, turned, standing) => {
             print_finish(stop, iterations, turned, standing);
             print_points(run::point(state, area));
         }
-        Answer::Refused(number) => {
+        Event::Refused(number) => {
             print_number(b"error=", number);
             print(b"\n");
         }

@@ -9,10 +9,11 @@ use lib.Dec.{eqb}
 use lib.Ieee.{Float}
 use lib.ListN.{length, take, drop}
 use Rattle.interval.specs.Result.{Res, ok, refused}
-use Rattle.run.specs.Area.{AREA}
-use Rattle.run.specs.Calls.{Left, refusedByCheck, valid, replyOf, replyNoneOf, pointOf}
-use Rattle.run.specs.declared.state.Answer.{Answer}
-use Rattle.run.specs.declared.state.Answer.the-variants as answer
+use Rattle.run.specs.Limits.{AREA}
+use Rattle.run.specs.Calls.{AfterCall, refusedByCheck, replyOf, replyNoneOf, pointOf}
+use Rattle.run.specs.Checks.{valid}
+use Rattle.run.specs.declared.state.Event.{Event}
+use Rattle.run.specs.declared.state.Event.the-variants as event
 use Rattle.run.specs.declared.state.State.{State}
 use Rattle.run.specs.Cleared.{Replied}
 use Rattle.run.proofs.Booleans.{never}
@@ -27,7 +28,7 @@ use Rattle.yadzvego.proofs.MirrorLaws.{there-and-back}
 
 -- ---- a call
 
-module _ (r : Run) (a : List Float) (call : State → Left) where
+module _ (r : Run) (a : List Float) (call : State → AfterCall) where
   pub called : numbersFit r ≡ true → calledWith r a call (stateOf r) ≡ handedAfter r (call (stateAt r))
   unfolding stateOf
   called e = rw e
@@ -56,18 +57,18 @@ module _ (r : Run) (a : List Float) where
 -- ---- a refusal by 1 to 4 hands back the mirror and the area as they were
 
 abbrev AsHanded : Run → List Float → Handed → Type 0
-AsHanded r a h = byCheck (h .reply .answer) ≡ true → (h .reply .run ≡ r) × (h .area ≡ a)
+AsHanded r a h = byCheck (h .reply .event) ≡ true → (h .reply .run ≡ r) × (h .area ≡ a)
 
 -- it is the one of the call beneath
-refused-beneath : (x : Answer) → byCheck (numbersOf x) ≡ true → refusedByCheck x ≡ true
-refused-beneath (answer.Question k t s) e = never e
-refused-beneath (answer.Finish s i t n) e = never e
-refused-beneath (answer.Refused k) e = e
+refused-beneath : (x : Event) → byCheck (numbersOf x) ≡ true → refusedByCheck x ≡ true
+refused-beneath (event.Question k t s) e = never e
+refused-beneath (event.Finish s i t n) e = never e
+refused-beneath (event.Refused k) e = e
 
-module _ (r : Run) (a : List Float) (call : State → Left) (leaves : (st : State) → Replied st a (call st)) where
+module _ (r : Run) (a : List Float) (call : State → AfterCall) (leaves : (st : State) → Replied st a (call st)) where
   as-handed : (x : Res State) → AsHanded r a (calledWith r a call x)
   as-handed (refused k) e = (refl, refl)
-  as-handed (ok st) e = let h = refused-beneath (call st .answer) e in (rw h, leaves st .unchanged h .1)
+  as-handed (ok st) e = let h = refused-beneath (call st .event) e in (rw h, leaves st .unchanged h .1)
 
 module _ (r : Run) (a : List Float) where
   pub reply-refused : (rows : List Float) → AsHanded r a (replyExport r a rows)
@@ -81,10 +82,10 @@ module _ (r : Run) (a : List Float) where
 -- ---- a mirror that a call left is the state that the call beneath left
 
 -- over the mirror of a state, what is handed back is the mirror of the state that is left
-after-mirror : (st : State) (a : List Float) (l : Left) → Replied st a l → handedAfter (mirrorOf st) l ≡ handedBy l
-after-mirror st a l p = by (refusedByCheck (l .answer)) refl
+after-mirror : (st : State) (a : List Float) (l : AfterCall) → Replied st a l → handedAfter (mirrorOf st) l ≡ handedBy l
+after-mirror st a l p = by (refusedByCheck (l .event)) refl
   where
-    by : (b : Bool) → refusedByCheck (l .answer) ≡ b → handedAfter (mirrorOf st) l ≡ handedBy l
+    by : (b : Bool) → refusedByCheck (l .event) ≡ b → handedAfter (mirrorOf st) l ≡ handedBy l
     by true e = rw (e, p .unchanged e .0)
     by false e = rw e
 

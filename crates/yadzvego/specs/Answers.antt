@@ -1,7 +1,7 @@
 -- What a call answers, as numbers (document 01, "A run by question and reply"): which is 0 for a question, 1 for the finish, 2 for a refusal; what an answer does not tell is 0.
 use Prim.Native.Nat.{ℕ}
-use Rattle.run.specs.declared.state.Answer.{Answer}
-use Rattle.run.specs.declared.state.Answer.the-variants as answer
+use Rattle.run.specs.declared.state.Event.{Event}
+use Rattle.run.specs.declared.state.Event.the-variants as event
 use Rattle.run.specs.declared.state.Stop.{Stop}
 use Rattle.run.specs.declared.state.Stop.the-variants as stop
 use Rattle.yadzvego.specs.Mirror.{kindNumber, rejectionNumber}
@@ -50,7 +50,7 @@ finished e iterations turned standing = record {
   «turned_down» = turned;
 }
 
-abbrev pub numbersOf : Answer → AnswerNumbers
-numbersOf (answer.Question number k standing) = asked 0 (kindNumber k) number standing
-numbersOf (answer.Finish s iterations turned standing) = finished (endingOf s) iterations turned standing
-numbersOf (answer.Refused number) = asked 2 0 number 0
+abbrev pub numbersOf : Event → AnswerNumbers
+numbersOf (event.Question number k standing) = asked 0 (kindNumber k) number standing
+numbersOf (event.Finish s iterations turned standing) = finished (endingOf s) iterations turned standing
+numbersOf (event.Refused number) = asked 2 0 number 0

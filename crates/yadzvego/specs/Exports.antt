@@ -10,10 +10,11 @@ use lib.Ieee.{Float}
 use Rattle.interval.specs.declared.Scalar.{Scalar}
 use Rattle.interval.specs.Result.{Res, ok, refused}
 use Rattle.interval.specs.Scalar.{pick}
-use Rattle.run.specs.Area.{AREA}
-use Rattle.run.specs.Calls.{Left, refusedByCheck, valid, beginOf, replyOf, replyNoneOf, pointAt, pointOf}
-use Rattle.run.specs.declared.state.Answer.{Answer}
-use Rattle.run.specs.declared.state.Out.{Out}
+use Rattle.run.specs.Limits.{AREA}
+use Rattle.run.specs.Calls.{AfterCall, refusedByCheck, beginOf, replyOf, replyNoneOf, pointAt, pointOf}
+use Rattle.run.specs.Checks.{valid}
+use Rattle.run.specs.declared.state.Event.{Event}
+use Rattle.run.specs.declared.state.Returned.{Returned}
 use Rattle.run.specs.declared.state.Sizes.{Sizes}
 use Rattle.run.specs.declared.state.State.{State}
 use Rattle.yadzvego.specs.Mirror.{mirrorOf, numbersFit, stateAt, stateOf}
@@ -30,25 +31,25 @@ pub record Handed : Type 0 where
 abbrev pub handed : Reply → List Float → Handed
 handed r a = record { reply = r; area = a }
 
-abbrev pub replyWith : State → Answer → Reply
-replyWith st a = record { run = mirrorOf st; answer = numbersOf a }
+abbrev pub replyWith : State → Event → Reply
+replyWith st a = record { run = mirrorOf st; event = numbersOf a }
 
-abbrev pub replyFrom : Out → Reply
-replyFrom o = replyWith (o .state) (o .answer)
+abbrev pub replyFrom : Returned → Reply
+replyFrom o = replyWith (o .state) (o .event)
 
 -- what a call of run leaves
-abbrev pub handedBy : Left → Handed
-handedBy l = handed (replyWith (l .state) (l .answer)) (l .area)
+abbrev pub handedBy : AfterCall → Handed
+handedBy l = handed (replyWith (l .state) (l .event)) (l .area)
 
 -- what a call over the mirror r leaves
-abbrev pub runAfter : Run → State → Answer → Run
+abbrev pub runAfter : Run → State → Event → Run
 runAfter r st a = pick (refusedByCheck a) r (mirrorOf st)
 
-abbrev pub replyAfter : Run → State → Answer → Reply
-replyAfter r st a = record { run = runAfter r st a; answer = numbersOf a }
+abbrev pub replyAfter : Run → State → Event → Reply
+replyAfter r st a = record { run = runAfter r st a; event = numbersOf a }
 
-abbrev pub handedAfter : Run → Left → Handed
-handedAfter r l = handed (replyAfter r (l .state) (l .answer)) (l .area)
+abbrev pub handedAfter : Run → AfterCall → Handed
+handedAfter r l = handed (replyAfter r (l .state) (l .event)) (l .area)
 
 -- a refusal by 1 to 4, as numbers
 abbrev pub byCheck : AnswerNumbers → Bool
@@ -56,10 +57,10 @@ byCheck a = eqb (a .which) 2 && leb (a .number) 4
 
 -- refused, with all as it was
 abbrev pub refusedWith : Run → ℕ → Reply
-refusedWith r k = record { run = r; answer = asked 2 0 k 0 }
+refusedWith r k = record { run = r; event = asked 2 0 k 0 }
 
 -- a call over the state, if the mirror holds one
-abbrev pub calledWith : Run → List Float → (State → Left) → Res State → Handed
+abbrev pub calledWith : Run → List Float → (State → AfterCall) → Res State → Handed
 calledWith r a call (ok st) = handedAfter r (call st)
 calledWith r a call (refused k) = handed (refusedWith r k) a
 

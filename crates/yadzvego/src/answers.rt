@@ -7,8 +7,8 @@ use crate::mirror::Run;
 use crate::mirror::kind_number;
 use crate::mirror::mirror_of;
 use crate::mirror::rejection_number;
-use run::Answer;
-use run::Out;
+use run::Event;
+use run::Returned;
 use run::State;
 use run::Stop;
 
@@ -30,7 +30,7 @@ pub struct AnswerNumbers {
 #[repr(C)]
 pub struct Reply {
     pub run: Run,
-    pub answer: AnswerNumbers,
+    pub event: AnswerNumbers,
 }
 
 // Why a run stopped.
@@ -100,42 +100,42 @@ fn asked(which: u8, kind: u8, number: usize, standing: usize) -> AnswerNumbers
     }
 }
 
-fn numbers_of(a: Answer) -> AnswerNumbers
+fn numbers_of(a: Event) -> AnswerNumbers
     ensures { λ r. ⌜ r ≡ numbersOf a ⌝ }
 {
     match a {
-        Answer::Question(number, kind, standing) => asked(0, kind_number(kind), number, standing),
-        Answer::Finish(stop, iterations, turned_down, standing) => {
+        Event::Question(number, kind, standing) => asked(0, kind_number(kind), number, standing),
+        Event::Finish(stop, iterations, turned_down, standing) => {
             finished(ending_of(stop), iterations, turned_down, standing)
         }
-        Answer::Refused(number) => asked(2, 0, number, 0),
+        Event::Refused(number) => asked(2, 0, number, 0),
     }
 }
 
-pub fn reply_of(o: Out) -> Reply
+pub fn reply_of(o: Returned) -> Reply
     ensures { λ r. ⌜ r ≡ replyFrom o ⌝ }
 {
     let state = o.state;
-    let answer = o.answer;
+    let answer = o.event;
     Reply {
         run: mirror_of(state),
-        answer: numbers_of(answer),
+        event: numbers_of(answer),
     }
 }
 
 // Whether an answer is a refusal by 1 to 4.
-fn refused_by_check(a: Answer) -> bool
+fn refused_by_check(a: Event) -> bool
     ensures { λ r. ⌜ r ≡ refusedByCheck a ⌝ }
 {
     match a {
-        Answer::Question(_, _, _) => false,
-        Answer::Finish(_, _, _, _) => false,
-        Answer::Refused(number) => number <= 4,
+        Event::Question(_, _, _) => false,
+        Event::Finish(_, _, _, _) => false,
+        Event::Refused(number) => number <= 4,
     }
 }
 
 // The run after a call over it: every bit as it was handed in where it is refused by 1 to 4.
-fn run_after(run: Run, state: State, answer: Answer) -> Run
+fn run_after(run: Run, state: State, event: Event) -> Run
     ensures { λ r. ⌜ r ≡ runAfter run state answer ⌝ }
 {
     if refused_by_check(answer) {
@@ -145,14 +145,14 @@ fn run_after(run: Run, state: State, answer: Answer) -> Run
 }
 
 // The reply to a call over a run.
-pub fn reply_after(run: Run, o: Out) -> Reply
-    ensures { λ r. ⌜ r ≡ replyAfter run (o .state) (o .answer) ⌝ }
+pub fn reply_after(run: Run, o: Returned) -> Reply
+    ensures { λ r. ⌜ r ≡ replyAfter run (o .state) (o .event) ⌝ }
 {
     let state = o.state;
-    let answer = o.answer;
+    let answer = o.event;
     Reply {
         run: run_after(run, state, answer),
-        answer: numbers_of(answer),
+        event: numbers_of(answer),
     }
 }
 
@@ -162,6 +162,6 @@ pub fn altered(run: Run) -> Reply
 {
     Reply {
         run,
-        answer: asked(2, 0, 4, 0),
+        event: asked(2, 0, 4, 0),
     }
 }

@@ -11,7 +11,7 @@ same-length : tie.Need-same-length
 same-length c = search needs
 
 returns : tie.Need-returns
-returns c = called-same _ _ _ _ _ _ (c .before .before .before .before .if1 .taken) (c .before .before .answer .ensures)
+returns c = called-same _ _ _ _ _ _ (c .before .before .before .before .if1 .taken) (c .before .before .event .ensures)
 
 slice-relend-prefix-answer : tie.Need-slice-relend-prefix-answer
 slice-relend-prefix-answer c = search needs

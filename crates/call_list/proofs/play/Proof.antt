@@ -3,14 +3,14 @@ use Prim.Native.Nat.{_-_}
 use mathlib.Core.Path.{_≡_, refl}
 use native.Mathlib.Omega.{arith}
 use lib.ListN.{length}
-use Rattle.call_list.specs.CallList.{playedOf}
+use Rattle.call_list.specs.CallList.{callResultOf}
 use Rattle.call_list.proofs.FoldLaws.{Playing, playing, play-more}
 use Rattle.call_list.proofs.DemandLaws.{play-ends}
 use Rattle.call_list.proofs.play.Statement.{statement}
 use Rattle.call_list.proofs.play.Tie as tie
 
 abbrev Inv-loop : tie.InvT-loop
-Inv-loop n m s limit start area₀ codes numbers out₀ at₀ i₀ area out at i = Playing (playedOf out₀ area₀) codes numbers (playedOf out area) i at × (length area ≡ length area₀)
+Inv-loop n m s limit start area₀ codes numbers out₀ at₀ i₀ area out at i = Playing (callResultOf out₀ area₀) codes numbers (callResultOf out area) i at × (length area ≡ length area₀)
 
 abbrev μ-loop : tie.MeasureT-loop
 μ-loop n m s limit start area₀ codes numbers out₀ at₀ i₀ area out at i = length codes - i

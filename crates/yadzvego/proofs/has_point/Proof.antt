@@ -1,7 +1,7 @@
 -- `has_point` meets its contract: the checks in their order.
 use mathlib.Core.Path.{_∙_, sym, ap}
 use borrow.Author.Tests.{not-true, not-false}
-use Rattle.run.specs.Calls.{valid}
+use Rattle.run.specs.Checks.{valid}
 use Rattle.yadzvego.specs.Exports.{hasPoint}
 use borrow.Author.Needs.{needs}
 use Rattle.yadzvego.proofs.has_point.Statement.{statement}

@@ -1,6 +1,6 @@
 -- `all_used` meets its contract: each slot has its count.
 use native.Mathlib.Omega.{arith}
-use Rattle.run.proofs.AreaSlots.{entries-fit}
+use Rattle.run.proofs.AreaLaws.{entries-fit}
 use Rattle.run.proofs.area.all_used.Statement.{statement}
 use Rattle.run.proofs.area.all_used.Tie as tie
 

@@ -2,7 +2,7 @@
 use Prim.Native.Nat.{_+_, _-_}
 use native.Mathlib.Omega.{arith}
 use borrow.Author.Needs.{needs}
-use Rattle.run.proofs.AreaSlots.{cleared-part}
+use Rattle.run.proofs.AreaLaws.{cleared-part}
 use Rattle.run.proofs.area.clear_from.Statement.{statement}
 use Rattle.run.proofs.area.clear_from.Tie as tie
 

@@ -3,7 +3,7 @@ use Prim.Native.Nat.{_-_}
 use native.Mathlib.Omega.{arith}
 use borrow.Author.Needs.{needs}
 use lib.ListN.{take, drop}
-use Rattle.run.proofs.AreaSlots.{Writing, writing-none, length-from, copying-more, writing-all}
+use Rattle.run.proofs.AreaLaws.{Writing, writing-none, length-from, copying-more, writing-all}
 use Rattle.run.proofs.area.copy.Statement.{statement}
 use Rattle.run.proofs.area.copy.Tie as tie
 

@@ -1,12 +1,12 @@
 -- `slot` meets its contract: two runs, one right behind the other.
 use native.Mathlib.Omega.{arith}
 use borrow.Author.Needs.{needs}
-use Rattle.run.proofs.AreaSlots.{slot-is}
+use Rattle.run.proofs.AreaLaws.{slot-is}
 use Rattle.run.proofs.area.slot.Statement.{statement}
 use Rattle.run.proofs.area.slot.Tie as tie
 
-place-requires : tie.Need-place-requires
-place-requires c κs = search needs
+write-requires : tie.Need-write-requires
+write-requires c κs = search needs
 
 add-clear-from : tie.Need-add-clear-from
 add-clear-from c = search needs
@@ -21,9 +21,9 @@ same-length : tie.Need-same-length
 same-length c = search needs
 
 returns : tie.Need-returns
-returns c = let a = c .before .before .before .before .before .before .before .before .before .before .args in slot-is (a .area .now) (a .src .now) (a .base) (a .size) (omega arith) (omega arith) (c .before .before .before .before .before .before .place .ensures) (c .before .before .clear-from .ensures)
+returns c = let a = c .before .before .before .before .before .before .before .before .before .before .args in slot-is (a .area .now) (a .src .now) (a .base) (a .size) (omega arith) (omega arith) (c .before .before .before .before .before .before .write .ensures) (c .before .before .clear-from .ensures)
 
 pub slot-spec : {M : Type 1} → statement M
 slot-spec =
     tie.close
-    (tie.spec place-requires add-clear-from sub-clear-from clear-from-requires same-length returns)
+    (tie.spec write-requires add-clear-from sub-clear-from clear-from-requires same-length returns)

@@ -8,7 +8,8 @@ use lib.ListN.{length}
 use Rattle.interval.specs.Result.{ok}
 use Rattle.interval.specs.Scalar.{zeroS}
 use Rattle.linear.specs.Results.{foldR}
-use Rattle.run.specs.Basis.{Basis, noRows, rowStep, basisOf, basisBy, problemBy}
+use Rattle.run.specs.Basis.{Basis, noRows, rowStep, basisOf}
+use Rattle.run.specs.program.Basis.{basisBy, problemBy}
 use Rattle.run.proofs.BasisLaws.{rank-next, rows-next, rows-refused}
 use Rattle.run.proofs.basis.basis.Statement.{statement}
 use Rattle.run.proofs.basis.basis.Tie as tie

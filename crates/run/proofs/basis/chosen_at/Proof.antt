@@ -6,8 +6,8 @@ use native.Mathlib.Nat.{le-antisymm}
 use lib.ListN.{length}
 use Rattle.linear.specs.Choose.{chooseOf}
 use Rattle.linear.specs.Flat.{at}
-use Rattle.run.specs.Scratch.{fillTo}
-use Rattle.run.proofs.ScratchLaws.{fill-turn}
+use Rattle.run.specs.Vectors.{fillTo}
+use Rattle.run.proofs.VectorLaws.{fill-turn}
 use Rattle.run.proofs.basis.chosen_at.Statement.{statement}
 use Rattle.run.proofs.basis.chosen_at.Tie as tie
 

@@ -11,7 +11,8 @@ use Rattle.interval.specs.declared.Scalar.{Scalar}
 use Rattle.linear.specs.Flat.{listTo}
 use Rattle.linear.proofs.Lists.{listTo-none, listTo-more, listTo-all}
 use Rattle.linear.proofs.Reflections.{rows-positive}
-use Rattle.run.specs.Basis.{basisBy, coefficientAt}
+use Rattle.run.specs.program.Basis.{basisBy}
+use Rattle.run.specs.Basis.{coefficientAt}
 use Rattle.run.proofs.BasisLaws.{packed-row, packed-column}
 use Rattle.run.proofs.RowLaws.{few}
 use Rattle.run.proofs.basis.coefficient_rows.Statement.{statement}

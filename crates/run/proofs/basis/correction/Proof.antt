@@ -10,7 +10,7 @@ use Rattle.linear.specs.Choose.{sharpOf}
 use Rattle.linear.specs.Flat.{zeros}
 use Rattle.linear.specs.Householder.{leastSquaresOf}
 use Rattle.run.specs.Rows.{rowsIn, valueAt}
-use Rattle.run.specs.Scratch.{vector, combinedTo}
+use Rattle.run.specs.Vectors.{vector, combinedTo}
 use Rattle.run.proofs.BasisLaws.{correction-is}
 use Rattle.run.proofs.LinearCalls.{least-squares-result, sharp-written}
 use Rattle.run.proofs.Prefixes.{front-room, front-kept}

@@ -8,9 +8,9 @@ use Rattle.linear.specs.Dot.{minusTo}
 use Rattle.linear.specs.Flat.{at}
 use Rattle.linear.specs.Results.{bind}
 use Rattle.linear.proofs.Folds.{bind-ok, bind-refused}
-use Rattle.run.specs.Scratch.{column, entry}
+use Rattle.run.specs.Vectors.{column, entry}
 use Rattle.run.proofs.BasisLaws.{left-take}
-use Rattle.run.proofs.ScratchLaws.{norm-fill}
+use Rattle.run.proofs.VectorLaws.{norm-fill}
 use borrow.Author.Needs.{needs}
 use Rattle.run.proofs.basis.measure.Statement.{statement}
 use Rattle.run.proofs.basis.measure.Tie as tie

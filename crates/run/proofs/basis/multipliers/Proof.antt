@@ -2,7 +2,8 @@
 use mathlib.Core.List.{[]}
 use lib.Ieee.{ofBits}
 use lib.ListN.{drop}
-use Rattle.run.specs.Basis.{multiplierStep, basisBy}
+use Rattle.run.specs.Basis.{multiplierStep}
+use Rattle.run.specs.program.Basis.{basisBy}
 use Rattle.run.proofs.BasisLaws.{multipliers-is}
 use borrow.Author.Needs.{needs}
 use Rattle.run.proofs.basis.multipliers.Statement.{statement}

@@ -8,7 +8,8 @@ use lib.ListN.{length, drop}
 use Rattle.interval.specs.Result.{ok}
 use Rattle.linear.specs.Results.{foldR}
 use Rattle.linear.proofs.Turns.{went-on, broke-off}
-use Rattle.run.specs.Basis.{basisBy, multiplierStep}
+use Rattle.run.specs.program.Basis.{basisBy}
+use Rattle.run.specs.Basis.{multiplierStep}
 use Rattle.run.proofs.basis.multipliers_by_row.Statement.{statement}
 use Rattle.run.proofs.basis.multipliers_by_row.Tie as tie
 

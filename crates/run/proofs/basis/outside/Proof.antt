@@ -8,8 +8,8 @@ use Rattle.interval.specs.declared.Scalar.{Scalar}
 use Rattle.linear.specs.Dot.{minusTo}
 use Rattle.linear.specs.Flat.{at}
 use Rattle.linear.proofs.Sums.{along-start}
-use Rattle.run.specs.Scratch.{column, entry, fillTo}
-use Rattle.run.proofs.ScratchLaws.{fill-first}
+use Rattle.run.specs.Vectors.{column, entry, fillTo}
+use Rattle.run.proofs.VectorLaws.{fill-first}
 use Rattle.run.proofs.basis.outside.Statement.{statement}
 use Rattle.run.proofs.basis.outside.Tie as tie
 

@@ -10,7 +10,7 @@ use Rattle.interval.specs.declared.Scalar.{Scalar}
 use Rattle.linear.specs.Flat.{listTo}
 use Rattle.linear.proofs.Lists.{listTo-none, listTo-more, listTo-all}
 use Rattle.linear.proofs.Reflections.{rows-positive}
-use Rattle.run.specs.Scratch.{entry}
+use Rattle.run.specs.Vectors.{entry}
 use Rattle.run.proofs.BasisLaws.{packed-row, packed-column}
 use Rattle.run.proofs.RowLaws.{few}
 use Rattle.run.proofs.basis.pack.Statement.{statement}

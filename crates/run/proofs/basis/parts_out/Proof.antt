@@ -4,7 +4,8 @@ use mathlib.Core.Path.{_≡_}
 use Prim.Native.Nat.{_≤_, _-_}
 use native.Mathlib.Nat.{le-antisymm}
 use lib.ListN.{length}
-use Rattle.run.specs.Basis.{partsOut, takenBy}
+use Rattle.run.specs.Basis.{partsOut}
+use Rattle.run.specs.program.Basis.{takenBy}
 use Rattle.run.proofs.BasisLaws.{part-turn, part-is}
 use Rattle.run.proofs.basis.parts_out.Statement.{statement}
 use Rattle.run.proofs.basis.parts_out.Tie as tie

@@ -10,7 +10,7 @@ use Rattle.interval.specs.declared.Scalar.{Scalar}
 use Rattle.linear.specs.Dot.{dotTo}
 use Rattle.linear.specs.Flat.{listTo}
 use Rattle.linear.proofs.Lists.{listTo-none, listTo-more, listTo-all}
-use Rattle.run.specs.Scratch.{row}
+use Rattle.run.specs.Vectors.{row}
 use Rattle.run.proofs.basis.projections.Statement.{statement}
 use Rattle.run.proofs.basis.projections.Tie as tie
 

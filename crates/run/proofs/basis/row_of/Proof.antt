@@ -5,8 +5,8 @@ use Prim.Native.Nat.{_*_, _≤_, _-_}
 use native.Mathlib.Nat.{le-antisymm}
 use lib.ListN.{length}
 use Rattle.linear.proofs.Sums.{along-row}
-use Rattle.run.specs.Scratch.{row, fillTo}
-use Rattle.run.proofs.ScratchLaws.{fill-first}
+use Rattle.run.specs.Vectors.{row, fillTo}
+use Rattle.run.proofs.VectorLaws.{fill-first}
 use Rattle.run.proofs.basis.row_of.Statement.{statement}
 use Rattle.run.proofs.basis.row_of.Tie as tie
 

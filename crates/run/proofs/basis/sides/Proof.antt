@@ -11,7 +11,8 @@ use Rattle.interval.specs.Scalar.{negOf}
 use Rattle.linear.specs.Choose.{chooseOf}
 use Rattle.linear.specs.Flat.{listTo}
 use Rattle.linear.proofs.Lists.{listTo-none, listTo-more, listTo-all}
-use Rattle.run.specs.Basis.{basisBy, orderAt}
+use Rattle.run.specs.program.Basis.{basisBy}
+use Rattle.run.specs.Basis.{orderAt}
 use Rattle.run.specs.Rows.{Rows, rowsIn, valueAt}
 use Rattle.run.proofs.basis.sides.Statement.{statement}
 use Rattle.run.proofs.basis.sides.Tie as tie

@@ -2,7 +2,7 @@
 use borrow.Author.Needs.{needs}
 use mathlib.Core.Path.{_∙_, sym}
 use borrow.Author.Tests.{not-true, not-false, eq-eqb, ne-eqb}
-use Rattle.run.specs.Calls.{checkOf}
+use Rattle.run.specs.program.Checks.{checkOf}
 use Rattle.run.proofs.checks.check.Statement.{statement}
 use Rattle.run.proofs.checks.check.Tie as tie
 

@@ -2,7 +2,7 @@
 use native.Mathlib.Omega.{arith}
 use mathlib.Core.Path.{_∙_, sym}
 use borrow.Author.Tests.{eq-eqb, ne-eqb, not-true, not-false}
-use Rattle.run.specs.Calls.{checkRowsOf}
+use Rattle.run.specs.program.Checks.{checkRowsOf}
 use Rattle.run.proofs.CheckLaws.{accepted-small, few-scalars}
 use borrow.Author.Needs.{needs}
 use Rattle.run.proofs.checks.check_rows.Statement.{statement}

@@ -2,7 +2,7 @@
 use borrow.Author.Needs.{needs}
 use mathlib.Core.Path.{_∙_, sym, ap}
 use borrow.Author.Tests.{not-true, not-false}
-use Rattle.run.specs.Calls.{phaseFits, valid}
+use Rattle.run.specs.Checks.{phaseFits, valid}
 use Rattle.run.specs.declared.state.Phase.the-variants.{Open}
 use Rattle.run.proofs.CheckLaws.{size-bounds, not-positive, past-start, phase-decides}
 use Rattle.run.proofs.checks.valid.Statement.{statement}

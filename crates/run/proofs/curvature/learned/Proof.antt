@@ -10,10 +10,10 @@ use lib.Ieee.{Float}
 use Rattle.interval.specs.declared.Scalar.{Scalar}
 use Rattle.interval.specs.Scalar.{zeroS, isSharp, definitelyNotEqual}
 use Rattle.linear.specs.Flat.{at}
-use Rattle.run.specs.Scratch.{anyTo}
+use Rattle.run.specs.Vectors.{anyTo}
 use Rattle.run.specs.Curvature.{learnedOf}
 use Rattle.run.proofs.RowLaws.{few}
-use Rattle.run.proofs.ScratchLaws.{any-turn, any-broke}
+use Rattle.run.proofs.VectorLaws.{any-turn, any-broke}
 use Rattle.run.proofs.curvature.learned.Statement.{statement}
 use Rattle.run.proofs.curvature.learned.Tie as tie
 

@@ -9,8 +9,8 @@ use Rattle.interval.specs.declared.Scalar.{Scalar}
 use Rattle.interval.specs.Scalar.{subOf}
 use Rattle.linear.specs.Choose.{chooseOf}
 use Rattle.linear.specs.Flat.{at}
-use Rattle.run.specs.Scratch.{vector, fillTo}
-use Rattle.run.proofs.ScratchLaws.{fill-none, fill-first}
+use Rattle.run.specs.Vectors.{vector, fillTo}
+use Rattle.run.proofs.VectorLaws.{fill-none, fill-first}
 use borrow.Author.Needs.{needs}
 use Rattle.run.proofs.curvature.less_chosen.Statement.{statement}
 use Rattle.run.proofs.curvature.less_chosen.Tie as tie

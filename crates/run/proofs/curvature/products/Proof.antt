@@ -12,8 +12,8 @@ use Rattle.linear.specs.Flat.{at, along}
 use Rattle.linear.specs.Dot.{dotTo}
 use Rattle.linear.proofs.Cells.{product-small}
 use Rattle.linear.proofs.Sums.{along-start}
-use Rattle.run.specs.Scratch.{fillTo}
-use Rattle.run.proofs.ScratchLaws.{fill-none, fill-first}
+use Rattle.run.specs.Vectors.{fillTo}
+use Rattle.run.proofs.VectorLaws.{fill-none, fill-first}
 use Rattle.run.proofs.curvature.products.Statement.{statement}
 use Rattle.run.proofs.curvature.products.Tie as tie
 

@@ -43,12 +43,12 @@ returns c =
     handed-on _ _ _ (c .enum-told2 .given .1) (c .before .before .before .along-factored .ensures (s .args .xs .now)
     (s .pre .1 .1 .1 .1))
 
-slice-aggregate-turned : tie.Need-slice-aggregate-turned
+slice-aggregate-turned : tie.Need-slice-aggregate-lagrangian-change
 slice-aggregate-turned c = search needs
 
-turned-requires : tie.Need-turned-requires
+lagrangian-change-requires : tie.Need-lagrangian-change-requires
 unfolding ofBits
-turned-requires c κs =
+lagrangian-change-requires c κs =
     let p = c .before .before .before .before .before .before .before .before .before .before .before .before .before
     .before .pre in (p .0, (p .1 .0, (p .1 .1 .0, refl)))
 
@@ -93,7 +93,7 @@ returns-2 c =
     (evaluationOf (a .n) (a .m) (a .s) (a .next .now)) (a .lambda .now)
     (c .before .before .before .before .before .before .before .before .before .enum-told .given .1)
     (k .along-factored .ensures xs f) front
-    (c .before .before .before .before .before .before .before .turned .ensures)
+    (c .before .before .before .before .before .before .before .lagrangian-change .ensures)
     (c .before .before .updated .ensures xs f)
 
 pub update-factored-spec : {M : Type 1} → statement M
@@ -108,7 +108,7 @@ update-factored-spec =
     enum-told-2
     returns
     slice-aggregate-turned
-    turned-requires
+    lagrangian-change-requires
     slice-aggregate-updated
     array-share-prefix-s-along
     slice-aggregate-updated-2

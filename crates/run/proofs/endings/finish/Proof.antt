@@ -4,8 +4,8 @@ use borrow.Author.Needs.{needs}
 use Rattle.run.proofs.endings.finish.Statement.{statement}
 use Rattle.run.proofs.endings.finish.Tie as tie
 
-only-standing-requires : tie.Need-only-standing-requires
-only-standing-requires c κs = search needs
+keep-standing-requires : tie.Need-keep-standing-requires
+keep-standing-requires c κs = search needs
 
 with-phase-requires : tie.Need-with-phase-requires
 with-phase-requires c κs = search needs
@@ -14,7 +14,7 @@ same-length : tie.Need-same-length
 same-length c = search needs
 
 returns : tie.Need-returns
-returns c w h = record { state-is = c .with-phase .ensures; answer-is = refl; held = c .before .before .before .only-standing .ensures w h }
+returns c w h = record { state-is = c .with-phase .ensures; event-is = refl; held = c .before .before .before .keep-standing .ensures w h }
 
 pub finish-spec : {M : Type 1} → statement M
-finish-spec = tie.close (tie.spec only-standing-requires with-phase-requires same-length returns)
+finish-spec = tie.close (tie.spec keep-standing-requires with-phase-requires same-length returns)

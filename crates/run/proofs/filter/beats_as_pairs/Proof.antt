@@ -1,7 +1,7 @@
 -- `beats_as_pairs` meets its contract: the pairs asked are those of the flat filter.
 use borrow.Author.Needs.{needs}
 use mathlib.Core.Path.{_∙_, ap}
-use Rattle.run.specs.Filter.{beatsPairs}
+use Rattle.run.specs.program.Filter.{beatsPairs}
 use Rattle.run.proofs.FilterLaws.{beats-same}
 use Rattle.run.proofs.filter.beats_as_pairs.Statement.{statement}
 use Rattle.run.proofs.filter.beats_as_pairs.Tie as tie

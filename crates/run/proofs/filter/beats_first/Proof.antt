@@ -49,7 +49,7 @@ use denote.Triple.Table.{entered, cited}
 use denote.Triple.Walked.{says, needs, Stays, stay-none, walkOf, goes-none, Walks, ends-at, walked, walk-meets}
 use denote.Triple.Clauses.{ensured, lasts}
 use denote.Exit.{yes}
-use Rattle.run.specs.Filter.{beatsPairs}
+use Rattle.run.specs.program.Filter.{beatsPairs}
 use Rattle.interval.specs.declared.Scalar.{Scalar}
 use Rattle.run.specs.declared.filter.Pair.{Pair}
 use Rattle.interval.proofs.Scalar as I

@@ -51,8 +51,8 @@ use denote.Triple.Table.{entered, cited}
 use denote.Triple.Walked.{says, Stays, stay-none, stay-none-slice, walkOf, goes-none, goes-none-slice, Walks, ends-at, walked, walk-meets}
 use denote.Triple.Clauses.{ensured, lasts}
 use denote.Exit.{yes}
-use Rattle.run.specs.Filter.{noPair, beatsPair, beatsPairs}
-use Rattle.run.specs.Scratch.{allTo}
+use Rattle.run.specs.program.Filter.{noPair, beatsPair, beatsPairs}
+use Rattle.run.specs.Vectors.{allTo}
 use Rattle.interval.specs.declared.Scalar.{Scalar}
 use Rattle.run.specs.declared.filter.Pair.{Pair}
 use Rattle.interval.proofs.Scalar as I
@@ -210,11 +210,11 @@ module _ {M : Type 1} (𝓤 : URA M) (H : Heap 𝓤) (A : Atoms 𝓤) (W : Given
           (exI 𝓤 (λ (st : ℕ × Bool). guard 𝓤 (Facts t (st .0) (st .1)) (mean 𝓤 H A (Cells (st .0) (st .1)))) (i, ok))
 
       -- when the loop is left, the rest of the body runs
-      abbrev Left : Out → SProp 𝓤
-      Left = afterBlock 𝓤 H (afterSeq 𝓤 H (Wp 𝓤 H C Λ En piece.t-4 (atReturn 𝓤 H En Post)) (atReturn 𝓤 H En Post))
+      abbrev AfterCall : Out → SProp 𝓤
+      AfterCall = afterBlock 𝓤 H (afterSeq 𝓤 H (Wp 𝓤 H C Λ En piece.t-4 (atReturn 𝓤 H En Post)) (atReturn 𝓤 H En Post))
 
       abbrev After : ℕ → Out → SProp 𝓤
-      After t = afterTurn 𝓤 H (Below 𝓤 H A _<_ Inv t) Left
+      After t = afterTurn 𝓤 H (Below 𝓤 H A _<_ Inv t) AfterCall
 
       -- a turn that reads one pair
       more : (t : ℕ) → ent 𝓤 (⋆ 𝓤 H A (Inv (suc t))) (Wp 𝓤 H C Λ En piece.turn-1 (After (suc t)))
@@ -284,8 +284,8 @@ module _ {M : Type 1} (𝓤 : URA M) (H : Heap 𝓤) (A : Atoms 𝓤) (W : Given
       turns zero = ends
       turns (suc t) = more t
 
-      looped : ent 𝓤 (⋆ 𝓤 H A (Inv n)) (Wp 𝓤 H C Λ En (loop piece.turn-1) Left)
-      looped = loop-rule 𝓤 H (W .laws) 𝓣 _<_ (Nat·lt-wfRel .wf) En piece.turn-1 Left (λ t. ⋆ 𝓤 H A (Inv t)) turns n
+      looped : ent 𝓤 (⋆ 𝓤 H A (Inv n)) (Wp 𝓤 H C Λ En (loop piece.turn-1) AfterCall)
+      looped = loop-rule 𝓤 H (W .laws) 𝓣 _<_ (Nat·lt-wfRel .wf) En piece.turn-1 AfterCall (λ t. ⋆ 𝓤 H A (Inv t)) turns n
 
       -- the loop and the rest of the body, from where it begins
       begins : ent 𝓤 (⋆ 𝓤 H A (Cells 0 true ∷ Frame)) (Wp 𝓤 H C Λ En piece.t-3 (atReturn 𝓤 H En Post))

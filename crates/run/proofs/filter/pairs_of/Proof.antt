@@ -5,7 +5,7 @@ use native.Mathlib.Nat.{le-antisymm}
 use native.Mathlib.Omega.{arith}
 use mathlib.Core.Path.{_≡_, refl}
 use lib.ListN.{length, take}
-use Rattle.run.specs.Filter.{pairsTo}
+use Rattle.run.specs.program.Filter.{pairsTo}
 use Rattle.run.proofs.FilterLaws.{pairs-turn}
 use Rattle.run.proofs.filter.pairs_of.Statement.{statement}
 use Rattle.run.proofs.filter.pairs_of.Tie as tie

@@ -1,7 +1,7 @@
 -- `still_beats` meets its contract: each branch's tests say which case holds.
 use borrow.Author.Needs.{needs}
 use borrow.Author.Tests.{not-true, not-false}
-use Rattle.run.specs.Filter.{beatsPair}
+use Rattle.run.specs.program.Filter.{beatsPair}
 use Rattle.run.proofs.filter.still_beats.Statement.{statement}
 use Rattle.run.proofs.filter.still_beats.Tie as tie
 

@@ -1,7 +1,8 @@
 -- `squared` meets its contract: where the checks passed the counts fit.
 use mathlib.Core.Path.{ap, _∙_}
 use Rattle.interval.specs.Result.{ok}
-use Rattle.run.specs.Rows.{rowsIn, squaredOf}
+use Rattle.run.specs.Rows.{rowsIn}
+use Rattle.run.specs.Residuals.{squaredOf}
 use Rattle.run.specs.Pieces.{squaredReply}
 use Rattle.run.proofs.RowLaws.{sum-small}
 use Rattle.run.proofs.PieceLaws.{finished, fits-passed}
@@ -9,8 +10,8 @@ use borrow.Author.Needs.{needs}
 use Rattle.run.proofs.pieces.squared.Statement.{statement}
 use Rattle.run.proofs.pieces.squared.Tie as tie
 
-reach-requires : tie.Need-reach-requires
-reach-requires c κs = search needs
+variables-read-requires : tie.Need-variables-read-requires
+variables-read-requires c κs = search needs
 
 fits-requires : tie.Need-fits-requires
 fits-requires c κs = search needs
@@ -20,7 +21,7 @@ enum-known-e c = search needs
 
 returns : tie.Need-returns
 unfolding squaredReply
-returns c = rw (← c .before .before .before .before .reach .ensures, ← c .before .before .before .fits2 .ensures, c .before .e .given .1)
+returns c = rw (← c .before .before .before .before .variables-read .ensures, ← c .before .before .before .fits2 .ensures, c .before .e .given .1)
 
 enum-told : tie.Need-enum-told
 enum-told c = search needs
@@ -39,8 +40,8 @@ returns-2 : tie.Need-returns-2
 unfolding squaredReply
 returns-2 c =
     let a = c .before .before .before .before .before .before .before .before .args in
-    rw (← c .before .before .before .before .before .reach .ensures, ← c .before .before .before .before .fits2 .ensures, c .before .before .enum-told .given .1)
+    rw (← c .before .before .before .before .before .variables-read .ensures, ← c .before .before .before .before .fits2 .ensures, c .before .before .enum-told .given .1)
     (ap ok (c .squared .ensures ∙ ap (λ e. squaredOf (rowsIn (a .xs .now) e) (a .delta .now) (a .d)) (c .before .sum .ensures)))
 
 pub squared-spec : {M : Type 1} → statement M
-squared-spec = tie.close (tie.spec reach-requires fits-requires enum-known-e returns enum-told sum-requires squared-requires returns-2)
+squared-spec = tie.close (tie.spec variables-read-requires fits-requires enum-known-e returns enum-told sum-requires squared-requires returns-2)

@@ -5,11 +5,12 @@ use native.Mathlib.Nat.{le-antisymm}
 use native.Mathlib.Omega.{arith}
 use lib.ListN.{length}
 use Rattle.linear.specs.Flat.{zeros}
-use Rattle.run.specs.Scratch.{vector, fillTo}
-use Rattle.run.specs.Rows.{rowsIn, sumOf, transposedAt}
+use Rattle.run.specs.Vectors.{vector, fillTo}
+use Rattle.run.specs.Rows.{rowsIn, sumOf}
+use Rattle.run.specs.Residuals.{transposedAt}
 use Rattle.run.specs.Pieces.{transposedReply}
 use Rattle.run.proofs.RowLaws.{sum-small}
-use Rattle.run.proofs.ScratchLaws.{fill-first}
+use Rattle.run.proofs.VectorLaws.{fill-first}
 use Rattle.run.proofs.PieceLaws.{finished, fits-passed}
 use borrow.Author.Needs.{needs}
 use Rattle.run.proofs.pieces.transposed.Statement.{statement}

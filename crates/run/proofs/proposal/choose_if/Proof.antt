@@ -1,7 +1,7 @@
 -- `choose_if` meets its contract: the test decides.
 use mathlib.Core.Path.{sym, _∙_}
 use lib.Ieee.{ofBits}
-use Rattle.run.proofs.LeaveLaws.{pick-yes, pick-no}
+use Rattle.run.proofs.EndingLaws.{pick-yes, pick-no}
 use borrow.Author.Needs.{needs}
 use Rattle.run.proofs.proposal.choose_if.Statement.{statement}
 use Rattle.run.proofs.proposal.choose_if.Tie as tie

@@ -7,8 +7,9 @@ use lib.Ieee.{ofBits}
 use Rattle.interval.specs.declared.Scalar.{Scalar}
 use Rattle.interval.specs.Scalar.{zeroS, subOf, definitelyGreater}
 use Rattle.linear.proofs.Cells.{product-small}
-use Rattle.run.specs.Proposal.{bentOf, expectsOf}
-use Rattle.run.specs.Rows.{rowsIn, sumOf, squaredOf}
+use Rattle.run.specs.Proposal.{curvatureAlong, expectsOf}
+use Rattle.run.specs.Rows.{rowsIn, sumOf}
+use Rattle.run.specs.Residuals.{squaredOf}
 use Rattle.run.specs.declared.rows.RowSet.{RowSet}
 use Rattle.run.proofs.proposal.expects.Statement.{statement}
 use Rattle.run.proofs.proposal.expects.Tie as tie
@@ -16,7 +17,7 @@ use Rattle.run.proofs.proposal.expects.Tie as tie
 -- the drop of the sum, less what the curvature bends
 dropped : (k : tie.After-definitely-greater)
     → let a = k .before .before .before .before .before .before .before .before .before .args in
-    k .definitely-greater .result ≡ definitelyGreater (subOf (subOf (a .model .f) (squaredOf (sumOf (a .model .n) (a .model .m) (a .model .s) (a .rows .now)) (a .delta .now) (a .model .n))) (bentOf (a .model .n) (a .b .now) (a .delta .now))) zeroS
+    k .definitely-greater .result ≡ definitelyGreater (subOf (subOf (a .model .f) (squaredOf (sumOf (a .model .n) (a .model .m) (a .model .s) (a .rows .now)) (a .delta .now) (a .model .n))) (curvatureAlong (a .model .n) (a .b .now) (a .delta .now))) zeroS
 unfolding ofBits
 dropped k =
     let a = k .before .before .before .before .before .before .before .before .before .args in
@@ -25,7 +26,7 @@ dropped k =
     let d = k .before .before .before .sub .ensures .value ∙ ap (λ (x : Scalar). subOf (a .model .f) x) q in
     k .definitely-greater .ensures
     ∙ ap (λ (x : Scalar). definitelyGreater x zeroS)
-    (k .before .sub2 .ensures .value ∙ ap (λ (x : Scalar). subOf x (k .before .before .bent .result)) d ∙ ap (λ (x : Scalar). subOf (subOf (a .model .f) (squaredOf (sumOf (a .model .n) (a .model .m) (a .model .s) (a .rows .now)) (a .delta .now) (a .model .n))) x) (k .before .before .bent .ensures))
+    (k .before .sub2 .ensures .value ∙ ap (λ (x : Scalar). subOf x (k .before .before .curvature-along .result)) d ∙ ap (λ (x : Scalar). subOf (subOf (a .model .f) (squaredOf (sumOf (a .model .n) (a .model .m) (a .model .s) (a .rows .now)) (a .delta .now) (a .model .n))) x) (k .before .before .curvature-along .ensures))
 
 sum-requires : tie.Need-sum-requires
 sum-requires c κs = search needs
@@ -39,8 +40,8 @@ squared-requires c κs =
 sub-requires : tie.Need-sub-requires
 sub-requires c κs = search needs
 
-bent-requires : tie.Need-bent-requires
-bent-requires c κs = search needs
+curvature-along-requires : tie.Need-curvature-along-requires
+curvature-along-requires c κs = search needs
 
 sub-requires-2 : tie.Need-sub-requires-2
 sub-requires-2 c κs = search needs
@@ -69,7 +70,7 @@ expects-spec =
     sum-requires
     squared-requires
     sub-requires
-    bent-requires
+    curvature-along-requires
     sub-requires-2
     definitely-greater-requires
     returns

@@ -4,8 +4,10 @@ use mathlib.Core.List.{List}
 use Prim.Native.Nat.{ℕ}
 use lib.Ieee.{Float}
 use Rattle.interval.specs.declared.Scalar.{Scalar}
-use Rattle.run.specs.Proposal.{Standing, standingFor, expectsOf, expectedResult}
-use Rattle.run.specs.Step.{Step, found, notPositive, stepOf, endOf}
+use Rattle.run.specs.Proposal.{Standing, expectsOf}
+use Rattle.run.specs.program.Proposal.{standingFor, expectedResult}
+use Rattle.run.specs.Step.{Step, found, notPositive, stepOf}
+use Rattle.run.specs.program.Step.{endOf}
 use Rattle.run.specs.declared.step.StepEnd as declared
 use Rattle.run.proofs.ProposalLaws.{expects-reads, within-reads, proposal-refused, proposal-by, proposed-refused, proposed-drop, proposed-not}
 use borrow.Author.Needs.{needs}

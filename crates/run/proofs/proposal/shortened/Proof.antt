@@ -3,7 +3,8 @@ use mathlib.Core.Path.{_≡_, sym, ap, _∙_}
 use mathlib.Core.List.{List}
 use native.Mathlib.Omega.{arith}
 use lib.Ieee.{Float}
-use Rattle.run.specs.Proposal.{Standing, stillFor, expectsOf, expectedResult, shortenedOf}
+use Rattle.run.specs.Proposal.{Standing, expectsOf, shortenedOf}
+use Rattle.run.specs.program.Proposal.{stillFor, expectedResult}
 use Rattle.run.proofs.ProposalLaws.{expects-reads, trial-reads, shortened-drop, shortened-not, shortened-refused}
 use borrow.Author.Needs.{needs}
 use Rattle.run.proofs.proposal.shortened.Statement.{statement}

@@ -9,11 +9,11 @@ use Rattle.interval.specs.declared.Scalar.{Scalar}
 use Rattle.interval.specs.Scalar.{zeroS, pick}
 use Rattle.linear.specs.Choose.{chooseOf}
 use Rattle.linear.specs.Flat.{at}
-use Rattle.run.specs.Proposal.{pointOf}
+use Rattle.run.specs.program.Proposal.{pointOf}
 use Rattle.run.specs.Rows.{constraintsOf}
-use Rattle.run.specs.Scratch.{fillTo, vector, chosenOf}
+use Rattle.run.specs.Vectors.{fillTo, vector, chosenOf}
 use Rattle.run.proofs.ProposalLaws.{trial-is, chosen-in-place}
-use Rattle.run.proofs.ScratchLaws.{fill-turn, at-next}
+use Rattle.run.proofs.VectorLaws.{fill-turn, at-next}
 use borrow.Author.Needs.{needs}
 use Rattle.run.proofs.proposal.trial.Statement.{statement}
 use Rattle.run.proofs.proposal.trial.Tie as tie

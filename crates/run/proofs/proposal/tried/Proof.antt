@@ -3,7 +3,9 @@ use mathlib.Core.Path.{_≡_, sym, _∙_}
 use mathlib.Core.List.{List}
 use lib.Ieee.{Float}
 use Rattle.linear.specs.Results.{bind}
-use Rattle.run.specs.Proposal.{Standing, pointOf, movedOf}
+use Rattle.run.specs.Proposal.{Standing}
+use Rattle.run.specs.program.Proposal.{pointOf}
+use Rattle.run.specs.Vectors.{movedOf}
 use Rattle.run.specs.Rows.{constraintsOf}
 use Rattle.run.proofs.ProposalLaws.{tried-refused, tried-same, tried-asks}
 use borrow.Author.Needs.{needs}

@@ -9,7 +9,8 @@ use Rattle.linear.specs.Answers.{resultOf}
 use Rattle.linear.specs.Flat.{at}
 use Rattle.linear.specs.Norm.{normOf}
 use Rattle.linear.proofs.Folds.{bind-ok, bind-refused}
-use Rattle.run.specs.Proposal.{Standing, stillFor}
+use Rattle.run.specs.Proposal.{Standing}
+use Rattle.run.specs.program.Proposal.{stillFor}
 use Rattle.run.proofs.ProposalLaws.{trial-reads, within-refused, within-whole, within-cut}
 use borrow.Author.Needs.{needs}
 use Rattle.run.proofs.proposal.within.Statement.{statement}

@@ -1,6 +1,7 @@
 -- `follow` meets its contract: each arm is the definition's.
 use mathlib.Core.Path.{ap}
-use Rattle.run.specs.Search.{stops, rejectedFor, withRadius}
+use Rattle.run.specs.Search.{stops}
+use Rattle.run.specs.State.{rejectedFor, withRadius}
 use Rattle.run.specs.declared.state.Rejection.the-variants as why
 use Rattle.run.specs.declared.state.Stop.{Stop}
 use Rattle.run.proofs.SearchLaws.{damped-turn}
@@ -38,20 +39,20 @@ returns-4 c on delta lambda next = rw (c .before .p3 .given .1)
 enum-told-2 : tie.Need-enum-told-2
 enum-told-2 c = search needs
 
-turned-requires : tie.Need-turned-requires
-turned-requires c κs = c .before .before .pre
+damp-or-leave-requires : tie.Need-damp-or-leave-requires
+damp-or-leave-requires c κs = c .before .before .pre
 
 returns-5 : tie.Need-returns-5
-returns-5 c on delta lambda next = let a = c .before .before .before .args in rw (c .before .enum-told2 .given .1) (damped-turn (rejectedFor (withRadius (a .x) (a .max)) why.Unresolved) (c .turned .ensures) on delta lambda next)
+returns-5 c on delta lambda next = let a = c .before .before .before .args in rw (c .before .enum-told2 .given .1) (damped-turn (rejectedFor (withRadius (a .x) (a .max)) why.Unresolved) (c .damp-or-leave .ensures) on delta lambda next)
 
 enum-told-3 : tie.Need-enum-told-3
 enum-told-3 c = search needs
 
-turned-requires-2 : tie.Need-turned-requires-2
-turned-requires-2 c κs = c .before .before .pre
+damp-or-leave-requires-2 : tie.Need-damp-or-leave-requires-2
+damp-or-leave-requires-2 c κs = c .before .before .pre
 
 returns-6 : tie.Need-returns-6
-returns-6 c on delta lambda next = rw (c .before .enum-told3 .given .1) (damped-turn (rejectedFor (c .before .before .before .args .x) why.NotPositive) (c .turned2 .ensures) on delta lambda next)
+returns-6 c on delta lambda next = rw (c .before .enum-told3 .given .1) (damped-turn (rejectedFor (c .before .before .before .args .x) why.NotPositive) (c .damp-or-leave2 .ensures) on delta lambda next)
 
 pub follow-spec : {M : Type 1} → statement M
 follow-spec =
@@ -67,8 +68,8 @@ follow-spec =
     enum-known-p-3
     returns-4
     enum-told-2
-    turned-requires
+    damp-or-leave-requires
     returns-5
     enum-told-3
-    turned-requires-2
+    damp-or-leave-requires-2
     returns-6)

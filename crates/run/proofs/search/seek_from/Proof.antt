@@ -6,8 +6,12 @@ use lib.ListN.{length}
 use Rattle.interval.specs.declared.Scalar.{Scalar}
 use Rattle.interval.specs.Result.{Res}
 use Rattle.interval.proofs.Given.{yes}
-use Rattle.run.specs.Proposal.{Standing, Proposal, movedOf, standingFor, proposalOf}
-use Rattle.run.specs.Search.{Found, DAMPINGS, follow, searchTo, searchOf, turnResult}
+use Rattle.run.specs.Proposal.{Standing, Proposal, proposalOf}
+use Rattle.run.specs.Vectors.{movedOf}
+use Rattle.run.specs.program.Proposal.{standingFor}
+use Rattle.run.specs.Search.{Found, follow, searchTo, searchOf}
+use Rattle.run.specs.Limits.{DAMPINGS}
+use Rattle.run.specs.program.Search.{turnResult}
 use Rattle.run.specs.declared.search.Turn.{Turn}
 use Rattle.run.specs.declared.search.Turn.the-variants as t
 use Rattle.run.specs.declared.state.Search.{Search}

@@ -3,7 +3,7 @@ use Prim.Native.Nat.{ℕ, _≤_}
 use mathlib.Core.Path.{_≡_, refl}
 use native.Mathlib.Omega.{arith}
 use lib.Ieee.{ofBits}
-use Rattle.run.proofs.ModelLaws.{kept-few}
+use Rattle.run.proofs.ProblemLaws.{kept-few}
 use Rattle.run.proofs.StepLaws.{prepared-by, end-spread}
 use borrow.Author.Needs.{needs}
 use Rattle.run.proofs.step.damped_step.Statement.{statement}

@@ -1,7 +1,7 @@
 -- `multiplied` meets its contract: each arm is the definition's.
 use borrow.Author.Needs.{needs}
 use Rattle.linear.specs.Results.{bind}
-use Rattle.run.specs.Step.{withMultipliers}
+use Rattle.run.specs.program.Step.{withMultipliers}
 use Rattle.run.proofs.step.multiplied.Statement.{statement}
 use Rattle.run.proofs.step.multiplied.Tie as tie
 

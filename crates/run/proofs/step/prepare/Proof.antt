@@ -3,8 +3,8 @@ use mathlib.Core.Path.{refl, ap, _∙_}
 use native.Mathlib.Omega.{arith}
 use lib.Ieee.{ofBits}
 use lib.ListN.{length}
-use Rattle.run.proofs.AreaSlots.{length-clear}
-use Rattle.run.proofs.ModelLaws.{kept-few, kept-near}
+use Rattle.run.proofs.AreaLaws.{length-clear}
+use Rattle.run.proofs.ProblemLaws.{kept-few, kept-near}
 use Rattle.run.proofs.StepLaws.{prepared-is}
 use borrow.Author.Needs.{needs}
 use Rattle.run.proofs.step.prepare.Statement.{statement}

@@ -4,13 +4,13 @@ use native.Mathlib.Omega.{arith}
 use mathlib.Core.List.{[], _++_}
 use lib.Ieee.{ofBits}
 use lib.ListN.{length, take, drop}
-use Rattle.run.specs.Basis.{basisBy}
-use Rattle.run.specs.Model.{problemIn}
+use Rattle.run.specs.program.Basis.{basisBy}
+use Rattle.run.specs.program.Problem.{problemIn}
 use Rattle.run.specs.Rows.{rowsIn, valueAt}
-use Rattle.run.proofs.AreaSlots.{part-back, length-clear}
+use Rattle.run.proofs.AreaLaws.{part-back, length-clear}
 use Rattle.run.proofs.BasisLaws.{correction-reads}
-use Rattle.run.proofs.Frames.{length-lent, four-written, fourth-clear}
-use Rattle.run.proofs.LeaveLaws.{cut-length}
+use Rattle.run.proofs.Concatenation.{length-lent, four-written, fourth-clear}
+use Rattle.run.proofs.EndingLaws.{cut-length}
 use Rattle.run.proofs.StepLaws.{ready-framed, ready-few}
 use borrow.Author.Needs.{needs}
 use Rattle.run.proofs.step.prepare_free.Statement.{statement}
@@ -20,20 +20,20 @@ clear-long : (s : tie.Start) → length (s .args .frame .now) ≡ 888
 clear-long s = ap length (s .pre .1 .1 .1 .1 .1 .1) ∙ length-clear 888
 
 -- the frame before the correction is written in it, and the correction
-copied : (k : tie.After-correction) → length (k .before .before .before .before .place2 .last .0) ≡ 888
-copied k = k .before .before .before .before .place2 .kept .0 ∙ k .before .before .before .before .before .before .before .before .place .kept .0 ∙ clear-long (k .before .before .before .before .before .before .before .before .before .before .before .before .before .before .before .before)
+copied : (k : tie.After-correction) → length (k .before .before .before .before .write2 .last .0) ≡ 888
+copied k = k .before .before .before .before .write2 .kept .0 ∙ k .before .before .before .before .before .before .before .before .write .kept .0 ∙ clear-long (k .before .before .before .before .before .before .before .before .before .before .before .before .before .before .before .before)
 
 corrected : (k : tie.After-correction) → length (k .correction .last .1 .1 .1 .1 .1 .1 .1 .1 .1 .0) ≡ 24
-corrected k = k .correction .kept .1 .1 .1 .1 .1 .1 .1 .1 .1 .0 ∙ cut-length 24 576 (k .before .before .before .before .place2 .last .0) (omega (arith, copied k))
+corrected k = k .correction .kept .1 .1 .1 .1 .1 .1 .1 .1 .1 .0 ∙ cut-length 24 576 (k .before .before .before .before .write2 .last .0) (omega (arith, copied k))
 
-whole : (k : tie.After-correction) → let a = k .before .before .before .before .place2 .last .0 in length (take 576 a ++ (k .correction .last .1 .1 .1 .1 .1 .1 .1 .1 .1 .0 ++ drop 24 (drop 576 a))) ≡ 888
-whole k = length-lent (k .before .before .before .before .place2 .last .0) (k .correction .last .1 .1 .1 .1 .1 .1 .1 .1 .1 .0) 576 24 (corrected k) (omega (arith, copied k)) ∙ copied k
+whole : (k : tie.After-correction) → let a = k .before .before .before .before .write2 .last .0 in length (take 576 a ++ (k .correction .last .1 .1 .1 .1 .1 .1 .1 .1 .1 .0 ++ drop 24 (drop 576 a))) ≡ 888
+whole k = length-lent (k .before .before .before .before .write2 .last .0) (k .correction .last .1 .1 .1 .1 .1 .1 .1 .1 .1 .0) 576 24 (corrected k) (omega (arith, copied k)) ∙ copied k
 
-place-requires : tie.Need-place-requires
-place-requires c κs = let s = c .before .before .before .before .before .before .before in omega (arith, clear-long s, s .pre .1 .1 .1 .0)
+write-requires : tie.Need-write-requires
+write-requires c κs = let s = c .before .before .before .before .before .before .before in omega (arith, clear-long s, s .pre .1 .1 .1 .0)
 
-place-requires-2 : tie.Need-place-requires-2
-place-requires-2 c κs = let s = c .before .before .before .before .before .before .before .before .before .before .before in omega (arith, clear-long s, c .before .before .before .place .kept .0, s .pre .1 .1 .1 .1 .0)
+write-requires-2 : tie.Need-write-requires-2
+write-requires-2 c κs = let s = c .before .before .before .before .before .before .before .before .before .before .before in omega (arith, clear-long s, c .before .before .before .write .kept .0, s .pre .1 .1 .1 .1 .0)
 
 sub-correction : tie.Need-sub-correction
 sub-correction c = search needs
@@ -42,7 +42,7 @@ part-correction-start : tie.Need-part-correction-start
 part-correction-start c = search needs
 
 part-correction-end : tie.Need-part-correction-end
-part-correction-end c = omega (arith, clear-long (c .before .before .before .before .before .before .before .before .before .before .before .before .before .before), c .before .before .before .before .before .before .place .kept .0, c .before .before .place2 .kept .0)
+part-correction-end c = omega (arith, clear-long (c .before .before .before .before .before .before .before .before .before .before .before .before .before .before), c .before .before .before .before .before .before .write .kept .0, c .before .before .write2 .kept .0)
 
 correction-requires : tie.Need-correction-requires
 correction-requires c κs = search needs
@@ -65,11 +65,11 @@ free-directions-requires c κs =
     let k = c .before .before .before .before in
     let s = c .before .before .before .before .before .before .before .before .before .before .before .before .before .before .before .before .before .before .before .before in
     let p = s .pre in
-    let x = k .before .before .before .before .place2 .last .0 in
+    let x = k .before .before .before .before .write2 .last .0 in
     let t = k .correction .last .1 .1 .1 .1 .1 .1 .1 .1 .1 .0 in
     let a = s .args in
-    let one = k .before .before .before .before .before .before .before .before .place .ensures in
-    let two = k .before .before .before .before .place2 .ensures in
+    let one = k .before .before .before .before .before .before .before .before .write .ensures in
+    let two = k .before .before .before .before .write2 .ensures in
     let e = fourth-clear (a .frame .now) (a .q .now) (a .coefficients .now) t (p .1 .1 .1 .0) (p .1 .1 .1 .1 .0) (corrected k) one two (part-back x t 576 24 (corrected k)) (p .1 .1 .1 .1 .1 .1) in
     (p .0, (p .1 .1 .0, (e, refl)))
 
@@ -85,12 +85,12 @@ returns c =
     let a = s .args in
     let p = s .pre in
     let k = c .before .before .before .before .before .before .before .before .before in
-    let x = c .before .before .before .before .before .before .before .before .before .before .before .before .before .place2 .last .0 in
+    let x = c .before .before .before .before .before .before .before .before .before .before .before .before .before .write2 .last .0 in
     let t = k .correction .last .1 .1 .1 .1 .1 .1 .1 .1 .1 .0 in
     let y = take 576 x ++ (t ++ drop 24 (drop 576 x)) in
     let z = c .before .before .before .before .free-directions .last .1 .1 .1 .0 in
     let lz : length z ≡ 288 = c .before .before .before .before .free-directions .kept .1 .1 .1 .0 ∙ cut-length 288 600 y (omega (arith, whole k)) in
-    let e = four-written (a .frame .now) (a .q .now) (a .coefficients .now) t z (p .1 .1 .1 .0) (p .1 .1 .1 .1 .0) (corrected k) lz (clear-long s) (c .before .before .before .before .before .before .before .before .before .before .before .before .before .before .before .before .before .place .ensures) (c .before .before .before .before .before .before .before .before .before .before .before .before .before .place2 .ensures) (part-back x t 576 24 (corrected k)) (part-back y z 600 288 lz) in
+    let e = four-written (a .frame .now) (a .q .now) (a .coefficients .now) t z (p .1 .1 .1 .0) (p .1 .1 .1 .1 .0) (corrected k) lz (clear-long s) (c .before .before .before .before .before .before .before .before .before .before .before .before .before .before .before .before .before .write .ensures) (c .before .before .before .before .before .before .before .before .before .before .before .before .before .write2 .ensures) (part-back x t 576 24 (corrected k)) (part-back y z 600 288 lz) in
     let f = c .before .before .before .before .free-directions in
     let b = basisBy (a .r) (a .q .now) [] (a .coefficients .now) (a .dependent .now) (a .order .now) in (
       (λ h g.
@@ -103,8 +103,8 @@ pub prepare-free-spec : {M : Type 1} → statement M
 prepare-free-spec =
     tie.close
     (tie.spec
-    place-requires
-    place-requires-2
+    write-requires
+    write-requires-2
     sub-correction
     part-correction-start
     part-correction-end

@@ -3,8 +3,8 @@ use mathlib.Core.Path.{ap, _∙_}
 use native.Mathlib.Omega.{arith}
 use lib.Ieee.{ofBits}
 use lib.ListN.{length}
-use Rattle.run.specs.Basis.{basisBy}
-use Rattle.run.specs.Scratch.{matrix}
+use Rattle.run.specs.program.Basis.{basisBy}
+use Rattle.run.specs.Vectors.{matrix}
 use Rattle.run.proofs.StepLaws.{rank-bound, kept-on, kept-refused}
 use borrow.Author.Needs.{needs}
 use Rattle.run.proofs.step.prepare_kept.Statement.{statement}

@@ -1,9 +1,9 @@
 -- `prepared_step` meets its contract: the correction is copied and the step goes on from it, or the refusal stands.
 use mathlib.Core.Path.{_∙_}
 use lib.ListN.{take, drop}
-use Rattle.run.specs.Step.{curved}
+use Rattle.run.specs.program.Reduced.{curved}
 use native.Mathlib.Omega.{arith}
-use Rattle.run.proofs.LeaveLaws.{cut-length, written-all}
+use Rattle.run.proofs.EndingLaws.{cut-length, written-all}
 use Rattle.run.proofs.StepLaws.{ready-on, ready-refused}
 use borrow.Author.Needs.{needs}
 use Rattle.run.proofs.step.prepared_step.Statement.{statement}
@@ -12,17 +12,17 @@ use Rattle.run.proofs.step.prepared_step.Tie as tie
 enum-known-prepared : tie.Need-enum-known-prepared
 enum-known-prepared c = search needs
 
-sub-place : tie.Need-sub-place
+sub-place : tie.Need-sub-write
 sub-place c = search needs
 
-part-place-start : tie.Need-part-place-start
+part-place-start : tie.Need-part-write-start
 part-place-start c = search needs
 
-part-place-end : tie.Need-part-place-end
+part-place-end : tie.Need-part-write-end
 part-place-end c = search needs
 
-place-requires : tie.Need-place-requires
-place-requires c κs = search needs
+write-requires : tie.Need-write-requires
+write-requires c κs = search needs
 
 free-step-requires : tie.Need-free-step-requires
 free-step-requires c κs =
@@ -41,7 +41,7 @@ returns c =
     let s = c .before .before .before .before .before .before .before .before .before .before .before .before .before .before .before .before .before .before .before .before .before in
     let p = s .pre in
     let l = cut-length 24 576 (s .args .frame .now) (omega (arith, p .1 .1 .1 .0)) in
-    ready-on (curved (s .args .k) (s .args .h .now) (s .args .g .now)) (s .args .order .now) (s .args .frame .now) (c .before .before .before .before .before .before .before .before .before .before .before .before .before .prepared .given .1) (c .before .before .before .before .before .before .before .before .before .place .ensures ∙ written-all (s .args .kept .now) (take 24 (drop 576 (s .args .frame .now))) (omega (arith, l, p .1 .1 .1 .1 .0))) (c .before .before .before .before .free-step .ensures)
+    ready-on (curved (s .args .k) (s .args .h .now) (s .args .g .now)) (s .args .order .now) (s .args .frame .now) (c .before .before .before .before .before .before .before .before .before .before .before .before .before .prepared .given .1) (c .before .before .before .before .before .before .before .before .before .write .ensures ∙ written-all (s .args .kept .now) (take 24 (drop 576 (s .args .frame .now))) (omega (arith, l, p .1 .1 .1 .1 .0))) (c .before .before .before .before .free-step .ensures)
 
 enum-known-prepared-2 : tie.Need-enum-known-prepared-2
 enum-known-prepared-2 c = search needs
@@ -57,7 +57,7 @@ prepared-step-spec =
     sub-place
     part-place-start
     part-place-end
-    place-requires
+    write-requires
     free-step-requires
     same-length
     same-length-2

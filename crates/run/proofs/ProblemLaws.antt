@@ -1,0 +1,188 @@
+-- The variables kept, one after the other, and the entries of H, from what each call gives.
+use Prim.Native.Nat.{ℕ, zero, suc, _+_, _*_, _<_, _≤_}
+use mathlib.Core.Bool.{Bool, true, false}
+use mathlib.Core.Logic.{_≢_}
+use mathlib.Core.Path.{_≡_, refl, sym, ap, _∙_}
+use mathlib.Core.List.{List, [], _∷_, _++_, append-assoc}
+use native.Mathlib.Numerals.{add-one}
+use native.Mathlib.Omega.{arith}
+use borrow.Author.Tests.{eq-eqb, ne-eqb}
+use lib.Dec.{eqb}
+use lib.Ieee.{Float}
+use lib.ListN.{length, getD, set, take, drop, replicate, replicate-append-replicate}
+use Rattle.interval.specs.declared.Scalar.{Scalar}
+use Rattle.interval.specs.Scalar.{zero64, pick, addOf, mulOf}
+use Rattle.linear.specs.Choose.{chooseOf}
+use Rattle.linear.specs.Dot.{plusTo}
+use Rattle.linear.specs.Flat.{at, along, zeros}
+use Rattle.run.specs.Curvature.{curvatureAt}
+use Rattle.run.specs.Problem.{Kept, keepNext, keptTo, variable, squeezedOf, scalingAt, dampedAt, dampedOf}
+use Rattle.run.specs.Problem.{gradientOf, problemOf}
+use Rattle.run.specs.program.Problem.{problemIn, undampedAt, undampedOf, scalingsOf, dampedEntry, dampedBy}
+use Rattle.run.specs.program.Problem.{dampedFrom, gradientIn, gradientAt}
+use Rattle.run.specs.Rows.{Rows, rowsIn, constraintSet, sumSet, constraintsOf, evaluationOf, valueAt}
+use Rattle.run.specs.Vectors.{vector, matrix, column, fillTo, fillRows, chosenOf}
+use Rattle.run.specs.declared.rows.RowSet.{RowSet}
+use Rattle.run.proofs.Concatenation.{length-both, first-of-three, second-of-three, third-of-three}
+use Rattle.run.proofs.Sublists.{fill-front, fill-behind, rows-front, at-part}
+use Rattle.run.proofs.VectorLaws.{length-fillTo, at-fill-in, at-take, length-fillRows, fill-rows-ext, at-fill-rows}
+
+pub keep-turn : (moving : List Bool) (i : ℕ) {k k′ : Kept} → k ≡ keptTo moving i → k′ ≡ keepNext (getD moving i false) k i → k′ ≡ keptTo moving (i + 1)
+unfolding keptTo
+keep-turn moving i e h = rw (add-one, ← e) h
+
+-- at most one more
+count-next : (b : Bool) (k : Kept) (i : ℕ) → keepNext b k i .count ≤ k .count + 1
+count-next true k i = omega arith
+count-next false k i = omega arith
+
+pub count-more : (b : Bool) (k : Kept) (i : ℕ) {k′ : Kept} → k′ ≡ keepNext b k i → k′ .count ≤ k .count + 1
+count-more b k i e = rw e (count-next b k i)
+
+-- how many, and which: none beyond those passed
+kept-count : (moving : List Bool) (n : ℕ) → keptTo moving n .count ≤ n
+unfolding keptTo
+kept-count moving zero = omega arith
+kept-count moving (suc n) = omega (arith, kept-count moving n, count-next (getD moving n false) (keptTo moving n) n)
+
+set-below : (b : ℕ) (l : List ℕ) (i a j : ℕ) → ((k : ℕ) → getD l k 0 ≤ b) → a ≤ b → getD (set l i a) j 0 ≤ b
+set-below b [] i a j h ha = h j
+set-below b (x ∷ l) zero a zero h ha = ha
+set-below b (x ∷ l) zero a (suc j) h ha = h (suc j)
+set-below b (x ∷ l) (suc i) a zero h ha = h zero
+set-below b (x ∷ l) (suc i) a (suc j) h ha = set-below b l i a j (λ k. h (suc k)) ha
+
+next-below : (b : Bool) (n : ℕ) (k : Kept) → ((p : ℕ) → getD (k .index) p 0 ≤ n) → (p : ℕ) → getD (keepNext b k n .index) p 0 ≤ suc n
+next-below true n k h p = set-below (suc n) (k .index) (k .count) n p (λ j. omega (arith, h j)) (omega arith)
+next-below false n k h p = omega (arith, h p)
+
+zeros-below : (n p : ℕ) → getD (replicate n 0) p 0 ≤ 0
+zeros-below zero p = omega arith
+zeros-below (suc n) zero = omega arith
+zeros-below (suc n) (suc p) = zeros-below n p
+
+kept-below : (moving : List Bool) (n p : ℕ) → getD (keptTo moving n .index) p 0 ≤ n
+unfolding keptTo
+kept-below moving zero p = zeros-below 12 p
+kept-below moving (suc n) p = next-below (getD moving n false) n (keptTo moving n) (kept-below moving n) p
+
+module _ {k : Kept} (moving : List Bool) (n : ℕ) (e : k ≡ keptTo moving n) where
+  pub kept-few : k .count ≤ n
+  kept-few = rw e (kept-count moving n)
+
+  pub kept-near : n ≤ 12 → (p : ℕ) → getD (k .index) p 0 < 65536
+  kept-near h p = rw e (omega (arith, h, kept-below moving n p))
+
+-- an entry of B, read along its column
+pub curvature-along : (n : ℕ) (b : List Float) (i j : ℕ) → along b j n i ≡ curvatureAt n b i j
+unfolding along
+curvature-along n b i j = let e : j + i * n ≡ i * n + j = omega arith in rw e
+
+-- an entry that is not damped, and one of H, from what each call gives
+module _ (jr : List Float) (s : ℕ) (b : Scalar) (i j : ℕ) {v : Scalar} (ev : v ≡ plusTo (column jr i) (column jr j) b s) where
+  pub undamped-on : i ≡ j → v ≡ undampedAt jr s b i j
+  unfolding undampedAt
+  undamped-on h = rw (ev, eq-eqb _ _ h)
+
+  pub undamped-off : {r : Scalar} → i ≢ j → r ≡ chooseOf v → r ≡ undampedAt jr s b i j
+  unfolding undampedAt
+  undamped-off h er = rw (er, ev, ne-eqb _ _ h)
+
+module _ (v d mu : Scalar) (i j : ℕ) where
+  pub damped-on : {p w r : Scalar} → i ≡ j → p ≡ mulOf mu d → w ≡ addOf v p → r ≡ chooseOf w → r ≡ dampedEntry v d mu i j
+  unfolding dampedEntry
+  damped-on h ep ew er = rw (er, ew, ep, eq-eqb _ _ h)
+
+  pub damped-off : i ≢ j → v ≡ dampedEntry v d mu i j
+  unfolding dampedEntry
+  damped-off h = rw (ne-eqb _ _ h)
+
+-- damped after or at once: the same entry
+either : (diagonal : Bool) (v d mu : Scalar) → pick diagonal (chooseOf (addOf (pick diagonal v (chooseOf v)) (mulOf mu d))) (pick diagonal v (chooseOf v)) ≡ chooseOf (pick diagonal (addOf v (mulOf mu d)) v)
+either true v d mu = refl
+either false v d mu = refl
+
+entry-damped : (jr : List Float) (s : ℕ) (jc : List Float) (m : ℕ) (mu b : Scalar) (i j : ℕ) → dampedEntry (undampedAt jr s b i j) (scalingAt jr s jc m i) mu i j ≡ dampedAt jr s jc m mu b i j
+unfolding dampedEntry undampedAt dampedAt
+entry-damped jr s jc m mu b i j = either (eqb i j) (plusTo (column jr i) (column jr j) b s) (scalingAt jr s jc m i) mu
+
+-- a curve that is filled part by part
+filled-is : (u : ℕ → ℕ → Scalar) (d g : ℕ → Scalar) (k : ℕ) → k ≤ 12 → fillTo (fillTo (fillRows (zeros 336) u k k) 144 d k) 156 g k ≡ fillRows matrix u k k ++ (fillTo vector 0 d k ++ fillTo vector 0 g k)
+filled-is u d g k h =
+    let lu : length (fillRows matrix u k k) ≡ 288 = length-fillRows matrix u k k in
+    let ld : length (fillTo vector 0 d k) ≡ 24 = length-fillTo vector 0 d k in
+    let lv : length vector ≡ 24 = refl in
+    let lm : length matrix ≡ 288 = refl in
+    let lz : length (zeros 48) ≡ 48 = refl in
+    let z : zeros 336 ≡ matrix ++ zeros 48 = sym (replicate-append-replicate 288 48 zero64) in
+    let y : zeros 48 ≡ vector ++ vector = sym (replicate-append-replicate 24 24 zero64) in
+    let e₁ : fillRows (zeros 336) u k k ≡ fillRows matrix u k k ++ zeros 48 = ap (λ (x : List Float). fillRows x u k k) z ∙ rows-front matrix (zeros 48) u k k h (omega (arith, lm, h)) in
+    let e₂ : fillTo (zeros 48) 0 d k ≡ fillTo vector 0 d k ++ vector = ap (λ (x : List Float). fillTo x 0 d k) y ∙ fill-front vector vector 0 d k (omega (arith, lv, h)) in
+    let e₃ : fillTo (fillRows (zeros 336) u k k) 144 d k ≡ (fillRows matrix u k k ++ fillTo vector 0 d k) ++ vector = ap (λ (x : List Float). fillTo x 144 d k) e₁ ∙ fill-behind (fillRows matrix u k k) (zeros 48) 144 d k lu (omega (arith, lz, h)) ∙ ap (λ (x : List Float). fillRows matrix u k k ++ x) e₂ ∙ sym (append-assoc (fillRows matrix u k k) (fillTo vector 0 d k) vector) in
+    ap (λ (x : List Float). fillTo x 156 g k) e₃
+    ∙ fill-behind (fillRows matrix u k k ++ fillTo vector 0 d k) vector 156 g k (length-both (fillRows matrix u k k) (fillTo vector 0 d k) lu ld) (omega (arith, lv, h))
+    ∙ append-assoc (fillRows matrix u k k) (fillTo vector 0 d k) (fillTo vector 0 g k)
+
+pub curve-filled : (n : ℕ) (k : Kept) (jr : List Float) (s : ℕ) (jc : List Float) (m : ℕ) (b : List Float) (e : Rows) {c₁ c₂ c₃ : List Float}
+    → k .count ≤ 12 → c₁ ≡ fillRows (zeros 336) (λ i j. undampedAt jr s (curvatureAt n b (variable k i) (variable k j)) i j) (k .count) (k .count) → c₂ ≡ fillTo c₁ 144 (scalingAt jr s jc m) (k .count) → c₃ ≡ fillTo c₂ 156 (gradientAt k e) (k .count)
+    → c₃ ≡ undampedOf n k jr s b ++ (scalingsOf (k .count) jr s jc m ++ gradientOf k e)
+unfolding undampedOf scalingsOf gradientOf
+curve-filled n k jr s jc m b e h e₁ e₂ e₃ = e₃ ∙ ap (λ (x : List Float). fillTo x 156 (gradientAt k e) (k .count)) (e₂ ∙ ap (λ (x : List Float). fillTo x 144 (scalingAt jr s jc m) (k .count)) e₁) ∙ filled-is _ (scalingAt jr s jc m) (gradientAt k e) (k .count) h
+
+-- H, read from a curve
+pub damped-read : (k : ℕ) (curve : List Float) (mu : Scalar) → k ≤ 12 → length curve ≡ 336 → fillRows matrix (λ i j. dampedEntry (at curve (12 * i + j)) (at curve (144 + i)) mu i j) k k ≡ dampedFrom k curve mu
+unfolding dampedBy
+damped-read k curve mu h l =
+    fill-rows-ext matrix (λ i j. dampedEntry (at curve (12 * i + j)) (at curve (144 + i)) mu i j) (λ i j. dampedEntry (at (take 288 curve) (12 * i + j)) (at (take 24 (drop 288 curve)) i) mu i j) k k
+    (λ i j hi hj. rw (at-take curve 144 (12 * i + j) (omega arith) (omega (arith, l)), at-part curve 144 12 i (omega arith) (omega (arith, l))))
+
+module _ (n : ℕ) (k : Kept) (jr : List Float) (s : ℕ) (jc : List Float) (m : ℕ) (b : List Float) where
+  -- what is filled before it is damped
+  abbrev before : ℕ → ℕ → Scalar
+  before i j = undampedAt jr s (curvatureAt n b (variable k i) (variable k j)) i j
+
+  damped-is : (mu : Scalar) → k .count ≤ 12 → dampedBy (k .count) (undampedOf n k jr s b) (scalingsOf (k .count) jr s jc m) mu ≡ dampedOf n k jr s jc m b mu
+  unfolding dampedBy undampedOf scalingsOf dampedOf
+  damped-is mu h =
+      let r : ℕ = k .count in
+      let lm : length matrix ≡ 288 = refl in
+      let lv : length vector ≡ 24 = refl in
+      fill-rows-ext matrix (λ i j. dampedEntry (at (fillRows matrix before r r) (12 * i + j)) (at (fillTo vector 0 (scalingAt jr s jc m) r) i) mu i j) (λ i j. dampedAt jr s jc m mu (curvatureAt n b (variable k i) (variable k j)) i j) r r
+      (λ i j hi hj.
+      let z : 0 + i ≡ i = omega arith in
+      let e : at (fillTo vector 0 (scalingAt jr s jc m) r) i ≡ scalingAt jr s jc m i = rw z at (at-fill-in vector 0 (scalingAt jr s jc m) r i hi (omega (arith, lv, h))) in
+      rw (at-fill-rows matrix before r r i j h hi hj (omega (arith, lm, h)), e) (entry-damped jr s jc m mu (curvatureAt n b (variable k i) (variable k j)) i j))
+
+  length-undamped : length (undampedOf n k jr s b) ≡ 288
+  unfolding undampedOf
+  length-undamped = length-fillRows matrix before (k .count) (k .count)
+
+  length-scalings : length (scalingsOf (k .count) jr s jc m) ≡ 24
+  unfolding scalingsOf
+  length-scalings = length-fillTo vector 0 (scalingAt jr s jc m) (k .count)
+
+  module _ (e : Rows) where
+    length-gradient : length (gradientOf k e) ≡ 24
+    unfolding gradientOf
+    length-gradient = length-fillTo vector 0 _ (k .count)
+
+    -- a curve, as it is read
+    module _ {curve : List Float} (ec : curve ≡ undampedOf n k jr s b ++ (scalingsOf (k .count) jr s jc m ++ gradientOf k e)) where
+      pub curve-damped : (mu : Scalar) → k .count ≤ 12 → dampedFrom (k .count) curve mu ≡ dampedOf n k jr s jc m b mu
+      curve-damped mu h = rw (first-of-three curve (undampedOf n k jr s b) (scalingsOf (k .count) jr s jc m) (gradientOf k e) length-undamped length-scalings length-gradient ec, second-of-three curve (undampedOf n k jr s b) (scalingsOf (k .count) jr s jc m) (gradientOf k e) length-undamped length-scalings length-gradient ec) (damped-is mu h)
+
+      pub curve-gradient : gradientIn curve ≡ gradientOf k e
+      curve-gradient = third-of-three curve (undampedOf n k jr s b) (scalingsOf (k .count) jr s jc m) (gradientOf k e) length-undamped length-scalings length-gradient ec
+
+-- H from the sum's slopes, and the whole problem, from what each call gives
+pub curve-is : (n : ℕ) (k : Kept) (e : Rows) (jc : List Float) (m : ℕ) (b : List Float) (mu : Scalar) {wide₀ jr₀ wide jr h : List Float}
+    → wide₀ ≡ zeros 576 → jr₀ ≡ zeros 576 → wide ≡ squeezedOf k e wide₀ → jr ≡ chosenOf jr₀ wide 0 (12 * e .count) → h ≡ dampedOf n k jr (e .count) jc m b mu
+    → h ≡ dampedOf n k (chosenOf (zeros 576) (squeezedOf k e (zeros 576)) 0 (12 * e .count)) (e .count) jc m b mu
+curve-is n k e jc m b mu ew₀ ej₀ ew ej eh = rw (eh, ej, ew, ej₀, ew₀)
+
+pub problem-is : (n m s : ℕ) (k : Kept) (xs b : List Float) (mu : Scalar) {e c : RowSet} {wide₀ jc₀ wide jc h g : List Float}
+    → e ≡ sumSet n m s → c ≡ constraintSet n m → wide₀ ≡ matrix → jc₀ ≡ matrix → wide ≡ squeezedOf k (rowsIn xs c) wide₀ → jc ≡ chosenOf jc₀ wide 0 (12 * c .count)
+    → h ≡ dampedOf n k (chosenOf (zeros 576) (squeezedOf k (rowsIn xs e) (zeros 576)) 0 (12 * e .count)) (e .count) jc m b mu → g ≡ gradientOf k (rowsIn xs e)
+    → problemIn (k .count) m (valueAt (constraintsOf n m xs)) wide jc h g ≡ problemOf n k (evaluationOf n m s xs) b mu
+unfolding problemOf
+problem-is n m s k xs b mu ee ec ew₀ ej₀ ew ej eh eg = rw (eg, eh, ej, ew, ej₀, ew₀, ec, ee)

@@ -1,0 +1,71 @@
+-- `answered_none` meets its contract: each kind is the definition's.
+use Rattle.run.proofs.AnsweredLaws.{correction-underway, none-as}
+use Rattle.run.proofs.ZeroBehind.{limits-of, measures}
+use borrow.Author.Needs.{needs}
+use Rattle.run.proofs.answered.answered_none.Statement.{statement}
+use Rattle.run.proofs.answered.answered_none.Tie as tie
+
+enum-told : tie.Need-enum-told
+enum-told c = search needs
+
+finish-requires : tie.Need-finish-requires
+finish-requires c κs = let p = c .before .before .before .before .pre in (p .0, limits-of (p .1 .0))
+
+same-length : tie.Need-same-length
+same-length c = search needs
+
+returns : tie.Need-returns
+returns c w h = none-as (c .before .before .before .before .before .before .before .args .st) w (c .before .before .before .before .enum-told .given .1) (c .before .before .finish .ensures w h)
+
+enum-told-2 : tie.Need-enum-told-2
+enum-told-2 c = search needs
+
+standing-violation-requires : tie.Need-standing-violation-requires
+standing-violation-requires c κs =
+    let p = c .before .before .before .before .pre in
+    (p .1 .0 .few-constraints, p .0)
+
+turn-down-requires : tie.Need-turn-down-requires
+turn-down-requires c κs =
+    let p = c .before .before .before .before .before .before .pre in
+    (p .0, p .1 .0)
+
+same-length-2 : tie.Need-same-length-2
+same-length-2 c = search needs
+
+returns-2 : tie.Need-returns-2
+returns-2 c w h =
+    let st = c .before .before .before .before .before .before .before .before .before .args .st in
+    let hs = measures st h (c .before .before .before .before .standing-violation .ensures w (h .holds)) in
+    none-as st w (c .before .before .before .before .before .before .enum-told2 .given .1)
+    (c .before .before .turn-down .ensures w hs)
+
+enum-told-3 : tie.Need-enum-told-3
+enum-told-3 c = search needs
+
+correction-none-requires : tie.Need-correction-none-requires
+correction-none-requires c κs = let p = c .before .before .before .before .pre in (p .0, correction-underway (p .1 .0) (c .before .enum-told3 .given .1) (p .1 .1))
+
+same-length-3 : tie.Need-same-length-3
+same-length-3 c = search needs
+
+returns-3 : tie.Need-returns-3
+returns-3 c w h = none-as (c .before .before .before .before .before .before .before .args .st) w (c .before .before .before .before .enum-told3 .given .1) (c .before .before .correction-none .ensures w h)
+
+pub answered-none-spec : {M : Type 1} → statement M
+answered-none-spec =
+    tie.close
+    (tie.spec
+    enum-told
+    finish-requires
+    same-length
+    returns
+    enum-told-2
+    standing-violation-requires
+    turn-down-requires
+    same-length-2
+    returns-2
+    enum-told-3
+    correction-none-requires
+    same-length-3
+    returns-3)

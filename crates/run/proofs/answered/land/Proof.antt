@@ -1,0 +1,99 @@
+-- `land` meets its contract: the standing violation, or its refusal, and then the kind.
+use mathlib.Core.Path.{sym, ap, _∙_}
+use Rattle.interval.specs.declared.Scalar.{Scalar}
+use Rattle.interval.specs.Scalar.{pick}
+use Rattle.linear.specs.Answers.{resultOf}
+use Rattle.run.specs.Area.{Memory}
+use Rattle.run.specs.Endings.{AfterSlots}
+use Rattle.run.specs.Corrected.{landTrial, landCorrection}
+use Rattle.run.proofs.EndingLaws.{or-next, or-refused, when, unless}
+use Rattle.run.proofs.ZeroBehind.{limits-of, measures}
+use borrow.Author.Needs.{needs}
+use Rattle.run.proofs.answered.land.Statement.{statement}
+use Rattle.run.proofs.answered.land.Tie as tie
+
+-- what follows the standing violation
+abbrev next : tie.Start → Memory → Scalar → AfterSlots
+next s w theta = let a = s .args in pick (a .trial) (landTrial (a .st) w (a .rows .now) theta) (landCorrection (a .st) w (a .rows .now) theta)
+
+standing-violation-requires : tie.Need-standing-violation-requires
+standing-violation-requires c κs = let p = c .before .before .before .pre in (p .1 .1 .0 .bounded .few-constraints, p .0)
+
+enum-known-theta : tie.Need-enum-known-theta
+enum-known-theta c = search needs
+
+land-trial-requires : tie.Need-land-trial-requires
+land-trial-requires c κs =
+    let p = c .before .before .before .before .before .before .before .before .before .pre in (
+      p .0,
+      (
+        p .1 .0,
+        p .1 .1 .0,
+      ),
+    )
+
+same-length : tie.Need-same-length
+same-length c = search needs
+
+returns : tie.Need-returns
+returns c w h =
+    let s = c .before .before .before .before .before .before .before .before .before .before .before .before in
+    let v = c .before .before .before .before .before .before .before .before .standing-violation .ensures w (h .holds)
+    in
+    let e = ap resultOf (c .before .before .before .before .before .before .theta .given .1) in
+    let hs = measures (s .args .st) h (sym e ∙ v) in
+    or-next (s .args .st) w (next s w) (sym v ∙ e)
+    (when _ _ (c .before .before .before .before .if1 .taken) (c .before .before .land-trial .ensures w hs))
+
+land-correction-requires : tie.Need-land-correction-requires
+land-correction-requires c κs = c .before .before .before .before .before .before .before .before .before .pre
+
+same-length-2 : tie.Need-same-length-2
+same-length-2 c = search needs
+
+returns-2 : tie.Need-returns-2
+returns-2 c w h =
+    let s = c .before .before .before .before .before .before .before .before .before .before .before .before in
+    let v = c .before .before .before .before .before .before .before .before .standing-violation .ensures w (h .holds)
+    in
+    let e = ap resultOf (c .before .before .before .before .before .before .theta .given .1) in
+    let hs = measures (s .args .st) h (sym e ∙ v) in
+    or-next (s .args .st) w (next s w) (sym v ∙ e)
+    (unless _ _ (c .before .before .before .before .if1 .left) (c .before .before .land-correction .ensures w hs))
+
+enum-known-e : tie.Need-enum-known-e
+enum-known-e c = search needs
+
+refuse-requires : tie.Need-refuse-requires
+refuse-requires c κs =
+    let p = c .before .before .before .before .before .before .before .before .pre in (
+      p .0,
+      limits-of (p .1 .1 .0 .bounded),
+    )
+
+same-length-3 : tie.Need-same-length-3
+same-length-3 c = search needs
+
+returns-3 : tie.Need-returns-3
+returns-3 c w h =
+    let s = c .before .before .before .before .before .before .before .before .before .before .before in
+    let e = sym (c .before .before .before .before .before .before .before .standing-violation .ensures w (h .holds)) ∙
+    ap resultOf (c .before .before .before .before .before .e .given .1) in
+    or-refused (s .args .st) w (next s w) e (c .before .before .refuse .ensures w h)
+
+pub land-spec : {M : Type 1} → statement M
+land-spec =
+    tie.close
+    (tie.spec
+    standing-violation-requires
+    enum-known-theta
+    land-trial-requires
+    same-length
+    returns
+    land-correction-requires
+    same-length-2
+    returns-2
+    enum-known-e
+    refuse-requires
+    same-length-3
+    returns-3)

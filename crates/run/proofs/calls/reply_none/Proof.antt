@@ -1,0 +1,61 @@
+-- `reply_none` meets its contract: what the check refuses is left as it was, and what it accepts is answered over the tidied area.
+use mathlib.Core.Path.{sym, _∙_}
+use native.Mathlib.Omega.{arith}
+use lib.ListN.{length}
+use Rattle.run.specs.Area.{memoryOf}
+use Rattle.run.proofs.CheckLaws.{accepted, none-refused, none-accepted}
+use Rattle.run.proofs.ReplyLaws.{leaves-left, reply-phase, reply-bounded}
+use Rattle.run.proofs.ZeroBehind.{limits-of, works}
+use borrow.Author.Needs.{needs}
+use Rattle.run.proofs.calls.reply_none.Statement.{statement}
+use Rattle.run.proofs.calls.reply_none.Tie as tie
+
+check-requires : tie.Need-check-requires
+check-requires c κs = search needs
+
+enum-known-kind : tie.Need-enum-known-kind
+enum-known-kind c = search needs
+
+enum-known-number : tie.Need-enum-known-number
+enum-known-number c = search needs
+
+returns : tie.Need-returns
+returns c = let a = c .before .before .before .before .before .args in sym (none-refused (a .st) (a .area .now) _ (sym (c .before .before .before .check .ensures) ∙ c .before .number .given .1))
+
+clear-unused-requires : tie.Need-clear-unused-requires
+clear-unused-requires c κs =
+    let a = c .before .before .before .before .before .before .args in
+    let r = accepted (a .st) (length (a .area .now)) _ (sym (c .before .before .before .before .check .ensures) ∙ c .before .before .kind .given .1) in
+    let b = reply-bounded (a .st) _ (r .run) (r .opened) in
+    (r .whole, limits-of b)
+
+answered-none-requires : tie.Need-answered-none-requires
+answered-none-requires c κs =
+    let a = c .before .before .before .before .before .before .before .before .before .before .args in
+    let r = accepted (a .st) (length (a .area .now)) _ (sym (c .before .before .before .before .before .before .before .before .check .ensures) ∙ c .before .before .before .before .before .before .kind .given .1) in
+    (omega (arith, c .before .before .before .clear-unused .kept, r .whole), (reply-bounded (a .st) _ (r .run) (r .opened), reply-phase (a .st) _ (r .run) (r .opened)))
+
+same-length : tie.Need-same-length
+same-length c = search needs
+
+returns-2 : tie.Need-returns-2
+returns-2 c =
+    let a = c .before .before .before .before .before .before .before .before .before .before .before .before .before .args in
+    leaves-left _ _ _ (c .before .before .answered-none .ensures (memoryOf (a .st) (a .area .now))
+    (works (a .st) (c .before .before .before .before .before .before .clear-unused .ensures))) ∙ sym
+    (none-accepted (a .st) (a .area .now) _ (sym
+    (c .before .before .before .before .before .before .before .before .before .before .before .check .ensures) ∙ c
+    .before .before .before .before .before .before .before .before .before .kind .given .1))
+
+pub reply-none-spec : {M : Type 1} → statement M
+reply-none-spec =
+    tie.close
+    (tie.spec
+    check-requires
+    enum-known-kind
+    enum-known-number
+    returns
+    clear-unused-requires
+    answered-none-requires
+    same-length
+    returns-2)

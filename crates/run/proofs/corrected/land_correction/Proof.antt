@@ -1,0 +1,129 @@
+-- `land_correction` meets its contract: whether its rows are nearer decides, or that is refused.
+use mathlib.Core.Bool.{Bool}
+use mathlib.Core.Path.{ap, _∙_}
+use native.Mathlib.Omega.{arith}
+use Rattle.interval.specs.Scalar.{pick}
+use Rattle.run.specs.Area.{Memory}
+use Rattle.run.specs.Endings.{AfterSlots}
+use Rattle.run.specs.Corrected.{keep}
+use Rattle.run.specs.Decide.{judge}
+use Rattle.run.specs.program.Corrected.{nearerResult}
+use Rattle.run.proofs.AnsweredLaws.{correction-by, nearer-read, rows-enough}
+use Rattle.run.proofs.EndingLaws.{or-next, or-refused, when, unless}
+use Rattle.run.proofs.ZeroBehind.{limits-of, compares}
+use borrow.Author.Needs.{needs}
+use Rattle.run.proofs.corrected.land_correction.Statement.{statement}
+use Rattle.run.proofs.corrected.land_correction.Tie as tie
+
+-- what follows the test
+abbrev next : tie.Start → Memory → Bool → AfterSlots
+next s w kept =
+    let a = s .args in
+    pick kept (keep (a .st) w (a .rows .now) (a .theta)) (judge (a .st) w (a .theta))
+
+violation-requires : tie.Need-violation-requires
+violation-requires c κs =
+    let p = c .before .before .pre in
+    let z = c .before .before .args .st .sizes in
+    (p .1 .1 .0 .bounded .few-constraints, omega (arith, rows-enough (z .n) (z .m) (z .s), p .1 .0))
+
+landed-violation-requires : tie.Need-landed-violation-requires
+landed-violation-requires c κs =
+    let p = c .before .before .before .before .pre in
+    (p .1 .1 .0 .bounded .few-constraints, p .0)
+
+is-nearer-requires : tie.Need-is-nearer-requires
+is-nearer-requires c κs = search needs
+
+enum-known-kept : tie.Need-enum-known-kept
+enum-known-kept c = search needs
+
+keep-requires : tie.Need-keep-requires
+keep-requires c κs = c .before .before .before .before .before .before .before .before .before .before .before .pre
+
+same-length : tie.Need-same-length
+same-length c = search needs
+
+returns : tie.Need-returns
+returns c w h =
+    let a = c .before .before .before .before .before .before .before .before .before .before .before .before .before
+    .before .args in
+    let k = h .uses .holds in
+    let new = c .before .before .before .before .before .before .before .before .before .before .before .violation
+    .ensures in
+    let old = c .before .before .before .before .before .before .before .before .before .landed-violation .ensures w k
+    in
+    let e = nearer-read (c .before .before .before .before .before .before .before .before .is-nearer .ensures) new old
+    ∙ ap nearerResult (c .before .before .before .before .before .before .kept .given .1) in
+    correction-by (a .st) w (a .rows .now) (a .theta)
+    (or-next (a .st) w (next (c .before .before .before .before .before .before .before .before .before .before .before
+    .before .before .before) w) e (when _ _ (c .before .before .before .before .if1 .taken)
+    (c .before .before .keep .ensures w h new)))
+
+judge-landed-requires : tie.Need-judge-landed-requires
+judge-landed-requires c κs =
+    let p = c .before .before .before .before .before .before .before .before .before .before .before .pre in
+    (p .0, p .1 .1 .0)
+
+same-length-2 : tie.Need-same-length-2
+same-length-2 c = search needs
+
+returns-2 : tie.Need-returns-2
+returns-2 c w h =
+    let a = c .before .before .before .before .before .before .before .before .before .before .before .before .before
+    .before .args in
+    let k = h .uses .holds in
+    let new = c .before .before .before .before .before .before .before .before .before .before .before .violation
+    .ensures in
+    let old = c .before .before .before .before .before .before .before .before .before .landed-violation .ensures w k
+    in
+    let e = nearer-read (c .before .before .before .before .before .before .before .before .is-nearer .ensures) new old
+    ∙ ap nearerResult (c .before .before .before .before .before .before .kept .given .1) in
+    let hj = compares (a .st) (h .uses) (h .standing-is) old in
+    correction-by (a .st) w (a .rows .now) (a .theta)
+    (or-next (a .st) w (next (c .before .before .before .before .before .before .before .before .before .before .before
+    .before .before .before) w) e (unless _ _ (c .before .before .before .before .if1 .left)
+    (c .before .before .judge-landed .ensures w hj)))
+
+enum-known-e : tie.Need-enum-known-e
+enum-known-e c = search needs
+
+refuse-requires : tie.Need-refuse-requires
+refuse-requires c κs =
+    let p = c .before .before .before .before .before .before .before .before .before .before .pre in
+    (p .0, limits-of (p .1 .1 .0 .bounded))
+
+same-length-3 : tie.Need-same-length-3
+same-length-3 c = search needs
+
+returns-3 : tie.Need-returns-3
+returns-3 c w h =
+    let a = c .before .before .before .before .before .before .before .before .before .before .before .before .before
+    .args in
+    let k = h .uses .holds in
+    let new = c .before .before .before .before .before .before .before .before .before .before .violation .ensures in
+    let old = c .before .before .before .before .before .before .before .before .landed-violation .ensures w k in
+    let e = nearer-read (c .before .before .before .before .before .before .before .is-nearer .ensures) new old ∙ ap
+    nearerResult (c .before .before .before .before .before .e .given .1) in
+    correction-by (a .st) w (a .rows .now) (a .theta)
+    (or-refused (a .st) w (next (c .before .before .before .before .before .before .before .before .before .before
+    .before .before .before) w) e (c .before .before .refuse .ensures w (h .uses)))
+
+pub land-correction-spec : {M : Type 1} → statement M
+land-correction-spec =
+    tie.close
+    (tie.spec
+    violation-requires
+    landed-violation-requires
+    is-nearer-requires
+    enum-known-kept
+    keep-requires
+    same-length
+    returns
+    judge-landed-requires
+    same-length-2
+    returns-2
+    enum-known-e
+    refuse-requires
+    same-length-3
+    returns-3)

@@ -1,0 +1,88 @@
+-- `moving_slopes` meets its contract: the slice starts with the slopes stored so far, and is else as it was.
+use mathlib.Core.List.{_++_}
+use mathlib.Core.Path.{_≡_, sym, _∙_}
+use Prim.Native.Nat.{ℕ, _*_, _/_, _%_, _<_, _≤_, _-_}
+use native.Mathlib.Nat.{le-antisymm, div-le-self, mod-lt}
+use native.Mathlib.Omega.{arith}
+use borrow.Author.Needs.{needs}
+use lib.ListN.{length, drop}
+use Rattle.linear.specs.Flat.{listTo}
+use Rattle.linear.proofs.Lists.{listTo-none, listTo-more, listTo-all}
+use Rattle.linear.proofs.Reflections.{rows-positive}
+use Rattle.run.specs.Rows.{constraintsOf}
+use Rattle.run.specs.Corrected.{movingSlope}
+use Rattle.run.proofs.RowLaws.{few, constraints-small}
+use Rattle.run.proofs.CorrectedLaws.{slope-is}
+use Rattle.run.proofs.corrected.moving_slopes.Statement.{statement}
+use Rattle.run.proofs.corrected.moving_slopes.Tie as tie
+
+abbrev Inv-loop : tie.InvT-loop
+Inv-loop n m xs moving jc₀ e q p₀ jc p = (p ≤ q) × (length jc ≡ length jc₀) × (jc ≡ listTo (λ k. movingSlope moving (constraintsOf n m xs) (k / n) (k % n)) p ++ drop (2 * p) jc₀)
+
+abbrev μ-loop : tie.MeasureT-loop
+μ-loop n m xs moving jc₀ e q p₀ jc p = q - p
+
+-- how many there are; where there is one, there is a variable
+room : (s : tie.Start Inv-loop μ-loop) → s .args .m * s .args .n ≤ 144
+room s = few (s .pre .1 .0) (s .pre .0)
+
+some-variable : (s : tie.Start Inv-loop μ-loop) (p : ℕ) → p < s .args .m * s .args .n → 0 < s .args .n
+some-variable s p h = rows-positive (s .args .m) (s .args .n) {p = p} h
+
+constraints-requires : tie.Need-constraints-requires Inv-loop μ-loop
+constraints-requires c κs = search needs
+
+mul-q : tie.Need-mul-q Inv-loop μ-loop
+mul-q c = omega (arith, room (c .before .before .before .before))
+
+loop-holds : tie.Need-loop-holds Inv-loop μ-loop
+loop-holds c = (search needs, search needs, sym (listTo-none _ _))
+
+div-slope-of : tie.Need-div-slope-of Inv-loop μ-loop
+div-slope-of c = some-variable (c .before .before .before .before .before .before) (c .before .loop .p) (c .loop-test .taken)
+
+rem-slope-of : tie.Need-rem-slope-of Inv-loop μ-loop
+rem-slope-of c = some-variable (c .before .before .before .before .before .before) (c .before .loop .p) (c .loop-test .taken)
+
+slope-of-requires : tie.Need-slope-of-requires Inv-loop μ-loop
+slope-of-requires c κs =
+    let s = c .before .before .before .before .before .before in
+    (rw (c .before .before .constraints .ensures) (constraints-small (s .pre .0) (s .pre .1 .0)), omega (arith, room s, c .loop-test .taken, div-le-self (c .before .loop .p) (s .args .n)))
+
+rem-moving-slope : tie.Need-rem-moving-slope Inv-loop μ-loop
+rem-moving-slope c = some-variable (c .before .before .before .before .before .before .before .before) (c .before .before .before .loop .p) (c .before .before .loop-test .taken)
+
+shared-slice-read-moving-slope : tie.Need-shared-slice-read-moving-slope Inv-loop μ-loop
+shared-slice-read-moving-slope c = omega (arith, mod-lt (c .before .before .before .before .loop .p) (some-variable (c .before .before .before .before .before .before .before .before .before) (c .before .before .before .before .loop .p) (c .before .before .before .loop-test .taken)))
+
+moving-slope-requires : tie.Need-moving-slope-requires Inv-loop μ-loop
+moving-slope-requires c κs = search needs
+
+put-requires : tie.Need-put-requires Inv-loop μ-loop
+put-requires c κs = search needs
+
+add-p : tie.Need-add-p Inv-loop μ-loop
+add-p c = omega (arith, room (c .before .before .before .before .before .before .before .before .before .before .before .before .before))
+
+loop-less : tie.Need-loop-less Inv-loop μ-loop
+loop-less c = search needs
+
+loop-again : tie.Need-loop-again Inv-loop μ-loop
+loop-again c =
+    let a = c .before .before .before .before .before .before .before .before .before .before .before .before .before .args in
+    let l = c .before .before .before .before .before .before .before .before .loop in
+    let v = slope-is (a .moving .now) (a .xs .now) (a .n) (a .m) (l .p) (rw (c .before .before .before .before .before .before .before .before .before .constraints .ensures) at (c .before .before .before .before .before .before .slope-of .ensures)) (c .before .before .before .moving-slope .ensures) in
+    let e = rw (l .inv .2, v) at (c .before .before .put .ensures) in
+    (search needs, search needs, e ∙ listTo-more (λ k. movingSlope (a .moving .now) (constraintsOf (a .n) (a .m) (a .xs .now)) (k / a .n) (k % a .n)) (l .p) (a .jc .now) (omega arith))
+
+same-length : tie.Need-same-length Inv-loop μ-loop
+same-length c = search needs
+
+returns : tie.Need-returns Inv-loop μ-loop
+returns c =
+    let a = c .before .before .before .before .before .before .args in
+    let e = rw (le-antisymm (c .before .loop .inv .0) (c .loop-test .left)) at (c .before .loop .inv .2) in
+    e ∙ listTo-all (λ k. movingSlope (a .moving .now) (constraintsOf (a .n) (a .m) (a .xs .now)) (k / a .n) (k % a .n)) (a .m * a .n) (a .jc .now) (c .before .before .before .before .before .before .pre .1 .1 .1)
+
+pub moving-slopes-spec : {M : Type 1} → statement M
+moving-slopes-spec = tie.close (tie.spec Inv-loop μ-loop constraints-requires mul-q loop-holds div-slope-of rem-slope-of slope-of-requires rem-moving-slope shared-slice-read-moving-slope moving-slope-requires put-requires add-p loop-less loop-again same-length returns)

@@ -1,0 +1,87 @@
+-- `grow` meets its contract: whether more damping is finite decides, and it is positive still.
+use mathlib.Core.Path.{sym, _∙_}
+use native.Mathlib.Omega.{arith}
+use Rattle.interval.proofs.Given.{yes}
+use Rattle.run.specs.State.{searching}
+use Rattle.run.specs.State.{rejectedFor, withRadius}
+use Rattle.run.specs.declared.state.Search.{Search}
+use Rattle.run.proofs.IterateLaws.{searched, grown-bounded, grow-on, grow-stops}
+use Rattle.run.proofs.ZeroBehind.{limits-of, limits-as, works-as, seeks-as}
+use borrow.Author.Needs.{needs}
+use Rattle.run.proofs.decide.grow.Statement.{statement}
+use Rattle.run.proofs.decide.grow.Tie as tie
+
+-- the search within the radius
+within : tie.Start → Search
+within s = withRadius (rejectedFor (s .args .st .search) (s .args .why)) (s .args .radius)
+
+damp-requires : tie.Need-damp-requires
+damp-requires c κs = omega (arith, c .before .pre .1 .few-turned)
+
+enum-known-y : tie.Need-enum-known-y
+enum-known-y c = search needs
+
+with-search-requires : tie.Need-with-search-requires
+with-search-requires c κs = search needs
+
+search-requires : tie.Need-search-requires
+unfolding within
+search-requires c κs =
+    let s = c .before .before .before .before .before .before .before in
+    let b = s .pre .1 in
+    let g = s .good .0 .1 .1 .1 .1 .0 .1 .1 .0 .1 .1 in
+    rw (c .before .with-search .ensures) (s .pre .0, grown-bounded _ (searched (within s) b (b .few-turned) (b .damping)) (omega arith) (yes (g .0 .1), yes (g .1 .0 .1)) (sym (c .before .before .before .y .given .1) ∙ c .before .before .before .before .before .damp .ensures))
+
+same-length : tie.Need-same-length
+same-length c = search needs
+
+returns : tie.Need-returns
+unfolding within
+returns c w h =
+    let s = c .before .before .before .before .before .before .before .before .before .before in
+    let t = c .before .before .before .before .with-search .ensures in
+    grow-on (searching (s .args .st) (within s)) w (sym (c .before .before .before .before .before .before .y .given .1)
+    ∙ c .before .before .before .before .before .before .before .before .damp .ensures) t
+    (c .before .before .search .ensures w (seeks-as t h))
+
+enum-known-y-2 : tie.Need-enum-known-y-2
+enum-known-y-2 c = search needs
+
+with-search-requires-2 : tie.Need-with-search-requires-2
+with-search-requires-2 c κs = search needs
+
+finish-requires : tie.Need-finish-requires
+finish-requires c κs =
+    let p = c .before .before .before .before .before .before .before .pre in (
+      p .0,
+      limits-as (c .before .with-search2 .ensures) (limits-of (p .1)),
+    )
+
+same-length-2 : tie.Need-same-length-2
+same-length-2 c = search needs
+
+returns-2 : tie.Need-returns-2
+unfolding within
+returns-2 c w h =
+    let s = c .before .before .before .before .before .before .before .before .before .before in
+    let t = c .before .before .before .before .with-search2 .ensures in
+    grow-stops (searching (s .args .st) (within s)) w
+    (sym (c .before .before .before .before .before .before .y2 .given .1) ∙ c .before .before .before .before .before
+    .before .before .before .damp .ensures) t
+    (c .before .before .finish .ensures w (works-as t (h .uses)))
+
+pub grow-spec : {M : Type 1} → statement M
+grow-spec =
+    tie.close
+    (tie.spec
+    damp-requires
+    enum-known-y
+    with-search-requires
+    search-requires
+    same-length
+    returns
+    enum-known-y-2
+    with-search-requires-2
+    finish-requires
+    same-length-2
+    returns-2)

@@ -1,0 +1,32 @@
+-- `may_retry` meets its contract: the slot is read only where plain is not tried.
+use mathlib.Core.Path.{ap, _∙_}
+use mathlib.Core.List.{List}
+use lib.Ieee.{Float}
+use Rattle.run.specs.Curvature.{learnedOf}
+use Rattle.run.proofs.EndingLaws.{curvature-read}
+use borrow.Author.Needs.{needs}
+use Rattle.run.proofs.decide.may_retry.Statement.{statement}
+use Rattle.run.proofs.decide.may_retry.Tie as tie
+
+returns : tie.Need-returns
+returns c w h = rw (c .if1 .taken)
+
+sub-learned : tie.Need-sub-learned
+sub-learned c = search needs
+
+part-learned-start : tie.Need-part-learned-start
+part-learned-start c = search needs
+
+part-learned-end : tie.Need-part-learned-end
+part-learned-end c = search needs
+
+learned-requires : tie.Need-learned-requires
+learned-requires c κs = search needs
+
+returns-2 : tie.Need-returns-2
+returns-2 c w h = rw (c .before .before .if1 .left) (c .learned .ensures ∙ ap (λ (b : List Float). learnedOf (c .before .before .before .before .args .n) b) (curvature-read h))
+
+pub may-retry-spec : {M : Type 1} → statement M
+may-retry-spec =
+    tie.close
+    (tie.spec returns sub-learned part-learned-start part-learned-end learned-requires returns-2)

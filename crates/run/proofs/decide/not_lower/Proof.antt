@@ -1,0 +1,79 @@
+-- `not_lower` meets its contract: whether it is tried again decides.
+use Prim.Native.Nat.{_+_}
+use native.Mathlib.Omega.{arith}
+use mathlib.Core.Bool.{true}
+use mathlib.Core.Path.{_≡_, refl, sym, ap, _∙_}
+use Rattle.run.specs.State.{searching}
+use Rattle.run.specs.State.{rejectedFor, retried}
+use Rattle.run.specs.declared.state.Rejection.the-variants as why
+use Rattle.run.specs.declared.state.Search.{Search}
+use Rattle.run.specs.declared.state.State.{State}
+use Rattle.run.proofs.IterateLaws.{searched, retries, turns-down}
+use Rattle.run.proofs.ZeroBehind.{seeks-as}
+use borrow.Author.Needs.{needs}
+use Rattle.run.proofs.decide.not_lower.Statement.{statement}
+use Rattle.run.proofs.decide.not_lower.Tie as tie
+
+-- the state that is searched again, from what was rejected
+again : (st : State) {x : Search} {t : State} → x ≡ rejectedFor (st .search) why.NotLower
+    → t ≡ searching st (record { mu = x .mu; radius = x .radius; «turned_down» = st .search .«turned_down» + 1; first = x .first; plain = true; rejected = x .rejected })
+    → t ≡ searching st (retried (rejectedFor (st .search) why.NotLower))
+again st e f = f ∙ ap (λ (x : Search). searching st (record { mu = x .mu; radius = x .radius; «turned_down» = st .search .«turned_down» + 1; first = x .first; plain = true; rejected = x .rejected })) e
+
+may-retry-requires : tie.Need-may-retry-requires
+may-retry-requires c κs = search needs
+
+reject-requires : tie.Need-reject-requires
+reject-requires c κs = search needs
+
+add-turned-down : tie.Need-add-turned-down
+add-turned-down c = omega (arith, c .before .before .before .before .before .before .pre .1 .few-turned)
+
+with-search-requires : tie.Need-with-search-requires
+with-search-requires c κs = search needs
+
+search-requires : tie.Need-search-requires
+search-requires c κs =
+    let s = c .before .before .before .before .before .before .before .before in
+    let b = s .pre .1 in
+    rw (again (s .args .st) (c .before .before .before .reject .ensures) (c .before .with-search .ensures)) (s .pre .0, searched (retried (rejectedFor (s .args .st .search) why.NotLower)) b (omega (arith, b .few-turned)) (b .damping))
+
+same-length : tie.Need-same-length
+same-length c = search needs
+
+returns : tie.Need-returns
+returns c w h =
+    let st = c .before .before .before .before .before .before .before .before .before .before .before .args .st in
+    let t = c .before .before .before .before .with-search .ensures in
+    retries st w (sym (c .before .before .before .before .before .before .before .before .may-retry .ensures w
+    (h .uses .holds)) ∙ c .before .before .before .before .before .before .before .if1 .taken) refl refl
+    (again st (c .before .before .before .before .before .before .reject .ensures) t)
+    (c .before .before .search .ensures w (seeks-as t h))
+
+turn-down-requires : tie.Need-turn-down-requires
+turn-down-requires c κs = search needs
+
+same-length-2 : tie.Need-same-length-2
+same-length-2 c = search needs
+
+returns-2 : tie.Need-returns-2
+returns-2 c w h =
+    turns-down (c .before .before .before .before .before .before .before .before .args .st) w
+    (sym (c .before .before .before .before .before .may-retry .ensures w (h .uses .holds)) ∙ c .before .before .before
+    .before .if1 .left)
+    (c .before .before .turn-down .ensures w h)
+
+pub not-lower-spec : {M : Type 1} → statement M
+not-lower-spec =
+    tie.close
+    (tie.spec
+    may-retry-requires
+    reject-requires
+    add-turned-down
+    with-search-requires
+    search-requires
+    same-length
+    returns
+    turn-down-requires
+    same-length-2
+    returns-2)

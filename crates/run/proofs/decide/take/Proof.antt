@@ -1,0 +1,146 @@
+-- `take` meets its contract: it is known whether the constraints came near, and a third of the damping, or that is refused.
+use mathlib.Core.Bool.{true}
+use mathlib.Core.Path.{_≡_, sym, ap, subst, _∙_}
+use lib.Ieee.{ofBits}
+use Rattle.interval.specs.declared.Scalar.{Scalar}
+use Rattle.interval.specs.Result.{resultOf}
+use Rattle.interval.specs.Scalar.{degenerate, divOf}
+use Rattle.interval.specs.Scaling.{three64, isPositive}
+use Rattle.interval.proofs.Given.{yes}
+use Rattle.run.specs.program.Decide.{linearResult}
+use Rattle.run.proofs.DampingBounds.{shrunk-positive}
+use Rattle.run.proofs.AnsweredLaws.{take-known, take-refused, third-known, third-refused}
+use Rattle.run.proofs.ZeroBehind.{limits-of}
+use borrow.Author.Needs.{needs}
+use Rattle.run.proofs.decide.take.Statement.{statement}
+use Rattle.run.proofs.decide.take.Tie as tie
+
+-- the third, as it is answered
+divided : (k : tie.After-div)
+    → resultOf (k .div .result)
+    ≡ divOf (k .before .before .before .before .before .before .before .args .st .search .mu) (degenerate three64)
+unfolding ofBits
+divided k =
+    let mu = k .before .before .before .before .before .before .before .args .st .search .mu in
+    k .div .ensures .value ∙ ap (λ (x : Scalar). divOf mu x) (k .before .degenerate .ensures)
+
+linear-of-requires : tie.Need-linear-of-requires
+linear-of-requires c κs = search needs
+
+enum-known-linear : tie.Need-enum-known-linear
+enum-known-linear c = search needs
+
+degenerate-requires : tie.Need-degenerate-requires
+degenerate-requires c κs = search needs
+
+div-requires : tie.Need-div-requires
+div-requires c κs = search needs
+
+enum-known-third : tie.Need-enum-known-third
+enum-known-third c = search needs
+
+shrunk-requires : tie.Need-shrunk-requires
+shrunk-requires c κs = search needs
+
+radius-after-requires : tie.Need-radius-after-requires
+radius-after-requires c κs = search needs
+
+take-with-requires : tie.Need-take-with-requires
+take-with-requires c κs =
+    let s = c .before .before .before .before .before .before .before .before .before .before .before .before .before in
+    let g = s .good .0 .1 .1 .1 .1 .0 .1 .1 .0 .1 .1 in
+    let third = sym (divided (c .before .before .before .before .before .before)) ∙ ap resultOf
+    (c .before .before .before .before .third .given .1) in
+    let u = s .pre .1 in (
+      s .pre .0,
+      (
+        u,
+        subst (λ (x : Scalar). isPositive x ≡ true) (sym (c .before .before .shrunk .ensures))
+            (shrunk-positive (s .args .st .search .mu) _ (yes (g .0 .1), yes (g .1 .0 .1)) (u .bounded .damping) third),
+      ),
+    )
+
+same-length : tie.Need-same-length
+same-length c = search needs
+
+returns : tie.Need-returns
+returns c w h =
+    let a = c .before .before .before .before .before .before .before .before .before .before .before .before .before
+    .before .before .before .args in
+    let near = sym (c .before .before .before .before .before .before .before .before .before .before .before .before
+    .before .before .linear-of .ensures w (h .landed-is)) ∙ ap linearResult
+    (c .before .before .before .before .before .before .before .before .before .before .before .before .linear .given
+    .1) in
+    let third = sym (divided (c .before .before .before .before .before .before .before .before .before)) ∙ ap resultOf
+    (c .before .before .before .before .before .before .before .third .given .1) in
+    take-known (a .st) w (a .theta) (a .span) near
+    (third-known (a .st) w (a .theta) (a .span)
+    (c .before .before .before .before .before .before .before .before .before .before .before .before .linear .given .0
+    .0) third (c .before .before .before .before .before .shrunk .ensures)
+    (c .before .before .before .before .radius-after .ensures) (c .before .before .take-with .ensures w h))
+
+enum-known-e : tie.Need-enum-known-e
+enum-known-e c = search needs
+
+refuse-requires : tie.Need-refuse-requires
+refuse-requires c κs =
+    let p = c .before .before .before .before .before .before .before .before .before .before .before .pre in
+    (p .0, limits-of (p .1 .bounded))
+
+same-length-2 : tie.Need-same-length-2
+same-length-2 c = search needs
+
+returns-2 : tie.Need-returns-2
+returns-2 c w h =
+    let a = c .before .before .before .before .before .before .before .before .before .before .before .before .before
+    .before .args in
+    let near = sym (c .before .before .before .before .before .before .before .before .before .before .before .before
+    .linear-of .ensures w (h .landed-is)) ∙ ap linearResult
+    (c .before .before .before .before .before .before .before .before .before .before .linear .given .1) in
+    let third = sym (divided (c .before .before .before .before .before .before .before)) ∙ ap resultOf
+    (c .before .before .before .before .before .e .given .1) in
+    take-known (a .st) w (a .theta) (a .span) near
+    (third-refused (a .st) w (a .theta) (a .span)
+    (c .before .before .before .before .before .before .before .before .before .before .linear .given .0 .0) third
+    (c .before .before .refuse .ensures w (h .measured .uses)))
+
+enum-known-e-2 : tie.Need-enum-known-e-2
+enum-known-e-2 c = search needs
+
+refuse-requires-2 : tie.Need-refuse-requires-2
+refuse-requires-2 c κs =
+    let p = c .before .before .before .before .before .before .pre in
+    (p .0, limits-of (p .1 .bounded))
+
+same-length-3 : tie.Need-same-length-3
+same-length-3 c = search needs
+
+returns-3 : tie.Need-returns-3
+returns-3 c w h =
+    let a = c .before .before .before .before .before .before .before .before .before .args in
+    let near = sym (c .before .before .before .before .before .before .before .linear-of .ensures w (h .landed-is)) ∙ ap
+    linearResult (c .before .before .before .before .before .e2 .given .1) in
+    take-refused (a .st) w (a .theta) (a .span) near (c .before .before .refuse2 .ensures w (h .measured .uses))
+
+pub take-spec : {M : Type 1} → statement M
+take-spec =
+    tie.close
+    (tie.spec
+    linear-of-requires
+    enum-known-linear
+    degenerate-requires
+    div-requires
+    enum-known-third
+    shrunk-requires
+    radius-after-requires
+    take-with-requires
+    same-length
+    returns
+    enum-known-e
+    refuse-requires
+    same-length-2
+    returns-2
+    enum-known-e-2
+    refuse-requires-2
+    same-length-3
+    returns-3)

@@ -1,0 +1,480 @@
+-- An open question and its answer: what the invariant says of a start, a trial or a correction is what the run between
+-- two questions begins with.
+use Prim.Native.Nat.{ℕ, _+_, _*_, _≤_, _<_, zero-le}
+use mathlib.Core.Bool.{true, false, cond}
+use mathlib.Core.Logic.{inl, inr}
+use mathlib.Core.Path.{_≡_, refl, sym, ap, _∙_, subst}
+use mathlib.Core.List.{List, [], _∷_}
+use native.Mathlib.Omega.{arith}
+use borrow.Author.Tests.{eq-eqb, ne-eqb}
+use lib.Dec.{eqb}
+use lib.Ieee.{Float}
+use lib.ListN.{length, take, length-replicate}
+use Rattle.interval.specs.Scalar.{zero64}
+use Rattle.run.specs.Residuals.{violationOf, movingOf}
+use Rattle.run.specs.Area.{POINT, ROWS, CURVATURE, FILTER, Memory, memoryOf, withLanded, withStart}
+use Rattle.run.specs.Limits.{AREA}
+use Rattle.run.specs.Endings.{AfterSlots}
+use Rattle.run.specs.Area.{rowsAt, standingAt}
+use Rattle.run.specs.State.{landing, moves}
+use Rattle.run.specs.Answered.{started, answered, answeredNone}
+use Rattle.run.specs.Decide.{turnDown}
+use Rattle.run.specs.Demand.{
+  same,
+  Floats,
+  Call,
+  Run,
+  History,
+  In,
+  AnsweredRows,
+  hasRows,
+  Fitting,
+  Claim,
+  rowsBy,
+  entered,
+  isRefused,
+  isArithmetic,
+}
+use Rattle.run.specs.Demand as demand
+use Rattle.run.specs.declared.state.Event.{Event}
+use Rattle.run.specs.declared.state.Event.the-variants as event
+use Rattle.run.specs.declared.state.Kind.{Kind}
+use Rattle.run.specs.declared.state.Kind.the-variants as kind
+use Rattle.run.specs.declared.state.Phase.the-variants.{Open}
+use Rattle.run.specs.declared.state.Rejection.the-variants as why
+use Rattle.run.specs.declared.state.Sizes.{Sizes}
+use Rattle.run.specs.declared.state.State.{State}
+use Rattle.run.specs.declared.state.Stop.the-variants as stop
+use Rattle.run.proofs.AreaRead.{rows-fit, read-sized, used-part}
+use Rattle.run.proofs.AreaLaws.{length-padded}
+use Rattle.run.proofs.CheckLaws.{size-bounds}
+use Rattle.run.proofs.RefusalLaws.{violation-yields}
+use Rattle.run.proofs.demand3.ExactLaws.{Good, ExactLaws}
+use Rattle.run.proofs.demand3.Invariant.{
+  FittingRows,
+  Slot,
+  Stands,
+  Sound,
+  Tried,
+  Corrected,
+  Started,
+  Phased,
+  Inv,
+  CallContext,
+  unmoved,
+  Consistent,
+  playedTo,
+  After,
+}
+use Rattle.run.proofs.demand3.Endings.{pairs-rows, or-refuse-after, finish-counts}
+use Rattle.run.proofs.demand3.Iterate.{iterate-after, turn-down-after}
+use Rattle.run.proofs.demand3.Decide.{Landing, judge-after}
+use Rattle.run.proofs.demand3.Corrected.{land-trial-after, land-correction-after}
+
+-- ---- the call that answers
+
+-- rows that a check let pass
+pub record CheckedRows (z : Sizes) (xs : List Float) : Type 0 where
+  pub fitting : Fitting z xs
+  pub good : Good z xs
+
+abbrev rowed : {z : Sizes} {x : AnsweredRows} (xs : List Float) → CheckedRows z xs → x ≡ hasRows xs → FittingRows z x
+rowed xs p e = record { rows = xs; given-is = e; fitting = p .fitting; good = p .good }
+
+-- the rows entered for the open question
+abbrev with-rows : History → List Float → ℕ → AnsweredRows
+with-rows h xs k = cond (eqb k (h .asked)) (hasRows xs) (h .rows k)
+
+enters-rows :
+    (h : History) (xs : List Float) (f : Floats xs) (a : Event) →
+    isRefused a ≡ false → rowsBy h (demand.rows same xs f) a ≡ with-rows h xs
+enters-rows h xs f (event.Question k t s) e = refl
+enters-rows h xs f (event.Finish s i t n) e = refl
+enters-rows h xs f (event.Refused k) e = absurd (let z : _≡_ {A = ℕ} 0 1 = cc in omega arith)
+
+abbrev rows-context :
+    (h : History) → Run → (xs : List Float) → Floats xs →
+    (before : List ℕ) → h .stood ≡ h .standing ∷ before → h .changes ≡ length before → CallContext
+rows-context h r xs f before s c = record {
+  history = h;
+  call = demand.rows same xs f;
+  run = r;
+  rows = with-rows h xs;
+  before = before;
+  enters = enters-rows h xs f;
+  stood-is = s;
+  changes-are = c;
+}
+
+abbrev none-context :
+    (h : History) → Run →
+    (before : List ℕ) → h .stood ≡ h .standing ∷ before → h .changes ≡ length before → CallContext
+none-context h r before s c = record {
+  history = h;
+  call = demand.none same;
+  run = r;
+  rows = h .rows;
+  before = before;
+  enters = λ a e. refl;
+  stood-is = s;
+  changes-are = c;
+}
+
+asked-rows : (h : History) (xs : List Float) (k : ℕ) → k ≡ h .asked → with-rows h xs k ≡ hasRows xs
+asked-rows h xs k e = rw (eq-eqb k (h .asked) e)
+
+other-rows : (h : History) (xs : List Float) (k : ℕ) → k < h .asked → h .rows k ≡ with-rows h xs k
+other-rows h xs k l = let d : eqb k (h .asked) ≡ false = ne-eqb k (h .asked) (λ e. omega arith) in rw d
+
+-- the standing point as the memory has it
+standing-read :
+    (st : State) (a : List Float) →
+    Sound st →
+    length a ≡ AREA → take (2 * st .sizes .n) (memoryOf st a .standing) ≡ take (2 * st .sizes .n) a
+unfolding memoryOf
+standing-read st a sound long =
+    let small = size-bounds (st .sizes) (sound .sizes-fit) in
+    used-part a 0 POINT (2 * st .sizes .n) true refl (omega (arith, small .n, long))
+
+-- ---- a trial or correction is open
+
+module _ (S : CallContext) (since top : ℕ) (sound : Sound (S .run .state)) (T : Tried (S .history) (S .run) since top)
+    (same-before : T .before ≡ S .before) (agree : (e : ℕ) → e < top → S .history .rows e ≡ S .rows e)
+    (asked : top ≤ S .run .state .counts .question) (long : length (S .run .area) ≡ AREA)
+    (point : take (2 * S .run .state .sizes .n) (S .run .area) ≡ S .history .points (S .history .standing)) where
+  st : State
+  st = S .run .state
+
+  w : Memory
+  w = memoryOf (S .run .state) (S .run .area)
+
+  stood-below : (e : ℕ) → In e (st .counts .standing ∷ T .before) → e < top
+  unfolding st
+  stood-below e i =
+      T .below e
+      (subst (In e) (sym (T .stood-is)) (subst (λ (s : ℕ). In e (s ∷ T .before)) (sym (T .standing-is)) i))
+
+  tried-stands : Stands (st .sizes) (S .rows) (st .counts .standing) (T .before) w
+  unfolding st w In
+  tried-stands =
+      let s = T .stands in
+      let k = S .history .standing in
+      let slot : Slot (st .sizes) (S .rows k) (w .standingRows) =
+      subst (λ (x : AnsweredRows). Slot (st .sizes) x (w .standingRows))
+      (agree k (T .below k (subst (In k) (sym (T .stood-is)) (inl refl)))) (s .slot) in
+      record {
+        slot = subst (λ (n : ℕ). Slot (st .sizes) (S .rows n) (w .standingRows)) (T .standing-is) slot;
+        pairs =
+            pairs-rows (st .sizes) (S .history .rows) (S .rows) (w .filter) (T .before)
+            (λ e i. agree e (T .below e (subst (In e) (sym (T .stood-is)) (inr i)))) (s .pairs);
+      }
+
+  tried-consistent : Consistent S (st .sizes) (st .counts) (st .last) (S .history .mu) w
+  unfolding st w
+  tried-consistent =
+      record {
+        before = T .before;
+        way = unmoved (sym (T .standing-is)) same-before refl;
+        before-many = T .before-many;
+        below = λ e i. let h = stood-below e i in omega arith;
+        stands = tried-stands;
+        point =
+            standing-read st (S .run .area) sound long
+            ∙ subst (λ (k : ℕ). take (2 * st .sizes .n) (S .run .area) ≡ S .history .points k) (T .standing-is) point;
+        sized = read-sized st (S .run .area) (size-bounds (st .sizes) (sound .sizes-fit)) (sound .within);
+        sizes-fit = sound .sizes-fit;
+        within = sound .within;
+        few-asked = sound .few-asked;
+        few-corrections = sound .few-corrections;
+      }
+
+  -- the answered point has landed
+  landed-landing :
+      (n : ℕ) →
+      n ≤ 4 →
+      (xs : List Float) →
+      CheckedRows (st .sizes) xs →
+      S .rows (st .counts .question) ≡ hasRows xs →
+      (step : List Float) → length step ≡ POINT → Landing S (landing st n) (withLanded w xs step) since
+  unfolding st w tried-consistent
+  landed-landing n few xs passed is step size =
+      let v = tried-consistent in
+      record {
+        consistent = record {
+          before = v .before;
+          way = v .way;
+          before-many = v .before-many;
+          below = v .below;
+          stands = record { slot = v .stands .slot; pairs = v .stands .pairs };
+          point = v .point;
+          sized = record {
+            standing-size = v .sized .standing-size;
+            landed-size = v .sized .asked-size;
+            asked-size = v .sized .asked-size;
+            standing-rows-size = v .sized .standing-rows-size;
+            landed-rows-size =
+                length-padded ROWS xs
+                (let f = rows-fit (st .sizes) (size-bounds (st .sizes) (sound .sizes-fit)) in
+                let e = passed .good .size in
+                omega arith);
+            step-size = size;
+            multipliers-size = v .sized .multipliers-size;
+            curvature-size = v .sized .curvature-size;
+            filter-size = v .sized .filter-size;
+          };
+          sizes-fit = v .sizes-fit;
+          within = v .within;
+          few-asked = v .few-asked;
+          few-corrections = few;
+        };
+        still = sym (T .standing-is);
+        still-before = same-before;
+        newer = λ e i. let h = T .below e i in omega arith;
+        landed-asked = omega arith;
+        landed-slot = record { rowed = rowed xs passed is; in-slot = refl };
+        landed-point = T .asked-point;
+        count-bounds = record {
+          growths = T .count-bounds .growths;
+          growth = T .count-bounds .growth;
+          fresh = T .count-bounds .fresh;
+          turned = T .count-bounds .turned;
+          few = T .count-bounds .few;
+        };
+        below-limit = T .below-limit;
+        mu-same = refl;
+        last-same = refl;
+      }
+
+  -- the point that landed before stays
+  stayed-landing :
+      st .counts .landed ≡ top →
+      Slot (st .sizes) (S .rows (st .counts .landed)) (w .landedRows) →
+      take (2 * st .sizes .n) (w .landed) ≡ S .history .points (st .counts .landed) → Landing S st w since
+  unfolding st w tried-consistent
+  stayed-landing e slot landed =
+      record {
+        consistent = tried-consistent;
+        still = sym (T .standing-is);
+        still-before = same-before;
+        newer = λ d i. let h = T .below d i in omega arith;
+        landed-asked = omega arith;
+        landed-slot = slot;
+        landed-point = landed;
+        count-bounds = T .count-bounds;
+        below-limit = T .below-limit;
+        mu-same = refl;
+        last-same = refl;
+      }
+
+-- ---- the answers
+
+-- a trial answered none never lands: it is turned down
+none-turned-down : (st : State) (w : Memory) → answeredNone kind.Trial st w ≡ turnDown st w why.Infeasible
+none-turned-down st w = refl
+
+-- what a call from the run r leaves, unless its answer is 5 or 6
+abbrev pub Keeps : History → Run → Call → AfterSlots → Type 0
+Keeps h r c o =
+    let p = playedTo o in
+    let h′ = entered h r c p in
+    isArithmetic (o .event) ≡ false → Inv (r .state .sizes) h′ (p .run) × Claim (r .state .sizes) h h′ r p
+
+module _ (law : ExactLaws) (h : History) (r : Run) (sound : Sound (r .state))
+    (counted : r .state .counts .iterations ≡ h .changes) (long : length (r .area) ≡ AREA)
+    (point : take (2 * r .state .sizes .n) (r .area) ≡ h .points (h .standing)) where
+  many : (before : List ℕ) → length before ≡ r .state .counts .iterations → h .changes ≡ length before
+  many before e = sym (e ∙ counted)
+
+  abbrev own : Memory
+  own = memoryOf (r .state) (r .area)
+
+  -- the call, while a trial or correction is open
+  abbrev rows-tried : {since top : ℕ} → Tried h r since top → (xs : List Float) → Floats xs → CallContext
+  rows-tried T xs f = rows-context h r xs f (T .before) (T .stood-is) (many (T .before) (T .before-many))
+
+  abbrev none-tried : {since top : ℕ} → Tried h r since top → CallContext
+  none-tried T = none-context h r (T .before) (T .stood-is) (many (T .before) (T .before-many))
+
+  trial-rows :
+      (T : Tried h r 1 (r .state .counts .question)) (xs : List Float) (f : Floats xs) →
+      CheckedRows (r .state .sizes) xs →
+      After (rows-tried T xs f) (r .state .sizes) (answered kind.Trial (r .state) own xs)
+  unfolding st w
+  trial-rows T xs f passed =
+      let S = rows-tried T xs f in
+      let q = r .state .counts .question in
+      let asked = T .asked-is in
+      let agree : (e : ℕ) → e < q → h .rows e ≡ with-rows h xs e = λ e l. other-rows h xs e (omega arith) in
+      let size =
+      read-sized (r .state) (r .area) (size-bounds (r .state .sizes) (sound .sizes-fit)) (sound .within) .step-size in
+      let L : Landing S (landing (r .state) 0) (withLanded own xs (own .step)) 1 =
+      landed-landing S 1 q sound T refl agree (omega arith) long point 0 zero-le xs passed
+      (asked-rows h xs q (sym asked)) (own .step) size in
+      or-refuse-after S (r .state .sizes) (r .state) own (violationOf (standingAt (r .state) own .constraints)) _
+      (violation-yields (standingAt (r .state) own .constraints))
+      (λ theta e u. land-trial-after law S (r .state) own xs L theta e)
+
+  correction-rows :
+      (C : Corrected h r) (xs : List Float) (f : Floats xs) →
+      CheckedRows (r .state .sizes) xs →
+      After (rows-tried (C .tried) xs f) (r .state .sizes) (answered kind.Correction (r .state) own xs)
+  unfolding st w
+  correction-rows C xs f passed =
+      let T = C .tried in
+      let S = rows-tried T xs f in
+      let q = r .state .counts .question in
+      let n = r .state .counts .corrections in
+      let k = r .state .counts .landed in
+      let asked = T .asked-is in
+      let under = C .landed-below in
+      let few = C .few in
+      let agree : (e : ℕ) → e < k → h .rows e ≡ with-rows h xs e = λ e l. other-rows h xs e (omega arith) in
+      let two : 2 + n ≡ 1 + (n + 1) = omega arith in
+      let slot : Slot (r .state .sizes) (with-rows h xs k) (own .landedRows) =
+      subst (λ (x : AnsweredRows). Slot (r .state .sizes) x (own .landedRows)) (other-rows h xs k (omega arith))
+      (C .landed-slot) in
+      let L : Landing S (r .state) own (2 + n) =
+      stayed-landing S (2 + n) k sound T refl agree (omega arith) long point refl slot (C .landed-point) in
+      let land : (step : List Float) → length step ≡ POINT → Landing S (landing (r .state) (n + 1)) (withLanded own xs step) (1 + (n + 1)) = λ step size.
+      subst (Landing S (landing (r .state) (n + 1)) (withLanded own xs step)) two
+      (landed-landing S (2 + n) k sound T refl agree (omega arith) long point (n + 1) (omega arith) xs passed
+      (asked-rows h xs q (sym asked)) step size) in
+      or-refuse-after S (r .state .sizes) (r .state) own (violationOf (standingAt (r .state) own .constraints)) _
+      (violation-yields (standingAt (r .state) own .constraints))
+      (λ theta e u. land-correction-after law S (r .state) own xs L land few theta e)
+
+  trial-none :
+      (T : Tried h r 1 (r .state .counts .question)) →
+      After (none-tried T) (r .state .sizes) (answeredNone kind.Trial (r .state) own)
+  unfolding st w
+  trial-none T =
+      let S = none-tried T in
+      let v : Consistent S (r .state .sizes) (r .state .counts) (r .state .last) (h .mu) own =
+      tried-consistent S 1 (r .state .counts .question) sound T refl (λ e h. refl) (omega arith) long point in
+      let f = T .count-bounds .few in
+      subst (After S (r .state .sizes)) (sym (none-turned-down (r .state) own))
+      (turn-down-after S (r .state) own why.Infeasible (h .mu) v
+      (record {
+        growths = T .count-bounds .growths;
+        growth = T .count-bounds .growth;
+        fresh = T .count-bounds .fresh;
+        turned = T .count-bounds .turned;
+        few = omega arith;
+      })
+      (T .below-limit))
+
+  correction-none :
+      (C : Corrected h r) →
+      After (none-tried (C .tried)) (r .state .sizes) (answeredNone kind.Correction (r .state) own)
+  unfolding st w
+  correction-none C =
+      let T = C .tried in
+      let S = none-tried T in
+      let n = r .state .counts .corrections in
+      let k = r .state .counts .landed in
+      let under = C .landed-below in
+      let few = C .few in
+      let L : Landing S (r .state) own (2 + n) =
+      stayed-landing S (2 + n) k sound T refl (λ e h. refl) (omega arith) long point refl (C .landed-slot)
+      (C .landed-point) in
+      or-refuse-after S (r .state .sizes) (r .state) own (violationOf (standingAt (r .state) own .constraints)) _
+      (violation-yields (standingAt (r .state) own .constraints))
+      (λ theta e u. judge-after law S (r .state) own (2 + n) L (omega arith) theta e)
+
+  start-stood : Started h r → h .stood ≡ h .standing ∷ []
+  start-stood s = s .stood-is ∙ ap (λ (n : ℕ). n ∷ []) (sym (s .standing-is))
+
+  start-same : (s : Started h r) → r .state .counts .standing ≡ h .standing
+  start-same s = s .own-standing ∙ sym (s .standing-is)
+
+  start-point :
+      Started h r → take (2 * r .state .sizes .n) (own .standing) ≡ h .points (r .state .counts .standing)
+  start-point s = standing-read (r .state) (r .area) sound long ∙ point ∙ ap (h .points) (sym (start-same s))
+
+  -- the start point stands, with its rows
+  start-rows :
+      (s : Started h r) (xs : List Float) (f : Floats xs) →
+      CheckedRows (r .state .sizes) xs →
+      After (rows-context h r xs f [] (start-stood s) (s .changes-are)) (r .state .sizes)
+      (answered kind.Start (r .state) own xs)
+  unfolding started In
+  start-rows s xs f passed =
+      let S = rows-context h r xs f [] (start-stood s) (s .changes-are) in
+      let z = r .state .sizes in
+      let v = read-sized (r .state) (r .area) (size-bounds z (sound .sizes-fit)) (sound .within) in
+      let is : with-rows h xs (r .state .counts .standing) ≡ hasRows xs =
+      asked-rows h xs (r .state .counts .standing) (s .own-standing ∙ sym (s .asked-is)) in
+      iterate-after S (moves (r .state) (movingOf (z .n) (rowsAt (r .state) xs))) (withStart own xs) (h .mu)
+      (record {
+        before = [];
+        way = unmoved (start-same s) refl refl;
+        before-many = sym (counted ∙ s .changes-are);
+        below = λ e i. only e i;
+        stands = record { slot = record { rowed = rowed xs passed is; in-slot = refl }; pairs = tt };
+        point = start-point s;
+        sized = record {
+          standing-size = v .standing-size;
+          landed-size = length-replicate POINT zero64;
+          asked-size = length-replicate POINT zero64;
+          standing-rows-size =
+              length-padded ROWS xs
+              (let g = rows-fit z (size-bounds z (sound .sizes-fit)) in let e = passed .good .size in omega arith);
+          landed-rows-size = length-replicate ROWS zero64;
+          step-size = length-replicate POINT zero64;
+          multipliers-size = length-replicate POINT zero64;
+          curvature-size = length-replicate CURVATURE zero64;
+          filter-size = length-replicate FILTER zero64;
+        };
+        sizes-fit = sound .sizes-fit;
+        within = sound .within;
+        few-asked = sound .few-asked;
+        few-corrections = sound .few-corrections;
+      })
+      (s .count-bounds)
+    where
+      only : (e : ℕ) → In e (r .state .counts .standing ∷ []) → e ≤ r .state .counts .question
+      only e (inl q) = let h = s .own-standing in omega arith
+      only e (inr i) = absurd i
+
+  start-none :
+      (s : Started h r) →
+      After (none-context h r [] (start-stood s) (s .changes-are)) (r .state .sizes)
+      (answeredNone kind.Start (r .state) own)
+  start-none s =
+      let v =
+      read-sized (r .state) (r .area) (size-bounds (r .state .sizes) (sound .sizes-fit)) (sound .within) in
+      finish-counts (none-context h r [] (start-stood s) (s .changes-are)) (r .state) own stop.Infeasible (h .mu)
+      (record {
+        before = [];
+        way = unmoved (start-same s) refl refl;
+        before-many = sym (counted ∙ s .changes-are);
+        point = start-point s;
+        long = v .standing-size;
+        sound = record {
+          sizes-fit = sound .sizes-fit;
+          within = sound .within;
+          few-turned = sound .few-turned;
+          few-asked = sound .few-asked;
+          few-corrections = sound .few-corrections;
+          phase-fits = refl;
+        };
+      })
+
+  -- what the call leaves, whichever question was open
+  pub rows-kept :
+      (k : Kind) →
+      Phased h r (Open k) →
+      (xs : List Float) (f : Floats xs) →
+      CheckedRows (r .state .sizes) xs →
+      Keeps h r (demand.rows same xs f) (answered k (r .state) (memoryOf (r .state) (r .area)) xs)
+  rows-kept kind.Start p xs f passed = start-rows p xs f passed
+  rows-kept kind.Trial p xs f passed = trial-rows p xs f passed
+  rows-kept kind.Correction p xs f passed = correction-rows p xs f passed
+
+  pub none-kept :
+      (k : Kind) →
+      Phased h r (Open k) →
+      Keeps h r (demand.none same) (answeredNone k (r .state) (memoryOf (r .state) (r .area)))
+  none-kept kind.Start p = start-none p
+  none-kept kind.Trial p = trial-none p
+  none-kept kind.Correction p = correction-none p

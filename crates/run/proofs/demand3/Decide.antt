@@ -1,0 +1,409 @@
+-- A landed point: taken, it stands with its rows and the filter gains the pair of the point it replaced; not taken, what stood still stands.
+use Prim.Native.Nat.{ℕ, _+_, _*_, _≤_, _<_}
+use mathlib.Core.Bool.{Bool, true, false, not, _&&_, _||_}
+use mathlib.Core.Logic.{inl, inr, ⊎-elim, _≢_}
+use mathlib.Core.Path.{_≡_, refl, sym, ap, ap₂, _∙_, subst}
+use mathlib.Core.List.{List, [], _∷_}
+use native.Mathlib.Omega.{arith}
+use lib.Ieee.{Float}
+use lib.ListN.{length, length-replicate}
+use Rattle.interval.specs.declared.Scalar.{Scalar}
+use Rattle.interval.specs.Result.{ok}
+use Rattle.interval.specs.Scalar.{zero64, pick, degenerate, divOf, subOf}
+use Rattle.interval.specs.Scaling.{three64}
+use Rattle.linear.specs.Flat.{at, put, zeros}
+use Rattle.linear.proofs.FlatLaws.{length-put, at-put-same, at-put-other}
+use Rattle.linear.proofs.Folds.{bind-value}
+use Rattle.interval.proofs.Given.{yes}
+use Rattle.interval.proofs.Results.{ok-inj}
+use Rattle.run.specs.Residuals.{sumSquared, violationOf}
+use Rattle.run.specs.Area.{CURVATURE, Memory, withTaken}
+use Rattle.run.specs.Curvature.{updateCurvature}
+use Rattle.run.specs.Judgement.{sumChange, rises, indefinite, contracts, Judged, judgedBy, judgeOf}
+use Rattle.run.specs.Filter.{beatsTo}
+use Rattle.run.specs.Area.{standingAt, landedAt, curvatureOf}
+use Rattle.run.specs.Decide.{linearOf, take, notLower, wasTaken, decide, judge}
+use Rattle.run.specs.Damping.{shrunk}
+use Rattle.run.specs.Radius.{reachOf}
+use Rattle.run.specs.State.{standingOn}
+use Rattle.run.specs.Filter.{filterWith}
+use Rattle.linear.specs.Norm.{normOf}
+use Rattle.run.specs.Demand.{
+  In,
+  AnsweredRows,
+  Answered,
+  LowerRows,
+  Lower,
+  UndecidedRows,
+  Undecided,
+  nextMu,
+}
+use Rattle.run.specs.declared.state.Last.{Last}
+use Rattle.run.specs.declared.state.Last.the-variants as last
+use Rattle.run.specs.declared.state.Sizes.{Sizes}
+use Rattle.run.specs.declared.state.State.{State}
+use Rattle.run.specs.declared.state.Stop.the-variants as stop
+use Rattle.run.proofs.Booleans.{and-left, and-right, or-either}
+use Rattle.run.proofs.AreaLaws.{length-filter}
+use Rattle.run.proofs.CheckLaws.{size-bounds}
+use Rattle.run.proofs.AreaRead.{violation-padded, squared-padded, change-padded}
+use Rattle.run.proofs.RefusalLaws.{Long, div-yields, judge-yields, linear-yields, curvature-yields}
+use Rattle.run.proofs.DampingGrowth.{growth-none, growth-third, next-mu-is}
+use Rattle.run.proofs.demand3.ExactLaws.{ExactLaws}
+use Rattle.run.proofs.demand3.Invariant.{
+  FittingRows,
+  Slot,
+  Pairs,
+  CountBounds,
+  CallContext,
+  Halves,
+  Forward,
+  Way,
+  moved,
+  Consistent,
+  After,
+}
+use Rattle.run.proofs.demand3.Endings.{pairs-filter, either-after, or-refuse-after, finish-after}
+use Rattle.run.proofs.demand3.Iterate.{bounds-few, iterate-after, not-lower-after}
+use Rattle.run.proofs.demand3.Judgement.{of-rows, sums, constraints, lower-definite, undecided-rows, lower-pairs}
+
+-- A point has landed, with so many questions since the last turn-down or iteration; what stood before the call still
+-- stands, in its iteration.
+pub record Landing (S : CallContext) (st : State) (w : Memory) (since : ℕ) : Type 0 where
+  pub consistent : Consistent S (st .sizes) (st .counts) (st .last) (S .history .mu) w
+  pub still : st .counts .standing ≡ S .history .standing
+  pub still-before : consistent .before ≡ S .before
+  pub newer : (e : ℕ) → In e (S .history .stood) → e < st .counts .landed
+  pub landed-asked : st .counts .landed ≤ st .counts .question
+  pub landed-slot : Slot (st .sizes) (S .rows (st .counts .landed)) (w .landedRows)
+  pub landed-point : lib.ListN.take (2 * st .sizes .n) (w .landed) ≡ S .history .points (st .counts .landed)
+  pub count-bounds : CountBounds (S .history .mu) (st .counts) (st .search) since
+  pub below-limit : st .counts .iterations < st .sizes .limit
+  pub mu-same : S .run .state .search .mu ≡ st .search .mu
+  pub last-same : S .run .state .last ≡ st .last
+
+-- ---- what is read of the rows in the slots is read of the rows as they were answered
+
+module _ (z : Sizes) (x : AnsweredRows) (slot : List Float) (s : Slot z x slot) where
+  slot-violation : violationOf (constraints z slot) ≡ violationOf (constraints z (s .rowed .rows))
+  slot-violation =
+      ap (λ (l : List Float). violationOf (constraints z l)) (s .in-slot)
+      ∙ violation-padded z (s .rowed .rows) (s .rowed .good .size)
+
+  slot-squared : sumSquared (sums z slot) ≡ sumSquared (sums z (s .rowed .rows))
+  slot-squared =
+      ap (λ (l : List Float). sumSquared (sums z l)) (s .in-slot)
+      ∙ squared-padded z (s .rowed .rows) (s .rowed .good .size)
+
+slot-change :
+    (z : Sizes) (x y : AnsweredRows) (a b : List Float) (s : Slot z x a) (t : Slot z y b) →
+    sumChange (sums z a) (sums z b) ≡ sumChange (sums z (s .rowed .rows)) (sums z (t .rowed .rows))
+slot-change z x y a b s t =
+    ap₂ (λ (k l : List Float). sumChange (sums z k) (sums z l)) (s .in-slot) (t .in-slot)
+    ∙ change-padded z (s .rowed .rows) (t .rowed .rows) (s .rowed .good .size) (t .rowed .good .size)
+
+-- ---- rows of points that stood
+
+pub rowed-answered : {z : Sizes} {x : AnsweredRows} → FittingRows z x → Answered z x
+rowed-answered {z} r = subst (Answered z) (sym (r .given-is)) (r .fitting)
+
+pairs-answered :
+    (z : Sizes) (rows : ℕ → AnsweredRows) (filter : List Float) (es : List ℕ) →
+    Pairs z rows filter es → (e : ℕ) → In e es → Answered z (rows e)
+unfolding In
+pairs-answered z rows filter [] p e i = absurd i
+pairs-answered z rows filter (d ∷ es) p e (inl q) =
+    subst (λ (k : ℕ). Answered z (rows k)) (sym q) (rowed-answered (p .0 .rowed))
+pairs-answered z rows filter (d ∷ es) p e (inr i) = pairs-answered z rows filter es (p .1) e i
+
+-- ---- a step taken
+
+-- the filter with one pair more
+module _ (filter : List Float) (count : ℕ) (f theta : Scalar) (room : 4 * count + 3 < length filter) where
+  filter-kept : (i : ℕ) → i < 2 * count → at (filterWith filter count f theta) i ≡ at filter i
+  unfolding filterWith
+  filter-kept i h = at-put-other (put filter (2 * count) f) (2 * count + 1) i theta (λ e. omega arith) ∙ at-put-other filter (2 * count) i f (λ e. omega arith)
+
+  filter-sum : at (filterWith filter count f theta) (2 * count) ≡ f
+  unfolding filterWith
+  filter-sum = at-put-other (put filter (2 * count) f) (2 * count + 1) (2 * count) theta (λ e. omega arith) ∙ at-put-same filter (2 * count) f (omega arith)
+
+  filter-violation : at (filterWith filter count f theta) (2 * count + 1) ≡ theta
+  unfolding filterWith
+  filter-violation = at-put-same (put filter (2 * count) f) (2 * count + 1) theta (omega (arith, length-put filter (2 * count) f))
+
+module _ (S : CallContext) (st : State) (w : Memory) (since : ℕ) (L : Landing S st w since) (theta : Scalar) (theta-is : violationOf (standingAt st w .constraints) ≡ ok theta) where
+  room : 4 * st .counts .iterations + 3 < length (w .filter)
+  room = let s = size-bounds (st .sizes) (L .consistent .sizes-fit) in let b = L .below-limit in omega (arith, L .consistent .sized .filter-size)
+
+  filter′ : List Float
+  filter′ = filterWith (w .filter) (st .counts .iterations) (sumSquared (standingAt st w .sum)) theta
+
+  -- the point that stood, as the newest pair, and those before it
+  taken-pairs : Pairs (st .sizes) (S .rows) filter′ (st .counts .standing ∷ L .consistent .before)
+  unfolding filter′
+  taken-pairs =
+      let z = st .sizes in
+      let it = st .counts .iterations in
+      let f = sumSquared (standingAt st w .sum) in
+      let s = L .consistent .stands .slot in
+      let x = S .rows (st .counts .standing) in
+      let many = L .consistent .before-many in (
+        record {
+          rowed = s .rowed;
+          pair-sum = rw many (filter-sum (w .filter) it f theta room) ∙ slot-squared z x (w .standingRows) s;
+          pair-violation =
+              sym (slot-violation z x (w .standingRows) s)
+              ∙ theta-is
+              ∙ ap ok (sym (rw many (filter-violation (w .filter) it f theta room)));
+        },
+        pairs-filter z (S .rows) (w .filter) (filterWith (w .filter) it f theta) (L .consistent .before) (λ i h. filter-kept (w .filter) it f theta room i (omega arith)) (L .consistent .stands .pairs),
+      )
+
+  taken-new : st .counts .landed ≢ S .history .standing
+  unfolding In
+  taken-new e =
+      let k = S .history .standing in
+      let h = L .newer k (subst (In k) (sym (S .stood-is)) (inl refl)) in
+      omega arith
+
+  taken-below : (e : ℕ) → In e (st .counts .landed ∷ (st .counts .standing ∷ L .consistent .before)) → e ≤ st .counts .question
+  unfolding In
+  taken-below e (inl q) = let h = L .landed-asked in omega arith
+  taken-below e (inr i) = L .consistent .below e i
+
+  -- the landed point stands
+  taken-point :
+      (b filter : List Float) →
+      lib.ListN.take (2 * st .sizes .n) (withTaken w b filter .standing) ≡ S .history .points (st .counts .landed)
+  taken-point b filter = L .landed-point
+
+  -- under its number: a change of standing
+  taken-way :
+      (length mu radius : Scalar) →
+      mu ≡ nextMu (S .run .state .search .mu) →
+      Forward S (st .sizes) (st .counts .landed) (last.Taken length) →
+      Way S (st .sizes) (standingOn st length mu radius .counts .standing)
+      (st .counts .standing ∷ L .consistent .before) (last.Taken length) mu
+  taken-way length mu radius next f =
+      moved taken-new (ap₂ (λ (e : ℕ) (es : List ℕ). e ∷ es) (L .still) (L .still-before)) next f
+
+  taken-consistent :
+      (length mu radius : Scalar) (b : List Float) →
+      Long CURVATURE b →
+      mu ≡ nextMu (S .run .state .search .mu) →
+      Forward S (st .sizes) (st .counts .landed) (last.Taken length) →
+      Consistent S (st .sizes) (standingOn st length mu radius .counts) (last.Taken length) mu (withTaken w b filter′)
+  unfolding filter′
+  taken-consistent length mu radius b size next f =
+      let v = L .consistent in
+      record {
+        before = st .counts .standing ∷ v .before;
+        way = taken-way length mu radius next f;
+        before-many = let m = v .before-many in omega arith;
+        below = taken-below;
+        stands = record { slot = L .landed-slot; pairs = taken-pairs };
+        point = taken-point b filter′;
+        sized = record {
+          standing-size = v .sized .landed-size;
+          landed-size = v .sized .landed-size;
+          asked-size = v .sized .asked-size;
+          standing-rows-size = v .sized .landed-rows-size;
+          landed-rows-size = v .sized .landed-rows-size;
+          step-size = v .sized .step-size;
+          multipliers-size = v .sized .multipliers-size;
+          curvature-size = size;
+          filter-size =
+              length-filter (w .filter) (st .counts .iterations) (sumSquared (standingAt st w .sum)) theta
+              ∙ v .sized .filter-size;
+        };
+        sizes-fit = v .sizes-fit;
+        within = let b = L .below-limit in omega arith;
+        few-asked = v .few-asked;
+        few-corrections = v .few-corrections;
+      }
+
+  curvature-long : Long CURVATURE (curvatureOf st w)
+  curvature-long = go (st .search .plain)
+    where
+      go : (b : Bool) → Long CURVATURE (pick b (zeros CURVATURE) (w .curvature))
+      go true = length-replicate CURVATURE zero64
+      go false = L .consistent .sized .curvature-size
+
+  pub take-after :
+      since ≤ 5 →
+      (length : Scalar) →
+      Forward S (st .sizes) (st .counts .landed) (last.Taken length) → After S (st .sizes) (take st w theta length)
+  unfolding take filter′
+  take-after few length f =
+      let z = st .sizes in
+      let mu = st .search .mu in
+      let t = bounds-few (S .history .mu) (st .counts) (st .search) since (L .count-bounds) in
+      let q = L .count-bounds .few in
+      or-refuse-after S z st w (linearOf st w theta) _ (linear-yields st w theta)
+      (λ linear u v.
+      or-refuse-after S z st w (divOf mu (degenerate three64)) _ (div-yields mu (degenerate three64))
+      (λ third is-third v.
+      let radius = reachOf length (st .search .radius) (st .«max_step») linear in
+      let next : shrunk mu third ≡ nextMu (S .run .state .search .mu) =
+      next-mu-is mu third is-third ∙ ap nextMu (sym (L .mu-same)) in
+      or-refuse-after S z st w
+      (updateCurvature (z .n) (curvatureOf st w) (w .step) (standingAt st w) (landedAt st w) (w .multipliers)) _
+      (curvature-yields CURVATURE (z .n) (curvatureOf st w) (w .step) (standingAt st w) (landedAt st w) (w .multipliers)
+      curvature-long)
+      (λ b u size.
+      iterate-after S (standingOn st length (shrunk mu third) radius) (withTaken w b filter′) (shrunk mu third)
+      (taken-consistent length (shrunk mu third) radius b size next f)
+      (record {
+        growths = 0;
+        growth = growth-third (L .count-bounds .growth) is-third;
+        fresh = λ e. refl;
+        turned = omega arith;
+        few = omega arith;
+      }))))
+
+-- ---- the judgement
+
+module _ (law : ExactLaws) (S : CallContext) (st : State) (w : Memory) (since : ℕ) (L : Landing S st w since) (theta new : Scalar) (theta-is : violationOf (standingAt st w .constraints) ≡ ok theta) (new-is : violationOf (landedAt st w .constraints) ≡ ok new) (length : Scalar) where
+  z : Sizes
+  z = st .sizes
+
+  x : FittingRows z (S .rows (st .counts .standing))
+  unfolding z
+  x = L .consistent .stands .slot .rowed
+
+  y : FittingRows z (S .rows (st .counts .landed))
+  unfolding z
+  y = L .landed-slot .rowed
+
+  change : Scalar
+  change = sumChange (standingAt st w .sum) (landedAt st w .sum)
+
+  beats : Bool
+  beats = beatsTo (w .filter) (sumSquared (landedAt st w .sum)) new (st .counts .iterations)
+
+  j : Judged
+  j = judgedBy change (subOf theta new) beats length (st .last)
+
+  change-is : change ≡ sumChange (sums z (x .rows)) (sums z (y .rows))
+  unfolding z x y change
+  change-is =
+      slot-change z (S .rows (st .counts .standing)) (S .rows (st .counts .landed)) (w .standingRows) (w .landedRows)
+      (L .consistent .stands .slot) (L .landed-slot)
+
+  x-violation : violationOf (constraints z (x .rows)) ≡ ok theta
+  unfolding z x
+  x-violation =
+      sym (slot-violation z (S .rows (st .counts .standing)) (w .standingRows) (L .consistent .stands .slot)) ∙ theta-is
+
+  y-violation : violationOf (constraints z (y .rows)) ≡ ok new
+  unfolding z y
+  y-violation = sym (slot-violation z (S .rows (st .counts .landed)) (w .landedRows) (L .landed-slot)) ∙ new-is
+
+  -- every point that stood, and the landed one, had rows
+  all-answered : (e : ℕ) → In e (st .counts .landed ∷ S .history .stood) → Answered z (S .rows e)
+  unfolding z In
+  all-answered e (inl q) = subst (λ (k : ℕ). Answered z (S .rows k)) (sym q) (rowed-answered (L .landed-slot .rowed))
+  all-answered e (inr i) = by (subst (In e) (S .stood-is) i)
+    where
+      by : In e (S .history .standing ∷ S .before) → Answered z (S .rows e)
+      by (inl q) =
+          subst (λ (k : ℕ). Answered z (S .rows k)) (L .still ∙ sym q)
+          (rowed-answered (L .consistent .stands .slot .rowed))
+      by (inr k) =
+          pairs-answered z (S .rows) (w .filter) (L .consistent .before) (L .consistent .stands .pairs) e
+          (subst (In e) (sym (L .still-before)) k)
+
+  -- lower than each that stood
+  lower-all : j .lower ≡ true → (e : ℕ) → In e (S .history .stood) → Lower z (S .rows e) (S .rows (st .counts .landed))
+  unfolding j z x y change beats In
+  lower-all h e i = by (subst (In e) (S .stood-is) i)
+    where
+      definite : (rises (sumChange (sums z (x .rows)) (sums z (y .rows))) || rises (subOf theta new)) ≡ true
+      definite =
+          ap (λ (v : Scalar). rises v || rises (subOf theta new)) (sym change-is)
+          ∙ and-left (rises change || rises (subOf theta new)) beats h
+
+      beaten :
+          beatsTo (w .filter) (sumSquared (sums z (y .rows))) new (lib.ListN.length (L .consistent .before)) ≡ true
+      beaten =
+          let squared = slot-squared z (S .rows (st .counts .landed)) (w .landedRows) (L .landed-slot) in
+          rw (L .consistent .before-many, ← squared)
+          (and-right (rises change || rises (subOf theta new)) beats h)
+
+      by : In e (S .history .standing ∷ S .before) → Lower z (S .rows e) (S .rows (st .counts .landed))
+      by (inl q) =
+          subst (λ (k : ℕ). Lower z (S .rows k) (S .rows (st .counts .landed))) (L .still ∙ sym q)
+          (of-rows (LowerRows z) (x .given-is) (y .given-is)
+          (lower-definite law z (x .rows) (y .rows) (x .good) (y .good) theta new x-violation y-violation definite))
+      by (inr k) =
+          lower-pairs law z (S .rows) (w .filter) (S .rows (st .counts .landed)) y new y-violation
+          (L .consistent .before) (L .consistent .stands .pairs) beaten e (subst (In e) (sym (L .still-before)) k)
+
+  -- undecided, before the damping grew, and half as long as the last
+  halves-last :
+      (st .search .first && j .undecided && j .contracting) ≡ true → Halves S z (st .counts .landed) (last.Taken length)
+  unfolding j z x y change
+  halves-last h =
+      let u = indefinite change && indefinite (subOf theta new) in
+      let c = contracts (st .last) length in
+      let f = st .search .first in
+      let fu : (f && u) ≡ true = and-left (f && u) c h in
+      let d = sumChange (sums z (x .rows)) (sums z (y .rows)) in
+      let open-sum : (indefinite d && indefinite (subOf theta new)) ≡ true =
+      ap (λ (v : Scalar). indefinite v && indefinite (subOf theta new)) (sym change-is) ∙ and-right f u fu in
+      record {
+        not-damped =
+            L .mu-same ∙ growth-none (L .count-bounds .growth) (L .count-bounds .fresh (and-left f u fu));
+        undecided =
+            subst (λ (k : ℕ). Undecided z (S .rows k) (S .rows (st .counts .landed))) (L .still)
+            (of-rows (UndecidedRows z) (x .given-is) (y .given-is)
+            (undecided-rows law z (x .rows) (y .rows) (x .good) (y .good) theta new x-violation y-violation open-sum));
+        shorter = yes (ap (λ (b : Last). contracts b length) (L .last-same) ∙ and-right (f && u) c h);
+      }
+
+  decide-after : since ≤ 5 → After S (st .sizes) (decide st w theta j)
+  unfolding decide j z x y
+  decide-after few =
+      let q = L .count-bounds .few in
+      let p : CountBounds (S .history .mu) (st .counts) (st .search) 5 =
+      record {
+        growths = L .count-bounds .growths;
+        growth = L .count-bounds .growth;
+        fresh = L .count-bounds .fresh;
+        turned = L .count-bounds .turned;
+        few = omega arith;
+      } in
+      let b = st .search .first && j .undecided && j .contracting in
+      either-after S z (st .search .first && j .undecided && wasTaken (st .last) && not (j .contracting)) _ _
+      (λ e.
+      finish-after S st w stop.Undecided (S .history .mu) (L .consistent)
+      (omega (arith, bounds-few (S .history .mu) (st .counts) (st .search) since (L .count-bounds))))
+      (λ e.
+      either-after S z (j .lower || b) (take st w theta length) (notLower st w)
+      (λ t.
+      take-after S st w since L theta theta-is few length
+      (record {
+        answered = all-answered;
+        exact = ⊎-elim (λ h. inl (lower-all h)) (λ h. inr (halves-last h)) (or-either (j .lower) b t);
+      }))
+      (λ t. not-lower-after S st w (S .history .mu) (L .consistent) p (L .below-limit)))
+
+pub judge-after :
+    (law : ExactLaws) (S : CallContext) (st : State) (w : Memory) (since : ℕ) →
+    Landing S st w since →
+    since ≤ 5 →
+    (theta : Scalar) →
+    violationOf (standingAt st w .constraints) ≡ ok theta → After S (st .sizes) (judge st w theta)
+unfolding judge judgeOf
+judge-after law S st w since L few theta theta-is =
+    or-refuse-after S (st .sizes) st w
+    (judgeOf (st .sizes .n) (standingAt st w) (landedAt st w) theta (w .filter) (st .counts .iterations) (st .last)
+    (w .step)) _
+    (judge-yields (st .sizes .n) (standingAt st w) (landedAt st w) theta (w .filter) (st .counts .iterations) (st .last)
+    (w .step))
+    (λ j e u.
+    let a = bind-value (normOf (at (w .step)) (st .sizes .n)) _ e in
+    let b = bind-value (violationOf (landedAt st w .constraints)) _ (a .2) in
+    subst (λ (k : Judged). After S (st .sizes) (decide st w theta k)) (ok-inj (b .2))
+    (unfold z change beats j in decide-after law S st w since L theta (b .0) theta-is (b .1) (a .0) few))

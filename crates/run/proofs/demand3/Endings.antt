@@ -1,0 +1,499 @@
+-- How a call ends: a finish, a question or a refusal, each with the invariant for the history that it is entered in,
+-- and the claim.
+use Prim.Native.Nat.{ℕ, suc, _+_, _*_, _≤_, _<_, zero-le}
+use mathlib.Core.Bool.{Bool, true, false, not, _||_}
+use mathlib.Core.Logic.{_⊎_, inl, inr}
+use mathlib.Core.Path.{_≡_, refl, sym, ap, _∙_, subst}
+use mathlib.Core.List.{List, [], _∷_}
+use native.Mathlib.Omega.{arith}
+use borrow.Author.Tests.{lt-ltb, le-leb, eq-eqb, ne-eqb}
+use lib.Dec.{T, eqb}
+use lib.Ieee.{Float}
+use lib.ListN.{length, take, drop, length-replicate}
+use Rattle.interval.specs.Result.{Res, ok, refused}
+use Rattle.interval.specs.declared.Scalar.{Scalar}
+use Rattle.interval.specs.Scalar.{zero64, pick}
+use Rattle.linear.specs.Flat.{at}
+use Rattle.run.specs.Area.{POINT, ROWS, CURVATURE, FILTER, ASKED, Memory, memoryOf, areaOf, onlyStanding}
+use Rattle.run.specs.Area.{isTried, isCorrected}
+use Rattle.run.specs.Limits.{AREA}
+use Rattle.run.specs.Endings.{AfterSlots, finish, refuse, question, orRefuse}
+use Rattle.run.specs.State.{over, asking}
+use Rattle.run.specs.Checks.{valid, phaseFits}
+use Rattle.run.specs.Calls.{pointAt, pointOf}
+use Rattle.run.specs.Demand.{
+  Run,
+  CallResult,
+  History,
+  In,
+  AnsweredRows,
+  Answered,
+  Lower,
+  Progress,
+  Halving,
+  Undecided,
+  entered,
+  changed,
+  standingBy,
+  isRefused,
+  Between,
+}
+use Rattle.run.specs.declared.state.Event.the-variants as event
+use Rattle.run.specs.declared.state.Kind.{Kind}
+use Rattle.run.specs.declared.state.Kind.the-variants as kind
+use Rattle.run.specs.declared.state.Last.{Last}
+use Rattle.run.specs.declared.state.Phase.the-variants.{Open}
+use Rattle.run.specs.declared.state.Sizes.{Sizes}
+use Rattle.run.specs.declared.state.State.{State}
+use Rattle.run.specs.declared.state.Stop.{Stop}
+use Rattle.run.proofs.Booleans.{clash}
+use Rattle.run.proofs.CheckLaws.{size-bounds}
+use Rattle.run.proofs.AreaRead.{
+  Sized,
+  area-long,
+  used-part,
+  standing-part,
+  landed-part,
+  standing-rows-back,
+  landed-rows-back,
+  filter-back,
+}
+use Rattle.run.proofs.RefusalLaws.{Yields, gives, refuses}
+use Rattle.run.proofs.DampingGrowth.{growth-few, growth-positive}
+use Rattle.run.proofs.demand3.Invariant.{
+  Slot,
+  Pair,
+  Pairs,
+  Stands,
+  once-few,
+  CountBounds,
+  Sound,
+  Tried,
+  Phased,
+  Inv,
+  CallContext,
+  Halves,
+  Forward,
+  Way,
+  unmoved,
+  moved,
+  Consistent,
+  playedTo,
+  After,
+}
+
+-- ---- number 4 lets it pass
+
+pub sound-valid : (st : State) → Sound st → valid st ≡ true
+unfolding valid
+sound-valid st s =
+    rw (s .sizes-fit, le-leb _ _ (s .within), le-leb _ _ (s .few-turned), le-leb _ _ (s .few-asked), le-leb _ _ (s .few-corrections)) (s .phase-fits)
+
+-- what holds between two calls
+pub inv-between : (z : Sizes) (h : History) (r : Run) → Inv z h r → Between z h r
+inv-between z h r v =
+    record {
+      counted = v .counted;
+      limited = rw (← v .sizes-are, ← v .counted) (v .sound .within);
+      few-turn-downs = rw (← v .counted) (v .sound .few-turned);
+      few-questions = rw (← v .sizes-are) (v .sound .few-asked);
+      sound = sound-valid (r .state) (v .sound);
+      standing-point = rw (← v .sizes-are) (v .point);
+    }
+
+-- ---- pairs, in another filter or by other rows
+
+pub pairs-filter :
+    (z : Sizes) (rows : ℕ → AnsweredRows) (f f′ : List Float) (es : List ℕ) →
+    ((i : ℕ) → i < 2 * length es → at f′ i ≡ at f i) → Pairs z rows f es → Pairs z rows f′ es
+pairs-filter z rows f f′ [] h p = tt
+pairs-filter z rows f f′ (e ∷ es) h p =
+    let i = length es in (
+      record {
+        rowed = p .0 .rowed;
+        pair-sum = h (2 * i) (omega arith) ∙ p .0 .pair-sum;
+        pair-violation = p .0 .pair-violation ∙ ap ok (sym (h (2 * i + 1) (omega arith)));
+      },
+      pairs-filter z rows f f′ es (λ j l. h j (omega arith)) (p .1),
+    )
+
+pub pairs-rows :
+    (z : Sizes) (rows rows′ : ℕ → AnsweredRows) (f : List Float) (es : List ℕ) →
+    ((e : ℕ) → In e es → rows e ≡ rows′ e) → Pairs z rows f es → Pairs z rows′ f es
+unfolding In
+pairs-rows z rows rows′ f [] h p = tt
+pairs-rows z rows rows′ f (e ∷ es) h p = (
+  subst (λ (x : AnsweredRows). Pair z x f (length es)) (h e (inl refl)) (p .0),
+  pairs-rows z rows rows′ f es (λ d i. h d (inr i)) (p .1),
+)
+
+-- ---- one more than the other
+
+pub either-after : (S : CallContext) (z : Sizes) (b : Bool) (o o′ : AfterSlots) → (b ≡ true → After S z o) → (b ≡ false → After S z o′) → After S z (pick b o o′)
+either-after S z true o o′ h k = h refl
+either-after S z false o o′ h k = k refl
+
+pub refuse-after : (S : CallContext) (z : Sizes) (st : State) (w : Memory) (k : ℕ) → T (eqb k 5 || eqb k 6) → After S z (refuse st w k)
+refuse-after S z st w k h e = clash (eqb k 5 || eqb k 6) h e
+
+-- what may be refused, and what follows it
+pub or-refuse-after : (S : CallContext) (z : Sizes) (st : State) (w : Memory) {A : Type 0} {P : A → Type 0} (x : Res A) (next : A → AfterSlots) → Yields P x → ((a : A) → x ≡ ok a → P a → After S z (next a)) → After S z (orRefuse st w x next)
+or-refuse-after S z st w (ok a) next (gives p) h = h a refl p
+or-refuse-after S z st w (refused k) next (refuses p) h = refuse-after S z st w k p
+
+-- ---- the history after an answer that names what stands
+
+module _ (S : CallContext) (z : Sizes) (standing : ℕ) (before : List ℕ) (last : Last) (mu : Scalar) where
+  record Entered (p : CallResult) : Type 0 where
+    pub changes-are : entered (S .history) (S .run) (S .call) p .changes ≡ length before
+    pub stood-are : entered (S .history) (S .run) (S .call) p .stood ≡ standing ∷ before
+    pub mu-is : entered (S .history) (S .run) (S .call) p .mu ≡ mu
+    pub new-stood :
+        T (changed (S .history) (p .event)) →
+        entered (S .history) (S .run) (S .call) p .stood ≡ standing ∷ S .history .stood
+    pub forward : T (changed (S .history) (p .event)) → Forward S z standing last
+
+  enter :
+      Way S z standing before last mu →
+      (p : CallResult) → standingBy (p .event) (S .history .standing) ≡ standing → Entered p
+  enter (unmoved q b m) p e =
+      let c : changed (S .history) (p .event) ≡ false = ap not (eq-eqb _ _ (e ∙ q)) in
+      record {
+        changes-are = rw (c, b) (omega (arith, S .changes-are));
+        stood-are = rw (c, q, b) (S .stood-is);
+        mu-is = rw (c, m);
+        new-stood = λ t. clash (changed (S .history) (p .event)) t c;
+        forward = λ t. clash (changed (S .history) (p .event)) t c;
+      }
+  enter (moved n b m f) p e =
+      let c : changed (S .history) (p .event) ≡ true = ap not (ne-eqb _ _ (λ i. n (sym e ∙ i))) in
+      record {
+        changes-are = rw (c, b) (omega (arith, S .changes-are));
+        stood-are = rw (c, e, b) (ap (λ (l : List ℕ). standing ∷ l) (S .stood-is));
+        mu-is = rw (c, m);
+        new-stood = λ t. rw (c, e);
+        forward = λ t. f;
+      }
+
+-- each change is exact progress or halves, of points that were answered with rows
+module _ (S : CallContext) (z : Sizes) (p : CallResult) (accepts : isRefused (p .event) ≡ false) where
+  abbrev after : History
+  after = entered (S .history) (S .run) (S .call) p
+
+  abbrev now : ℕ
+  now = standingBy (p .event) (S .history .standing)
+
+  rows-entered : S .rows ≡ after .rows
+  rows-entered = sym (S .enters (p .event) accepts)
+
+  goes-forward :
+      Forward S z now (p .run .state .last) →
+      Progress z (S .history) after ⊎ Halving z (S .history) after (S .run) (p .run)
+  goes-forward f = by (f .exact)
+    where
+      by :
+          ((e : ℕ) → In e (S .history .stood) → Lower z (S .rows e) (S .rows now))
+          ⊎ Halves S z now (p .run .state .last)
+          → Progress z (S .history) after ⊎ Halving z (S .history) after (S .run) (p .run)
+      by (inl f) = inl (λ e i. subst (λ (rows : ℕ → AnsweredRows). Lower z (rows e) (rows now)) rows-entered (f e i))
+      by (inr h) =
+          inr (record {
+            not-damped = h .not-damped;
+            undecided =
+                subst (λ (rows : ℕ → AnsweredRows). Undecided z (rows (S .history .standing)) (rows now)) rows-entered
+                (h .undecided);
+            shorter = h .shorter;
+          })
+
+  was-answered :
+      Forward S z now (p .run .state .last) →
+      after .stood ≡ now ∷ S .history .stood → (e : ℕ) → In e (after .stood) → Answered z (after .rows e)
+  was-answered f q e i =
+      subst (λ (rows : ℕ → AnsweredRows). Answered z (rows e)) rows-entered (f .answered e (subst (In e) q i))
+
+-- ---- points
+
+-- the point that `point` gives, of a run that number 4 lets pass
+pub point-given :
+    (st : State) (a : List Float) (base : ℕ) →
+    valid st ≡ true →
+    length a ≡ AREA → pointAt (st .phase) ≡ base → pointOf st a ≡ take (2 * st .sizes .n) (drop base a)
+unfolding pointOf
+point-given st a base v l e = rw (v, eq-eqb _ _ l, e)
+
+landed-back :
+    (st : State) (w : Memory) →
+    Sized w →
+    2 * st .sizes .n ≤ POINT →
+    isCorrected (st .phase) ≡ true →
+    take (2 * st .sizes .n) (memoryOf st (areaOf w) .landed) ≡ take (2 * st .sizes .n) (w .landed)
+unfolding memoryOf
+landed-back st w sized n2 u =
+    used-part (areaOf w) 24 POINT (2 * st .sizes .n) (isCorrected (st .phase)) u (omega (arith, n2, area-long w sized))
+    ∙ landed-part w sized (2 * st .sizes .n) n2
+
+-- ---- a finish
+
+standing-sized : (w : Memory) → length (w .standing) ≡ POINT → Sized (onlyStanding w)
+standing-sized w e =
+    record {
+      standing-size = e;
+      landed-size = length-replicate POINT zero64;
+      asked-size = length-replicate POINT zero64;
+      standing-rows-size = length-replicate ROWS zero64;
+      landed-rows-size = length-replicate ROWS zero64;
+      step-size = length-replicate POINT zero64;
+      multipliers-size = length-replicate POINT zero64;
+      curvature-size = length-replicate CURVATURE zero64;
+      filter-size = length-replicate FILTER zero64;
+    }
+
+-- of a state of which only the counts and the point are known
+pub record Ending (S : CallContext) (st : State) (w : Memory) (mu : Scalar) : Type 0 where
+  pub before : List ℕ
+  pub way : Way S (st .sizes) (st .counts .standing) before (st .last) mu
+  pub before-many : length before ≡ st .counts .iterations
+  pub point : take (2 * st .sizes .n) (w .standing) ≡ S .history .points (st .counts .standing)
+  pub long : length (w .standing) ≡ POINT
+  pub sound : Sound (over st)
+
+pub finish-counts :
+    (S : CallContext) (st : State) (w : Memory) (s : Stop) (mu : Scalar) →
+    Ending S st w mu → After S (st .sizes) (finish st w s)
+finish-counts S st w s mu E q =
+    let z = st .sizes in
+    let p = playedTo (finish st w s) in
+    let sized = standing-sized w (E .long) in
+    let small = size-bounds z (E .sound .sizes-fit) in
+    let n2 : 2 * z .n ≤ POINT = omega (arith, small .n) in
+    let d = enter S z (st .counts .standing) (E .before) (st .last) mu (E .way) p refl in
+    let counted : st .counts .iterations ≡ entered (S .history) (S .run) (S .call) p .changes =
+    sym (d .changes-are ∙ E .before-many) in
+    let a = areaOf (onlyStanding w) in
+    let own = S .history .points (st .counts .standing) in
+    let point : take (2 * z .n) a ≡ own = standing-part (onlyStanding w) sized (2 * z .n) n2 ∙ E .point in
+    let sound = sound-valid (over st) (E .sound) in
+    let given : pointOf (over st) a ≡ own =
+    point-given (over st) a 0 sound (area-long (onlyStanding w) sized) refl ∙ point in (
+      record { sizes-are = refl; sound = E .sound; counted = counted; point = point; phased = tt },
+      record {
+        reported = λ e i t n q. (
+          let i-is : i ≡ st .counts .iterations = cc in i-is ∙ counted,
+          let t-is : t ≡ st .search .«turned_down» = cc in t-is,
+        );
+        finish-point = λ e i t n q. given;
+        answered = λ c. was-answered S z p refl (d .forward c) (d .new-stood c);
+        forward = λ c. goes-forward S z p refl (d .forward c);
+      },
+    )
+
+pub finish-after :
+    (S : CallContext) (st : State) (w : Memory) (s : Stop) (mu : Scalar) →
+    Consistent S (st .sizes) (st .counts) (st .last) mu w →
+    st .search .«turned_down» ≤ 1100 * (st .counts .iterations + 1) → After S (st .sizes) (finish st w s)
+finish-after S st w s mu v few =
+    finish-counts S st w s mu
+    (record {
+      before = v .before;
+      way = v .way;
+      before-many = v .before-many;
+      point = v .point;
+      long = v .sized .standing-size;
+      sound = record {
+        sizes-fit = v .sizes-fit;
+        within = v .within;
+        few-turned = few;
+        few-asked = v .few-asked;
+        few-corrections = v .few-corrections;
+        phase-fits = refl;
+      };
+    })
+
+-- ---- a question
+
+no-finish : {A : Type 0} {k i t s n : ℕ} {e : Stop} {q : _} → event.Question k q n ≡ event.Finish e i t s → A
+no-finish p = absurd (let z : _≡_ {A = ℕ} 0 1 = cc in omega arith)
+
+module _ (S : CallContext) (st : State) (w : Memory) (k : Kind) (corrections since : ℕ) (mu : Scalar)
+    (v : Consistent S (st .sizes) (st .counts) (st .last) mu w)
+    (count-bounds : CountBounds mu (st .counts) (st .search) since)
+    (below-limit : st .counts .iterations < st .sizes .limit) where
+  st′ : State
+  st′ = asking st k corrections
+
+  p : CallResult
+  p = playedTo (question st w k corrections)
+
+  h′ : History
+  h′ = entered (S .history) (S .run) (S .call) p
+
+  entry : Entered S (st .sizes) (st .counts .standing) (v .before) (st .last) mu p
+  unfolding p
+  entry = enter S (st .sizes) (st .counts .standing) (v .before) (st .last) mu (v .way) p refl
+
+  rows-are : h′ .rows ≡ S .rows
+  unfolding h′ p
+  rows-are = S .enters (p .event) refl
+
+  n2 : 2 * st .sizes .n ≤ POINT
+  n2 = omega (arith, size-bounds (st .sizes) (v .sizes-fit) .n)
+
+  -- a point that was asked before is still known under its number
+  older : (e : ℕ) → e ≤ st .counts .question → h′ .points e ≡ S .history .points e
+  unfolding h′ p
+  older e l = rw (ne-eqb e (st .counts .question + 1) (λ i. omega arith))
+
+  asked-sound : since ≤ 4 → corrections ≤ 4 → phaseFits st′ (Open k) ≡ true → Sound st′
+  unfolding st′
+  asked-sound few c q =
+      let g = growth-few (count-bounds .growth) in
+      let b = once-few (st .search .plain) in
+      let t = count-bounds .turned in
+      let n = count-bounds .few in
+      let turned : st .search .«turned_down» ≤ 1049 * (st .counts .iterations + 1) = omega arith in
+      record {
+        sizes-fit = v .sizes-fit;
+        within = v .within;
+        few-turned = omega arith;
+        few-asked = omega arith;
+        few-corrections = c;
+        phase-fits = q;
+      }
+
+  asked-bounds : (n : ℕ) → suc since ≤ n → CountBounds (h′ .mu) (st′ .counts) (st .search) n
+  unfolding st′ h′
+  asked-bounds n l =
+      subst (λ (m : Scalar). CountBounds m (asking st k corrections .counts) (st .search) n) (sym (entry .mu-is))
+      (record {
+        growths = count-bounds .growths;
+        growth = count-bounds .growth;
+        fresh = count-bounds .fresh;
+        turned = count-bounds .turned;
+        few = let q = count-bounds .few in omega arith;
+      })
+
+  -- the point that is asked is read back as `point` gives it
+  asked-back :
+      valid st′ ≡ true →
+      take (2 * st .sizes .n) (memoryOf st′ (areaOf w) .asked) ≡ h′ .points (st .counts .question + 1)
+  unfolding p st′ h′ memoryOf
+  asked-back sound =
+      let long = area-long w (v .sized) in
+      used-part (areaOf w) ASKED POINT (2 * st .sizes .n) true refl (omega (arith, n2, long))
+      ∙ rw (eq-eqb (st .counts .question + 1) (st .counts .question + 1) refl)
+      (sym (point-given st′ (areaOf w) ASKED sound long refl))
+
+  asked-tried :
+      (n top : ℕ) →
+      Sound st′ →
+      isTried (Open k) ≡ true →
+      suc since ≤ n → ((e : ℕ) → In e (st .counts .standing ∷ v .before) → e < top) → Tried h′ (p .run) n top
+  unfolding p st′ h′
+  asked-tried n top sound tried l below =
+      let z = st .sizes in
+      let small = size-bounds z (v .sizes-fit) in
+      let s = v .stands in
+      let rowed = s .slot .rowed in
+      let slot : Slot z (S .rows (st .counts .standing)) (memoryOf st′ (areaOf w) .standingRows) =
+      record {
+        rowed = rowed;
+        in-slot = standing-rows-back st′ w (v .sized) small tried (rowed .rows) (rowed .good .size) (s .slot .in-slot);
+      } in
+      let pairs : Pairs z (S .rows) (memoryOf st′ (areaOf w) .filter) (v .before) =
+      pairs-filter z (S .rows) (w .filter) (memoryOf st′ (areaOf w) .filter) (v .before)
+      (λ i l. filter-back st′ w (v .sized) small tried (v .within) i (let m = v .before-many in omega arith))
+      (s .pairs) in
+      record {
+        before = v .before;
+        asked-is = refl;
+        standing-is = refl;
+        stood-is = entry .stood-are;
+        before-many = v .before-many;
+        below = λ e i. below e (subst (In e) (entry .stood-are) i);
+        count-bounds = asked-bounds n l;
+        below-limit = below-limit;
+        stands =
+            subst (λ (rows : ℕ → AnsweredRows). Stands z rows (st .counts .standing) (v .before) (memoryOf st′ (areaOf w)))
+            (sym rows-are) (record { slot = slot; pairs = pairs });
+        asked-point = asked-back (sound-valid st′ sound);
+      }
+
+  asked-after : Sound st′ → Phased h′ (p .run) (Open k) → After S (st .sizes) (question st w k corrections)
+  unfolding p st′ h′ older
+  asked-after sound phased q =
+      let z = st .sizes in
+      let counted : st .counts .iterations ≡ entered (S .history) (S .run) (S .call) p .changes =
+      sym (entry .changes-are ∙ v .before-many) in
+      let old = older (st .counts .standing) (v .below (st .counts .standing) (unfold In in inl refl)) in (
+        record {
+          sizes-are = refl;
+          sound = sound;
+          counted = counted;
+          point = standing-part w (v .sized) (2 * z .n) n2 ∙ v .point ∙ sym old;
+          phased = phased;
+        },
+        record {
+          reported = λ e i t n p. no-finish p;
+          finish-point = λ e i t n p. no-finish p;
+          answered = λ c. was-answered S z p refl (entry .forward c) (entry .new-stood c);
+          forward = λ c. goes-forward S z p refl (entry .forward c);
+        },
+      )
+
+pub trial-after :
+    (S : CallContext) (st : State) (w : Memory) (mu : Scalar) →
+    Consistent S (st .sizes) (st .counts) (st .last) mu w →
+    CountBounds mu (st .counts) (st .search) 0 →
+    st .counts .iterations < st .sizes .limit → After S (st .sizes) (question st w kind.Trial 0)
+trial-after S st w mu v count-bounds lim =
+    unfold st′ p h′ in
+    let sound =
+    asked-sound S st w kind.Trial 0 0 mu v count-bounds lim zero-le zero-le
+    (rw (lt-ltb _ _ lim) (growth-positive (count-bounds .growth))) in
+    asked-after S st w kind.Trial 0 0 mu v count-bounds lim sound
+    (asked-tried S st w kind.Trial 0 0 mu v count-bounds lim 1 (st .counts .question + 1) sound refl (omega arith)
+    (λ e i. let h = v .below e i in omega arith))
+
+pub correction-after :
+    (S : CallContext) (st : State) (w : Memory) (mu : Scalar)
+    (v : Consistent S (st .sizes) (st .counts) (st .last) mu w) →
+    CountBounds mu (st .counts) (st .search) (1 + st .counts .corrections) →
+    st .counts .iterations < st .sizes .limit →
+    st .counts .corrections ≤ 3 →
+    Slot (st .sizes) (S .rows (st .counts .landed)) (w .landedRows) →
+    take (2 * st .sizes .n) (w .landed) ≡ S .history .points (st .counts .landed) →
+    st .counts .landed ≤ st .counts .question →
+    ((e : ℕ) → In e (st .counts .standing ∷ v .before) → e < st .counts .landed) →
+    After S (st .sizes) (question st w kind.Correction (st .counts .corrections))
+correction-after S st w mu v count-bounds lim few slot point asked below =
+    let n = st .counts .corrections in
+    let z = st .sizes in
+    let rows-back = rows-are S st w kind.Correction n (1 + n) mu v count-bounds lim in
+    let small = size-bounds z (v .sizes-fit) in
+    let n2 : 2 * z .n ≤ POINT = omega (arith, small .n) in
+    let k = st .counts .landed in
+    let rowed = slot .rowed in
+    let old = older S st w kind.Correction n (1 + n) mu v count-bounds lim k asked in
+    unfold st′ p h′ in
+    let back : Slot z (S .rows k) (memoryOf (asking st kind.Correction n) (areaOf w) .landedRows) =
+    record {
+      rowed = rowed;
+      in-slot =
+          landed-rows-back (asking st kind.Correction n) w (v .sized) small refl (rowed .rows) (rowed .good .size)
+          (slot .in-slot);
+    } in
+    let sound =
+    asked-sound S st w kind.Correction n (1 + n) mu v count-bounds lim (omega arith) (omega arith)
+    (rw (lt-ltb _ _ lim) (growth-positive (count-bounds .growth))) in
+    asked-after S st w kind.Correction n (1 + n) mu v count-bounds lim sound
+    (record {
+      tried =
+          asked-tried S st w kind.Correction n (1 + n) mu v count-bounds lim (2 + n) k sound refl (omega arith) below;
+      landed-below = omega arith;
+      few = few;
+      landed-slot =
+          subst
+          (λ (rows : ℕ → AnsweredRows). Slot z (rows k) (memoryOf (asking st kind.Correction n) (areaOf w) .landedRows))
+          (sym rows-back) back;
+      landed-point = landed-back (asking st kind.Correction n) w (v .sized) n2 refl ∙ point ∙ sym old;
+    })

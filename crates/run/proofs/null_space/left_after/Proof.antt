@@ -1,0 +1,52 @@
+-- `left_after` meets its contract: the slice is the definition's, of the rows of q so far.
+use mathlib.Core.Path.{_≡_, _∙_}
+use Prim.Native.Nat.{_≤_, _-_}
+use native.Mathlib.Nat.{le-antisymm}
+use borrow.Author.Needs.{needs}
+use lib.ListN.{length}
+use Rattle.run.specs.NullSpace.{leftAfter}
+use Rattle.run.proofs.NullSpaceLaws.{after-turn}
+use Rattle.run.proofs.null_space.left_after.Statement.{statement}
+use Rattle.run.proofs.null_space.left_after.Tie as tie
+
+abbrev Inv-loop : tie.InvT-loop
+Inv-loop k r q left₀ p t₀ left t = (t ≤ r) × (length left ≡ length left₀) × (left ≡ leftAfter k q left₀ p t)
+
+abbrev μ-loop : tie.MeasureT-loop
+μ-loop k r q left₀ p t₀ left t = r - t
+
+loop-holds : tie.Need-loop-holds Inv-loop μ-loop
+unfolding leftAfter
+loop-holds c = search needs
+
+part-off-requires : tie.Need-part-off-requires Inv-loop μ-loop
+part-off-requires c κs = search needs
+
+add-t : tie.Need-add-t Inv-loop μ-loop
+add-t c = search needs
+
+loop-less : tie.Need-loop-less Inv-loop μ-loop
+loop-less c = search needs
+
+loop-again : tie.Need-loop-again Inv-loop μ-loop
+loop-again c = let l = c .before .before .before .before .before .loop in (search needs, search needs, c .before .before .part-off .ensures ∙ after-turn _ _ _ _ (l .t) (l .inv .2))
+
+same-length : tie.Need-same-length Inv-loop μ-loop
+same-length c = search needs
+
+returns : tie.Need-returns Inv-loop μ-loop
+returns c = rw (le-antisymm (c .before .loop .inv .0) (c .loop-test .left)) at (c .before .loop .inv .2)
+
+pub left-after-spec : {M : Type 1} → statement M
+left-after-spec =
+    tie.close
+    (tie.spec
+    Inv-loop
+    μ-loop
+    loop-holds
+    part-off-requires
+    add-t
+    loop-less
+    loop-again
+    same-length
+    returns)

@@ -1,0 +1,95 @@
+-- `without` meets its contract: the slice is the definition's, of the remainders so far: an even number of them, and at
+-- the end one more where k is odd.
+use mathlib.Core.Path.{_≡_, _∙_}
+use native.Mathlib.Omega.{arith}
+use Prim.Native.Nat.{_+_, _*_, _/_, _≤_, _-_}
+use borrow.Author.Needs.{needs}
+use lib.ListN.{length}
+use Rattle.run.specs.NullSpace.{withoutTo}
+use Rattle.run.proofs.NullSpaceLaws.{without-turn}
+use Rattle.run.proofs.TwoRows.{without-two}
+use Rattle.run.proofs.null_space.without.Statement.{statement}
+use Rattle.run.proofs.null_space.without.Tie as tie
+
+abbrev Inv-loop : tie.InvT-loop
+Inv-loop k z t left₀ half h₀ left h =
+    (h ≤ half) × (length left ≡ length left₀) × (left ≡ withoutTo k z t left₀ (2 * h))
+
+abbrev μ-loop : tie.MeasureT-loop
+μ-loop k z t left₀ half h₀ left h = half - h
+
+loop-holds : tie.Need-loop-holds Inv-loop μ-loop
+unfolding withoutTo
+loop-holds c = search needs
+
+mul-two-parts-off : tie.Need-mul-two-parts-off Inv-loop μ-loop
+mul-two-parts-off c = search needs
+
+two-parts-off-requires : tie.Need-two-parts-off-requires Inv-loop μ-loop
+two-parts-off-requires c κs =
+    let h = c .before .before .before .before .before .pre in
+    (h .0, (h .1, omega (arith, h .0, c .before .loop-test .taken)))
+
+add-h : tie.Need-add-h Inv-loop μ-loop
+add-h c = search needs
+
+loop-less : tie.Need-loop-less Inv-loop μ-loop
+loop-less c = search needs
+
+loop-again : tie.Need-loop-again Inv-loop μ-loop
+loop-again c =
+    let l = c .before .before .before .before .before .loop in
+    (search needs, search needs, without-two _ _ _ _ (l .h) (l .inv .2) (c .before .before .two-parts-off .ensures))
+
+mul-if1 : tie.Need-mul-if1 Inv-loop μ-loop
+mul-if1 c = search needs
+
+same-length : tie.Need-same-length Inv-loop μ-loop
+same-length c = search needs
+
+returns : tie.Need-returns Inv-loop μ-loop
+returns c =
+    let l = c .before .before .loop in
+    let e : 2 * l .h ≡ c .before .before .before .before .before .args .k = omega
+    (arith, l .inv .0, c .before .loop-test .left, c .if1 .taken) in
+    rw e at (l .inv .2)
+
+mul-part-off : tie.Need-mul-part-off Inv-loop μ-loop
+mul-part-off c = search needs
+
+part-off-requires : tie.Need-part-off-requires Inv-loop μ-loop
+part-off-requires c κs =
+    let h = c .before .before .before .before .before .before .pre in
+    (h .0, (h .1, omega (arith, h .0, c .before .if1 .left)))
+
+same-length-2 : tie.Need-same-length-2 Inv-loop μ-loop
+same-length-2 c = search needs
+
+returns-2 : tie.Need-returns-2 Inv-loop μ-loop
+returns-2 c =
+    let a = c .before .before .before .before .before .before .before .before .before .args in
+    let l = c .before .before .before .before .before .before .loop in
+    let e : 2 * l .h ≡ 2 * (a .k / 2) = omega
+    (arith, l .inv .0, c .before .before .before .before .before .loop-test .left) in
+    let n : 2 * (a .k / 2) + 1 ≡ a .k = omega (arith, c .before .before .before .before .if1 .left) in
+    c .before .before .part-off .ensures ∙ (rw n at (without-turn _ _ _ _ (2 * (a .k / 2)) (rw e at (l .inv .2))))
+
+pub without-spec : {M : Type 1} → statement M
+without-spec =
+    tie.close
+    (tie.spec
+    Inv-loop
+    μ-loop
+    loop-holds
+    mul-two-parts-off
+    two-parts-off-requires
+    add-h
+    loop-less
+    loop-again
+    mul-if1
+    same-length
+    returns
+    mul-part-off
+    part-off-requires
+    same-length-2
+    returns-2)

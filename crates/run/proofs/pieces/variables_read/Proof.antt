@@ -1,0 +1,13 @@
+-- `reach` meets its contract.
+use borrow.Author.Tests.{eq-eqb, ne-eqb}
+use Rattle.run.proofs.pieces.variables_read.Statement.{statement}
+use Rattle.run.proofs.pieces.variables_read.Tie as tie
+
+returns : tie.Need-returns
+returns c = rw (eq-eqb _ _ (c .if1 .taken))
+
+returns-2 : tie.Need-returns-2
+returns-2 c = rw (ne-eqb _ _ (c .if1 .left))
+
+pub variables-read-spec : {M : Type 1} → statement M
+variables-read-spec = tie.close (tie.spec returns returns-2)

@@ -1,0 +1,82 @@
+use borrow.Author.Needs.{needs}
+use Rattle.run.proofs.problem.damped_row.Statement.{statement}
+use Rattle.run.proofs.problem.damped_row.Tie as tie
+-- `damped_row` meets its contract: one place more is filled in each turn.
+use borrow.Author.Needs.{needs}
+use mathlib.Core.Path.{_≡_, _∙_}
+use Prim.Native.Nat.{_≤_, _-_, _+_, _*_}
+use native.Mathlib.Nat.{le-antisymm}
+use lib.ListN.{length}
+use Rattle.linear.specs.Flat.{at}
+use Rattle.run.specs.program.Problem.{dampedEntry}
+use Rattle.run.specs.Vectors.{fillTo}
+use Rattle.run.proofs.VectorLaws.{fill-turn}
+
+abbrev Inv-loop : tie.InvT-loop
+Inv-loop k curve mu h₀ i scale j₀ h j = (j ≤ k) × (length h ≡ length h₀) × (h ≡ fillTo h₀ (12 * i) (λ t. dampedEntry (at curve (12 * i + t)) (at curve (144 + i)) mu i t) j)
+
+abbrev μ-loop : tie.MeasureT-loop
+μ-loop k curve mu h₀ i scale j₀ h j = k - j
+
+add-at : tie.Need-add-at Inv-loop μ-loop
+add-at c = search needs
+
+at-requires : tie.Need-at-requires Inv-loop μ-loop
+at-requires c κs = search needs
+
+loop-holds : tie.Need-loop-holds Inv-loop μ-loop
+unfolding fillTo
+loop-holds c = search needs
+
+mul-p : tie.Need-mul-p Inv-loop μ-loop
+mul-p c = search needs
+
+add-p : tie.Need-add-p Inv-loop μ-loop
+add-p c = search needs
+
+at-requires-2 : tie.Need-at-requires-2 Inv-loop μ-loop
+at-requires-2 c κs = search needs
+
+damped-at-requires : tie.Need-damped-at-requires Inv-loop μ-loop
+damped-at-requires c κs = search needs
+
+put-requires : tie.Need-put-requires Inv-loop μ-loop
+put-requires c κs = search needs
+
+add-j : tie.Need-add-j Inv-loop μ-loop
+add-j c = search needs
+
+loop-less : tie.Need-loop-less Inv-loop μ-loop
+loop-less c = search needs
+
+loop-again : tie.Need-loop-again Inv-loop μ-loop
+loop-again c =
+    let a = c .before .before .before .before .before .before .before .before .before .before .before .args in
+    let l = c .before .before .before .before .before .before .before .loop in
+    (search needs, search needs, c .before .before .put .ensures ∙ fill-turn (a .h .now) (12 * a .i) (λ j. dampedEntry (at (a .curve .now) (12 * a .i + j)) (at (a .curve .now) (144 + a .i)) (a .mu) (a .i) j) (l .j) (l .inv .2) (rw (c .before .before .before .before .at2 .ensures, c .before .before .before .before .before .before .before .before .at .ensures) at (c .before .before .before .damped-at .ensures)))
+
+same-length : tie.Need-same-length Inv-loop μ-loop
+same-length c = search needs
+
+returns : tie.Need-returns Inv-loop μ-loop
+returns c = rw (le-antisymm (c .before .loop .inv .0) (c .loop-test .left)) at (c .before .loop .inv .2)
+
+pub damped-row-spec : {M : Type 1} → statement M
+damped-row-spec =
+    tie.close
+    (tie.spec
+    Inv-loop
+    μ-loop
+    add-at
+    at-requires
+    loop-holds
+    mul-p
+    add-p
+    at-requires-2
+    damped-at-requires
+    put-requires
+    add-j
+    loop-less
+    loop-again
+    same-length
+    returns)

@@ -1,0 +1,99 @@
+use borrow.Author.Needs.{needs}
+use Rattle.run.proofs.problem.gradient.Statement.{statement}
+use Rattle.run.proofs.problem.gradient.Tie as tie
+-- `gradient` meets its contract: the values chosen, into a clear array, then one place more is filled in each turn.
+use borrow.Author.Needs.{needs}
+use mathlib.Core.Path.{_≡_, ap, _∙_}
+use Prim.Native.Nat.{_≤_, _-_}
+use native.Mathlib.Nat.{le-antisymm}
+use lib.Ieee.{ofBits}
+use lib.ListN.{length, getD}
+use Rattle.linear.specs.Choose.{chooseOf}
+use Rattle.linear.specs.Dot.{dotTo}
+use Rattle.linear.specs.Flat.{at}
+use Rattle.run.specs.Rows.{rowsIn, slopesBy}
+use Rattle.run.specs.Residuals.{transposedAt}
+use Rattle.run.specs.Vectors.{fillTo}
+use Rattle.run.proofs.VectorLaws.{fill-turn}
+
+abbrev Inv-loop : tie.InvT-loop
+Inv-loop xs e index k curve₀ r p₀ curve p = (p ≤ k) × (length curve ≡ length curve₀) × (curve ≡ fillTo curve₀ 156 (λ j. chooseOf (dotTo (slopesBy (rowsIn xs e) (getD index j 0)) (at r) (e .count))) p)
+
+abbrev μ-loop : tie.MeasureT-loop
+μ-loop xs e index k curve₀ r p₀ curve p = k - p
+
+slice-aggregate-chosen-values : tie.Need-slice-aggregate-chosen-values Inv-loop μ-loop
+slice-aggregate-chosen-values c = search needs
+
+chosen-values-requires : tie.Need-chosen-values-requires Inv-loop μ-loop
+chosen-values-requires c κs = tt
+
+loop-holds : tie.Need-loop-holds Inv-loop μ-loop
+unfolding fillTo
+loop-holds c = search needs
+
+add-put : tie.Need-add-put Inv-loop μ-loop
+add-put c = search needs
+
+slice-aggregate-transposed-at : tie.Need-slice-aggregate-transposed-at Inv-loop μ-loop
+slice-aggregate-transposed-at c = search needs
+
+mul-transposed-at : tie.Need-mul-transposed-at Inv-loop μ-loop
+mul-transposed-at c = search needs
+
+shared-slice-read-transposed-at : tie.Need-shared-slice-read-transposed-at Inv-loop μ-loop
+shared-slice-read-transposed-at c = search needs
+
+transposed-at-requires : tie.Need-transposed-at-requires Inv-loop μ-loop
+transposed-at-requires c κs = let s = c .before .before .before .before .before .before .before .before .before .before .before in (s .pre .0, s .pre .1 .1 .1 (c .before .before .before .before .loop .p))
+
+choose-requires : tie.Need-choose-requires Inv-loop μ-loop
+choose-requires c κs = search needs
+
+put-requires : tie.Need-put-requires Inv-loop μ-loop
+put-requires c κs = search needs
+
+add-p : tie.Need-add-p Inv-loop μ-loop
+add-p c = search needs
+
+loop-less : tie.Need-loop-less Inv-loop μ-loop
+loop-less c = search needs
+
+loop-again : tie.Need-loop-again Inv-loop μ-loop
+unfolding transposedAt
+loop-again c =
+    let a = c .before .before .before .before .before .before .before .before .before .before .before .before .before .before .before .before .args in
+    let r = c .before .before .before .before .before .before .before .before .before .before .before .chosen-values .last .1 .1 .0 in
+    let l = c .before .before .before .before .before .before .before .before .before .loop in
+    (search needs, search needs, c .before .before .put .ensures ∙ fill-turn (a .curve .now) 156 (λ j. chooseOf (dotTo (slopesBy (rowsIn (a .xs .now) (a .e)) (getD (a .index .now) j 0)) (at r) (a .e .count))) (l .p) (l .inv .2) (c .before .before .before .choose .ensures ∙ ap chooseOf (c .before .before .before .before .transposed-at .ensures)))
+
+same-length : tie.Need-same-length Inv-loop μ-loop
+same-length c = search needs
+
+returns : tie.Need-returns Inv-loop μ-loop
+unfolding ofBits
+returns c =
+    let i = rw (le-antisymm (c .before .loop .inv .0) (c .loop-test .left)) at (c .before .loop .inv .2) in
+    rw (c .before .before .before .chosen-values .ensures) at i
+
+pub gradient-spec : {M : Type 1} → statement M
+gradient-spec =
+    tie.close
+    (tie.spec
+    Inv-loop
+    μ-loop
+    slice-aggregate-chosen-values
+    chosen-values-requires
+    loop-holds
+    add-put
+    slice-aggregate-transposed-at
+    mul-transposed-at
+    shared-slice-read-transposed-at
+    transposed-at-requires
+    choose-requires
+    put-requires
+    add-p
+    loop-less
+    loop-again
+    same-length
+    returns)

@@ -1,0 +1,62 @@
+use borrow.Author.Needs.{needs}
+use Rattle.run.proofs.problem.scalings.Statement.{statement}
+use Rattle.run.proofs.problem.scalings.Tie as tie
+-- `scalings` meets its contract: one place more is filled in each turn.
+use borrow.Author.Needs.{needs}
+use mathlib.Core.Path.{_≡_, _∙_}
+use Prim.Native.Nat.{_≤_, _-_}
+use native.Mathlib.Nat.{le-antisymm}
+use lib.ListN.{length}
+use Rattle.run.specs.Problem.{scalingAt}
+use Rattle.run.specs.Vectors.{fillTo}
+use Rattle.run.proofs.VectorLaws.{fill-turn}
+
+abbrev Inv-loop : tie.InvT-loop
+Inv-loop k jr s jc m curve₀ i₀ curve i = (i ≤ k) × (length curve ≡ length curve₀) × (curve ≡ fillTo curve₀ 144 (scalingAt jr s jc m) i)
+
+abbrev μ-loop : tie.MeasureT-loop
+μ-loop k jr s jc m curve₀ i₀ curve i = k - i
+
+loop-holds : tie.Need-loop-holds Inv-loop μ-loop
+unfolding fillTo
+loop-holds c = search needs
+
+add-put : tie.Need-add-put Inv-loop μ-loop
+add-put c = search needs
+
+scaling-requires : tie.Need-scaling-requires Inv-loop μ-loop
+scaling-requires c κs = search needs
+
+put-requires : tie.Need-put-requires Inv-loop μ-loop
+put-requires c κs = search needs
+
+add-i : tie.Need-add-i Inv-loop μ-loop
+add-i c = search needs
+
+loop-less : tie.Need-loop-less Inv-loop μ-loop
+loop-less c = search needs
+
+loop-again : tie.Need-loop-again Inv-loop μ-loop
+loop-again c = let l = c .before .before .before .before .before .before .loop in (search needs, search needs, c .before .before .put .ensures ∙ fill-turn (c .before .before .before .before .before .before .before .before .before .before .args .curve .now) 144 _ (l .i) (l .inv .2) (c .before .before .before .scaling .ensures))
+
+same-length : tie.Need-same-length Inv-loop μ-loop
+same-length c = search needs
+
+returns : tie.Need-returns Inv-loop μ-loop
+returns c = rw (le-antisymm (c .before .loop .inv .0) (c .loop-test .left)) at (c .before .loop .inv .2)
+
+pub scalings-spec : {M : Type 1} → statement M
+scalings-spec =
+    tie.close
+    (tie.spec
+    Inv-loop
+    μ-loop
+    loop-holds
+    add-put
+    scaling-requires
+    put-requires
+    add-i
+    loop-less
+    loop-again
+    same-length
+    returns)

@@ -1,0 +1,57 @@
+-- `squeeze_row` meets its contract: one place more is filled in each turn.
+use borrow.Author.Needs.{needs}
+use mathlib.Core.Path.{_≡_, _∙_}
+use Prim.Native.Nat.{_≤_, _-_}
+use native.Mathlib.Nat.{le-antisymm}
+use lib.ListN.{length, getD}
+use Rattle.run.specs.Rows.{rowsIn, slopeAt}
+use Rattle.run.specs.Vectors.{fillTo}
+use Rattle.run.proofs.VectorLaws.{fill-turn}
+use Rattle.run.proofs.problem.squeeze_row.Statement.{statement}
+use Rattle.run.proofs.problem.squeeze_row.Tie as tie
+
+abbrev Inv-loop : tie.InvT-loop
+Inv-loop xs e i index k to₀ t0 p₀ to p = (p ≤ k) × (length to ≡ length to₀) × (to ≡ fillTo to₀ t0 (λ j. slopeAt (rowsIn xs e) i (getD index j 0)) p)
+
+abbrev μ-loop : tie.MeasureT-loop
+μ-loop xs e i index k to₀ t0 p₀ to p = k - p
+
+loop-holds : tie.Need-loop-holds Inv-loop μ-loop
+unfolding fillTo
+loop-holds c = search needs
+
+add-put : tie.Need-add-put Inv-loop μ-loop
+add-put c = search needs
+
+mul-slope-of : tie.Need-mul-slope-of Inv-loop μ-loop
+mul-slope-of c = search needs
+
+shared-slice-read-slope-of : tie.Need-shared-slice-read-slope-of Inv-loop μ-loop
+shared-slice-read-slope-of c = search needs
+
+slope-of-requires : tie.Need-slope-of-requires Inv-loop μ-loop
+slope-of-requires c κs = c .before .before .before .before .before .before .before .pre .0
+
+put-requires : tie.Need-put-requires Inv-loop μ-loop
+put-requires c κs = search needs
+
+add-p : tie.Need-add-p Inv-loop μ-loop
+add-p c = search needs
+
+loop-less : tie.Need-loop-less Inv-loop μ-loop
+loop-less c = search needs
+
+loop-again : tie.Need-loop-again Inv-loop μ-loop
+loop-again c =
+    let a = c .before .before .before .before .before .before .before .before .before .before .before .args in
+    let l = c .before .before .before .before .before .before .before .loop in
+    (search needs, search needs, c .before .before .put .ensures ∙ fill-turn (a .to .now) (a .t0) (λ j. slopeAt (rowsIn (a .xs .now) (a .e)) (a .i) (getD (a .index .now) j 0)) (l .p) (l .inv .2) (c .before .before .before .slope-of .ensures))
+
+same-length : tie.Need-same-length Inv-loop μ-loop
+same-length c = search needs
+
+returns : tie.Need-returns Inv-loop μ-loop
+returns c = rw (le-antisymm (c .before .loop .inv .0) (c .loop-test .left)) at (c .before .loop .inv .2)
+
+pub squeeze-row-spec : {M : Type 1} → statement M
+squeeze-row-spec = tie.close (tie.spec Inv-loop μ-loop loop-holds add-put mul-slope-of shared-slice-read-slope-of slope-of-requires put-requires add-p loop-less loop-again same-length returns)

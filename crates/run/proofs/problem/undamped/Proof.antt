@@ -1,0 +1,83 @@
+-- `undamped` meets its contract: the rows are filled from a clear curve, one more in each turn.
+use borrow.Author.Needs.{needs}
+use mathlib.Core.List.{List}
+use mathlib.Core.Path.{_≡_, refl, ap, _∙_}
+use Prim.Native.Nat.{ℕ, _+_, _*_, _≤_, _-_}
+use native.Mathlib.Nat.{le-antisymm}
+use native.Mathlib.Omega.{arith}
+use lib.Ieee.{Float}
+use lib.ListN.{length, getD}
+use Rattle.interval.specs.declared.Scalar.{Scalar}
+use Rattle.linear.specs.Flat.{at, zeros}
+use Rattle.run.specs.Curvature.{curvatureAt}
+use Rattle.run.specs.program.Problem.{undampedAt}
+use Rattle.run.specs.Vectors.{fillRows}
+use Rattle.run.proofs.VectorLaws.{fill-rows-turn, at-fill-rows}
+use Rattle.run.proofs.problem.undamped.Statement.{statement}
+use Rattle.run.proofs.problem.undamped.Tie as tie
+
+-- an entry
+abbrev entryAt : ℕ → List ℕ → List Float → ℕ → List Float → ℕ → ℕ → Scalar
+entryAt n index jr s b i j = undampedAt jr s (curvatureAt n b (getD index i 0) (getD index j 0)) i j
+
+abbrev Inv-loop : tie.InvT-loop
+Inv-loop n index k jr s b curve₀ i₀ curve i = (i ≤ k) × (length curve ≡ length curve₀) × (curve ≡ fillRows (zeros 336) (λ t j. undampedAt jr s (curvatureAt n b (getD index t 0) (getD index j 0)) t j) k i)
+
+abbrev μ-loop : tie.MeasureT-loop
+μ-loop n index k jr s b curve₀ i₀ curve i = k - i
+
+loop-holds : tie.Need-loop-holds Inv-loop μ-loop
+unfolding fillRows
+loop-holds c = (search needs, search needs, c .before .before .before .before .pre .1 .1 .0)
+
+undamped-row-requires : tie.Need-undamped-row-requires Inv-loop μ-loop
+undamped-row-requires c κs =
+    let a = c .before .before .before .before .before .before .before .args in
+    let p = c .before .before .before .before .before .before .before .pre in
+    let l = c .before .before .loop in
+    let z : length (zeros 336) ≡ 336 = refl in
+    let f : ℕ → ℕ → Scalar = entryAt (a .n) (a .index .now) (a .jr .now) (a .s) (a .b .now) in (
+      p .0,
+      (
+        p .1 .0,
+        (
+          c .before .loop-test .taken,
+          (
+            p .1 .1 .1,
+            λ t j ht hj.
+                ap (λ (x : List Float). at x (12 * t + j)) (l .inv .2)
+                ∙ at-fill-rows (zeros 336) f (a .k) (l .i) t j (p .0) ht hj (omega
+                (arith, z, p .0, c .before .loop-test .taken)),
+          ),
+        ),
+      ),
+    )
+
+add-i : tie.Need-add-i Inv-loop μ-loop
+add-i c = search needs
+
+loop-less : tie.Need-loop-less Inv-loop μ-loop
+loop-less c = search needs
+
+loop-again : tie.Need-loop-again Inv-loop μ-loop
+loop-again c = let l = c .before .before .before .before .before .loop in (search needs, search needs, c .before .before .undamped-row .ensures ∙ fill-rows-turn _ _ _ (l .i) (l .inv .2))
+
+same-length : tie.Need-same-length Inv-loop μ-loop
+same-length c = search needs
+
+returns : tie.Need-returns Inv-loop μ-loop
+returns c = rw (le-antisymm (c .before .loop .inv .0) (c .loop-test .left)) at (c .before .loop .inv .2)
+
+pub undamped-spec : {M : Type 1} → statement M
+undamped-spec =
+    tie.close
+    (tie.spec
+    Inv-loop
+    μ-loop
+    loop-holds
+    undamped-row-requires
+    add-i
+    loop-less
+    loop-again
+    same-length
+    returns)

@@ -1,0 +1,26 @@
+-- `undamped_at` meets its contract: on the diagonal the sum, elsewhere chosen.
+use Rattle.run.proofs.ProblemLaws.{undamped-on, undamped-off}
+use borrow.Author.Needs.{needs}
+use Rattle.run.proofs.problem.undamped_at.Statement.{statement}
+use Rattle.run.proofs.problem.undamped_at.Tie as tie
+
+plus-dot-requires : tie.Need-plus-dot-requires
+plus-dot-requires c κs = tt
+
+returns : tie.Need-returns
+returns c = undamped-on _ _ _ _ _ (c .before .plus-dot .ensures) (c .if1 .taken)
+
+choose-requires : tie.Need-choose-requires
+choose-requires c κs = search needs
+
+returns-2 : tie.Need-returns-2
+returns-2 c = undamped-off _ _ _ _ _ (c .before .before .plus-dot .ensures) (c .before .if1 .left) (c .choose .ensures)
+
+pub undamped-at-spec : {M : Type 1} → statement M
+undamped-at-spec =
+    tie.close
+    (tie.spec
+    plus-dot-requires
+    returns
+    choose-requires
+    returns-2)

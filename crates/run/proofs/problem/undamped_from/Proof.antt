@@ -1,0 +1,48 @@
+-- `undamped_from` meets its contract: the entry across the diagonal is the same where B's is.
+use mathlib.Core.Path.{sym, ap, _∙_}
+use borrow.Author.Needs.{needs}
+use Rattle.interval.specs.declared.Scalar.{Scalar}
+use Rattle.run.specs.program.Problem.{undampedAt}
+use Rattle.run.proofs.Symmetry.{undamped-across}
+use Rattle.run.proofs.problem.undamped_from.Statement.{statement}
+use Rattle.run.proofs.problem.undamped_from.Tie as tie
+
+is-mirrored-requires : tie.Need-is-mirrored-requires
+is-mirrored-requires c κs = search needs
+
+mul-at : tie.Need-mul-at
+mul-at c = search needs
+
+add-at : tie.Need-add-at
+add-at c = search needs
+
+at-requires : tie.Need-at-requires
+at-requires c κs = search needs
+
+returns : tie.Need-returns
+returns c =
+    let a = c .before .before .before .before .before .args in
+    let p = c .before .before .before .before .before .pre in
+    let m = c .before .before .is-mirrored .ensures (c .before .if1 .taken) in
+    c .at .ensures
+    ∙ p .1 .1 .1 (m .0)
+    ∙ ap (λ (z : Scalar). undampedAt (a .jr .now) (a .s) z (a .j) (a .i)) (sym (m .1))
+    ∙ undamped-across (a .jr .now) (a .s) (a .b) (a .i) (a .j) (p .1 .1 .0) (m .0)
+
+undamped-at-requires : tie.Need-undamped-at-requires
+undamped-at-requires c κs = search needs
+
+returns-2 : tie.Need-returns-2
+returns-2 c = c .undamped-at .ensures
+
+pub undamped-from-spec : {M : Type 1} → statement M
+undamped-from-spec =
+    tie.close
+    (tie.spec
+    is-mirrored-requires
+    mul-at
+    add-at
+    at-requires
+    returns
+    undamped-at-requires
+    returns-2)

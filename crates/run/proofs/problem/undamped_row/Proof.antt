@@ -1,0 +1,133 @@
+-- `undamped_row` meets its contract: one place more is filled in each turn.
+use borrow.Author.Needs.{needs}
+use mathlib.Core.Path.{_≡_, sym, ap, _∙_}
+use mathlib.Core.List.{List}
+use Prim.Native.Nat.{ℕ, _*_, _≤_, _-_}
+use native.Mathlib.Nat.{le-antisymm, le-trans}
+use lib.Ieee.{Float}
+use lib.ListN.{length, getD}
+use Rattle.interval.specs.declared.Scalar.{Scalar}
+use Rattle.run.specs.Curvature.{curvatureAt}
+use Rattle.run.specs.program.Problem.{undampedAt}
+use Rattle.run.specs.Vectors.{fillTo}
+use Rattle.run.proofs.ProblemLaws.{curvature-along}
+use Rattle.run.proofs.VectorLaws.{fill-turn}
+use Rattle.run.proofs.Symmetry.{across-kept}
+use Rattle.run.proofs.problem.undamped_row.Statement.{statement}
+use Rattle.run.proofs.problem.undamped_row.Tie as tie
+
+-- an entry
+abbrev entryAt : ℕ → List ℕ → List Float → ℕ → List Float → ℕ → ℕ → Scalar
+entryAt n index jr s b i j = undampedAt jr s (curvatureAt n b (getD index i 0) (getD index j 0)) i j
+
+abbrev Inv-loop : tie.InvT-loop
+Inv-loop n index k jr s b h₀ i row j₀ h j = (j ≤ k) × (length h ≡ length h₀) × (h ≡ fillTo h₀ (12 * i) (entryAt n index jr s b i) j)
+
+abbrev μ-loop : tie.MeasureT-loop
+μ-loop n index k jr s b h₀ i row j₀ h j = k - j
+
+mul-row : tie.Need-mul-row Inv-loop μ-loop
+mul-row c = search needs
+
+shared-slice-read-row : tie.Need-shared-slice-read-row Inv-loop μ-loop
+shared-slice-read-row c = search needs
+
+loop-holds : tie.Need-loop-holds Inv-loop μ-loop
+unfolding fillTo
+loop-holds c = search needs
+
+mul-column : tie.Need-mul-column Inv-loop μ-loop
+mul-column c = search needs
+
+shared-slice-read-column : tie.Need-shared-slice-read-column Inv-loop μ-loop
+shared-slice-read-column c = search needs
+
+along-requires : tie.Need-along-requires Inv-loop μ-loop
+along-requires c κs = tt
+
+along-requires-2 : tie.Need-along-requires-2 Inv-loop μ-loop
+along-requires-2 c κs = tt
+
+undamped-from-requires : tie.Need-undamped-from-requires Inv-loop μ-loop
+undamped-from-requires c κs =
+    let a = c .before .before .before .before .before .before .before .before .before .before .before .args in
+    let p = c .before .before .before .before .before .before .before .before .before .before .before .pre in
+    let l = c .before .before .before .before .before .loop in
+    let hi = le-trans (p .1 .1 .0) (p .0) in
+    let e = c .before .along2 .ensures
+    ∙ curvature-along (a .n) (a .b .now) (getD (a .index .now) (l .j) 0) (getD (a .index .now) (a .i) 0) in (
+      hi,
+      (
+        le-trans (c .before .before .before .before .loop-test .taken) (p .0),
+        (
+          p .1 .1 .1 .0,
+          λ q.
+              across-kept (a .h .now) (entryAt (a .n) (a .index .now) (a .jr .now) (a .s) (a .b .now) (a .i)) (a .i)
+              (l .j)
+              (l .inv .2) hi q
+              ∙ p .1 .1 .1 .1 (l .j) (a .i) q (p .1 .1 .0)
+              ∙ ap (λ (z : Scalar). undampedAt (a .jr .now) (a .s) z (l .j) (a .i)) (sym e),
+        ),
+      ),
+    )
+
+mul-put : tie.Need-mul-put Inv-loop μ-loop
+mul-put c = search needs
+
+add-put : tie.Need-add-put Inv-loop μ-loop
+add-put c = search needs
+
+put-requires : tie.Need-put-requires Inv-loop μ-loop
+put-requires c κs = search needs
+
+add-j : tie.Need-add-j Inv-loop μ-loop
+add-j c = search needs
+
+loop-less : tie.Need-loop-less Inv-loop μ-loop
+loop-less c = search needs
+
+loop-again : tie.Need-loop-again Inv-loop μ-loop
+loop-again c =
+    let a = c .before .before .before .before .before .before .before .before .before .before .before .before .before
+    .before .before .before .args in
+    let l = c .before .before .before .before .before .before .before .before .before .before .loop in
+    let v = c .before .before .before .before .before .before .before .along .ensures
+    ∙ curvature-along (a .n) (a .b .now) (getD (a .index .now) (a .i) 0) (getD (a .index .now) (l .j) 0) in
+    let e = c .before .before .before .before .undamped-from .ensures ∙ ap (λ (z : Scalar). undampedAt (a .jr .now)
+    (a .s) z (a .i) (l .j)) v in (
+      search needs,
+      search needs,
+      c .before .before .put .ensures
+          ∙ fill-turn (a .h .now) (12 * a .i) (entryAt (a .n) (a .index .now) (a .jr .now) (a .s) (a .b .now) (a .i))
+          (l .j)
+          (l .inv .2) e,
+    )
+
+same-length : tie.Need-same-length Inv-loop μ-loop
+same-length c = search needs
+
+returns : tie.Need-returns Inv-loop μ-loop
+returns c = rw (le-antisymm (c .before .loop .inv .0) (c .loop-test .left)) at (c .before .loop .inv .2)
+
+pub undamped-row-spec : {M : Type 1} → statement M
+undamped-row-spec =
+    tie.close
+    (tie.spec
+    Inv-loop
+    μ-loop
+    mul-row
+    shared-slice-read-row
+    loop-holds
+    mul-column
+    shared-slice-read-column
+    along-requires
+    along-requires-2
+    undamped-from-requires
+    mul-put
+    add-put
+    put-requires
+    add-j
+    loop-less
+    loop-again
+    same-length
+    returns)

@@ -1,0 +1,55 @@
+-- `moving` meets its contract: the marks so far are set, and the others are clear.
+use borrow.Author.Needs.{needs}
+use mathlib.Core.Bool.{_||_}
+use Prim.Native.Nat.{_≤_, _-_}
+use native.Mathlib.Nat.{le-antisymm}
+use native.Mathlib.Omega.{arith}
+use Rattle.run.specs.Rows.{sumOf, constraintsOf}
+use Rattle.run.specs.Residuals.{dependsOn, movingOf}
+use Rattle.run.proofs.RowLaws.{Marked, marked-none, marked-more, marked-all}
+use Rattle.run.proofs.residuals.moving.Statement.{statement}
+use Rattle.run.proofs.residuals.moving.Tie as tie
+
+abbrev Inv-loop : tie.InvT-loop
+Inv-loop xs n m s marks₀ j₀ marks j = (j ≤ n) × Marked (λ i. dependsOn (sumOf n m s xs) i || dependsOn (constraintsOf n m xs) i) j marks
+
+abbrev μ-loop : tie.MeasureT-loop
+μ-loop xs n m s marks₀ j₀ marks j = n - j
+
+loop-holds : tie.Need-loop-holds Inv-loop μ-loop
+loop-holds c = (search needs, marked-none _)
+
+moves-requires : tie.Need-moves-requires Inv-loop μ-loop
+moves-requires c κs = search needs
+
+array-write-marks : tie.Need-array-write-marks Inv-loop μ-loop
+array-write-marks c = search needs
+
+add-j : tie.Need-add-j Inv-loop μ-loop
+add-j c = search needs
+
+loop-less : tie.Need-loop-less Inv-loop μ-loop
+loop-less c = search needs
+
+loop-again : tie.Need-loop-again Inv-loop μ-loop
+loop-again c = (search needs, marked-more _ (omega (arith, c .before .before .before .before .pre .0, c .before .loop-test .taken)) (c .before .before .loop .inv .1) (c .moves .ensures))
+
+returns : tie.Need-returns Inv-loop μ-loop
+unfolding movingOf
+returns c =
+    let l = c .before .loop in
+    marked-all _ _ _ (rw (le-antisymm (l .inv .0) (c .loop-test .left)) at (l .inv .1))
+
+pub moving-spec : {M : Type 1} → statement M
+moving-spec =
+    tie.close
+    (tie.spec
+    Inv-loop
+    μ-loop
+    loop-holds
+    moves-requires
+    array-write-marks
+    add-j
+    loop-less
+    loop-again
+    returns)

@@ -1,0 +1,51 @@
+-- `predicted` meets its contract: the scalars that are filled are the rows linearized.
+use mathlib.Core.Path.{_≡_, _∙_}
+use Prim.Native.Nat.{_*_, _≤_}
+use native.Mathlib.Omega.{arith}
+use lib.ListN.{length}
+use Rattle.run.specs.Rows.{constraintsOf}
+use Rattle.run.specs.Residuals.{linearizedAt, predictedOf}
+use Rattle.run.proofs.RowLaws.{constraints-small}
+use Rattle.run.proofs.VectorLaws.{norm-fill}
+use borrow.Author.Needs.{needs}
+use Rattle.run.proofs.residuals.predicted.Statement.{statement}
+use Rattle.run.proofs.residuals.predicted.Tie as tie
+
+constraints-requires : tie.Need-constraints-requires
+constraints-requires c κs = search needs
+
+slice-aggregate-linearized : tie.Need-slice-aggregate-linearized
+slice-aggregate-linearized c = search needs
+
+linearized-requires : tie.Need-linearized-requires
+linearized-requires c κs = rw (c .before .constraints .ensures) (constraints-small (c .before .before .before .before .pre .0) (c .before .before .before .before .pre .1))
+
+slice-aggregate-norm-of : tie.Need-slice-aggregate-norm-of
+slice-aggregate-norm-of c = search needs
+
+norm-of-requires : tie.Need-norm-of-requires
+norm-of-requires c κs =
+    let p = c .before .before .before .before .before .before .before .pre in
+    let o = c .before .before .linearized in
+    let l : length (o .last .1 .1 .1 .1 .0) ≡ 24 = o .kept .1 .1 .1 .1 .0 in
+    (omega (arith, p .1), omega (arith, p .1, l))
+
+returns : tie.Need-returns
+unfolding predictedOf
+returns c =
+    let s = c .before .before .before .before .before .before .before .before in
+    let a = s .args in
+    let e = rw (c .before .before .before .before .before .constraints .ensures) at (c .before .before .before .linearized .ensures) in
+    let h : 2 * a .m ≤ 24 = omega (arith, s .pre .1) in
+    rw e at (c .norm-of .ensures) ∙ norm-fill _ (linearizedAt (constraintsOf (a .n) (a .m) (a .xs .now)) (a .delta .now) (a .n)) (a .m) h
+
+pub predicted-spec : {M : Type 1} → statement M
+predicted-spec =
+    tie.close
+    (tie.spec
+    constraints-requires
+    slice-aggregate-linearized
+    linearized-requires
+    slice-aggregate-norm-of
+    norm-of-requires
+    returns)

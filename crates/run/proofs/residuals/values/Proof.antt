@@ -1,0 +1,48 @@
+-- `values` meets its contract: the places so far are filled.
+use borrow.Author.Needs.{needs}
+use mathlib.Core.Path.{_≡_, refl, _∙_}
+use Prim.Native.Nat.{_≤_, _-_}
+use native.Mathlib.Nat.{le-antisymm}
+use lib.ListN.{length}
+use Rattle.run.specs.Vectors.{fillTo}
+use Rattle.run.specs.Rows.{rowsIn, valueAt}
+use Rattle.run.proofs.VectorLaws.{fill-first}
+use Rattle.run.proofs.residuals.values.Statement.{statement}
+use Rattle.run.proofs.residuals.values.Tie as tie
+
+abbrev Inv-loop : tie.InvT-loop
+Inv-loop xs e out₀ count i₀ out i = (i ≤ count) × (length out ≡ length out₀) × (out ≡ fillTo out₀ 0 (valueAt (rowsIn xs e)) i)
+
+abbrev μ-loop : tie.MeasureT-loop
+μ-loop xs e out₀ count i₀ out i = count - i
+
+loop-holds : tie.Need-loop-holds Inv-loop μ-loop
+unfolding fillTo
+loop-holds c = (search needs, refl, refl)
+
+value-of-requires : tie.Need-value-of-requires Inv-loop μ-loop
+value-of-requires c κs = tt
+
+put-requires : tie.Need-put-requires Inv-loop μ-loop
+put-requires c κs = search needs
+
+add-i : tie.Need-add-i Inv-loop μ-loop
+add-i c = search needs
+
+loop-less : tie.Need-loop-less Inv-loop μ-loop
+loop-less c = search needs
+
+loop-again : tie.Need-loop-again Inv-loop μ-loop
+loop-again c =
+    let a = c .before .before .before .before .before .before .before .before .before .args in
+    let l = c .before .before .before .before .before .before .loop in
+    (search needs, search needs, c .before .before .put .ensures ∙ fill-first _ (valueAt (rowsIn (a .xs .now) (a .e))) (l .i) (l .inv .2) (c .before .before .before .value-of .ensures))
+
+same-length : tie.Need-same-length Inv-loop μ-loop
+same-length c = search needs
+
+returns : tie.Need-returns Inv-loop μ-loop
+returns c = rw (le-antisymm (c .before .loop .inv .0) (c .loop-test .left)) at (c .before .loop .inv .2)
+
+pub values-spec : {M : Type 1} → statement M
+values-spec = tie.close (tie.spec Inv-loop μ-loop loop-holds value-of-requires put-requires add-i loop-less loop-again same-length returns)

@@ -1,0 +1,42 @@
+-- `violation` meets its contract: the scalars that are filled are the values.
+use mathlib.Core.Path.{_≡_, _∙_}
+use Prim.Native.Nat.{_*_, _≤_}
+use native.Mathlib.Omega.{arith}
+use lib.ListN.{length}
+use Rattle.run.specs.Rows.{constraintsOf, valueAt}
+use Rattle.run.specs.Residuals.{violationOf}
+use Rattle.run.proofs.VectorLaws.{norm-fill}
+use borrow.Author.Needs.{needs}
+use Rattle.run.proofs.residuals.violation.Statement.{statement}
+use Rattle.run.proofs.residuals.violation.Tie as tie
+
+constraints-requires : tie.Need-constraints-requires
+constraints-requires c κs = search needs
+
+slice-aggregate-values : tie.Need-slice-aggregate-values
+slice-aggregate-values c = search needs
+
+values-requires : tie.Need-values-requires
+values-requires c κs = tt
+
+slice-aggregate-norm-of : tie.Need-slice-aggregate-norm-of
+slice-aggregate-norm-of c = search needs
+
+norm-of-requires : tie.Need-norm-of-requires
+norm-of-requires c κs =
+    let p = c .before .before .before .before .before .before .pre in
+    let o = c .before .before .values in
+    let l : length (o .last .1 .1 .0) ≡ 24 = o .kept .1 .1 .0 in
+    (omega (arith, p .0), omega (arith, p .0, l))
+
+returns : tie.Need-returns
+unfolding violationOf
+returns c =
+    let s = c .before .before .before .before .before .before .before in
+    let a = s .args in
+    let e = rw (c .before .before .before .before .before .constraints .ensures) at (c .before .before .before .values .ensures) in
+    let h : 2 * a .m ≤ 24 = omega (arith, s .pre .0) in
+    rw e at (c .norm-of .ensures) ∙ norm-fill _ (valueAt (constraintsOf (a .n) (a .m) (a .xs .now))) (a .m) h
+
+pub violation-spec : {M : Type 1} → statement M
+violation-spec = tie.close (tie.spec constraints-requires slice-aggregate-values values-requires slice-aggregate-norm-of norm-of-requires returns)

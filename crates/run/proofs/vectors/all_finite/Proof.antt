@@ -1,0 +1,62 @@
+-- `all_finite` meets its contract: all so far are finite.
+use borrow.Author.Needs.{needs}
+use mathlib.Core.Path.{_≡_, refl, sym}
+use mathlib.Core.Bool.{true}
+use Prim.Native.Nat.{_≤_, _-_}
+use native.Mathlib.Nat.{le-antisymm}
+use borrow.Author.Tests.{not-true, not-false}
+use Rattle.linear.specs.Flat.{at}
+use Rattle.run.specs.Vectors.{allTo, allFinite}
+use Rattle.run.proofs.VectorLaws.{all-turn, all-broke}
+use Rattle.run.proofs.vectors.all_finite.Statement.{statement}
+use Rattle.run.proofs.vectors.all_finite.Tie as tie
+
+abbrev Inv-loop : tie.InvT-loop
+Inv-loop xs k i₀ i = (i ≤ k) × (allFinite xs i ≡ true)
+
+abbrev μ-loop : tie.MeasureT-loop
+μ-loop xs k i₀ i = k - i
+
+loop-holds : tie.Need-loop-holds Inv-loop μ-loop
+unfolding allTo
+loop-holds c = (search needs, refl)
+
+at-requires : tie.Need-at-requires Inv-loop μ-loop
+at-requires c κs = search needs
+
+is-finite-requires : tie.Need-is-finite-requires Inv-loop μ-loop
+is-finite-requires c κs = search needs
+
+returns : tie.Need-returns Inv-loop μ-loop
+returns c =
+    let l = c .before .before .before .before .loop in
+    sym (all-broke _ (l .i) _ (c .before .before .before .loop-test .taken) (l .inv .1) (rw (← c .before .before .at .ensures, ← c .before .is-finite .ensures) (not-true _ (c .if1 .taken))))
+
+add-i : tie.Need-add-i Inv-loop μ-loop
+add-i c = search needs
+
+loop-less : tie.Need-loop-less Inv-loop μ-loop
+loop-less c = search needs
+
+loop-again : tie.Need-loop-again Inv-loop μ-loop
+loop-again c =
+    let l = c .before .before .before .before .loop in
+    (search needs, all-turn _ (l .i) (l .inv .1) (rw (← c .before .before .at .ensures, ← c .before .is-finite .ensures) (not-false _ (c .if1 .left))))
+
+returns-2 : tie.Need-returns-2 Inv-loop μ-loop
+returns-2 c = sym (rw (le-antisymm (c .before .loop .inv .0) (c .loop-test .left)) at (c .before .loop .inv .1))
+
+pub all-finite-spec : {M : Type 1} → statement M
+all-finite-spec =
+    tie.close
+    (tie.spec
+    Inv-loop
+    μ-loop
+    loop-holds
+    at-requires
+    is-finite-requires
+    returns
+    add-i
+    loop-less
+    loop-again
+    returns-2)

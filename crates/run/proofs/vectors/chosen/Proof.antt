@@ -1,0 +1,69 @@
+-- `chosen` meets its contract: the places so far are filled.
+use borrow.Author.Needs.{needs}
+use mathlib.Core.Path.{_≡_, refl, ap, _∙_}
+use Prim.Native.Nat.{_+_, _≤_, _-_}
+use native.Mathlib.Nat.{le-antisymm}
+use lib.ListN.{length}
+use Rattle.linear.specs.Choose.{chooseOf}
+use Rattle.linear.specs.Flat.{at}
+use Rattle.run.specs.Vectors.{fillTo, chosenOf}
+use Rattle.run.proofs.VectorLaws.{fill-first}
+use Rattle.run.proofs.vectors.chosen.Statement.{statement}
+use Rattle.run.proofs.vectors.chosen.Tie as tie
+
+abbrev Inv-loop : tie.InvT-loop
+Inv-loop xs base k to₀ i₀ to i = (i ≤ k) × (length to ≡ length to₀) × (to ≡ chosenOf to₀ xs base i)
+
+abbrev μ-loop : tie.MeasureT-loop
+μ-loop xs base k to₀ i₀ to i = k - i
+
+loop-holds : tie.Need-loop-holds Inv-loop μ-loop
+unfolding fillTo
+loop-holds c = (search needs, refl, refl)
+
+add-at : tie.Need-add-at Inv-loop μ-loop
+add-at c = search needs
+
+at-requires : tie.Need-at-requires Inv-loop μ-loop
+at-requires c κs = search needs
+
+choose-requires : tie.Need-choose-requires Inv-loop μ-loop
+choose-requires c κs = search needs
+
+put-requires : tie.Need-put-requires Inv-loop μ-loop
+put-requires c κs = search needs
+
+add-i : tie.Need-add-i Inv-loop μ-loop
+add-i c = search needs
+
+loop-less : tie.Need-loop-less Inv-loop μ-loop
+loop-less c = search needs
+
+loop-again : tie.Need-loop-again Inv-loop μ-loop
+loop-again c =
+    let l = c .before .before .before .before .before .before .before .loop in
+    let v = c .before .before .before .choose .ensures ∙ ap chooseOf (c .before .before .before .before .at .ensures) in
+    (search needs, search needs, c .before .before .put .ensures ∙ fill-first _ (λ j. chooseOf (at (c .before .before .before .before .before .before .before .before .before .before .args .xs .now) (c .before .before .before .before .before .before .before .before .before .before .args .base + j))) (l .i) (l .inv .2) v)
+
+same-length : tie.Need-same-length Inv-loop μ-loop
+same-length c = search needs
+
+returns : tie.Need-returns Inv-loop μ-loop
+returns c = rw (le-antisymm (c .before .loop .inv .0) (c .loop-test .left)) at (c .before .loop .inv .2)
+
+pub chosen-spec : {M : Type 1} → statement M
+chosen-spec =
+    tie.close
+    (tie.spec
+    Inv-loop
+    μ-loop
+    loop-holds
+    add-at
+    at-requires
+    choose-requires
+    put-requires
+    add-i
+    loop-less
+    loop-again
+    same-length
+    returns)

@@ -1,0 +1,74 @@
+-- `moved` meets its contract: the vector is filled so far.
+use mathlib.Core.Path.{_≡_, sym, _∙_}
+use Prim.Native.Nat.{_≤_, _-_}
+use native.Mathlib.Nat.{le-antisymm}
+use borrow.Author.Needs.{needs}
+use lib.ListN.{length}
+use Rattle.run.specs.Vectors.{vector, fillTo}
+use Rattle.run.specs.Vectors.{movedOf}
+use Rattle.run.proofs.PointLaws.{sharpSum, sharp-sum}
+use Rattle.run.proofs.VectorLaws.{fill-none, fill-first}
+use Rattle.run.proofs.vectors.moved.Statement.{statement}
+use Rattle.run.proofs.vectors.moved.Tie as tie
+
+abbrev Inv-loop : tie.InvT-loop
+Inv-loop n x d out₀ i₀ out i = (i ≤ n) × (length out ≡ 24) × (out ≡ fillTo vector 0 (sharpSum x d) i)
+
+abbrev μ-loop : tie.MeasureT-loop
+μ-loop n x d out₀ i₀ out i = n - i
+
+clear-requires : tie.Need-clear-requires Inv-loop μ-loop
+clear-requires c κs = search needs
+
+loop-holds : tie.Need-loop-holds Inv-loop μ-loop
+loop-holds c = (search needs, search needs, rw (c .before .before .before .before .before .before .before .pre) at (c .before .before .clear .ensures) ∙ sym (fill-none _ _))
+
+at-requires : tie.Need-at-requires Inv-loop μ-loop
+at-requires c κs = search needs
+
+at-requires-2 : tie.Need-at-requires-2 Inv-loop μ-loop
+at-requires-2 c κs = search needs
+
+add-requires : tie.Need-add-requires Inv-loop μ-loop
+add-requires c κs = search needs
+
+sharpen-requires : tie.Need-sharpen-requires Inv-loop μ-loop
+sharpen-requires c κs = search needs
+
+put-requires : tie.Need-put-requires Inv-loop μ-loop
+put-requires c κs = search needs
+
+add-i : tie.Need-add-i Inv-loop μ-loop
+add-i c = search needs
+
+loop-less : tie.Need-loop-less Inv-loop μ-loop
+loop-less c = search needs
+
+loop-again : tie.Need-loop-again Inv-loop μ-loop
+loop-again c = let a = c .before .before .before .before .before .before .before .before .before .before .before .before .before .before .before .before .before .args in (search needs, search needs, c .before .before .put .ensures ∙ fill-first vector (sharpSum (a .x .now) (a .d .now)) (c .before .before .before .before .before .before .before .before .before .loop .i) (c .before .before .before .before .before .before .before .before .before .loop .inv .2) (sharp-sum (a .x .now) (a .d .now) (c .before .before .before .before .before .before .before .before .before .loop .i) (c .before .before .before .before .before .before .before .at .ensures) (c .before .before .before .before .before .before .at2 .ensures) (c .before .before .before .before .before .add .ensures .value) (c .before .before .before .sharpen .ensures)))
+
+same-length : tie.Need-same-length Inv-loop μ-loop
+same-length c = search needs
+
+returns : tie.Need-returns Inv-loop μ-loop
+unfolding movedOf
+returns c = rw (le-antisymm (c .before .loop .inv .0) (c .loop-test .left)) at (c .before .loop .inv .2)
+
+pub moved-spec : {M : Type 1} → statement M
+moved-spec =
+    tie.close
+    (tie.spec
+    Inv-loop
+    μ-loop
+    clear-requires
+    loop-holds
+    at-requires
+    at-requires-2
+    add-requires
+    sharpen-requires
+    put-requires
+    add-i
+    loop-less
+    loop-again
+    same-length
+    returns)

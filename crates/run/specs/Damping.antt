@@ -1,0 +1,30 @@
+-- The damping mu (document 01): the first, the next after a step was taken, and more of it after one was turned down.
+use Prim.Native.Nat.{_+_}
+use mathlib.Core.Bool.{false}
+use lib.IntN.{pos}
+use Rattle.interval.specs.Scalar.{fromRatio, pick, isFinite, zeroS, sharpen, definitelyGreater}
+use Rattle.interval.specs.Scaling.{quadrupled}
+use Rattle.interval.specs.declared.Scalar.{Scalar}
+use Rattle.run.specs.Vectors.{orZero}
+use Rattle.run.specs.declared.damping.Damped.{Damped}
+use Rattle.run.specs.declared.state.Search.{Search}
+use Rattle.run.specs.declared.state.Stop.{Stop}
+use Rattle.run.specs.declared.state.Stop.the-variants as stop
+
+-- ---- begin
+
+-- the first damping, 1/1000 stepped outward
+abbrev pub firstMu : Scalar
+firstMu = orZero (fromRatio (pos 1) (pos 1000))
+
+-- grow: first false, a turn-down, mu = 4 mu sharpened
+abbrev pub grown : Search → Search
+grown x = record { mu = quadrupled (x .mu); radius = x .radius; «turned_down» = x .«turned_down» + 1; first = false; plain = x .plain; rejected = x .rejected }
+
+-- grown, and on while the damping is finite
+abbrev pub damped : {A : Type 0} → (Search → A) → (Search → Stop → A) → Search → A
+damped on stopAt x = pick (isFinite (grown x .mu)) (on (grown x)) (stopAt (grown x) (stop.Damped (x .rejected)))
+
+-- mu / 3 sharpened, if definitely positive
+abbrev pub shrunk : Scalar → Scalar → Scalar
+shrunk mu q = pick (definitelyGreater (sharpen q) zeroS) (sharpen q) mu

@@ -1,0 +1,33 @@
+-- How a call ends (document 01, "A run by question and reply"): a question, the finish, or refusal 5 or 6. A refusal
+-- keeps the point that stands when it is met, with the counts of that moment.
+use Prim.Native.Nat.{ℕ, _+_}
+use Rattle.interval.specs.Result.{Res, ok, refused}
+use Rattle.run.specs.Area.{Memory, onlyStanding}
+use Rattle.run.specs.State.{over, asking}
+use Rattle.run.specs.declared.state.Event.{Event}
+use Rattle.run.specs.declared.state.Event.the-variants as event
+use Rattle.run.specs.declared.state.Kind.{Kind}
+use Rattle.run.specs.declared.state.State.{State}
+use Rattle.run.specs.declared.state.Stop.{Stop}
+
+-- what a call leaves: the state, the area and the answer
+pub record AfterSlots : Type 0 where
+  pub state : State
+  pub memory : Memory
+  pub event : Event
+
+-- ---- how it ends: a question, the finish, a refusal
+
+abbrev pub finish : State → Memory → Stop → AfterSlots
+finish st w s = record { state = over st; memory = onlyStanding w; event = event.Finish s (st .counts .iterations) (st .search .«turned_down») (st .counts .standing) }
+
+abbrev pub refuse : State → Memory → ℕ → AfterSlots
+refuse st w k = record { state = over st; memory = onlyStanding w; event = event.Refused k }
+
+abbrev pub question : State → Memory → Kind → ℕ → AfterSlots
+question st w k corrections = record { state = asking st k corrections; memory = w; event = event.Question (st .counts .question + 1) k (st .counts .standing) }
+
+-- what may be refused, and what follows it
+abbrev pub orRefuse : {A : Type 0} → State → Memory → Res A → (A → AfterSlots) → AfterSlots
+orRefuse st w (ok x) next = next x
+orRefuse st w (refused k) next = refuse st w k

@@ -1,0 +1,20 @@
+-- What serves private functions alone: parts, what functions answer, and how the program stores a matrix.
+pub mod Damping
+pub mod Rows
+pub mod Curvature
+pub mod Checks
+pub mod Filter
+pub mod NullSpace
+pub mod Judgement
+pub mod Area
+pub mod Problem
+pub mod Basis
+pub mod Reduced
+pub mod Step
+pub mod Proposal
+pub mod Calls
+pub mod Endings
+pub mod Search
+pub mod Decide
+pub mod Iterate
+pub mod Corrected

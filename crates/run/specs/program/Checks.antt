@@ -1,0 +1,39 @@
+-- For private functions: the checks of a reply, the number that refuses it or the kind of the question that is answered.
+use Prim.Native.Nat.{ℕ, _+_, _*_}
+use mathlib.Core.List.{List}
+use lib.Dec.{eqb}
+use lib.Ieee.{Float}
+use lib.ListN.{length}
+use Rattle.interval.specs.Scalar.{pick}
+use Rattle.run.specs.Checks.{valid, allInDomain}
+use Rattle.run.specs.Limits.{AREA}
+use Rattle.run.specs.Rows.{rowNumbers}
+use Rattle.run.specs.declared.checks.Checked.{Checked}
+use Rattle.run.specs.declared.checks.Checked.the-variants.{Refuse, Accept}
+use Rattle.run.specs.declared.state.Kind.{Kind}
+use Rattle.run.specs.declared.state.Phase.{Phase}
+use Rattle.run.specs.declared.state.Phase.the-variants.{Open, Over}
+use Rattle.run.specs.declared.state.Sizes.{Sizes}
+use Rattle.run.specs.declared.state.State.{State}
+
+-- ---- the checks of a reply: the number that refuses it, or the kind of the question that is answered
+
+abbrev pub checkOpen : ℕ → Phase → Checked
+checkOpen area Over = Refuse 4
+checkOpen area (Open k) = pick (eqb area AREA) (Accept k) (Refuse 2)
+
+-- of reply none, with an area of that length
+unfoldable pub checkOf : State → ℕ → Checked
+checkOf st area = pick (valid st) (checkOpen area (st .phase)) (Refuse 4)
+
+abbrev pub rowsCheck : Sizes → List Float → Kind → Checked
+rowsCheck z rows k =
+    pick (eqb (length rows) (rowNumbers (z .n) (z .m) (z .s))) (pick (allInDomain rows ((z .m + z .s) * (z .n + 1))) (Accept k) (Refuse 3)) (Refuse 2)
+
+abbrev pub thenRows : Sizes → List Float → Checked → Checked
+thenRows z rows (Refuse k) = Refuse k
+thenRows z rows (Accept k) = rowsCheck z rows k
+
+-- of a reply with rows
+unfoldable pub checkRowsOf : State → ℕ → List Float → Checked
+checkRowsOf st area rows = thenRows (st .sizes) rows (checkOf st area)

@@ -1,0 +1,54 @@
+-- For private functions: a problem by its parts, and the part of it that no damping changes.
+use Prim.Native.Nat.{ℕ}
+use mathlib.Core.List.{List}
+use lib.Dec.{eqb}
+use lib.Ieee.{Float}
+use lib.ListN.{take, drop}
+use Rattle.interval.specs.Scalar.{pick, addOf, mulOf}
+use Rattle.interval.specs.declared.Scalar.{Scalar}
+use Rattle.linear.specs.Choose.{chooseOf}
+use Rattle.linear.specs.Dot.{plusTo, dotTo}
+use Rattle.linear.specs.Flat.{at, zeros}
+use Rattle.run.specs.Curvature.{curvatureAt}
+use Rattle.run.specs.Problem.{Kept, Problem, variable, scalingAt}
+use Rattle.run.specs.Rows.{Rows, slopesBy}
+use Rattle.run.specs.Vectors.{column, matrix, fillRows, vector, fillTo, chosenOf, entry}
+
+-- by its parts, as the functions have them
+abbrev pub keptBy : ℕ → List ℕ → Kept
+keptBy count index = record { count = count; index = index }
+
+-- by its parts, as the functions have them
+abbrev pub problemIn : ℕ → ℕ → (ℕ → Scalar) → List Float → List Float → List Float → List Float → Problem
+problemIn k m c wide jc h g = record { k = k; m = m; c = c; wide = wide; jc = jc; h = h; g = g }
+
+-- ---- what the program keeps and answers
+
+-- an entry of J_rᵀ J_r + B, from B's entry b, and all: chosen off the diagonal, where mu D is still to be added
+unfoldable pub undampedAt : List Float → ℕ → Scalar → ℕ → ℕ → Scalar
+undampedAt jr s b i j = let v = plusTo (column jr i) (column jr j) b s in pick (eqb i j) v (chooseOf v)
+
+unfoldable pub undampedOf : ℕ → Kept → List Float → ℕ → List Float → List Float
+undampedOf n k jr s b = fillRows matrix (λ i j. undampedAt jr s (curvatureAt n b (variable k i) (variable k j)) i j) (k .count) (k .count)
+
+-- D
+unfoldable pub scalingsOf : ℕ → List Float → ℕ → List Float → ℕ → List Float
+scalingsOf k jr s jc m = fillTo vector 0 (scalingAt jr s jc m) k
+
+-- an entry of the gradient
+abbrev pub gradientAt : Kept → Rows → ℕ → Scalar
+gradientAt k e p = chooseOf (dotTo (slopesBy e (variable k p)) (at (chosenOf (zeros 48) (e .list) (e .values) (e .count))) (e .count))
+
+-- H's entry, from the entry v that is not damped and D's entry d, and H from all of them
+unfoldable pub dampedEntry : Scalar → Scalar → Scalar → ℕ → ℕ → Scalar
+dampedEntry v d mu i j = pick (eqb i j) (chooseOf (addOf v (mulOf mu d))) v
+
+unfoldable pub dampedBy : ℕ → List Float → List Float → Scalar → List Float
+dampedBy k v d mu = fillRows matrix (λ i j. dampedEntry (entry v i j) (at d i) mu i j) k k
+
+-- H and the gradient, from a curve: what is not damped, D and the gradient, one behind the other
+abbrev pub dampedFrom : ℕ → List Float → Scalar → List Float
+dampedFrom k curve mu = dampedBy k (take 288 curve) (take 24 (drop 288 curve)) mu
+
+abbrev pub gradientIn : List Float → List Float
+gradientIn curve = take 24 (drop 312 curve)

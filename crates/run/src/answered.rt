@@ -1,0 +1,108 @@
+// What follows an accepted answer, by the kind of its question.
+ghost use Prim.Native.Nat.{_≤_};
+ghost use mathlib.Core.Bool.{true};
+ghost use mathlib.Core.Path.{_≡_};
+ghost use lib.ListN.{length};
+ghost use Rattle.interval.specs.Scalar.{pick};
+ghost use Rattle.run.specs.declared.state.Kind.the-variants as kinds;
+ghost use Rattle.run.specs.declared.state.Phase.the-variants.{Open};
+ghost use Rattle.run.specs.Answered.{started, fromStanding, answered, answeredNone};
+ghost use Rattle.run.specs.Area.{Memory, usedIn};
+ghost use Rattle.run.specs.Checks.{phaseFits};
+ghost use Rattle.run.specs.Corrected.{landTrial, landCorrection};
+ghost use Rattle.run.specs.Rows.{rowNumbers};
+ghost use Rattle.run.specs.program.Area.{Uses, Working};
+ghost use Rattle.run.specs.program.Endings.{Leaves, Bounded, Underway};
+use crate::area;
+use crate::corrected::correction_none;
+use crate::corrected::land_correction;
+use crate::corrected::land_trial;
+use crate::decide::turn_down;
+use crate::endings::finish;
+use crate::endings::refuse;
+use crate::iterate::iterate;
+use crate::residuals;
+use crate::residuals::standing_violation;
+use crate::state::Kind;
+use crate::state::Rejection;
+use crate::state::Returned;
+use crate::state::State;
+use crate::state::Stop;
+use crate::state::with_moving;
+use linear::Answer;
+
+// A start's rows: what they say moves, and the first iteration.
+fn started(st: State, area: &mut [f64], rows: &[f64]) -> Returned
+    requires { ⌜ (length (now area) ≡ 8000) ×
+        ((length (now rows) ≡ rowNumbers (st .sizes .n) (st .sizes .m) (st .sizes .s)) ×
+        (Bounded 1073741824 st × (st .phase ≡ Open kinds.Start))) ⌝ }
+    ensures { λ r. ⌜ ((w : Memory) → Uses (usedIn st) w (now (area .entry)) →
+        Leaves (started st w (now (rows .entry))) r (now (area .exit))) ⌝ }
+{
+    let moving = residuals::moving(rows, st.sizes.n, st.sizes.m, st.sizes.s);
+    area::write_start(area, rows);
+    let standing = standing_violation(st.sizes, area);
+    iterate(with_moving(st, moving), area, standing)
+}
+
+// A trial's or a correction's rows.
+fn land(st: State, area: &mut [f64], rows: &[f64], trial: bool) -> Returned
+    requires { ⌜ (length (now area) ≡ 8000) × ((length (now rows) ≡ rowNumbers (st .sizes .n) (st .sizes .m) (st .sizes .s)) × (Underway st × (st .counts .corrections ≤ 4))) ⌝ }
+    ensures { λ r. ⌜ ((w : Memory) → Working st w (now (area .entry)) →
+        Leaves (fromStanding st w (λ theta. pick trial (landTrial st w (now (rows .entry)) theta)
+        (landCorrection st w (now (rows .entry)) theta))) r (now (area .exit))) ⌝ }
+{
+    match standing_violation(st.sizes, area) {
+        Answer::Value(theta) => {
+            if trial {
+                return land_trial(st, area, rows, theta);
+            }
+            return land_correction(st, area, rows, theta);
+        }
+        Answer::Refused(e) => {
+            return refuse(st, area, e);
+        }
+    }
+}
+
+// What follows an accepted answer with rows.
+pub fn answered(kind: Kind, st: State, area: &mut [f64], rows: &[f64]) -> Returned
+    requires { ⌜ (length (now area) ≡ 8000) ×
+        ((length (now rows) ≡ rowNumbers (st .sizes .n) (st .sizes .m) (st .sizes .s)) ×
+        (Bounded 1073741824 st × ((st .counts .corrections ≤ 4) ×
+        ((phaseFits st (Open kind) ≡ true) × (st .phase ≡ Open kind))))) ⌝ }
+    ensures { λ r. ⌜ ((w : Memory) → Uses (usedIn st) w (now (area .entry)) →
+        Leaves (answered kind st w (now (rows .entry))) r (now (area .exit))) ⌝ }
+{
+    match kind {
+        Kind::Start => {
+            return started(st, area, rows);
+        }
+        Kind::Trial => {
+            return land(st, area, rows, true);
+        }
+        Kind::Correction => {
+            return land(st, area, rows, false);
+        }
+    }
+}
+
+// What follows an accepted answer with none.
+pub fn answered_none(kind: Kind, st: State, area: &mut [f64]) -> Returned
+    requires { ⌜ (length (now area) ≡ 8000) × (Bounded 1073741824 st × (phaseFits st (Open kind) ≡ true)) ⌝ }
+    ensures { λ r. ⌜ ((w : Memory) → Working st w (now (area .entry)) →
+        Leaves (answeredNone kind st w) r (now (area .exit))) ⌝ }
+{
+    match kind {
+        Kind::Start => {
+            return finish(st, area, Stop::Infeasible);
+        }
+        Kind::Trial => {
+            let standing = standing_violation(st.sizes, area);
+            return turn_down(st, area, Rejection::Infeasible, standing);
+        }
+        Kind::Correction => {
+            return correction_none(st, area);
+        }
+    }
+}

@@ -1,0 +1,309 @@
+// Corrections (geop's `corrected`): a landed point that is further off the constraints is shifted back onto them, at most
+// 4 times.
+ghost use Prim.Native.Nat.{_*_, _/_, _%_, _≤_};
+ghost use mathlib.Core.Path.{_≡_};
+ghost use lib.ListN.{length};
+ghost use Rattle.interval.specs.Result.{ok};
+ghost use Rattle.interval.specs.Scalar.{zeroS, pick, sharpen};
+ghost use Rattle.linear.specs.Answers.{doneOf, resultOf};
+ghost use Rattle.linear.specs.Choose.{chooseOf};
+ghost use Rattle.linear.specs.Flat.{listTo, at};
+ghost use Rattle.run.specs.declared.state.Kind.the-variants as kinds;
+ghost use Rattle.run.specs.Answered.{answeredNone};
+ghost use Rattle.run.specs.Area.{Memory, rowsAt};
+ghost use Rattle.run.specs.Corrected.{movingSlope, to, shiftOf, shiftFrom, shiftedStep, correct, keep};
+ghost use Rattle.run.specs.Corrected.{landCorrection, landTrial};
+ghost use Rattle.run.specs.Decide.{judge};
+ghost use Rattle.run.specs.Residuals.{violationOf};
+ghost use Rattle.run.specs.Rows.{constraintsOf, rowNumbers};
+ghost use Rattle.run.specs.Vectors.{vector, fillTo};
+ghost use Rattle.run.specs.program.Area.{ViolationsKnown, StandingKnown, Working};
+ghost use Rattle.run.specs.program.Corrected.{shiftedOf, nearerOf, nearerResult};
+ghost use Rattle.run.specs.program.Endings.{Leaves, Underway};
+use crate::area;
+use crate::decide::judge_landed;
+use crate::endings::ask;
+use crate::endings::refuse;
+use crate::residuals;
+use crate::residuals::chosen_values;
+use crate::residuals::landed_violation;
+use crate::residuals::standing_violation;
+use crate::rows::constraints;
+use crate::rows::slope_of;
+use crate::state::Kind;
+use crate::state::Returned;
+use crate::state::State;
+use crate::state::with_landed_number;
+use crate::vectors::all_finite;
+use crate::vectors::moved;
+use crate::vectors::same;
+use interval::Scalar;
+use linear::Answer;
+use linear::Done;
+use linear::LinearError;
+use linear::at;
+use linear::choose;
+use linear::clear;
+use linear::minus_solved;
+use linear::put;
+
+// Where a shift takes the landed point: to another, which is written, or nowhere.
+pub enum Shifted {
+    To,
+    Stay,
+    Refused(LinearError),
+}
+
+// A slope, chosen; zero for a variable that does not move.
+fn moving_slope(moves: bool, v: Scalar) -> Scalar
+    ensures { λ r. ⌜ r ≡ pick moves (chooseOf v) zeroS ⌝ }
+{
+    if moves {
+        return choose(v);
+    }
+    Scalar::ZERO
+}
+
+// The slopes of the constraints by the variables that move, chosen, and zero by the others.
+fn moving_slopes(n: usize, m: usize, xs: &[f64], moving: &[bool], jc: &mut [f64])
+    requires { ⌜ (n ≤ 12) × ((m ≤ 12) × ((length (now moving) ≡ 12) × (length (now jc) ≡ 2 * (m * n)))) ⌝ }
+    ensures { λ _. ⌜ now (jc .exit) ≡ listTo (λ p. movingSlope (now (moving .entry)) (constraintsOf n m (now (xs .entry))) (p / n) (p % n)) (m * n) ⌝ }
+{
+    let e = constraints(n, m);
+    let q = m * n;
+    for p in 0..q {
+        let v = slope_of(xs, e, p / n, p % n);
+        put(jc, p, moving_slope(moving[p % n], v));
+    }
+}
+
+// The first n of `from`, sharp, into a clear vector.
+fn sharpened(n: usize, from: &[f64], to: &mut [f64])
+    requires { ⌜ length (now to) ≡ 24 ⌝ }
+    ensures { λ _. ⌜ now (to .exit) ≡ fillTo vector 0 (λ i. sharpen (at (now (from .entry)) i)) n ⌝ }
+{
+    clear(to);
+    for i in 0..n {
+        let v = at(from, i);
+        put(to, i, v.sharpen());
+    }
+}
+
+// The shortest move that meets the linearized constraints.
+pub fn shift(n: usize, m: usize, xs: &[f64], moving: &[bool], d: &mut [f64]) -> Done
+    requires { ⌜ (n ≤ 12) × ((m ≤ 12) × ((length (now moving) ≡ 12) × (length (now d) ≡ 24))) ⌝ }
+    ensures { λ r. ⌜ doneOf r (now (d .exit)) ≡ shiftOf (now (moving .entry)) (constraintsOf n m (now (xs .entry))) ⌝ }
+{
+    let q = 2 * (m * n);
+    let k = 2 * m;
+    let w = 2 * n;
+    let mut jc = [0.0; 288];
+    let mut c = [0.0; 24];
+    let zero = [0.0; 24];
+    let mut out = [0.0; 24];
+    moving_slopes(n, m, xs, moving, &mut jc[..q]);
+    chosen_values(xs, constraints(n, m), &mut c[..k]);
+    let end = minus_solved(m, n, &jc[..q], &c[..k], &zero[..w], &mut out[..w]);
+    sharpened(n, &out[..w], d);
+    end
+}
+
+// Where the shift takes the landed point, with its rows xs: `next` has the point where it is another.
+pub fn shift_from(
+    n: usize,
+    m: usize,
+    xs: &[f64],
+    moving: &[bool],
+    landed: &[f64],
+    next: &mut [f64],
+) -> Shifted
+    requires { ⌜ (n ≤ 12) × ((m ≤ 12) × ((length (now moving) ≡ 12) × (length (now next) ≡ 24))) ⌝ }
+    ensures { λ r. ⌜ shiftedOf r (now (next .exit)) ≡ shiftFrom (now (moving .entry)) (constraintsOf n m (now (xs .entry))) (now (landed .entry)) ⌝ }
+{
+    let mut d = [0.0; 24];
+    match shift(n, m, xs, moving, &mut d) {
+        Done::Refused(e) => {
+            return Shifted::Refused(e);
+        }
+        Done::Finished => {}
+    }
+    let by: &[f64] = &d;
+    if !all_finite(by, 12) {
+        return Shifted::Stay;
+    }
+    moved(n, landed, by, next);
+    if same(n, next, landed) {
+        return Shifted::Stay;
+    }
+    Shifted::To
+}
+
+// The step with a shift added, sharp.
+pub fn shifted_step(n: usize, step: &mut [f64], d: &[f64])
+    ensures { λ _. ⌜ now (step .exit) ≡ shiftedStep n (now (step .entry)) (now (d .entry)) ⌝ }
+{
+    for i in 0..n {
+        let v = at(step, i);
+        let w = v.add(at(d, i));
+        put(step, i, w.sharpen());
+    }
+}
+
+// Whether the constraints are nearer.
+pub enum Nearer {
+    Known(bool),
+    Refused(LinearError),
+}
+
+// The landed point is shifted back onto the constraints, and that point asked, or it is judged.
+fn correct(st: State, area: &mut [f64], theta: Scalar, landed: Answer) -> Returned
+    requires { ⌜ (length (now area) ≡ 8000) × Underway st ⌝ }
+    ensures { λ r. ⌜ ((w : Memory) → ViolationsKnown st theta (resultOf landed) w (now (area .entry)) →
+        Leaves (correct st w theta) r (now (area .exit))) ⌝ }
+{
+    let moving = st.moving;
+    let mut next = [0.0; 24];
+    let shifted = shift_from(
+        st.sizes.n,
+        st.sizes.m,
+        &area[area::LANDED_ROWS..area::STEP],
+        &moving,
+        &area[area::LANDED..area::ASKED],
+        &mut next,
+    );
+    match shifted {
+        Shifted::To => {}
+        Shifted::Stay => {
+            return judge_landed(st, area, theta, landed);
+        }
+        Shifted::Refused(e) => {
+            return refuse(st, area, e);
+        }
+    }
+    area::write(area, area::ASKED, &next);
+    ask(st, Kind::Correction, st.counts.corrections)
+}
+
+fn correct_or_judge(
+    st: State,
+    area: &mut [f64],
+    theta: Scalar,
+    landed: Answer,
+    corrects: bool,
+) -> Returned
+    requires { ⌜ (length (now area) ≡ 8000) × Underway st ⌝ }
+    ensures { λ r. ⌜ ((w : Memory) → ViolationsKnown st theta (resultOf landed) w (now (area .entry)) →
+        Leaves (pick corrects (correct st w theta) (judge st w theta)) r (now (area .exit))) ⌝ }
+{
+    if corrects {
+        return correct(st, area, theta, landed);
+    }
+    judge_landed(st, area, theta, landed)
+}
+
+// A correction's rows, nearer the constraints: the step is shifted as well.
+fn keep(st: State, area: &mut [f64], rows: &[f64], theta: Scalar, landed: Answer) -> Returned
+    requires { ⌜ (length (now area) ≡ 8000) ×
+        ((length (now rows) ≡ rowNumbers (st .sizes .n) (st .sizes .m) (st .sizes .s)) ×
+        (Underway st × (st .counts .corrections ≤ 4))) ⌝ }
+    ensures { λ r. ⌜ ((w : Memory) → StandingKnown st (ok theta) w (now (area .entry)) →
+        resultOf landed ≡ violationOf (rowsAt st (now (rows .entry)) .constraints) →
+        Leaves (keep st w (now (rows .entry)) theta) r (now (area .exit))) ⌝ }
+{
+    let moving = st.moving;
+    let mut d = [0.0; 24];
+    let shift = shift(
+        st.sizes.n,
+        st.sizes.m,
+        &area[area::LANDED_ROWS..area::STEP],
+        &moving,
+        &mut d,
+    );
+    match shift {
+        Done::Finished => {}
+        Done::Refused(e) => {
+            return refuse(st, area, e);
+        }
+    }
+    shifted_step(st.sizes.n, &mut area[area::STEP..area::MULTIPLIERS], &d);
+    area::write_landed(area, rows);
+    let corrections = st.counts.corrections + 1;
+    let t = with_landed_number(st, corrections);
+    correct_or_judge(t, area, theta, landed, corrections < 4)
+}
+
+// Whether a correction's rows, by their violation, are nearer the constraints than the landed ones.
+fn is_nearer(new: Answer, old: Answer) -> Nearer
+    ensures { λ r. ⌜ nearerResult r ≡ nearerOf (resultOf new) (resultOf old) ⌝ }
+{
+    match new {
+        Answer::Value(now) => match old {
+            Answer::Value(before) => {
+                return Nearer::Known(now.definitely_less(before));
+            }
+            Answer::Refused(e) => {
+                return Nearer::Refused(e);
+            }
+        },
+        Answer::Refused(e) => {
+            return Nearer::Refused(e);
+        }
+    }
+}
+
+// A correction's rows, from a standing point with violation theta: kept where they are nearer than the landed ones.
+pub fn land_correction(st: State, area: &mut [f64], rows: &[f64], theta: Scalar) -> Returned
+    requires { ⌜ (length (now area) ≡ 8000) × ((length (now rows) ≡ rowNumbers (st .sizes .n) (st .sizes .m) (st .sizes .s)) × (Underway st × (st .counts .corrections ≤ 4))) ⌝ }
+    ensures { λ r. ⌜ ((w : Memory) → StandingKnown st (ok theta) w (now (area .entry)) →
+        Leaves (landCorrection st w (now (rows .entry)) theta) r (now (area .exit))) ⌝ }
+{
+    let new = residuals::violation(rows, st.sizes.n, st.sizes.m);
+    let old = landed_violation(st.sizes, area);
+    match is_nearer(new, old) {
+        Nearer::Known(kept) => {
+            if kept {
+                return keep(st, area, rows, theta, new);
+            }
+            return judge_landed(st, area, theta, old);
+        }
+        Nearer::Refused(e) => {
+            return refuse(st, area, e);
+        }
+    }
+}
+
+// A trial's rows, from a standing point with violation theta: corrected where the violation rose.
+pub fn land_trial(st: State, area: &mut [f64], rows: &[f64], theta: Scalar) -> Returned
+    requires { ⌜ (length (now area) ≡ 8000) ×
+        ((length (now rows) ≡ rowNumbers (st .sizes .n) (st .sizes .m) (st .sizes .s)) × Underway st) ⌝ }
+    ensures { λ r. ⌜ ((w : Memory) → StandingKnown st (ok theta) w (now (area .entry)) →
+        Leaves (landTrial st w (now (rows .entry)) theta) r (now (area .exit))) ⌝ }
+{
+    area::write_landed(area, rows);
+    let t = with_landed_number(st, 0);
+    let landed = landed_violation(st.sizes, area);
+    match landed {
+        Answer::Value(new) => {
+            return correct_or_judge(t, area, theta, landed, new.definitely_greater(theta));
+        }
+        Answer::Refused(e) => {
+            return refuse(t, area, e);
+        }
+    }
+}
+
+pub fn correction_none(st: State, area: &mut [f64]) -> Returned
+    requires { ⌜ (length (now area) ≡ 8000) × Underway st ⌝ }
+    ensures { λ r. ⌜ ((w : Memory) → Working st w (now (area .entry)) →
+        Leaves (answeredNone kinds.Correction st w) r (now (area .exit))) ⌝ }
+{
+    match standing_violation(st.sizes, area) {
+        Answer::Value(theta) => {
+            let landed = landed_violation(st.sizes, area);
+            return judge_landed(st, area, theta, landed);
+        }
+        Answer::Refused(e) => {
+            return refuse(st, area, e);
+        }
+    }
+}

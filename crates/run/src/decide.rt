@@ -1,0 +1,325 @@
+// What a judgement decides: the run stops, takes the step, tries again without the curvature, or turns the step down.
+ghost use Prim.Native.Nat.{_≤_, _*_};
+ghost use mathlib.Core.Bool.{not, _&&_, true, _||_};
+ghost use mathlib.Core.Path.{_≡_};
+ghost use lib.ListN.{length};
+ghost use Rattle.interval.specs.Scalar.{pick};
+ghost use Rattle.interval.specs.Scaling.{isPositive};
+ghost use Rattle.linear.specs.Answers.{resultOf, doneOf};
+ghost use Rattle.linear.specs.Flat.{zeros};
+ghost use Rattle.run.specs.Area.{Memory, landedAt, standingAt};
+ghost use Rattle.run.specs.Curvature.{learnedOf, updateCurvature};
+ghost use Rattle.run.specs.Decide.{held, linearOf, take, wasTaken, decide, judge};
+ghost use Rattle.run.specs.Decide as run;
+ghost use Rattle.run.specs.Judgement.{judgeOf};
+ghost use Rattle.run.specs.Residuals.{violationOf};
+ghost use Rattle.run.specs.Rows.{evaluationOf};
+ghost use Rattle.run.specs.State.{searching, rejectedFor, withRadius};
+ghost use Rattle.run.specs.program.Area.{StandingKnown, Holds, ZeroBehind, ViolationsKnown};
+ghost use Rattle.run.specs.program.Decide.{linearResult, takenWith};
+ghost use Rattle.run.specs.program.Endings.{Leaves, Bounded, Underway};
+ghost use Rattle.run.specs.program.Judgement.{judgementOf};
+use crate::area;
+use crate::curvature::learned;
+use crate::curvature::update_curvature;
+use crate::damping::Damped;
+use crate::damping::damp;
+use crate::damping::shrunk;
+use crate::endings::finish;
+use crate::endings::refuse;
+use crate::iterate::iterate;
+use crate::iterate::search;
+use crate::judgement::Judged;
+use crate::judgement::Judgement;
+use crate::judgement::judge;
+use crate::radius::radius_after;
+use crate::residuals;
+use crate::state::Last;
+use crate::state::Rejection;
+use crate::state::Returned;
+use crate::state::Sizes;
+use crate::state::State;
+use crate::state::Stop;
+use crate::state::reject;
+use crate::state::standing_on;
+use crate::state::with_search;
+use interval::Scalar;
+use interval::ScalarResult;
+use linear::Answer;
+use linear::Done;
+use linear::LinearError;
+
+// With that radius and more damping, while that is finite.
+fn grow(st: State, area: &mut [f64], radius: Scalar, why: Rejection, standing: Answer) -> Returned
+    requires { ⌜ (length (now area) ≡ 8000) × Bounded 1073741824 st ⌝ }
+    ensures { λ r. ⌜ ((w : Memory) → StandingKnown st (resultOf standing) w (now (area .entry)) →
+        Leaves (run.grow (searching st (withRadius (rejectedFor (st .search) why) radius)) w) r (now (area .exit))) ⌝ }
+{
+    match damp(st.search, radius, why) {
+        Damped::On(y) => {
+            return search(with_search(st, y), area, standing);
+        }
+        Damped::Stop(y, stop) => {
+            return finish(with_search(st, y), area, stop);
+        }
+    }
+}
+
+// A step turned down: a quarter of the length tried is the radius, and more damping.
+pub fn turn_down(st: State, area: &mut [f64], why: Rejection, standing: Answer) -> Returned
+    requires { ⌜ (length (now area) ≡ 8000) × Bounded 1073741824 st ⌝ }
+    ensures { λ r. ⌜ ((w : Memory) → StandingKnown st (resultOf standing) w (now (area .entry)) →
+        Leaves (run.turnDown st w why) r (now (area .exit))) ⌝ }
+{
+    match st.trial.tried.div(Scalar::degenerate(4.0)) {
+        ScalarResult::Value(q) => {
+            return grow(st, area, q.sharpen(), why, standing);
+        }
+        ScalarResult::Refused(e) => {
+            let x = reject(st.search, why);
+            return refuse(with_search(st, x), area, LinearError::Arithmetic(e));
+        }
+    }
+}
+
+// Whether a step that is not lower is tried again without the curvature learned.
+fn may_retry(plain: bool, n: usize, area: &[f64]) -> bool
+    requires { ⌜ (n ≤ 12) × (length (now area) ≡ 8000) ⌝ }
+    ensures { λ r. ⌜ ((w : Memory) → Holds w (now (area .entry)) → r ≡ (not plain && learnedOf n (w .curvature))) ⌝ }
+{
+    if plain {
+        return false;
+    }
+    learned(n, &area[area::CURVATURE..area::FILTER])
+}
+
+// A step that is not lower: tried again without the curvature learned, once in an iteration, or turned down.
+pub fn not_lower(st: State, area: &mut [f64], standing: Answer) -> Returned
+    requires { ⌜ (length (now area) ≡ 8000) × Bounded 1073741824 st ⌝ }
+    ensures { λ r. ⌜ ((w : Memory) → StandingKnown st (resultOf standing) w (now (area .entry)) →
+        Leaves (run.notLower st w) r (now (area .exit))) ⌝ }
+{
+    if may_retry(st.search.plain, st.sizes.n, area) {
+        let mut y = reject(st.search, Rejection::NotLower);
+        let turned_down = st.search.turned_down + 1;
+        y.turned_down = turned_down;
+        y.plain = true;
+        return search(with_search(st, y), area, standing);
+    }
+    turn_down(st, area, Rejection::NotLower, standing)
+}
+
+// Whether the constraints came as near as their linearization said.
+pub enum Linear {
+    Known(bool),
+    Refused(LinearError),
+}
+
+// Whether the violation fell by three quarters of the drop that was predicted, at least.
+fn held(old: Scalar, predicted: Scalar, new: Scalar) -> bool
+    ensures { λ r. ⌜ r ≡ held old predicted new ⌝ }
+{
+    let fell = old.sub(new).mul(Scalar::degenerate(4.0));
+    fell.definitely_greater(old.sub(predicted).mul(Scalar::degenerate(3.0)))
+}
+
+// Whether they did, by the violation of the landed point; asked only where there was a violation.
+fn linear_of(st: State, theta: Scalar, landed: Answer) -> Linear
+    ensures { λ r. ⌜ ((w : Memory) → resultOf landed ≡ violationOf (landedAt st w .constraints) →
+        linearResult r ≡ linearOf st w theta) ⌝ }
+{
+    if theta.definitely_greater(Scalar::ZERO) {
+        match landed {
+            Answer::Value(new) => {
+                return Linear::Known(held(theta, st.trial.predicted, new));
+            }
+            Answer::Refused(e) => {
+                return Linear::Refused(e);
+            }
+        }
+    }
+    Linear::Known(false)
+}
+
+// The curvature before the step, over +0 into b: none in plain. Of its slot the entries in use are copied.
+fn curvature_in_use(plain: bool, n: usize, area: &[f64], b: &mut [f64])
+    requires { ⌜ (n ≤ 12) × ((length (now area) ≡ 8000) × (now b ≡ zeros 288)) ⌝ }
+    ensures { λ _. ⌜ ((w : Memory) → Holds w (now (area .entry)) → ZeroBehind 288 (2 * (n * n)) (w .curvature) →
+        now (b .exit) ≡ pick plain (zeros 288) (w .curvature)) ⌝ }
+{
+    if !plain {
+        let e = area::CURVATURE + 2 * (n * n);
+        area::write(b, 0, &area[area::CURVATURE..e]);
+    }
+}
+
+// The curvature after the step, over +0 into b.
+fn learn(z: Sizes, plain: bool, area: &[f64], b: &mut [f64]) -> Done
+    requires { ⌜ (z .n ≤ 12) × ((z .m ≤ 12) × ((z .s ≤ 24) × ((length (now area) ≡ 8000) × (now b ≡ zeros 288)))) ⌝ }
+    ensures { λ r. ⌜ ((w : Memory) → Holds w (now (area .entry)) → ZeroBehind 288 (2 * (z .n * z .n)) (w .curvature) →
+        doneOf r (now (b .exit)) ≡ updateCurvature (z .n) (pick plain (zeros 288) (w .curvature)) (w .step)
+        (evaluationOf (z .n) (z .m) (z .s) (w .standingRows)) (evaluationOf (z .n) (z .m) (z .s) (w .landedRows))
+        (w .multipliers)) ⌝ }
+{
+    curvature_in_use(plain, z.n, area, b);
+    update_curvature(
+        z.n,
+        z.m,
+        z.s,
+        b,
+        &area[area::STEP..area::MULTIPLIERS],
+        &area[area::STANDING_ROWS..area::LANDED_ROWS],
+        &area[area::LANDED_ROWS..area::STEP],
+        &area[area::MULTIPLIERS..area::CURVATURE],
+    )
+}
+
+// The landed point stands, with the curvature learned from the step: the next iteration.
+fn take_with(
+    st: State,
+    area: &mut [f64],
+    theta: Scalar,
+    landed: Answer,
+    span: Scalar,
+    mu: Scalar,
+    radius: Scalar,
+) -> Returned
+    requires { ⌜ (length (now area) ≡ 8000) × (Underway st × (isPositive mu ≡ true)) ⌝ }
+    ensures { λ r. ⌜ ((w : Memory) → ViolationsKnown st theta (resultOf landed) w (now (area .entry)) →
+        Leaves (takenWith st w theta span mu radius) r (now (area .exit))) ⌝ }
+{
+    let mut b = [0.0; 288];
+    match learn(st.sizes, st.search.plain, area, &mut b) {
+        Done::Finished => {}
+        Done::Refused(e) => {
+            return refuse(st, area, e);
+        }
+    }
+    let f = residuals::sum_squared(
+        &area[area::STANDING_ROWS..area::LANDED_ROWS],
+        st.sizes.n,
+        st.sizes.m,
+        st.sizes.s,
+    );
+    area::write_taken(area, st.sizes, &b, st.counts.iterations, f, theta);
+    iterate(standing_on(st, span, mu, radius), area, landed)
+}
+
+// The step of that length is taken, from a point with violation theta to the landed one.
+pub fn take(st: State, area: &mut [f64], theta: Scalar, landed: Answer, span: Scalar) -> Returned
+    requires { ⌜ (length (now area) ≡ 8000) × Underway st ⌝ }
+    ensures { λ r. ⌜ ((w : Memory) → ViolationsKnown st theta (resultOf landed) w (now (area .entry)) →
+        Leaves (take st w theta span) r (now (area .exit))) ⌝ }
+{
+    match linear_of(st, theta, landed) {
+        Linear::Known(linear) => match st.search.mu.div(Scalar::degenerate(3.0)) {
+            ScalarResult::Value(third) => {
+                let mu = shrunk(st.search.mu, third);
+                let radius = radius_after(span, st.search.radius, st.max_step, linear);
+                return take_with(st, area, theta, landed, span, mu, radius);
+            }
+            ScalarResult::Refused(e) => {
+                return refuse(st, area, LinearError::Arithmetic(e));
+            }
+        },
+        Linear::Refused(e) => {
+            return refuse(st, area, e);
+        }
+    }
+}
+
+fn was_taken(last: Last) -> bool
+    ensures { λ r. ⌜ r ≡ wasTaken last ⌝ }
+{
+    match last {
+        Last::NoneYet => false,
+        Last::Taken(_) => true,
+    }
+}
+
+// Whether a first proposal is undecided after a step taken, and does not contract.
+fn is_stuck(first: bool, last: Last, j: Judged) -> bool
+    ensures { λ r. ⌜ r ≡ (first && j .undecided && wasTaken last && not (j .contracting)) ⌝ }
+{
+    if !first {
+        return false;
+    }
+    if !j.undecided {
+        return false;
+    }
+    if !was_taken(last) {
+        return false;
+    }
+    !j.contracting
+}
+
+// Whether the step is lower, or a first proposal that is undecided and contracts.
+fn is_better(first: bool, j: Judged) -> bool
+    ensures { λ r. ⌜ r ≡ (j .lower || (first && j .undecided && j .contracting)) ⌝ }
+{
+    if j.lower {
+        return true;
+    }
+    if !first {
+        return false;
+    }
+    if !j.undecided {
+        return false;
+    }
+    j.contracting
+}
+
+// What follows a judgement, from a standing point with violation theta to the landed one.
+fn decide(st: State, area: &mut [f64], theta: Scalar, landed: Answer, j: Judged) -> Returned
+    requires { ⌜ (length (now area) ≡ 8000) × Underway st ⌝ }
+    ensures { λ r. ⌜ ((w : Memory) → ViolationsKnown st theta (resultOf landed) w (now (area .entry)) →
+        Leaves (decide st w theta j) r (now (area .exit))) ⌝ }
+{
+    let last = st.last;
+    if is_stuck(st.search.first, last, j) {
+        return finish(st, area, Stop::Undecided);
+    }
+    if is_better(st.search.first, j) {
+        return take(st, area, theta, landed, j.length);
+    }
+    not_lower(st, area, Answer::Value(theta))
+}
+
+// The judgement of the landed point, from a standing point with violation theta.
+fn judge_in(st: State, area: &[f64], theta: Scalar, landed: Answer) -> Judgement
+    requires { ⌜ (length (now area) ≡ 8000) × Underway st ⌝ }
+    ensures { λ r. ⌜ ((w : Memory) → ViolationsKnown st theta (resultOf landed) w (now (area .entry)) →
+        judgementOf r ≡ judgeOf (st .sizes .n) (standingAt st w) (landedAt st w) theta (w .filter)
+        (st .counts .iterations) (st .last) (w .step)) ⌝ }
+{
+    let last = st.last;
+    judge(
+        st.sizes.n,
+        st.sizes.m,
+        st.sizes.s,
+        &area[area::STANDING_ROWS..area::LANDED_ROWS],
+        &area[area::LANDED_ROWS..area::STEP],
+        theta,
+        landed,
+        &area[area::FILTER..area::SPARE],
+        st.counts.iterations,
+        last,
+        &area[area::STEP..area::MULTIPLIERS],
+    )
+}
+
+// The landed point is judged, from a standing point with violation theta.
+pub fn judge_landed(st: State, area: &mut [f64], theta: Scalar, landed: Answer) -> Returned
+    requires { ⌜ (length (now area) ≡ 8000) × Underway st ⌝ }
+    ensures { λ r. ⌜ ((w : Memory) → ViolationsKnown st theta (resultOf landed) w (now (area .entry)) →
+        Leaves (judge st w theta) r (now (area .exit))) ⌝ }
+{
+    match judge_in(st, area, theta, landed) {
+        Judgement::Of(j) => {
+            return decide(st, area, theta, landed, j);
+        }
+        Judgement::Refused(e) => {
+            return refuse(st, area, e);
+        }
+    }
+}

@@ -1,0 +1,315 @@
+// The problem that a step solves: the slopes by the variables that move, J_rᵀ J_r + B, the scaling D and the gradient.
+ghost use Prim.Native.Nat.{_<_, _≤_, ℕ, _+_, _*_};
+ghost use mathlib.Core.Bool.{true};
+ghost use mathlib.Core.List.{_++_};
+ghost use mathlib.Core.Path.{_≡_};
+ghost use lib.ListN.{length, replicate, getD};
+ghost use Rattle.linear.specs.Flat.{at, zeros};
+ghost use Rattle.run.specs.Curvature.{curvatureAt};
+ghost use Rattle.run.specs.Problem.{keepNext, keptTo, squeezedOf, scalingAt, gradientOf, problemOf};
+ghost use Rattle.run.specs.Rows.{rowsIn, slopeAt, constraintsOf, evaluationOf, valueAt};
+ghost use Rattle.run.specs.Vectors.{fillTo, fillRows, matrix, chosenOf};
+ghost use Rattle.run.specs.program.Problem.{keptBy, undampedAt, dampedEntry, dampedFrom, gradientAt};
+ghost use Rattle.run.specs.program.Problem.{undampedOf, scalingsOf, problemIn, gradientIn};
+ghost use Rattle.run.specs.program.Rows.{Small};
+use crate::residuals::chosen_values;
+use crate::residuals::transposed_at;
+use crate::rows::RowSet;
+use crate::rows::constraints;
+use crate::rows::slope_of;
+use crate::rows::sum;
+use crate::vectors::chosen;
+use interval::Scalar;
+use linear::along;
+use linear::at;
+use linear::choose;
+use linear::plus_dot;
+use linear::put;
+
+// The first scalar of D and of the gradient in a curve, behind the curvature that is not damped.
+const SCALINGS: usize = 144;
+
+const GRADIENT: usize = 156;
+
+// ---- the variables that move
+fn keep_next(moves: bool, index: &mut [usize], count: usize, i: usize) -> usize
+    requires { ⌜ (count < length (now index)) × (count < 12) ⌝ }
+    ensures { λ r. ⌜ keptBy r (now (index .exit)) ≡ keepNext moves (keptBy count (now (index .entry))) i ⌝ }
+{
+    if moves {
+        index[count] = i;
+        return count + 1;
+    }
+    count
+}
+
+// The variables that move, in order, into a clear slice, and how many.
+pub fn keep(moving: &[bool], n: usize, index: &mut [usize]) -> usize
+    requires { ⌜ (n ≤ 12) × ((length (now moving) ≡ 12) × (now index ≡ replicate 12 0)) ⌝ }
+    ensures { λ r. ⌜ keptBy r (now (index .exit)) ≡ keptTo (now (moving .entry)) n ⌝ }
+{
+    let mut count = 0;
+    for i in 0..n {
+        count = keep_next(moving[i], index, count, i);
+    }
+    count
+}
+
+// ---- slopes
+
+// The kept slopes of row i, from t0 on in `to`.
+fn squeeze_row(
+    xs: &[f64],
+    e: RowSet,
+    i: usize,
+    index: &[usize],
+    k: usize,
+    to: &mut [f64],
+    t0: usize,
+)
+    requires { ⌜ (Small e × (i < 65536)) × ((k ≤ 12) × ((length (now index) ≡ 12) × (t0 < 65536))) ⌝ }
+    ensures { λ _. ⌜ now (to .exit) ≡ fillTo (now (to .entry)) t0 (λ p. slopeAt (rowsIn (now (xs .entry)) e) i (getD (now (index .entry)) p 0)) k ⌝ }
+{
+    for p in 0..k {
+        put(to, t0 + p, slope_of(xs, e, i, index[p]));
+    }
+}
+
+// The slopes by the kept variables.
+pub fn squeeze(xs: &[f64], e: RowSet, index: &[usize], k: usize, to: &mut [f64])
+    requires { ⌜ Small e × ((k ≤ 12) × (length (now index) ≡ 12)) ⌝ }
+    ensures { λ _. ⌜ now (to .exit) ≡ squeezedOf (keptBy k (now (index .entry))) (rowsIn (now (xs .entry)) e) (now (to .entry)) ⌝ }
+{
+    let count = e.count;
+    for i in 0..count {
+        squeeze_row(xs, e, i, index, k, to, 12 * i);
+    }
+}
+
+// ---- the curvature
+
+// D's entry for the i-th kept variable.
+fn scaling(jr: &[f64], s: usize, jc: &[f64], m: usize, i: usize) -> Scalar
+    ensures { λ r. ⌜ r ≡ scalingAt (now (jr .entry)) s (now (jc .entry)) m i ⌝ }
+{
+    let d = plus_dot(jr, i, 12, jr, i, 12, Scalar::ZERO, s);
+    plus_dot(jc, i, 12, jc, i, 12, d, m)
+}
+
+// D, over the kept variables, at its place in a curve.
+fn scalings(k: usize, jr: &[f64], s: usize, jc: &[f64], m: usize, curve: &mut [f64])
+    requires { ⌜ k ≤ 12 ⌝ }
+    ensures { λ _. ⌜ now (curve .exit) ≡ fillTo (now (curve .entry)) 144 (scalingAt (now (jr .entry)) s (now (jc .entry)) m) k ⌝ }
+{
+    for i in 0..k {
+        put(curve, SCALINGS + i, scaling(jr, s, jc, m, i));
+    }
+}
+
+// An entry of J_rᵀ J_r + B, from B's entry b; chosen off the diagonal.
+fn undamped_at(jr: &[f64], s: usize, b: Scalar, i: usize, j: usize) -> Scalar
+    ensures { λ r. ⌜ r ≡ undampedAt (now (jr .entry)) s b i j ⌝ }
+{
+    let v = plus_dot(jr, i, 12, jr, j, 12, b, s);
+    if i == j {
+        return v;
+    }
+    choose(v)
+}
+
+// Whether two numbers have the same bits; a NaN has not.
+fn is_same(x: f64, y: f64) -> bool
+    ensures { λ r. ⌜ (r ≡ true → x ≡ y) ⌝ }
+{
+    if x == y {
+        return f64::to_bits(x) == f64::to_bits(y);
+    }
+    false
+}
+
+fn are_same(x: Scalar, y: Scalar) -> bool
+    ensures { λ r. ⌜ (r ≡ true → x ≡ y) ⌝ }
+{
+    if is_same(x.lo, y.lo) {
+        return is_same(x.hi, y.hi);
+    }
+    false
+}
+
+// Whether (i, j) is below the diagonal, and B's entries b there and `across` it are the same.
+fn is_mirrored(b: Scalar, across: Scalar, i: usize, j: usize) -> bool
+    ensures { λ r. ⌜ (r ≡ true → (j < i) × (b ≡ across)) ⌝ }
+{
+    if j < i {
+        return are_same(b, across);
+    }
+    false
+}
+
+// Entry (i, j) of it, from B's entry b: the entry across the diagonal, which h has, where B's entry there is the same,
+// since products of points commute.
+fn undamped_from(
+    jr: &[f64],
+    s: usize,
+    b: Scalar,
+    across: Scalar,
+    h: &[f64],
+    i: usize,
+    j: usize,
+) -> Scalar
+    requires { ⌜ (i < 12) × ((j < 12) × (((p : ℕ) → at (now jr) p .lo ≡ at (now jr) p .hi)
+        × (j < i → at (now h) (12 * j + i) ≡ undampedAt (now jr) s across j i))) ⌝ }
+    ensures { λ r. ⌜ r ≡ undampedAt (now (jr .entry)) s b i j ⌝ }
+{
+    if is_mirrored(b, across, i, j) {
+        return at(h, 12 * j + i);
+    }
+    undamped_at(jr, s, b, i, j)
+}
+
+// Row i of it, where the rows before it are there.
+fn undamped_row(
+    n: usize,
+    index: &[usize],
+    k: usize,
+    jr: &[f64],
+    s: usize,
+    b: &[f64],
+    h: &mut [f64],
+    i: usize,
+)
+    requires { ⌜ (k ≤ 12) × ((length (now index) ≡ 12) × ((i < k) × (((p : ℕ) → at (now jr) p .lo ≡ at (now jr) p .hi)
+        × ((t j : ℕ) → t < i → j < k → at (now h) (12 * t + j)
+        ≡ undampedAt (now jr) s (curvatureAt n (now b) (getD (now index) t 0) (getD (now index) j 0)) t j)))) ⌝ }
+    ensures { λ _. ⌜ now (h .exit) ≡ fillTo (now (h .entry)) (12 * i) (λ j. undampedAt (now (jr .entry)) s (curvatureAt n (now (b .entry)) (getD (now (index .entry)) i 0) (getD (now (index .entry)) j 0)) i j) k ⌝ }
+{
+    let row = index[i];
+    for j in 0..k {
+        let column = index[j];
+        let start = along(b, column, n, row);
+        let across = along(b, row, n, column);
+        let v = undamped_from(jr, s, start, across, h, i, j);
+        put(h, 12 * i + j, v);
+    }
+}
+
+// J_rᵀ J_r + B over the kept variables, at the start of a clear curve.
+fn undamped(n: usize, index: &[usize], k: usize, jr: &[f64], s: usize, b: &[f64], curve: &mut [f64])
+    requires { ⌜ (k ≤ 12) × ((length (now index) ≡ 12) × ((now curve ≡ zeros 336)
+        × ((p : ℕ) → at (now jr) p .lo ≡ at (now jr) p .hi))) ⌝ }
+    ensures { λ _. ⌜ now (curve .exit) ≡ fillRows (zeros 336) (λ i j. undampedAt (now (jr .entry)) s (curvatureAt n (now (b .entry)) (getD (now (index .entry)) i 0) (getD (now (index .entry)) j 0)) i j) k k ⌝ }
+{
+    for i in 0..k {
+        undamped_row(n, index, k, jr, s, b, curve, i);
+    }
+}
+
+// ---- damped
+
+// H's entry, from the entry v that is not damped, and D's entry d.
+fn damped_at(v: Scalar, d: Scalar, mu: Scalar, i: usize, j: usize) -> Scalar
+    ensures { λ r. ⌜ r ≡ dampedEntry v d mu i j ⌝ }
+{
+    if i == j {
+        return choose(v.add(mu.mul(d)));
+    }
+    v
+}
+
+// Row i of H.
+fn damped_row(k: usize, curve: &[f64], mu: Scalar, h: &mut [f64], i: usize)
+    requires { ⌜ (k ≤ 12) × (i < k) ⌝ }
+    ensures { λ _. ⌜ now (h .exit) ≡ fillTo (now (h .entry)) (12 * i) (λ j. dampedEntry (at (now (curve .entry)) (12 * i + j)) (at (now (curve .entry)) (144 + i)) mu i j) k ⌝ }
+{
+    let scale = at(curve, SCALINGS + i);
+    for j in 0..k {
+        let p = 12 * i + j;
+        put(h, p, damped_at(at(curve, p), scale, mu, i, j));
+    }
+}
+
+// H = J_rᵀ J_r + B + mu D, from a curve, into a clear matrix.
+pub fn damped(k: usize, curve: &[f64], mu: Scalar, h: &mut [f64])
+    requires { ⌜ (k ≤ 12) × ((length (now curve) ≡ 336) × (now h ≡ matrix)) ⌝ }
+    ensures { λ _. ⌜ now (h .exit) ≡ dampedFrom k (now (curve .entry)) mu ⌝ }
+{
+    for i in 0..k {
+        damped_row(k, curve, mu, h, i);
+    }
+}
+
+// ---- the gradient
+
+// The sum's gradient J_rᵀ r over the kept variables, chosen, at its place in a curve.
+fn gradient(xs: &[f64], e: RowSet, index: &[usize], k: usize, curve: &mut [f64])
+    requires { ⌜ Small e × ((k ≤ 12) × ((length (now index) ≡ 12) × ((p : ℕ) → getD (now index) p 0 < 65536))) ⌝ }
+    ensures { λ _. ⌜ now (curve .exit) ≡ fillTo (now (curve .entry)) 156 (gradientAt (keptBy k (now (index .entry))) (rowsIn (now (xs .entry)) e)) k ⌝ }
+{
+    let mut r = [0.0; 48];
+    chosen_values(xs, e, &mut r);
+    for p in 0..k {
+        put(
+            curve,
+            GRADIENT + p,
+            choose(transposed_at(xs, e, &r, index[p])),
+        );
+    }
+}
+
+// ---- the problem
+
+// The slopes by the kept variables, and the same chosen.
+fn slopes(xs: &[f64], e: RowSet, index: &[usize], k: usize, wide: &mut [f64], narrow: &mut [f64])
+    requires { ⌜ Small e × ((k ≤ 12) × (length (now index) ≡ 12)) ⌝ }
+    ensures { λ _. ⌜ (now (wide .exit) ≡ squeezedOf (keptBy k (now (index .entry))) (rowsIn (now (xs .entry)) e) (now (wide .entry))) × (now (narrow .exit) ≡ chosenOf (now (narrow .entry)) (now (wide .exit)) 0 (12 * e .count)) ⌝ }
+{
+    squeeze(xs, e, index, k, wide);
+    chosen(wide, 0, 12 * e.count, narrow);
+}
+
+// The curve: J_rᵀ J_r + B, D and the gradient, from the slopes chosen, which are points, into a clear slice.
+fn fill_undamped(
+    n: usize,
+    m: usize,
+    index: &[usize],
+    k: usize,
+    xs: &[f64],
+    e: RowSet,
+    b: &[f64],
+    jr: &[f64],
+    jc: &[f64],
+    curve: &mut [f64],
+)
+    requires { ⌜ Small e × ((k ≤ 12) × ((length (now index) ≡ 12) × (((p : ℕ) → getD (now index) p 0 < 65536)
+        × ((now curve ≡ zeros 336) × ((p : ℕ) → at (now jr) p .lo ≡ at (now jr) p .hi))))) ⌝ }
+    ensures { λ _. ⌜ now (curve .exit) ≡ undampedOf n (keptBy k (now (index .entry))) (now (jr .entry)) (e .count) (now (b .entry)) ++ (scalingsOf k (now (jr .entry)) (e .count) (now (jc .entry)) m ++ gradientOf (keptBy k (now (index .entry))) (rowsIn (now (xs .entry)) e)) ⌝ }
+{
+    undamped(n, index, k, jr, e.count, b, curve);
+    scalings(k, jr, e.count, jc, m, curve);
+    gradient(xs, e, index, k, curve);
+}
+
+// The problem over the k kept variables, from an answer's rows, before it is damped: the constraints' slopes, the same
+// chosen, and the curve, into clear slices.
+pub fn problem(
+    n: usize,
+    m: usize,
+    s: usize,
+    index: &[usize],
+    k: usize,
+    xs: &[f64],
+    b: &[f64],
+    wide: &mut [f64],
+    jc: &mut [f64],
+    curve: &mut [f64],
+)
+    requires { ⌜ (n ≤ 12) × ((m ≤ 12) × ((s ≤ 24) × ((k ≤ 12) × ((length (now index) ≡ 12) × (((p : ℕ) → getD (now index) p 0 < 65536) × ((now wide ≡ matrix) × ((now jc ≡ matrix) × (now curve ≡ zeros 336)))))))) ⌝ }
+    ensures { λ _. ⌜ ((mu : Scalar) → problemIn k m (valueAt (constraintsOf n m (now (xs .entry)))) (now (wide .exit)) (now (jc .exit)) (dampedFrom k (now (curve .exit)) mu) (gradientIn (now (curve .exit))) ≡ problemOf n (keptBy k (now (index .entry))) (evaluationOf n m s (now (xs .entry))) (now (b .entry)) mu) ⌝ }
+{
+    let e = sum(n, m, s);
+    let mut all = [0.0; 576];
+    let mut jr = [0.0; 576];
+    slopes(xs, constraints(n, m), index, k, wide, jc);
+    slopes(xs, e, index, k, &mut all, &mut jr);
+    fill_undamped(n, m, index, k, xs, e, b, &jr, jc, curve);
+}

@@ -1,0 +1,68 @@
+// The radius: a step cut to it, and what it is after a step was taken.
+ghost use Prim.Native.Nat.{_≤_};
+ghost use mathlib.Core.Path.{_≡_};
+ghost use lib.ListN.{length};
+ghost use Rattle.linear.specs.Answers.{doneOf};
+ghost use Rattle.run.specs.Radius.{cutOf, cutWithin, reachOf};
+use crate::vectors::norm_of;
+use interval::Scalar;
+use interval::ScalarResult;
+use linear::Answer;
+use linear::Done;
+use linear::LinearError;
+use linear::at;
+use linear::choose;
+use linear::put;
+
+// A step times shrink, chosen.
+pub fn cut(n: usize, delta: &mut [f64], shrink: Scalar)
+    ensures { λ _. ⌜ now (delta .exit) ≡ cutOf n (now (delta .entry)) shrink ⌝ }
+{
+    for i in 0..n {
+        let d = at(delta, i);
+        put(delta, i, choose(d.mul(shrink)));
+    }
+}
+
+// `cut`, of at most 12 variables.
+pub fn cut_within(n: usize, radius: Scalar, delta: &mut [f64]) -> Done
+    requires { ⌜ (n ≤ 12) × (length (now delta) ≡ 24) ⌝ }
+    ensures { λ r. ⌜ doneOf r (now (delta .exit)) ≡ cutWithin n radius (now (delta .entry)) ⌝ }
+{
+    match norm_of(delta, n) {
+        Answer::Refused(e) => {
+            return Done::Refused(e);
+        }
+        Answer::Value(length) => {
+            if !length.definitely_greater(radius) {
+                return Done::Finished;
+            }
+            match radius.div(length) {
+                ScalarResult::Refused(e) => {
+                    return Done::Refused(LinearError::Arithmetic(e));
+                }
+                ScalarResult::Value(shrink) => {
+                    cut(n, delta, shrink);
+                    return Done::Finished;
+                }
+            }
+        }
+    }
+}
+
+// The radius after a step of that length.
+pub fn radius_after(length: Scalar, radius: Scalar, max: Scalar, linear: bool) -> Scalar
+    ensures { λ r. ⌜ r ≡ reachOf length radius max linear ⌝ }
+{
+    let reach = Scalar::TWO.mul(length);
+    if !reach.definitely_greater(radius) {
+        return radius;
+    }
+    if linear {
+        return reach.upper();
+    }
+    if reach.definitely_less(max) {
+        return reach.upper();
+    }
+    max
+}

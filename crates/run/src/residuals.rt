@@ -1,0 +1,180 @@
+// What the residuals of an answer say: their linearization, the sum of squares, the violation, and which variables move.
+ghost use Prim.Native.Nat.{_<_, _≤_, _*_};
+ghost use mathlib.Core.Bool.{_||_};
+ghost use mathlib.Core.Path.{_≡_};
+ghost use lib.ListN.{length};
+ghost use Rattle.linear.specs.Answers.{resultOf};
+ghost use Rattle.run.specs.Area.{Memory};
+ghost use Rattle.run.specs.Residuals.{linearizedAt, squaredOf, transposedAt, sumSquared, violationOf};
+ghost use Rattle.run.specs.Residuals.{predictedOf, dependsOn, movingOf};
+ghost use Rattle.run.specs.Rows.{rowsIn, sumOf, valueAt, constraintsOf, evaluationOf};
+ghost use Rattle.run.specs.Vectors.{fillTo, chosenOf};
+ghost use Rattle.run.specs.program.Area.{Holds};
+ghost use Rattle.run.specs.program.Rows.{Small};
+use crate::area;
+use crate::rows::RowSet;
+use crate::rows::constraints;
+use crate::rows::slope_of;
+use crate::rows::slopes_of;
+use crate::rows::sum;
+use crate::rows::value_of;
+use crate::state::Sizes;
+use crate::vectors::norm_of;
+use interval::Scalar;
+use linear::Answer;
+use linear::choose;
+use linear::plus_dot;
+use linear::put;
+use linear::row_dot;
+
+// value + slopes delta, of row i, over the first d variables.
+pub fn linearized_at(xs: &[f64], e: RowSet, delta: &[f64], d: usize, i: usize) -> Scalar
+    requires { ⌜ Small e × (i < 65536) ⌝ }
+    ensures { λ r. ⌜ r ≡ linearizedAt (rowsIn (now (xs .entry)) e) (now (delta .entry)) d i ⌝ }
+{
+    let slopes = slopes_of(xs, e);
+    let total = row_dot(slopes, i * e.n, delta, 0, d);
+    value_of(xs, e, i).add(total)
+}
+
+// |values + slopes delta|², over the first d variables: with d = 0, the sum of squares.
+pub fn squared(xs: &[f64], e: RowSet, delta: &[f64], d: usize) -> Scalar
+    requires { ⌜ Small e ⌝ }
+    ensures { λ r. ⌜ r ≡ squaredOf (rowsIn (now (xs .entry)) e) (now (delta .entry)) d ⌝ }
+{
+    let count = e.count;
+    let mut out = [0.0; 48];
+    linearized(xs, e, delta, d, &mut out);
+    row_dot(&out, 0, &out, 0, count)
+}
+
+// The slopes by variable j, each times its weight.
+pub fn transposed_at(xs: &[f64], e: RowSet, w: &[f64], j: usize) -> Scalar
+    requires { ⌜ Small e × (j < 65536) ⌝ }
+    ensures { λ r. ⌜ r ≡ transposedAt (rowsIn (now (xs .entry)) e) (now (w .entry)) j ⌝ }
+{
+    let slopes = slopes_of(xs, e);
+    plus_dot(slopes, j, e.n, w, 0, 1, Scalar::ZERO, e.count)
+}
+
+// f of a point, from its rows.
+pub fn sum_squared(xs: &[f64], n: usize, m: usize, s: usize) -> Scalar
+    requires { ⌜ (n ≤ 12) × ((m ≤ 12) × (s ≤ 24)) ⌝ }
+    ensures { λ r. ⌜ r ≡ sumSquared (sumOf n m s (now (xs .entry))) ⌝ }
+{
+    squared(xs, sum(n, m, s), xs, 0)
+}
+
+// All values, from the start of `out` on.
+fn values(xs: &[f64], e: RowSet, out: &mut [f64])
+    ensures { λ _. ⌜ now (out .exit) ≡ fillTo (now (out .entry)) 0 (valueAt (rowsIn (now (xs .entry)) e)) (e .count) ⌝ }
+{
+    let count = e.count;
+    for i in 0..count {
+        put(out, i, value_of(xs, e, i));
+    }
+}
+
+// The same, chosen.
+pub fn chosen_values(xs: &[f64], e: RowSet, out: &mut [f64])
+    ensures { λ _. ⌜ now (out .exit) ≡ chosenOf (now (out .entry)) (now (xs .entry)) (e .values) (e .count) ⌝ }
+{
+    let count = e.count;
+    for i in 0..count {
+        put(out, i, choose(value_of(xs, e, i)));
+    }
+}
+
+// All slopes, row by row, chosen.
+pub fn chosen_slopes(xs: &[f64], e: RowSet, out: &mut [f64])
+    requires { ⌜ Small e ⌝ }
+    ensures { λ _. ⌜ now (out .exit) ≡ chosenOf (now (out .entry)) (now (xs .entry)) (e .slopes) (e .count * e .n) ⌝ }
+{
+    let n = e.n;
+    let count = e.count * n;
+    for p in 0..count {
+        put(out, p, choose(slope_of(xs, e, p / n, p % n)));
+    }
+}
+
+// The violation of a point, from its rows.
+pub fn violation(xs: &[f64], n: usize, m: usize) -> Answer
+    requires { ⌜ (m ≤ 12) × (2 * m ≤ length (now xs)) ⌝ }
+    ensures { λ r. ⌜ resultOf r ≡ violationOf (constraintsOf n m (now (xs .entry))) ⌝ }
+{
+    let mut c = [0.0; 24];
+    values(xs, constraints(n, m), &mut c);
+    norm_of(&c, m)
+}
+
+// All rows linearized, from the start of `out` on.
+fn linearized(xs: &[f64], e: RowSet, delta: &[f64], d: usize, out: &mut [f64])
+    requires { ⌜ Small e ⌝ }
+    ensures { λ _. ⌜ now (out .exit) ≡ fillTo (now (out .entry)) 0 (linearizedAt (rowsIn (now (xs .entry)) e) (now (delta .entry)) d) (e .count) ⌝ }
+{
+    let count = e.count;
+    for i in 0..count {
+        put(out, i, linearized_at(xs, e, delta, d, i));
+    }
+}
+
+// The violation that a step leads to, to first order.
+pub fn predicted(xs: &[f64], n: usize, m: usize, delta: &[f64]) -> Answer
+    requires { ⌜ (n ≤ 12) × (m ≤ 12) ⌝ }
+    ensures { λ r. ⌜ resultOf r ≡ predictedOf (constraintsOf n m (now (xs .entry))) (now (delta .entry)) ⌝ }
+{
+    let mut out = [0.0; 24];
+    linearized(xs, constraints(n, m), delta, n, &mut out);
+    norm_of(&out, m)
+}
+
+// Whether some slope by variable j is definitely not zero.
+pub fn depends_on(xs: &[f64], e: RowSet, j: usize) -> bool
+    requires { ⌜ Small e × (j < 65536) ⌝ }
+    ensures { λ r. ⌜ r ≡ dependsOn (rowsIn (now (xs .entry)) e) j ⌝ }
+{
+    let count = e.count;
+    for i in 0..count {
+        if slope_of(xs, e, i, j).definitely_not_equal(Scalar::ZERO) {
+            return true;
+        }
+    }
+    false
+}
+
+fn moves(xs: &[f64], n: usize, m: usize, s: usize, j: usize) -> bool
+    requires { ⌜ (n ≤ 12) × ((m ≤ 12) × ((s ≤ 24) × (j < 65536))) ⌝ }
+    ensures { λ r. ⌜ r ≡ dependsOn (sumOf n m s (now (xs .entry))) j || dependsOn (constraintsOf n m (now (xs .entry))) j ⌝ }
+{
+    if depends_on(xs, sum(n, m, s), j) {
+        return true;
+    }
+    depends_on(xs, constraints(n, m), j)
+}
+
+// Marks of the variables that some residual definitely depends on.
+pub fn moving(xs: &[f64], n: usize, m: usize, s: usize) -> [bool; 12]
+    requires { ⌜ (n ≤ 12) × ((m ≤ 12) × (s ≤ 24)) ⌝ }
+    ensures { λ r. ⌜ r ≡ movingOf n (evaluationOf n m s (now (xs .entry))) ⌝ }
+{
+    let mut marks = [false; 12];
+    for j in 0..n {
+        marks[j] = moves(xs, n, m, s, j);
+    }
+    marks
+}
+
+pub fn standing_violation(z: Sizes, area: &[f64]) -> Answer
+    requires { ⌜ (z .m ≤ 12) × (length (now area) ≡ 8000) ⌝ }
+    ensures { λ r. ⌜ ((w : Memory) → Holds w (now (area .entry)) → resultOf r ≡ violationOf (constraintsOf (z .n) (z .m) (w .standingRows))) ⌝ }
+{
+    violation(&area[area::STANDING_ROWS..area::LANDED_ROWS], z.n, z.m)
+}
+
+pub fn landed_violation(z: Sizes, area: &[f64]) -> Answer
+    requires { ⌜ (z .m ≤ 12) × (length (now area) ≡ 8000) ⌝ }
+    ensures { λ r. ⌜ ((w : Memory) → Holds w (now (area .entry)) →
+        resultOf r ≡ violationOf (constraintsOf (z .n) (z .m) (w .landedRows))) ⌝ }
+{
+    violation(&area[area::LANDED_ROWS..area::STEP], z.n, z.m)
+}
