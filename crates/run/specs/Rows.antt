@@ -5,6 +5,7 @@ use mathlib.Core.List.{List}
 use lib.Ieee.{Float}
 use Rattle.interval.specs.declared.Scalar.{Scalar}
 use Rattle.linear.specs.Flat.{at, along}
+use Rattle.run.specs.declared.rows.RowCounts.{RowCounts}
 use Rattle.run.specs.declared.rows.RowSet.{RowSet}
 
 -- how many numbers an answer has
@@ -42,6 +43,10 @@ pub record Evaluation : Type 0 where
 
 abbrev pub evaluationOf : ℕ → ℕ → ℕ → List Float → Evaluation
 evaluationOf n m s xs = record { constraints = constraintsOf n m xs; sum = sumOf n m s xs }
+
+-- by the counts of an answer
+abbrev pub evaluationBy : RowCounts → List Float → Evaluation
+evaluationBy c xs = evaluationOf (c .n) (c .m) (c .s) xs
 
 abbrev pub valueAt : Rows → ℕ → Scalar
 valueAt e i = at (e .list) (e .values + i)

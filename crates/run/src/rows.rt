@@ -8,6 +8,13 @@ ghost use Rattle.run.specs.program.Rows.{Small};
 use interval::Scalar;
 use linear::along;
 
+// How many variables, constraint rows and sum rows one answer has.
+pub struct RowCounts {
+    pub n: usize,
+    pub m: usize,
+    pub s: usize,
+}
+
 // Rows of one kind: `count` values from the place `values` on, and n slopes for each from the place `slopes` on.
 pub struct RowSet {
     pub n: usize,
