@@ -32,4 +32,5 @@ pub mod Bounds
 pub mod Negation
 pub mod PlusZero
 pub mod Points
+pub mod Commutation
 pub mod Middle

@@ -1,13 +1,14 @@
--- Sums of products: one product more, the points that a sum starts with, and runs that are rows.
+-- Sums of products: one product more, the factors exchanged, the points that a sum starts with, and runs that are rows.
 use Prim.Native.Nat.{ℕ, zero, suc, _+_, _-_, _*_, _≤_, _<_}
 use mathlib.Core.Bool.{Bool, true, false, not, _&&_, true≢false, false≢true}
-use mathlib.Core.Path.{_≡_, refl, sym, ap, _∙_}
+use mathlib.Core.Path.{_≡_, refl, sym, ap, ap₂, _∙_}
 use mathlib.Core.List.{List}
 use native.Mathlib.Numerals.{add-one}
 use native.Mathlib.Omega.{arith}
 use lib.Ieee.{Float}
 use Rattle.interval.specs.declared.Scalar.{Scalar}
 use Rattle.interval.specs.Scalar.{pick, addOf, subOf, mulOf, negOf, isSharp}
+use Rattle.interval.proofs.Commutation.{mul-commutes}
 use Rattle.interval.proofs.Negation.{neg-neg-of, difference-negated}
 use Rattle.linear.specs.Flat.{at, along}
 use Rattle.linear.specs.Dot.{plusTo, minusTo, pointsFrom}
@@ -35,6 +36,16 @@ pub negated-back : (f g : ℕ → Scalar) (z : Scalar) (k : ℕ) {n s r : Scalar
     → n ≡ negOf z → s ≡ plusTo f g n k → r ≡ negOf s → r ≡ minusTo f g z k
 negated-back f g z k en es er =
     er ∙ ap negOf (es ∙ ap (λ (n : Scalar). plusTo f g n k) en) ∙ sym (minusTo-negated f g z k)
+
+-- with the factors exchanged
+pub plusTo-commutes : (f g : ℕ → Scalar) (z : Scalar) (k : ℕ) → plusTo f g z k ≡ plusTo g f z k
+unfolding plusTo
+plusTo-commutes f g z zero = refl
+plusTo-commutes f g z (suc k) = ap₂ addOf (plusTo-commutes f g z k) (mul-commutes (f k) (g k))
+
+pub minusTo-commutes : (f g : ℕ → Scalar) (z : Scalar) (k : ℕ) → minusTo f g z k ≡ minusTo g f z k
+minusTo-commutes f g z k =
+    minusTo-negated f g z k ∙ ap negOf (plusTo-commutes f g (negOf z) k) ∙ sym (minusTo-negated g f z k)
 
 pub holds : (b : Bool) → not b ≡ false → b ≡ true
 holds true h = refl

@@ -29,7 +29,7 @@ use Rattle.linear.specs.declared.answers.LinearError.{LinearError}
 use Rattle.linear.proofs.Agree.{normOf-ext, minusTo-ext, dotTo-ext}
 use Rattle.linear.proofs.Folds.{turn, ends, bind-value, bind-ok, bind-refused}
 use Rattle.linear.proofs.Reflections.{rows-positive}
-use Rattle.linear.proofs.Sums.{along-start}
+use Rattle.linear.proofs.Sums.{along-start, minusTo-commutes}
 use Rattle.run.specs.Problem.{Problem}
 use Rattle.run.specs.Basis.{Basis, Taken, noRows, packed, coefficientsIn, outsideAt, partOut, partsOut}
 use Rattle.run.specs.Basis.{gramStep, gramRow, extended, withDependent, rowStep, basisOf, orderAt}
@@ -66,6 +66,12 @@ take-replicate r n v h =
     ap (λ k. take r (replicate k v)) (sym m) ∙ ap (take r) (sym (replicate-append-replicate r (n - r) v)) ∙ take-at (replicate r v) (replicate (n - r) v) r (length-replicate r v)
 
 -- what is left of a row reads only the first coefficients
+-- an entry of what is left of a row, from products with their factors exchanged
+pub outside-exchanged : (wide q a : List Float) (i p r : ℕ) {y s : Scalar} → y ≡ entry wide i p →
+    s ≡ minusTo (column q p) (along a 0 1) y r → s ≡ minusTo (at a) (column q p) (entry wide i p) r
+outside-exchanged wide q a i p r ey es =
+    (rw (along-start, ey) at es) ∙ minusTo-commutes (column q p) (at a) (entry wide i p) r
+
 pub left-take : (k r i : ℕ) (wide q a : List Float) → 2 * r ≤ length a
     → normOf (λ p. minusTo (at a) (column q p) (entry wide i p) r) k ≡ normOf (λ p. minusTo (at (take (2 * r) a)) (column q p) (entry wide i p) r) k
 left-take k r i wide q a h = normOf-ext _ _ k (λ p _. minusTo-ext _ _ _ _ _ r (λ j l. sym (at-take a r j l h)) (λ j _. refl))

@@ -1,31 +1,33 @@
 -- The variables kept, one after the other, and the entries of H, from what each call gives.
 use Prim.Native.Nat.{ℕ, zero, suc, _+_, _*_, _<_, _≤_}
 use mathlib.Core.Bool.{Bool, true, false}
-use mathlib.Core.Logic.{_≢_}
+use mathlib.Core.Logic.{⊎-elim, _≢_}
 use mathlib.Core.Path.{_≡_, refl, sym, ap, _∙_}
 use mathlib.Core.List.{List, [], _∷_, _++_, append-assoc}
 use native.Mathlib.Numerals.{add-one}
 use native.Mathlib.Omega.{arith}
 use borrow.Author.Tests.{eq-eqb, ne-eqb}
 use lib.Dec.{eqb}
-use lib.Ieee.{Float}
-use lib.ListN.{length, getD, set, take, drop, replicate, replicate-append-replicate}
+use lib.Ieee.{Float, lt, le, eq}
+use lib.ListN.{length, getD, set, take, drop, replicate, length-replicate, replicate-append-replicate}
 use Rattle.interval.specs.declared.Scalar.{Scalar}
-use Rattle.interval.specs.Scalar.{zero64, pick, addOf, mulOf}
+use Rattle.interval.proofs.Rank.{le-or-lt}
+use Rattle.interval.specs.Scalar.{zero64, zeroS, pick, addOf, mulOf}
 use Rattle.linear.specs.Choose.{chooseOf}
 use Rattle.linear.specs.Dot.{plusTo}
 use Rattle.linear.specs.Flat.{at, along, zeros}
+use Rattle.linear.proofs.Lists.{ext-at}
 use Rattle.run.specs.Curvature.{curvatureAt}
 use Rattle.run.specs.Problem.{Kept, keepNext, keptTo, variable, squeezedOf, scalingAt, dampedAt, dampedOf}
 use Rattle.run.specs.Problem.{gradientOf, problemOf}
-use Rattle.run.specs.program.Problem.{problemIn, undampedAt, undampedOf, scalingsOf, dampedEntry, dampedBy}
-use Rattle.run.specs.program.Problem.{dampedFrom, gradientIn, gradientAt}
-use Rattle.run.specs.Rows.{Rows, rowsIn, constraintSet, sumSet, constraintsOf, evaluationOf, valueAt}
+use Rattle.run.specs.program.Problem.{squeezedAs, problemIn, undampedAt, undampedOf, scalingsOf, dampedEntry}
+use Rattle.run.specs.program.Problem.{dampedBy, dampedFrom, gradientIn, gradientAt}
+use Rattle.run.specs.Rows.{Rows, rowsIn, constraintSet, sumSet, constraintsOf, evaluationOf, valueAt, slopeAt}
 use Rattle.run.specs.Vectors.{vector, matrix, column, fillTo, fillRows, chosenOf}
 use Rattle.run.specs.declared.rows.RowSet.{RowSet}
 use Rattle.run.proofs.Concatenation.{length-both, first-of-three, second-of-three, third-of-three}
 use Rattle.run.proofs.Sublists.{fill-front, fill-behind, rows-front, at-part}
-use Rattle.run.proofs.VectorLaws.{length-fillTo, at-fill-in, at-take, length-fillRows, fill-rows-ext, at-fill-rows}
+use Rattle.run.proofs.VectorLaws.{length-fillTo, at-fill-in, at-fill-other, filled, at-take, length-fillRows, fill-rows-ext, at-fill-rows, at-rows-behind, at-rows-through, at-clear}
 
 pub keep-turn : (moving : List Bool) (i : ℕ) {k k′ : Kept} → k ≡ keptTo moving i → k′ ≡ keepNext (getD moving i false) k i → k′ ≡ keptTo moving (i + 1)
 unfolding keptTo
@@ -174,15 +176,52 @@ module _ (n : ℕ) (k : Kept) (jr : List Float) (s : ℕ) (jc : List Float) (m :
       pub curve-gradient : gradientIn curve ≡ gradientOf k e
       curve-gradient = third-of-three curve (undampedOf n k jr s b) (scalingsOf (k .count) jr s jc m) (gradientOf k e) length-undamped length-scalings length-gradient ec
 
--- H from the sum's slopes, and the whole problem, from what each call gives
-pub curve-is : (n : ℕ) (k : Kept) (e : Rows) (jc : List Float) (m : ℕ) (b : List Float) (mu : Scalar) {wide₀ jr₀ wide jr h : List Float}
-    → wide₀ ≡ zeros 576 → jr₀ ≡ zeros 576 → wide ≡ squeezedOf k e wide₀ → jr ≡ chosenOf jr₀ wide 0 (12 * e .count) → h ≡ dampedOf n k jr (e .count) jc m b mu
-    → h ≡ dampedOf n k (chosenOf (zeros 576) (squeezedOf k e (zeros 576)) 0 (12 * e .count)) (e .count) jc m b mu
-curve-is n k e jc m b mu ew₀ ej₀ ew ej eh = rw (eh, ej, ew, ej₀, ew₀)
+-- ---- slopes chosen as they are read
 
-pub problem-is : (n m s : ℕ) (k : Kept) (xs b : List Float) (mu : Scalar) {e c : RowSet} {wide₀ jc₀ wide jc h g : List Float}
-    → e ≡ sumSet n m s → c ≡ constraintSet n m → wide₀ ≡ matrix → jc₀ ≡ matrix → wide ≡ squeezedOf k (rowsIn xs c) wide₀ → jc ≡ chosenOf jc₀ wide 0 (12 * c .count)
-    → h ≡ dampedOf n k (chosenOf (zeros 576) (squeezedOf k (rowsIn xs e) (zeros 576)) 0 (12 * e .count)) (e .count) jc m b mu → g ≡ gradientOf k (rowsIn xs e)
+choose-zero : chooseOf zeroS ≡ zeroS
+unfolding chooseOf le lt eq
+choose-zero = refl
+
+-- rows of choices are the choices of the rows: the places between and behind the rows hold zero, of which zero is
+-- chosen
+rows-chosen : (n : ℕ) (f : ℕ → ℕ → Scalar) (k r : ℕ) → k ≤ 12 → 12 * r ≤ n →
+    fillRows (zeros (2 * n)) (λ i p. chooseOf (f i p)) k r
+    ≡ chosenOf (zeros (2 * n)) (fillRows (zeros (2 * n)) f k r) 0 (12 * r)
+rows-chosen n f k r hk hr =
+    let clear = zeros (2 * n) in
+    let l : length clear ≡ 2 * n = length-replicate (2 * n) zero64 in
+    let choices : ℕ → Scalar = λ i. chooseOf (at (fillRows clear f k r) (0 + i)) in
+    ext-at n _ (chosenOf clear (fillRows clear f k r) 0 (12 * r)) (length-fillRows clear _ k r ∙ l)
+    (length-fillTo clear 0 choices (12 * r) ∙ l)
+    (λ i h.
+    let e : 0 + i ≡ i = omega arith in
+    let z : at clear i ≡ zeroS = at-clear (2 * n) i (omega arith) in
+    ⊎-elim
+    (λ b. at-rows-behind clear _ k r i hk b ∙ sym (at-fill-other clear 0 choices (12 * r) i (λ j m q. omega arith)))
+    (λ b.
+    at-rows-through chooseOf i clear f k r (omega (arith, l)) (z ∙ sym (ap chooseOf z ∙ choose-zero))
+    ∙ sym (filled clear choices (12 * r) (omega (arith, l)) i b ∙ ap (λ j. chooseOf (at (fillRows clear f k r) j)) e))
+    (le-or-lt (12 * r) i))
+
+pub squeezed-plain : (k : Kept) (e : Rows) (clear : List Float) → squeezedAs false k e clear ≡ squeezedOf k e clear
+unfolding squeezedAs squeezedOf
+squeezed-plain k e clear = refl
+
+pub squeezed-chosen : (k : Kept) (e : Rows) {jr₀ jr : List Float} → k .count ≤ 12 → e .count ≤ 24 → jr₀ ≡ zeros 576 →
+    jr ≡ squeezedAs true k e jr₀ → jr ≡ chosenOf (zeros 576) (squeezedOf k e (zeros 576)) 0 (12 * e .count)
+unfolding squeezedAs squeezedOf
+squeezed-chosen k e hk he ej₀ ej =
+    ej ∙ ap (λ (x : List Float). squeezedAs true k e x) ej₀
+    ∙ rows-chosen 288 (λ i p. slopeAt e i (variable k p)) (k .count) (e .count) hk (omega arith)
+
+-- ---- the whole problem, from what each call gives
+
+pub problem-is : (n m s : ℕ) (k : Kept) (xs b : List Float) (mu : Scalar) {e c : RowSet}
+    {wide₀ jc₀ wide jc jr h g : List Float}
+    → e ≡ sumSet n m s → c ≡ constraintSet n m → wide₀ ≡ matrix → jc₀ ≡ matrix
+    → wide ≡ squeezedOf k (rowsIn xs c) wide₀ → jc ≡ chosenOf jc₀ wide 0 (12 * c .count)
+    → jr ≡ chosenOf (zeros 576) (squeezedOf k (rowsIn xs e) (zeros 576)) 0 (12 * e .count)
+    → h ≡ dampedOf n k jr (e .count) jc m b mu → g ≡ gradientOf k (rowsIn xs e)
     → problemIn (k .count) m (valueAt (constraintsOf n m xs)) wide jc h g ≡ problemOf n k (evaluationOf n m s xs) b mu
 unfolding problemOf
-problem-is n m s k xs b mu ee ec ew₀ ej₀ ew ej eh eg = rw (eg, eh, ej, ew, ej₀, ew₀, ec, ee)
+problem-is n m s k xs b mu ee ec ew₀ ej₀ ew ej er eh eg = rw (eg, eh, er, ej, ew, ej₀, ew₀, ec, ee)

@@ -69,6 +69,14 @@ fill-two xs base f h es eu =
     (eu ∙ ap (λ (x : List Float). put x (base + (2 * h + 1)) (f (2 * h + 1))) (fill-turn xs base f (2 * h) es refl)
     ∙ fill-turn xs base f (2 * h + 1) refl refl)
 
+-- the same from the start on
+pub fill-first-two : (xs : List Float) (f : ℕ → Scalar) (h : ℕ) {s u : List Float} → s ≡ fillTo xs 0 f (2 * h) →
+    u ≡ put (put s (2 * h) (f (2 * h))) (2 * h + 1) (f (2 * h + 1)) → u ≡ fillTo xs 0 f (2 * (h + 1))
+fill-first-two xs f h es eu =
+    let m : 0 + 2 * h ≡ 2 * h = omega arith in
+    let n : 0 + (2 * h + 1) ≡ 2 * h + 1 = omega arith in
+    fill-two xs 0 f h es (rw (m, n) eu)
+
 -- ---- what is written to one row leaves the others as they were
 
 -- stores at two places, in either order

@@ -2,7 +2,7 @@
 use Prim.Native.Nat.{ℕ, zero, suc, _+_, _*_, _-_, _<_, _≤_}
 use mathlib.Core.Bool.{Bool, true, false, and-true}
 use mathlib.Core.Logic.{⊎-elim, _≢_}
-use mathlib.Core.Path.{_≡_, refl, sym, _∙_}
+use mathlib.Core.Path.{_≡_, refl, sym, ap, _∙_}
 use mathlib.Core.List.{List, _++_}
 use native.Mathlib.Nat.{not-suc-le-zero, le-of-suc-le-suc, eq-or-lt-of-le, le-refl, lt-suc-self}
 use native.Mathlib.Numerals.{add-one}
@@ -17,6 +17,7 @@ use Rattle.interval.specs.Scalar.{zero64, zeroS}
 use Rattle.linear.specs.Flat.{at, put, zeros, listTo}
 use Rattle.linear.specs.Norm.{normOf}
 pub use Rattle.linear.proofs.FillLaws.{fill-turn, at-fill-other, at-fill-ahead}
+use Rattle.linear.proofs.FactorEntries.{same-or-not}
 use Rattle.linear.proofs.FlatLaws.{at-inside, length-put, at-put-same, at-put-other}
 use Rattle.linear.proofs.Lists.{listTo-none, listTo-more, length-listTo, is-listTo}
 use Rattle.linear.specs.Dot.{dotTo}
@@ -143,6 +144,37 @@ at-fill-rows xs f k (suc r) i j hk hi hj l =
     (λ e. rw e (at-fill-in (fillRows xs f k r) (12 * r) (f r) k j hj (omega (arith, length-fillRows xs f k r))))
     (λ m. at-fill-other (fillRows xs f k r) (12 * r) (f r) k (12 * i + j) (λ t h e. omega arith) ∙ at-fill-rows xs f k r i j hk m hj (omega arith))
     (eq-or-lt-of-le (le-of-suc-le-suc hi))
+
+-- where what is stored goes through g: so does what is read at a place p of which that holds at the start
+module _ (g : Scalar → Scalar) (p : ℕ) where
+  at-fill-through : (xs ys : List Float) (base : ℕ) (f : ℕ → Scalar) (k : ℕ) → 2 * p + 1 < length xs →
+      length ys ≡ length xs → at xs p ≡ g (at ys p) →
+      at (fillTo xs base (λ j. g (f j)) k) p ≡ g (at (fillTo ys base f k) p)
+  unfolding fillTo
+  at-fill-through xs ys base f zero l m h = h
+  at-fill-through xs ys base f (suc k) l m h =
+      let u = fillTo xs base (λ j. g (f j)) k in
+      let v = fillTo ys base f k in
+      ⊎-elim
+      (λ e.
+      let lu : 2 * (base + k) + 1 < length u = omega (arith, length-fillTo xs base (λ j. g (f j)) k) in
+      let lv : 2 * (base + k) + 1 < length v = omega (arith, length-fillTo ys base f k) in
+      ap (at (put u (base + k) (g (f k)))) e ∙ at-put-same u (base + k) (g (f k)) lu
+      ∙ sym (ap g (ap (at (put v (base + k) (f k))) e ∙ at-put-same v (base + k) (f k) lv)))
+      (λ n.
+      at-put-other u (base + k) p (g (f k)) n ∙ at-fill-through xs ys base f k l m h
+      ∙ sym (ap g (at-put-other v (base + k) p (f k) n)))
+      (same-or-not p (base + k))
+
+  pub at-rows-through : (xs : List Float) (f : ℕ → ℕ → Scalar) (k r : ℕ) → 2 * p + 1 < length xs →
+      at xs p ≡ g (at xs p) → at (fillRows xs (λ i j. g (f i j)) k r) p ≡ g (at (fillRows xs f k r) p)
+  unfolding fillRows
+  at-rows-through xs f k zero l h = h
+  at-rows-through xs f k (suc r) l h =
+      at-fill-through (fillRows xs (λ i j. g (f i j)) k r) (fillRows xs f k r) (12 * r) (f r) k
+      (omega (arith, l, length-fillRows xs (λ i j. g (f i j)) k r))
+      (length-fillRows xs f k r ∙ sym (length-fillRows xs (λ i j. g (f i j)) k r))
+      (at-rows-through xs f k r l h)
 
 module _ (p : ℕ → Bool) where
   -- all so far, and one more

@@ -1,5 +1,5 @@
 // An orthonormal basis Q of the constraints' rows, and each row's coefficients in it.
-ghost use Prim.Native.Nat.{_*_, _≤_, _<_, ℕ, _/_, _%_};
+ghost use Prim.Native.Nat.{_*_, _≤_, _<_, _+_, ℕ, _/_, _%_};
 ghost use mathlib.Core.Bool.{false};
 ghost use mathlib.Core.List.{List, []};
 ghost use mathlib.Core.Path.{_≡_};
@@ -38,6 +38,7 @@ use linear::minus_dot;
 use linear::minus_scaled;
 use linear::put;
 use linear::row_dot;
+use linear::two_minus;
 
 // How many rows are in the basis, or the refusal met on the way.
 pub enum Rank {
@@ -109,18 +110,38 @@ fn coefficients(
 
 // ---- what is left of a row
 
-// Row i of `wide` without its coefficients a, from the start of `out` on.
+// Entries p and p + 1 of row i of `wide` without its coefficients a.
+fn two_outside(r: usize, i: usize, wide: &[f64], q: &[f64], a: &[f64], out: &mut [f64], p: usize)
+    requires { ⌜ (i < 12) × (p < 11) ⌝ }
+    ensures { λ _. ⌜ now (out .exit) ≡ put (put (now (out .entry)) p
+        (minusTo (at (now (a .entry))) (column (now (q .entry)) p) (entry (now (wide .entry)) i p) r)) (p + 1)
+        (minusTo (at (now (a .entry))) (column (now (q .entry)) (p + 1)) (entry (now (wide .entry)) i (p + 1)) r) ⌝ }
+{
+    let y = at(wide, 12 * i + p);
+    let z = at(wide, 12 * i + (p + 1));
+    let d = two_minus(q, p, p + 1, 12, a, 0, y, z, r);
+    put(out, p, d.first);
+    put(out, p + 1, d.second);
+}
+
+// Row i of `wide` without its coefficients a, from the start of `out` on, two entries at a time.
 fn outside(k: usize, r: usize, i: usize, wide: &[f64], q: &[f64], a: &[f64], out: &mut [f64])
     requires { ⌜ (k ≤ 12) × (i < 12) ⌝ }
     ensures { λ _. ⌜ now (out .exit) ≡ fillTo (now (out .entry)) 0 (λ p. minusTo (at (now (a .entry))) (column (now (q .entry)) p) (entry (now (wide .entry)) i p) r) k ⌝ }
 {
-    for p in 0..k {
-        put(
-            out,
-            p,
-            minus_dot(a, 0, 1, q, p, 12, at(wide, 12 * i + p), r),
-        );
+    let half = k / 2;
+    for h in 0..half {
+        two_outside(r, i, wide, q, a, out, 2 * h);
     }
+    if 2 * half == k {
+        return;
+    }
+    let p = 2 * half;
+    put(
+        out,
+        p,
+        minus_dot(a, 0, 1, q, p, 12, at(wide, 12 * i + p), r),
+    );
 }
 
 // ---- an independent row

@@ -1,16 +1,16 @@
 // The problem that a step solves: the slopes by the variables that move, J_rᵀ J_r + B, the scaling D and the gradient.
-ghost use Prim.Native.Nat.{_<_, _≤_, ℕ, _+_, _*_};
+ghost use Prim.Native.Nat.{_<_, _≤_, _+_, _*_, ℕ};
 ghost use mathlib.Core.Bool.{true};
 ghost use mathlib.Core.List.{_++_};
 ghost use mathlib.Core.Path.{_≡_};
 ghost use lib.ListN.{length, replicate, getD};
 ghost use Rattle.linear.specs.Flat.{at, zeros};
 ghost use Rattle.run.specs.Curvature.{curvatureAt};
-ghost use Rattle.run.specs.Problem.{keepNext, keptTo, squeezedOf, scalingAt, gradientOf, problemOf};
+ghost use Rattle.run.specs.Problem.{keepNext, keptTo, scalingAt, squeezedOf, gradientOf, problemOf};
 ghost use Rattle.run.specs.Rows.{rowsIn, slopeAt, constraintsOf, evaluationOf, valueAt};
 ghost use Rattle.run.specs.Vectors.{fillTo, fillRows, matrix, chosenOf};
-ghost use Rattle.run.specs.program.Problem.{keptBy, undampedAt, dampedEntry, dampedFrom, gradientAt};
-ghost use Rattle.run.specs.program.Problem.{undampedOf, scalingsOf, problemIn, gradientIn};
+ghost use Rattle.run.specs.program.Problem.{keptBy, chosenIf, squeezedAs, undampedAt, dampedEntry, dampedFrom};
+ghost use Rattle.run.specs.program.Problem.{gradientAt, undampedOf, scalingsOf, problemIn, gradientIn};
 ghost use Rattle.run.specs.program.Rows.{Small};
 use crate::residuals::chosen_values;
 use crate::residuals::transposed_at;
@@ -57,6 +57,18 @@ pub fn keep(moving: &[bool], n: usize, index: &mut [usize]) -> usize
 
 // ---- slopes
 
+// The slope of row i by variable j, chosen where that is asked for.
+fn kept_slope(xs: &[f64], e: RowSet, i: usize, j: usize, is_chosen: bool) -> Scalar
+    requires { ⌜ Small e × (i < 65536) ⌝ }
+    ensures { λ r. ⌜ r ≡ chosenIf «is_chosen» (slopeAt (rowsIn (now (xs .entry)) e) i j) ⌝ }
+{
+    let v = slope_of(xs, e, i, j);
+    if is_chosen {
+        return choose(v);
+    }
+    v
+}
+
 // The kept slopes of row i, from t0 on in `to`.
 fn squeeze_row(
     xs: &[f64],
@@ -64,25 +76,28 @@ fn squeeze_row(
     i: usize,
     index: &[usize],
     k: usize,
+    is_chosen: bool,
     to: &mut [f64],
     t0: usize,
 )
     requires { ⌜ (Small e × (i < 65536)) × ((k ≤ 12) × ((length (now index) ≡ 12) × (t0 < 65536))) ⌝ }
-    ensures { λ _. ⌜ now (to .exit) ≡ fillTo (now (to .entry)) t0 (λ p. slopeAt (rowsIn (now (xs .entry)) e) i (getD (now (index .entry)) p 0)) k ⌝ }
+    ensures { λ _. ⌜ now (to .exit) ≡ fillTo (now (to .entry)) t0 (λ p. chosenIf «is_chosen»
+        (slopeAt (rowsIn (now (xs .entry)) e) i (getD (now (index .entry)) p 0))) k ⌝ }
 {
     for p in 0..k {
-        put(to, t0 + p, slope_of(xs, e, i, index[p]));
+        put(to, t0 + p, kept_slope(xs, e, i, index[p], is_chosen));
     }
 }
 
-// The slopes by the kept variables.
-pub fn squeeze(xs: &[f64], e: RowSet, index: &[usize], k: usize, to: &mut [f64])
+// The slopes by the kept variables, chosen as they are read where only the choices are used.
+pub fn squeeze(xs: &[f64], e: RowSet, index: &[usize], k: usize, is_chosen: bool, to: &mut [f64])
     requires { ⌜ Small e × ((k ≤ 12) × (length (now index) ≡ 12)) ⌝ }
-    ensures { λ _. ⌜ now (to .exit) ≡ squeezedOf (keptBy k (now (index .entry))) (rowsIn (now (xs .entry)) e) (now (to .entry)) ⌝ }
+    ensures { λ _. ⌜ now (to .exit) ≡ squeezedAs «is_chosen» (keptBy k (now (index .entry)))
+        (rowsIn (now (xs .entry)) e) (now (to .entry)) ⌝ }
 {
     let count = e.count;
     for i in 0..count {
-        squeeze_row(xs, e, i, index, k, to, 12 * i);
+        squeeze_row(xs, e, i, index, k, is_chosen, to, 12 * i);
     }
 }
 
@@ -147,7 +162,7 @@ fn is_mirrored(b: Scalar, across: Scalar, i: usize, j: usize) -> bool
 }
 
 // Entry (i, j) of it, from B's entry b: the entry across the diagonal, which h has, where B's entry there is the same,
-// since products of points commute.
+// since products commute.
 fn undamped_from(
     jr: &[f64],
     s: usize,
@@ -157,8 +172,7 @@ fn undamped_from(
     i: usize,
     j: usize,
 ) -> Scalar
-    requires { ⌜ (i < 12) × ((j < 12) × (((p : ℕ) → at (now jr) p .lo ≡ at (now jr) p .hi)
-        × (j < i → at (now h) (12 * j + i) ≡ undampedAt (now jr) s across j i))) ⌝ }
+    requires { ⌜ (i < 12) × ((j < 12) × (j < i → at (now h) (12 * j + i) ≡ undampedAt (now jr) s across j i)) ⌝ }
     ensures { λ r. ⌜ r ≡ undampedAt (now (jr .entry)) s b i j ⌝ }
 {
     if is_mirrored(b, across, i, j) {
@@ -178,9 +192,8 @@ fn undamped_row(
     h: &mut [f64],
     i: usize,
 )
-    requires { ⌜ (k ≤ 12) × ((length (now index) ≡ 12) × ((i < k) × (((p : ℕ) → at (now jr) p .lo ≡ at (now jr) p .hi)
-        × ((t j : ℕ) → t < i → j < k → at (now h) (12 * t + j)
-        ≡ undampedAt (now jr) s (curvatureAt n (now b) (getD (now index) t 0) (getD (now index) j 0)) t j)))) ⌝ }
+    requires { ⌜ (k ≤ 12) × ((length (now index) ≡ 12) × ((i < k) × ((t j : ℕ) → t < i → j < k → at (now h) (12 * t + j)
+        ≡ undampedAt (now jr) s (curvatureAt n (now b) (getD (now index) t 0) (getD (now index) j 0)) t j))) ⌝ }
     ensures { λ _. ⌜ now (h .exit) ≡ fillTo (now (h .entry)) (12 * i) (λ j. undampedAt (now (jr .entry)) s (curvatureAt n (now (b .entry)) (getD (now (index .entry)) i 0) (getD (now (index .entry)) j 0)) i j) k ⌝ }
 {
     let row = index[i];
@@ -195,8 +208,7 @@ fn undamped_row(
 
 // J_rᵀ J_r + B over the kept variables, at the start of a clear curve.
 fn undamped(n: usize, index: &[usize], k: usize, jr: &[f64], s: usize, b: &[f64], curve: &mut [f64])
-    requires { ⌜ (k ≤ 12) × ((length (now index) ≡ 12) × ((now curve ≡ zeros 336)
-        × ((p : ℕ) → at (now jr) p .lo ≡ at (now jr) p .hi))) ⌝ }
+    requires { ⌜ (k ≤ 12) × ((length (now index) ≡ 12) × (now curve ≡ zeros 336)) ⌝ }
     ensures { λ _. ⌜ now (curve .exit) ≡ fillRows (zeros 336) (λ i j. undampedAt (now (jr .entry)) s (curvatureAt n (now (b .entry)) (getD (now (index .entry)) i 0) (getD (now (index .entry)) j 0)) i j) k k ⌝ }
 {
     for i in 0..k {
@@ -263,11 +275,11 @@ fn slopes(xs: &[f64], e: RowSet, index: &[usize], k: usize, wide: &mut [f64], na
     requires { ⌜ Small e × ((k ≤ 12) × (length (now index) ≡ 12)) ⌝ }
     ensures { λ _. ⌜ (now (wide .exit) ≡ squeezedOf (keptBy k (now (index .entry))) (rowsIn (now (xs .entry)) e) (now (wide .entry))) × (now (narrow .exit) ≡ chosenOf (now (narrow .entry)) (now (wide .exit)) 0 (12 * e .count)) ⌝ }
 {
-    squeeze(xs, e, index, k, wide);
+    squeeze(xs, e, index, k, false, wide);
     chosen(wide, 0, 12 * e.count, narrow);
 }
 
-// The curve: J_rᵀ J_r + B, D and the gradient, from the slopes chosen, which are points, into a clear slice.
+// The curve: J_rᵀ J_r + B, D and the gradient, from the slopes chosen, into a clear slice.
 fn fill_undamped(
     n: usize,
     m: usize,
@@ -281,7 +293,7 @@ fn fill_undamped(
     curve: &mut [f64],
 )
     requires { ⌜ Small e × ((k ≤ 12) × ((length (now index) ≡ 12) × (((p : ℕ) → getD (now index) p 0 < 65536)
-        × ((now curve ≡ zeros 336) × ((p : ℕ) → at (now jr) p .lo ≡ at (now jr) p .hi))))) ⌝ }
+        × (now curve ≡ zeros 336)))) ⌝ }
     ensures { λ _. ⌜ now (curve .exit) ≡ undampedOf n (keptBy k (now (index .entry))) (now (jr .entry)) (e .count) (now (b .entry)) ++ (scalingsOf k (now (jr .entry)) (e .count) (now (jc .entry)) m ++ gradientOf (keptBy k (now (index .entry))) (rowsIn (now (xs .entry)) e)) ⌝ }
 {
     undamped(n, index, k, jr, e.count, b, curve);
@@ -307,9 +319,8 @@ pub fn problem(
     ensures { λ _. ⌜ ((mu : Scalar) → problemIn k m (valueAt (constraintsOf n m (now (xs .entry)))) (now (wide .exit)) (now (jc .exit)) (dampedFrom k (now (curve .exit)) mu) (gradientIn (now (curve .exit))) ≡ problemOf n (keptBy k (now (index .entry))) (evaluationOf n m s (now (xs .entry))) (now (b .entry)) mu) ⌝ }
 {
     let e = sum(n, m, s);
-    let mut all = [0.0; 576];
     let mut jr = [0.0; 576];
     slopes(xs, constraints(n, m), index, k, wide, jc);
-    slopes(xs, e, index, k, &mut all, &mut jr);
+    squeeze(xs, e, index, k, true, &mut jr);
     fill_undamped(n, m, index, k, xs, e, b, &jr, jc, curve);
 }

@@ -1,5 +1,6 @@
 -- For private functions: a problem by its parts, and the part of it that no damping changes.
 use Prim.Native.Nat.{ℕ}
+use mathlib.Core.Bool.{Bool}
 use mathlib.Core.List.{List}
 use lib.Dec.{eqb}
 use lib.Ieee.{Float}
@@ -11,8 +12,8 @@ use Rattle.linear.specs.Dot.{plusTo, dotTo}
 use Rattle.linear.specs.Flat.{at, zeros}
 use Rattle.run.specs.Curvature.{curvatureAt}
 use Rattle.run.specs.Problem.{Kept, Problem, variable, scalingAt}
-use Rattle.run.specs.Rows.{Rows, slopesBy}
-use Rattle.run.specs.Vectors.{column, matrix, fillRows, vector, fillTo, chosenOf, entry}
+use Rattle.run.specs.Rows.{Rows, slopeAt, slopesBy}
+use Rattle.run.specs.Vectors.{fillRows, column, matrix, vector, fillTo, chosenOf, entry}
 
 -- by its parts, as the functions have them
 abbrev pub keptBy : ℕ → List ℕ → Kept
@@ -23,6 +24,14 @@ abbrev pub problemIn : ℕ → ℕ → (ℕ → Scalar) → List Float → List 
 problemIn k m c wide jc h g = record { k = k; m = m; c = c; wide = wide; jc = jc; h = h; g = g }
 
 -- ---- what the program keeps and answers
+
+-- v, chosen or as it is, and so the slopes by the kept variables
+abbrev pub chosenIf : Bool → Scalar → Scalar
+chosenIf chosen v = pick chosen (chooseOf v) v
+
+unfoldable pub squeezedAs : Bool → Kept → Rows → List Float → List Float
+squeezedAs chosen k e clear =
+    fillRows clear (λ i p. chosenIf chosen (slopeAt e i (variable k p))) (k .count) (e .count)
 
 -- an entry of J_rᵀ J_r + B, from B's entry b, and all: chosen off the diagonal, where mu D is still to be added
 unfoldable pub undampedAt : List Float → ℕ → Scalar → ℕ → ℕ → Scalar

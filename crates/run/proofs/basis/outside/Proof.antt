@@ -1,27 +1,65 @@
--- `outside` meets its contract: one place more is filled in each turn.
+-- `outside` meets its contract: an even number of places is filled so far, and at the end one more where k is odd.
 use borrow.Author.Needs.{needs}
 use mathlib.Core.Path.{_≡_, _∙_}
-use Prim.Native.Nat.{ℕ, _≤_, _-_}
-use native.Mathlib.Nat.{le-antisymm}
+use Prim.Native.Nat.{ℕ, _+_, _*_, _/_, _≤_, _-_}
+use native.Mathlib.Omega.{arith}
 use lib.ListN.{length}
 use Rattle.interval.specs.declared.Scalar.{Scalar}
 use Rattle.linear.specs.Dot.{minusTo}
 use Rattle.linear.specs.Flat.{at}
 use Rattle.linear.proofs.Sums.{along-start}
 use Rattle.run.specs.Vectors.{column, entry, fillTo}
+use Rattle.run.proofs.TwoRows.{fill-first-two}
 use Rattle.run.proofs.VectorLaws.{fill-first}
 use Rattle.run.proofs.basis.outside.Statement.{statement}
 use Rattle.run.proofs.basis.outside.Tie as tie
 
 abbrev Inv-loop : tie.InvT-loop
-Inv-loop k r i wide q a out₀ p₀ out p = (p ≤ k) × (length out ≡ length out₀) × (out ≡ fillTo out₀ 0 (λ j. minusTo (at a) (column q j) (entry wide i j) r) p)
+Inv-loop k r i wide q a out₀ half h₀ out h =
+    (h ≤ half) × (length out ≡ length out₀) × (out ≡ fillTo out₀ 0 (λ j. minusTo (at a) (column q j) (entry wide i j) r)
+    (2 * h))
 
 abbrev μ-loop : tie.MeasureT-loop
-μ-loop k r i wide q a out₀ p₀ out p = k - p
+μ-loop k r i wide q a out₀ half h₀ out h = half - h
 
 loop-holds : tie.Need-loop-holds Inv-loop μ-loop
 unfolding fillTo
 loop-holds c = search needs
+
+mul-two-outside : tie.Need-mul-two-outside Inv-loop μ-loop
+mul-two-outside c = search needs
+
+two-outside-requires : tie.Need-two-outside-requires Inv-loop μ-loop
+two-outside-requires c κs =
+    let h = c .before .before .before .before .before .before .before .pre in
+    (h .1, omega (arith, h .0, c .before .loop-test .taken))
+
+add-h : tie.Need-add-h Inv-loop μ-loop
+add-h c = search needs
+
+loop-less : tie.Need-loop-less Inv-loop μ-loop
+loop-less c = search needs
+
+loop-again : tie.Need-loop-again Inv-loop μ-loop
+loop-again c =
+    let l = c .before .before .before .before .before .loop in
+    (search needs, search needs, fill-first-two _ _ (l .h) (l .inv .2) (c .before .before .two-outside .ensures))
+
+mul-if1 : tie.Need-mul-if1 Inv-loop μ-loop
+mul-if1 c = search needs
+
+same-length : tie.Need-same-length Inv-loop μ-loop
+same-length c = search needs
+
+returns : tie.Need-returns Inv-loop μ-loop
+returns c =
+    let l = c .before .before .loop in
+    let a = c .before .before .before .before .before .before .before .args in
+    let e : 2 * l .h ≡ a .k = omega (arith, l .inv .0, c .before .loop-test .left, c .if1 .taken) in
+    rw e at (l .inv .2)
+
+mul-p : tie.Need-mul-p Inv-loop μ-loop
+mul-p c = search needs
 
 mul-at : tie.Need-mul-at Inv-loop μ-loop
 mul-at c = search needs
@@ -38,24 +76,21 @@ minus-dot-requires c κs = tt
 put-requires : tie.Need-put-requires Inv-loop μ-loop
 put-requires c κs = search needs
 
-add-p : tie.Need-add-p Inv-loop μ-loop
-add-p c = search needs
+same-length-2 : tie.Need-same-length-2 Inv-loop μ-loop
+same-length-2 c = search needs
 
-loop-less : tie.Need-loop-less Inv-loop μ-loop
-loop-less c = search needs
-
-loop-again : tie.Need-loop-again Inv-loop μ-loop
-loop-again c =
-    let a = c .before .before .before .before .before .before .before .before .before .before .before .before .args in
+returns-2 : tie.Need-returns-2 Inv-loop μ-loop
+returns-2 c =
+    let d = c .before .before .before in
+    let t = d .before .before .before .before in
+    let l = t .before .loop in
+    let a = t .before .before .before .before .before .before .args in
+    let e : 2 * l .h ≡ 2 * (a .k / 2) = omega (arith, l .inv .0, t .loop-test .left) in
+    let n : 2 * (a .k / 2) + 1 ≡ a .k = omega (arith, d .before .before .before .if1 .left) in
     let f : ℕ → Scalar = λ j. minusTo (at (a .a .now)) (column (a .q .now) j) (entry (a .wide .now) (a .i) j) (a .r) in
-    let v : c .before .before .before .minus-dot .result ≡ f (c .before .before .before .before .before .before .before .loop .p) = rw (along-start, c .before .before .before .before .at .ensures) at (c .before .before .before .minus-dot .ensures) in
-    (search needs, search needs, c .before .before .put .ensures ∙ fill-first (a .out .now) f (c .before .before .before .before .before .before .before .loop .p) (c .before .before .before .before .before .before .before .loop .inv .2) v)
-
-same-length : tie.Need-same-length Inv-loop μ-loop
-same-length c = search needs
-
-returns : tie.Need-returns Inv-loop μ-loop
-returns c = rw (le-antisymm (c .before .loop .inv .0) (c .loop-test .left)) at (c .before .loop .inv .2)
+    let v : d .minus-dot .result ≡ f (2 * (a .k / 2)) = rw (along-start, d .before .at .ensures) at (d .minus-dot
+    .ensures) in
+    c .before .before .put .ensures ∙ (rw n at (fill-first (a .out .now) f (2 * (a .k / 2)) (rw e at (l .inv .2)) v))
 
 pub outside-spec : {M : Type 1} → statement M
 outside-spec =
@@ -64,13 +99,19 @@ outside-spec =
     Inv-loop
     μ-loop
     loop-holds
+    mul-two-outside
+    two-outside-requires
+    add-h
+    loop-less
+    loop-again
+    mul-if1
+    same-length
+    returns
+    mul-p
     mul-at
     add-at
     at-requires
     minus-dot-requires
     put-requires
-    add-p
-    loop-less
-    loop-again
-    same-length
-    returns)
+    same-length-2
+    returns-2)

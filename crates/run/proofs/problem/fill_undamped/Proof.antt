@@ -9,7 +9,7 @@ use Rattle.run.proofs.problem.fill_undamped.Tie as tie
 undamped-requires : tie.Need-undamped-requires
 undamped-requires c κs =
     let p = c .before .before .before .before .before .before .before .pre in
-    (p .1 .0, (p .1 .1 .0, (p .1 .1 .1 .1 .0, p .1 .1 .1 .1 .1)))
+    (p .1 .0, (p .1 .1 .0, p .1 .1 .1 .1))
 
 scalings-requires : tie.Need-scalings-requires
 scalings-requires c κs = c .before .before .before .before .before .before .before .before .before .before .before .pre .1 .0

@@ -3,7 +3,8 @@ use mathlib.Core.Path.{sym, subst}
 use borrow.Author.Tests.{eqb-true}
 use lib.Dec.{T}
 use Rattle.run.proofs.Booleans.{never}
-use Rattle.run.proofs.Symmetry.{numbers, same-bits}
+use Rattle.interval.proofs.Commutation.{same-bits}
+use Rattle.run.proofs.Symmetry.{numbers}
 use Rattle.run.proofs.problem.is_same.Statement.{statement}
 use Rattle.run.proofs.problem.is_same.Tie as tie
 

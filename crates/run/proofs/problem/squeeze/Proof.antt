@@ -1,12 +1,13 @@
 -- `squeeze` meets its contract: one row more is filled in each turn.
 use borrow.Author.Needs.{needs}
 use mathlib.Core.Path.{_≡_, _∙_}
-use Prim.Native.Nat.{_≤_, _-_}
+use Prim.Native.Nat.{ℕ, _≤_, _-_}
 use native.Mathlib.Nat.{le-antisymm}
 use native.Mathlib.Omega.{arith}
 use lib.ListN.{length}
-use Rattle.run.specs.program.Problem.{keptBy}
-use Rattle.run.specs.Problem.{variable, squeezedOf}
+use Rattle.interval.specs.declared.Scalar.{Scalar}
+use Rattle.run.specs.program.Problem.{keptBy, chosenIf, squeezedAs}
+use Rattle.run.specs.Problem.{variable}
 use Rattle.run.specs.Rows.{rowsIn, slopeAt}
 use Rattle.run.specs.Vectors.{fillRows}
 use Rattle.run.proofs.VectorLaws.{fill-rows-turn}
@@ -14,10 +15,12 @@ use Rattle.run.proofs.problem.squeeze.Statement.{statement}
 use Rattle.run.proofs.problem.squeeze.Tie as tie
 
 abbrev Inv-loop : tie.InvT-loop
-Inv-loop xs e index k to₀ count i₀ to i = (i ≤ count) × (length to ≡ length to₀) × (to ≡ fillRows to₀ (λ j p. slopeAt (rowsIn xs e) j (variable (keptBy k index) p)) k i)
+Inv-loop xs e index k isChosen to₀ count i₀ to i =
+    (i ≤ count) × (length to ≡ length to₀) × (to ≡ fillRows to₀ (λ j p. chosenIf isChosen (slopeAt (rowsIn xs e) j
+    (variable (keptBy k index) p))) k i)
 
 abbrev μ-loop : tie.MeasureT-loop
-μ-loop xs e index k to₀ count i₀ to i = count - i
+μ-loop xs e index k isChosen to₀ count i₀ to i = count - i
 
 loop-holds : tie.Need-loop-holds Inv-loop μ-loop
 unfolding fillRows
@@ -42,13 +45,18 @@ loop-again : tie.Need-loop-again Inv-loop μ-loop
 loop-again c =
     let a = c .before .before .before .before .before .before .before .before .before .args in
     let l = c .before .before .before .before .before .loop in
-    (search needs, search needs, c .before .before .squeeze-row .ensures ∙ fill-rows-turn (a .to .now) (λ j p. slopeAt (rowsIn (a .xs .now) (a .e)) j (variable (keptBy (a .k) (a .index .now)) p)) (a .k) (l .i) (l .inv .2))
+    let f : ℕ → ℕ → Scalar = λ j p. chosenIf (a .is-chosen) (slopeAt (rowsIn (a .xs .now) (a .e)) j
+    (variable (keptBy (a .k) (a .index .now)) p)) in (
+      search needs,
+      search needs,
+      c .before .before .squeeze-row .ensures ∙ fill-rows-turn (a .to .now) f (a .k) (l .i) (l .inv .2),
+    )
 
 same-length : tie.Need-same-length Inv-loop μ-loop
 same-length c = search needs
 
 returns : tie.Need-returns Inv-loop μ-loop
-unfolding squeezedOf
+unfolding squeezedAs
 returns c = rw (le-antisymm (c .before .loop .inv .0) (c .loop-test .left)) at (c .before .loop .inv .2)
 
 pub squeeze-spec : {M : Type 1} → statement M

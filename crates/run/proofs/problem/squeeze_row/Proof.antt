@@ -1,9 +1,11 @@
 -- `squeeze_row` meets its contract: one place more is filled in each turn.
 use borrow.Author.Needs.{needs}
 use mathlib.Core.Path.{_≡_, _∙_}
-use Prim.Native.Nat.{_≤_, _-_}
+use Prim.Native.Nat.{ℕ, _≤_, _-_}
 use native.Mathlib.Nat.{le-antisymm}
 use lib.ListN.{length, getD}
+use Rattle.interval.specs.declared.Scalar.{Scalar}
+use Rattle.run.specs.program.Problem.{chosenIf}
 use Rattle.run.specs.Rows.{rowsIn, slopeAt}
 use Rattle.run.specs.Vectors.{fillTo}
 use Rattle.run.proofs.VectorLaws.{fill-turn}
@@ -11,10 +13,12 @@ use Rattle.run.proofs.problem.squeeze_row.Statement.{statement}
 use Rattle.run.proofs.problem.squeeze_row.Tie as tie
 
 abbrev Inv-loop : tie.InvT-loop
-Inv-loop xs e i index k to₀ t0 p₀ to p = (p ≤ k) × (length to ≡ length to₀) × (to ≡ fillTo to₀ t0 (λ j. slopeAt (rowsIn xs e) i (getD index j 0)) p)
+Inv-loop xs e i index k isChosen to₀ t0 p₀ to p =
+    (p ≤ k) × (length to ≡ length to₀) × (to ≡ fillTo to₀ t0 (λ j. chosenIf isChosen (slopeAt (rowsIn xs e) i
+    (getD index j 0))) p)
 
 abbrev μ-loop : tie.MeasureT-loop
-μ-loop xs e i index k to₀ t0 p₀ to p = k - p
+μ-loop xs e i index k isChosen to₀ t0 p₀ to p = k - p
 
 loop-holds : tie.Need-loop-holds Inv-loop μ-loop
 unfolding fillTo
@@ -23,14 +27,14 @@ loop-holds c = search needs
 add-put : tie.Need-add-put Inv-loop μ-loop
 add-put c = search needs
 
-mul-slope-of : tie.Need-mul-slope-of Inv-loop μ-loop
-mul-slope-of c = search needs
+mul-kept-slope : tie.Need-mul-kept-slope Inv-loop μ-loop
+mul-kept-slope c = search needs
 
-shared-slice-read-slope-of : tie.Need-shared-slice-read-slope-of Inv-loop μ-loop
-shared-slice-read-slope-of c = search needs
+shared-slice-read-kept-slope : tie.Need-shared-slice-read-kept-slope Inv-loop μ-loop
+shared-slice-read-kept-slope c = search needs
 
-slope-of-requires : tie.Need-slope-of-requires Inv-loop μ-loop
-slope-of-requires c κs = c .before .before .before .before .before .before .before .pre .0
+kept-slope-requires : tie.Need-kept-slope-requires Inv-loop μ-loop
+kept-slope-requires c κs = c .before .before .before .before .before .before .before .pre .0
 
 put-requires : tie.Need-put-requires Inv-loop μ-loop
 put-requires c κs = search needs
@@ -45,7 +49,13 @@ loop-again : tie.Need-loop-again Inv-loop μ-loop
 loop-again c =
     let a = c .before .before .before .before .before .before .before .before .before .before .before .args in
     let l = c .before .before .before .before .before .before .before .loop in
-    (search needs, search needs, c .before .before .put .ensures ∙ fill-turn (a .to .now) (a .t0) (λ j. slopeAt (rowsIn (a .xs .now) (a .e)) (a .i) (getD (a .index .now) j 0)) (l .p) (l .inv .2) (c .before .before .before .slope-of .ensures))
+    let f : ℕ → Scalar = λ j. chosenIf (a .is-chosen) (slopeAt (rowsIn (a .xs .now) (a .e)) (a .i)
+    (getD (a .index .now) j 0)) in (
+      search needs,
+      search needs,
+      c .before .before .put .ensures ∙ fill-turn (a .to .now) (a .t0) f (l .p) (l .inv .2) (c .before .before .before
+          .kept-slope .ensures),
+    )
 
 same-length : tie.Need-same-length Inv-loop μ-loop
 same-length c = search needs
@@ -54,4 +64,19 @@ returns : tie.Need-returns Inv-loop μ-loop
 returns c = rw (le-antisymm (c .before .loop .inv .0) (c .loop-test .left)) at (c .before .loop .inv .2)
 
 pub squeeze-row-spec : {M : Type 1} → statement M
-squeeze-row-spec = tie.close (tie.spec Inv-loop μ-loop loop-holds add-put mul-slope-of shared-slice-read-slope-of slope-of-requires put-requires add-p loop-less loop-again same-length returns)
+squeeze-row-spec =
+    tie.close
+    (tie.spec
+    Inv-loop
+    μ-loop
+    loop-holds
+    add-put
+    mul-kept-slope
+    shared-slice-read-kept-slope
+    kept-slope-requires
+    put-requires
+    add-p
+    loop-less
+    loop-again
+    same-length
+    returns)

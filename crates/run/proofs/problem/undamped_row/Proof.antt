@@ -59,15 +59,12 @@ undamped-from-requires c κs =
       hi,
       (
         le-trans (c .before .before .before .before .loop-test .taken) (p .0),
-        (
-          p .1 .1 .1 .0,
-          λ q.
-              across-kept (a .h .now) (entryAt (a .n) (a .index .now) (a .jr .now) (a .s) (a .b .now) (a .i)) (a .i)
-              (l .j)
-              (l .inv .2) hi q
-              ∙ p .1 .1 .1 .1 (l .j) (a .i) q (p .1 .1 .0)
-              ∙ ap (λ (z : Scalar). undampedAt (a .jr .now) (a .s) z (l .j) (a .i)) (sym e),
-        ),
+        λ q.
+            across-kept (a .h .now) (entryAt (a .n) (a .index .now) (a .jr .now) (a .s) (a .b .now) (a .i)) (a .i)
+            (l .j)
+            (l .inv .2) hi q
+            ∙ p .1 .1 .1 (l .j) (a .i) q (p .1 .1 .0)
+            ∙ ap (λ (z : Scalar). undampedAt (a .jr .now) (a .s) z (l .j) (a .i)) (sym e),
       ),
     )
 
