@@ -1,4 +1,6 @@
-// What follows an accepted answer, by the kind of its question.
+// What follows an accepted answer, by the kind of its question. A point that cannot be evaluated is no error: at the
+// start there is nothing to go on from, a trial went too far and is turned down, and a correction is left out, so that
+// the trial is judged as it landed.
 ghost use Prim.Native.Nat.{_≤_};
 ghost use mathlib.Core.Bool.{true};
 ghost use mathlib.Core.Path.{_≡_};
@@ -31,7 +33,8 @@ use crate::state::Stop;
 use crate::state::with_moving;
 use linear::Answer;
 
-// A start's rows: what they say moves, and the first iteration.
+// A start's rows: which variables they depend on is fixed for the whole run, and the first iteration follows. A
+// variable that no residual definitely depends on would make the curvature singular, so it keeps its place.
 fn started(st: State, area: &mut [f64], rows: &[f64]) -> Returned
     requires { ⌜ (length (now area) ≡ 8000) ×
         ((length (now rows) ≡ rowNumbers (st .sizes .n) (st .sizes .m) (st .sizes .s)) ×
@@ -45,9 +48,11 @@ fn started(st: State, area: &mut [f64], rows: &[f64]) -> Returned
     iterate(with_moving(st, moving), area, standing)
 }
 
-// A trial's or a correction's rows.
+// A trial's or a correction's rows land, once the violation of the standing point is known.
 fn land(st: State, area: &mut [f64], rows: &[f64], trial: bool) -> Returned
-    requires { ⌜ (length (now area) ≡ 8000) × ((length (now rows) ≡ rowNumbers (st .sizes .n) (st .sizes .m) (st .sizes .s)) × (Underway st × (st .counts .corrections ≤ 4))) ⌝ }
+    requires { ⌜ (length (now area) ≡ 8000) ×
+        ((length (now rows) ≡ rowNumbers (st .sizes .n) (st .sizes .m) (st .sizes .s)) ×
+        (Underway st × (st .counts .corrections ≤ 4))) ⌝ }
     ensures { λ r. ⌜ ((w : Memory) → Working st w (now (area .entry)) →
         Leaves (fromStanding st w (λ theta. pick trial (landTrial st w (now (rows .entry)) theta)
         (landCorrection st w (now (rows .entry)) theta))) r (now (area .exit))) ⌝ }

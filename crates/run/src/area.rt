@@ -1,4 +1,6 @@
-// The slots of the work area: their places, and what a call writes into them.
+// The slots of the work area: their places, and what a call writes into them. All that a run knows beyond its state is
+// here, in memory that the caller lends, so a run needs no allocation and a call leaves nothing behind that a reader
+// could take for a number in use: behind the numbers in use all is +0.
 ghost use Prim.Native.Nat.{_+_, _≤_, ℕ, _<_, _*_};
 ghost use mathlib.Core.List.{_++_};
 ghost use mathlib.Core.Path.{_≡_};
@@ -9,7 +11,8 @@ ghost use Rattle.run.specs.Area.{withStart, withTrial, withLanded, withT
 ghost use Rattle.run.specs.Filter.{filterWith};
 ghost use Rattle.run.specs.Rows.{rowNumbers};
 ghost use Rattle.run.specs.Vectors.{movedOf};
-ghost use Rattle.run.specs.program.Area.{written, clearedTo, Limits, allUsed, Uses, Holds, pointsUsed, ZeroBehind};
+ghost use Rattle.run.specs.program.Area.{written, clearedTo, Limits, allUsed, Uses, Holds, pointsUsed};
+ghost use Rattle.run.specs.program.Area.{ZeroBehind};
 use crate::filter::push;
 use crate::state::Kind;
 use crate::state::Phase;
@@ -51,7 +54,7 @@ pub const ENTRIES: usize = 288;
 
 pub const PAIRS: usize = 800;
 
-// src from the place base on.
+// Writes src from the place base on.
 pub fn write(area: &mut [f64], base: usize, src: &[f64])
     requires { ⌜ base + length (now src) ≤ length (now area) ⌝ }
     ensures { λ _. ⌜ now (area .exit) ≡ written (now (area .entry)) base (now (src .entry)) ⌝ }
@@ -61,7 +64,7 @@ pub fn write(area: &mut [f64], base: usize, src: &[f64])
     }
 }
 
-// +0 from the place base on.
+// Writes +0 to `count` places from base on.
 fn clear_from(area: &mut [f64], base: usize, count: usize)
     requires { ⌜ base + count ≤ length (now area) ⌝ }
     ensures { λ _. ⌜ now (area .exit) ≡ written (now (area .entry)) base (zeros count) ⌝ }
@@ -70,7 +73,7 @@ fn clear_from(area: &mut [f64], base: usize, count: usize)
     clear(&mut area[base..e]);
 }
 
-// A slot: src from its start on, and +0 behind.
+// Writes a slot: src from its start on, and +0 behind.
 pub fn slot(area: &mut [f64], base: usize, size: usize, src: &[f64])
     requires { ⌜ (length (now src) ≤ size) × (base + size ≤ length (now area)) ⌝ }
     ensures { λ _. ⌜ now (area .exit) ≡ written (now (area .entry)) base (padded size (now (src .entry))) ⌝ }
@@ -80,7 +83,7 @@ pub fn slot(area: &mut [f64], base: usize, size: usize, src: &[f64])
     clear_from(area, base + n, size - n);
 }
 
-// So many numbers to a place before them.
+// Copies so many numbers to a place before them.
 fn copy(area: &mut [f64], from: usize, to: usize, count: usize)
     requires { ⌜ (to + count ≤ from) × (from + count ≤ length (now area)) ⌝ }
     ensures { λ _. ⌜ now (area .exit) ≡ written (now (area .entry)) to (take count (drop from (now (area .entry)))) ⌝ }
@@ -90,10 +93,14 @@ fn copy(area: &mut [f64], from: usize, to: usize, count: usize)
     }
 }
 
-// All but so many numbers of each slot +0.
+// Clears all but so many numbers of each slot.
 fn clear_unused_slots(area: &mut [f64], sizes: &[usize], used: &[usize])
-    requires { ⌜ (length (now used) ≡ length (now sizes)) × ((startOf (now sizes) (length (now sizes)) ≤ length (now area)) × ((k : ℕ) → k < length (now sizes) → getD (now used) k 0 ≤ getD (now sizes) k 0)) ⌝ }
-    ensures { λ _. ⌜ now (area .exit) ≡ clearedTo (now (sizes .entry)) (now (used .entry)) (now (area .entry)) (length (now (sizes .entry))) ++ drop (startOf (now (sizes .entry)) (length (now (sizes .entry)))) (now (area .entry)) ⌝ }
+    requires { ⌜ (length (now used) ≡ length (now sizes)) ×
+        ((startOf (now sizes) (length (now sizes)) ≤ length (now area)) ×
+        ((k : ℕ) → k < length (now sizes) → getD (now used) k 0 ≤ getD (now sizes) k 0)) ⌝ }
+    ensures { λ _. ⌜ now (area .exit)
+        ≡ clearedTo (now (sizes .entry)) (now (used .entry)) (now (area .entry)) (length (now (sizes .entry)))
+        ++ drop (startOf (now (sizes .entry)) (length (now (sizes .entry)))) (now (area .entry)) ⌝ }
 {
     let mut base = 0;
     for k in 0..sizes.len() {
@@ -160,7 +167,7 @@ fn in_use(st: State) -> [usize; 9]
     }
 }
 
-// Every place that is not in use +0.
+// Clears every place that is not in use. A caller may have written anything there, and the definitions read +0.
 pub fn clear_unused(area: &mut [f64], st: State)
     requires { ⌜ (length (now area) ≡ 8000) × Limits (st .sizes) (st .counts .iterations) ⌝ }
     ensures { λ _. ⌜ Uses (usedIn st) (memoryOf st (now (area .entry))) (now (area .exit)) ⌝ }
@@ -222,7 +229,8 @@ pub fn write_start(area: &mut [f64], rows: &[f64])
 // The point that a step leads to from the standing one is asked.
 fn write_next(area: &mut [f64], n: usize, delta: &[f64])
     requires { ⌜ length (now area) ≡ 8000 ⌝ }
-    ensures { λ _. ⌜ now (area .exit) ≡ written (now (area .entry)) 48 (movedOf n (take 24 (drop 0 (now (area .entry)))) (now (delta .entry))) ⌝ }
+    ensures { λ _. ⌜ now (area .exit)
+        ≡ written (now (area .entry)) 48 (movedOf n (take 24 (drop 0 (now (area .entry)))) (now (delta .entry))) ⌝ }
 {
     let mut next = [0.0; 24];
     moved(n, &area[STANDING..LANDED], delta, &mut next);
@@ -270,7 +278,8 @@ pub fn write_taken(
         (((z .n ≤ 12) × ((z .m ≤ 12) × (z .s ≤ 24))) × ((length (now curvature) ≡ 288) × (count < 200))) ⌝ }
     ensures { λ _. ⌜ ((w : Memory) → Holds w (now (area .entry)) →
         ZeroBehind 936 (rowNumbers (z .n) (z .m) (z .s)) (w .standingRows) →
-        ZeroBehind 936 (rowNumbers (z .n) (z .m) (z .s)) (w .landedRows) → ZeroBehind 288 (2 * (z .n * z .n)) (w .curvature) →
+        ZeroBehind 936 (rowNumbers (z .n) (z .m) (z .s)) (w .landedRows) →
+        ZeroBehind 288 (2 * (z .n * z .n)) (w .curvature) →
         ZeroBehind 288 (2 * (z .n * z .n)) (now (curvature .entry)) →
         Holds (withTaken w (now (curvature .entry)) (filterWith (w .filter) count f theta)) (now (area .exit))) ⌝ }
 {

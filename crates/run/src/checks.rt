@@ -1,4 +1,5 @@
-// The checks of every call, in the order of document 01's table: numbers 4, 1, 2 and 3.
+// The checks of every call, in the order of document 01's table: numbers 4, 1, 2 and 3. A caller may hand in any state,
+// area and rows; what passes them is within the limits that every sum of counts and every place relies on.
 ghost use Prim.Native.Nat.{_≤_, _*_};
 ghost use mathlib.Core.Bool.{_&&_};
 ghost use mathlib.Core.Path.{_≡_};
@@ -15,7 +16,7 @@ use crate::state::Sizes;
 use crate::state::State;
 use interval::Scalar;
 
-// Whether the ends are in order, with magnitudes of at most 2^400.
+// Whether the ends are in order, with magnitudes of at most 2^400: sums of squares of such numbers stay finite.
 pub fn in_domain(x: Scalar) -> bool
     ensures { λ r. ⌜ r ≡ inDomain x ⌝ }
 {
@@ -48,6 +49,7 @@ pub enum Checked {
     Accept(Kind),
 }
 
+// Whether the counts of a run are within the limits.
 pub fn sizes_fit(z: Sizes) -> bool
     ensures { λ r. ⌜ r ≡ sizesFit z ⌝ }
 {
@@ -63,6 +65,7 @@ pub fn sizes_fit(z: Sizes) -> bool
     z.limit <= 200
 }
 
+// Whether the counts of a run are such as its calls leave.
 fn counts_fit(st: State) -> bool
     requires { ⌜ st .sizes .limit ≤ 200 ⌝ }
     ensures { λ r. ⌜ r ≡ countsFit st ⌝ }
@@ -154,7 +157,8 @@ pub fn check_rows(st: State, area: usize, rows: &[f64]) -> Checked
 
 // The number that refuses a begin, with an area of that length, or 0.
 pub fn refusal(z: Sizes, start: &[f64], max_step: Scalar, area: usize) -> usize
-    ensures { λ r. ⌜ r ≡ pick (sizesFit z) (pick (eqb (length (now (start .entry))) (2 * z .n) && eqb area AREA) (pick (allInDomain (now (start .entry)) (z .n) && stepFits «max_step») 0 3) 2) 1 ⌝ }
+    ensures { λ r. ⌜ r ≡ pick (sizesFit z) (pick (eqb (length (now (start .entry))) (2 * z .n) && eqb area AREA)
+        (pick (allInDomain (now (start .entry)) (z .n) && stepFits «max_step») 0 3) 2) 1 ⌝ }
 {
     if !sizes_fit(z) {
         return 1;

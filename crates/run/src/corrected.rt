@@ -1,5 +1,6 @@
-// Corrections (geop's `corrected`): a landed point that is further off the constraints is shifted back onto them, at most
-// 4 times.
+// Corrections (geop's `corrected`). A step follows the constraints' slopes, so along a curved one it lands off it by
+// the square of its length, and would be turned down for that, again and again, at ever shorter lengths. So a landed
+// point that is further off the constraints is shifted back onto them, at most 4 times, before it is judged.
 ghost use Prim.Native.Nat.{_*_, _/_, _%_, _≤_};
 ghost use mathlib.Core.Path.{_≡_};
 ghost use lib.ListN.{length};
@@ -67,7 +68,8 @@ fn moving_slope(moves: bool, v: Scalar) -> Scalar
 // The slopes of the constraints by the variables that move, chosen, and zero by the others.
 fn moving_slopes(n: usize, m: usize, xs: &[f64], moving: &[bool], jc: &mut [f64])
     requires { ⌜ (n ≤ 12) × ((m ≤ 12) × ((length (now moving) ≡ 12) × (length (now jc) ≡ 2 * (m * n)))) ⌝ }
-    ensures { λ _. ⌜ now (jc .exit) ≡ listTo (λ p. movingSlope (now (moving .entry)) (constraintsOf n m (now (xs .entry))) (p / n) (p % n)) (m * n) ⌝ }
+    ensures { λ _. ⌜ now (jc .exit) ≡ listTo
+        (λ p. movingSlope (now (moving .entry)) (constraintsOf n m (now (xs .entry))) (p / n) (p % n)) (m * n) ⌝ }
 {
     let e = constraints(n, m);
     let q = m * n;
@@ -118,7 +120,8 @@ pub fn shift_from(
     next: &mut [f64],
 ) -> Shifted
     requires { ⌜ (n ≤ 12) × ((m ≤ 12) × ((length (now moving) ≡ 12) × (length (now next) ≡ 24))) ⌝ }
-    ensures { λ r. ⌜ shiftedOf r (now (next .exit)) ≡ shiftFrom (now (moving .entry)) (constraintsOf n m (now (xs .entry))) (now (landed .entry)) ⌝ }
+    ensures { λ r. ⌜ shiftedOf r (now (next .exit))
+        ≡ shiftFrom (now (moving .entry)) (constraintsOf n m (now (xs .entry))) (now (landed .entry)) ⌝ }
 {
     let mut d = [0.0; 24];
     match shift(n, m, xs, moving, &mut d) {
@@ -184,6 +187,7 @@ fn correct(st: State, area: &mut [f64], theta: Scalar, landed: Answer) -> Return
     ask(st, Kind::Correction, st.counts.corrections)
 }
 
+// A correction is asked for where it is due, or the landed point is judged.
 fn correct_or_judge(
     st: State,
     area: &mut [f64],
@@ -201,7 +205,8 @@ fn correct_or_judge(
     judge_landed(st, area, theta, landed)
 }
 
-// A correction's rows, nearer the constraints: the step is shifted as well.
+// A correction's rows that are nearer the constraints are kept, and the step is shifted as well, since its length and
+// the curvature are taken from where it led.
 fn keep(st: State, area: &mut [f64], rows: &[f64], theta: Scalar, landed: Answer) -> Returned
     requires { ⌜ (length (now area) ≡ 8000) ×
         ((length (now rows) ≡ rowNumbers (st .sizes .n) (st .sizes .m) (st .sizes .s)) ×
@@ -253,7 +258,9 @@ fn is_nearer(new: Answer, old: Answer) -> Nearer
 
 // A correction's rows, from a standing point with violation theta: kept where they are nearer than the landed ones.
 pub fn land_correction(st: State, area: &mut [f64], rows: &[f64], theta: Scalar) -> Returned
-    requires { ⌜ (length (now area) ≡ 8000) × ((length (now rows) ≡ rowNumbers (st .sizes .n) (st .sizes .m) (st .sizes .s)) × (Underway st × (st .counts .corrections ≤ 4))) ⌝ }
+    requires { ⌜ (length (now area) ≡ 8000) ×
+        ((length (now rows) ≡ rowNumbers (st .sizes .n) (st .sizes .m) (st .sizes .s)) ×
+        (Underway st × (st .counts .corrections ≤ 4))) ⌝ }
     ensures { λ r. ⌜ ((w : Memory) → StandingKnown st (ok theta) w (now (area .entry)) →
         Leaves (landCorrection st w (now (rows .entry)) theta) r (now (area .exit))) ⌝ }
 {
@@ -292,6 +299,7 @@ pub fn land_trial(st: State, area: &mut [f64], rows: &[f64], theta: Scalar) -> R
     }
 }
 
+// A correction that cannot be evaluated: the point that landed before it is judged.
 pub fn correction_none(st: State, area: &mut [f64]) -> Returned
     requires { ⌜ (length (now area) ≡ 8000) × Underway st ⌝ }
     ensures { λ r. ⌜ ((w : Memory) → Working st w (now (area .entry)) →

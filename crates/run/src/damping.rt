@@ -1,4 +1,7 @@
-// The damping: the first, the next after a step was taken, and more of it after one was turned down.
+// The damping mu of Levenberg and Marquardt: the first, the next after a step was taken, and more of it after one was
+// turned down. More damping makes a step shorter and turns it towards the steepest descent, where the model is better
+// trusted; less lets the next step come near the full one of Gauss and Newton. It is sharpened each time, since an
+// interval that grew with every factor would in the end say nothing.
 ghost use Prim.Native.Nat.{_^_, _<_};
 ghost use mathlib.Core.Path.{_≡_};
 ghost use Rattle.run.specs.Damping.{damped, shrunk};
@@ -9,13 +12,14 @@ use crate::state::Search;
 use crate::state::Stop;
 use interval::Scalar;
 
-// Gone on with more damping, or stopped.
+// Whether the search goes on with more damping, or stops.
 pub enum Damped {
     On(Search),
     Stop(Search, Stop),
 }
 
-// Rejected, with that radius: four times the damping and a turn-down, while that damping is finite.
+// A proposal is rejected, with that radius from now on: four times the damping and a turn-down, while that damping is
+// finite. So every search ends: from a positive damping it grows at most 1,048 times.
 pub fn damp(x: Search, radius: Scalar, why: Rejection) -> Damped
     requires { ⌜ x .«turned_down» < 2 ^ 32 ⌝ }
     ensures { λ r. ⌜ r ≡ damped goesOn stopsAt (rejectedFor (withRadius x radius) why) ⌝ }
@@ -35,7 +39,7 @@ pub fn damp(x: Search, radius: Scalar, why: Rejection) -> Damped
     Damped::Stop(y, Stop::Damped(why))
 }
 
-// A third of the damping, sharp, where that is positive.
+// A third of the damping, sharp, where that is positive: below the least positive float it would be none.
 pub fn shrunk(mu: Scalar, third: Scalar) -> Scalar
     ensures { λ r. ⌜ r ≡ shrunk mu third ⌝ }
 {

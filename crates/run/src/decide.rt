@@ -49,7 +49,7 @@ use linear::Answer;
 use linear::Done;
 use linear::LinearError;
 
-// With that radius and more damping, while that is finite.
+// The search goes on with that radius and more damping, while that is finite.
 fn grow(st: State, area: &mut [f64], radius: Scalar, why: Rejection, standing: Answer) -> Returned
     requires { ⌜ (length (now area) ≡ 8000) × Bounded 1073741824 st ⌝ }
     ensures { λ r. ⌜ ((w : Memory) → StandingKnown st (resultOf standing) w (now (area .entry)) →
@@ -65,7 +65,8 @@ fn grow(st: State, area: &mut [f64], radius: Scalar, why: Rejection, standing: A
     }
 }
 
-// A step turned down: a quarter of the length tried is the radius, and more damping.
+// A step is turned down: the model was trusted too far, so a quarter of the length tried is the radius, with more
+// damping.
 pub fn turn_down(st: State, area: &mut [f64], why: Rejection, standing: Answer) -> Returned
     requires { ⌜ (length (now area) ≡ 8000) × Bounded 1073741824 st ⌝ }
     ensures { λ r. ⌜ ((w : Memory) → StandingKnown st (resultOf standing) w (now (area .entry)) →
@@ -93,7 +94,8 @@ fn may_retry(plain: bool, n: usize, area: &[f64]) -> bool
     learned(n, &area[area::CURVATURE..area::FILTER])
 }
 
-// A step that is not lower: tried again without the curvature learned, once in an iteration, or turned down.
+// A step that is not lower is tried again without the curvature learned, once in an iteration, or turned down.
+// Curvature learned far away may point uphill here, and without it the damped step is one of descent.
 pub fn not_lower(st: State, area: &mut [f64], standing: Answer) -> Returned
     requires { ⌜ (length (now area) ≡ 8000) × Bounded 1073741824 st ⌝ }
     ensures { λ r. ⌜ ((w : Memory) → StandingKnown st (resultOf standing) w (now (area .entry)) →
@@ -123,7 +125,8 @@ fn held(old: Scalar, predicted: Scalar, new: Scalar) -> bool
     fell.definitely_greater(old.sub(predicted).mul(Scalar::degenerate(3.0)))
 }
 
-// Whether they did, by the violation of the landed point; asked only where there was a violation.
+// Whether they did, by the violation of the landed point. It is asked only where there was a violation to lower, and
+// then the radius may grow beyond the longest step that a caller allows at once.
 fn linear_of(st: State, theta: Scalar, landed: Answer) -> Linear
     ensures { λ r. ⌜ ((w : Memory) → resultOf landed ≡ violationOf (landedAt st w .constraints) →
         linearResult r ≡ linearOf st w theta) ⌝ }
@@ -228,6 +231,7 @@ pub fn take(st: State, area: &mut [f64], theta: Scalar, landed: Answer, span: Sc
     }
 }
 
+// Whether a step was taken before.
 fn was_taken(last: Last) -> bool
     ensures { λ r. ⌜ r ≡ wasTaken last ⌝ }
 {
@@ -237,7 +241,8 @@ fn was_taken(last: Last) -> bool
     }
 }
 
-// Whether a first proposal is undecided after a step taken, and does not contract.
+// Whether a first proposal is undecided after a step taken, and does not contract. Then rounding alone would decide
+// what follows, and the run stops rather than take rounding for progress.
 fn is_stuck(first: bool, last: Last, j: Judged) -> bool
     ensures { λ r. ⌜ r ≡ (first && j .undecided && wasTaken last && not (j .contracting)) ⌝ }
 {
@@ -253,7 +258,8 @@ fn is_stuck(first: bool, last: Last, j: Judged) -> bool
     !j.contracting
 }
 
-// Whether the step is lower, or a first proposal that is undecided and contracts.
+// Whether the step is lower, or a first proposal that is undecided and contracts: steps that halve come to an end, so
+// they may be taken though no order of the sums can be told.
 fn is_better(first: bool, j: Judged) -> bool
     ensures { λ r. ⌜ r ≡ (j .lower || (first && j .undecided && j .contracting)) ⌝ }
 {

@@ -1,4 +1,5 @@
-// How a run's call ends: a question, the finish, a refusal.
+// How a call ends: a question, the finish, a refusal. A finish and a refusal keep the standing point, the last that was
+// shown to be progress, so a caller whose run is refused still has a point to save.
 ghost use Prim.Native.Nat.{_<_, _^_};
 ghost use mathlib.Core.List.{List};
 ghost use mathlib.Core.Path.{_≡_};

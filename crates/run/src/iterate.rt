@@ -32,7 +32,7 @@ use crate::state::with_trial_of;
 use interval::Scalar;
 use linear::Answer;
 
-// What follows where a search was left, with the step and its multipliers.
+// The event that follows where a search was left, with the step and its multipliers.
 fn left_at(st: State, area: &mut [f64], found: Found, delta: &[f64], lambda: &[f64]) -> Returned
     requires { ⌜ (length (now area) ≡ 8000) ×
         (Bounded 2147483648 st × ((length (now delta) ≡ 24) × (length (now lambda) ≡ 24))) ⌝ }
@@ -67,7 +67,8 @@ fn curvature_from(plain: bool) -> usize
 // The numbers of the standing point's problem, from its rows and their violation.
 fn standing_point(z: Sizes, rows: &[f64], theta: Scalar) -> StandingPoint
     requires { ⌜ (z .n ≤ 12) × ((z .m ≤ 12) × (z .s ≤ 24)) ⌝ }
-    ensures { λ r. ⌜ r ≡ record { n = z .n; m = z .m; s = z .s; f = sumSquared (sumOf (z .n) (z .m) (z .s) (now (rows .entry))); theta = theta } ⌝ }
+    ensures { λ r. ⌜ r ≡ record { n = z .n; m = z .m; s = z .s;
+        f = sumSquared (sumOf (z .n) (z .m) (z .s) (now (rows .entry))); theta = theta } ⌝ }
 {
     StandingPoint {
         n: z.n,
@@ -86,7 +87,8 @@ fn seek_standing(
     delta: &mut [f64],
     lambda: &mut [f64],
 ) -> Found
-    requires { ⌜ (length (now area) ≡ 8000) × (Bounded 2147483648 st × ((length (now delta) ≡ 24) × (length (now lambda) ≡ 24))) ⌝ }
+    requires { ⌜ (length (now area) ≡ 8000) ×
+        (Bounded 2147483648 st × ((length (now delta) ≡ 24) × (length (now lambda) ≡ 24))) ⌝ }
     ensures { λ r. ⌜ ((w : Memory) → StandingKnown st (resultOf standing) w (now (area .entry)) →
         foundResult r (now (delta .exit)) (now (lambda .exit))
         (movedOf (st .sizes .n) (w .standing) (now (delta .exit))) ≡ soughtOf st w) ⌝ }

@@ -1,4 +1,5 @@
-// What the residuals of an answer say: their linearization, the sum of squares, the violation, and which variables move.
+// What the residuals of an answer say: their linearization, the sum of squares, the violation, and which variables
+// move.
 ghost use Prim.Native.Nat.{_<_, _≤_, _*_};
 ghost use mathlib.Core.Bool.{_||_};
 ghost use mathlib.Core.Path.{_≡_};
@@ -65,7 +66,7 @@ pub fn sum_squared(xs: &[f64], n: usize, m: usize, s: usize) -> Scalar
     squared(xs, sum(n, m, s), xs, 0)
 }
 
-// All values, from the start of `out` on.
+// Writes all values, from the start of `out` on.
 fn values(xs: &[f64], e: RowSet, out: &mut [f64])
     ensures { λ _. ⌜ now (out .exit) ≡ fillTo (now (out .entry)) 0 (valueAt (rowsIn (now (xs .entry)) e)) (e .count) ⌝ }
 {
@@ -75,7 +76,7 @@ fn values(xs: &[f64], e: RowSet, out: &mut [f64])
     }
 }
 
-// The same, chosen.
+// Writes all values, chosen, from the start of `out` on.
 pub fn chosen_values(xs: &[f64], e: RowSet, out: &mut [f64])
     ensures { λ _. ⌜ now (out .exit) ≡ chosenOf (now (out .entry)) (now (xs .entry)) (e .values) (e .count) ⌝ }
 {
@@ -85,7 +86,7 @@ pub fn chosen_values(xs: &[f64], e: RowSet, out: &mut [f64])
     }
 }
 
-// All slopes, row by row, chosen.
+// Writes all slopes, row by row, chosen.
 pub fn chosen_slopes(xs: &[f64], e: RowSet, out: &mut [f64])
     requires { ⌜ Small e ⌝ }
     ensures { λ _. ⌜ now (out .exit) ≡ chosenOf (now (out .entry)) (now (xs .entry)) (e .slopes) (e .count * e .n) ⌝ }
@@ -107,10 +108,11 @@ pub fn violation(xs: &[f64], n: usize, m: usize) -> Answer
     norm_of(&c, m)
 }
 
-// All rows linearized, from the start of `out` on.
+// Writes all rows linearized, from the start of `out` on.
 fn linearized(xs: &[f64], e: RowSet, delta: &[f64], d: usize, out: &mut [f64])
     requires { ⌜ Small e ⌝ }
-    ensures { λ _. ⌜ now (out .exit) ≡ fillTo (now (out .entry)) 0 (linearizedAt (rowsIn (now (xs .entry)) e) (now (delta .entry)) d) (e .count) ⌝ }
+    ensures { λ _. ⌜ now (out .exit)
+        ≡ fillTo (now (out .entry)) 0 (linearizedAt (rowsIn (now (xs .entry)) e) (now (delta .entry)) d) (e .count) ⌝ }
 {
     let count = e.count;
     for i in 0..count {
@@ -142,9 +144,11 @@ pub fn depends_on(xs: &[f64], e: RowSet, j: usize) -> bool
     false
 }
 
+// Whether some residual definitely depends on variable j.
 fn moves(xs: &[f64], n: usize, m: usize, s: usize, j: usize) -> bool
     requires { ⌜ (n ≤ 12) × ((m ≤ 12) × ((s ≤ 24) × (j < 65536))) ⌝ }
-    ensures { λ r. ⌜ r ≡ dependsOn (sumOf n m s (now (xs .entry))) j || dependsOn (constraintsOf n m (now (xs .entry))) j ⌝ }
+    ensures { λ r. ⌜ r
+        ≡ dependsOn (sumOf n m s (now (xs .entry))) j || dependsOn (constraintsOf n m (now (xs .entry))) j ⌝ }
 {
     if depends_on(xs, sum(n, m, s), j) {
         return true;
@@ -164,13 +168,16 @@ pub fn moving(xs: &[f64], n: usize, m: usize, s: usize) -> [bool; 12]
     marks
 }
 
+// The violation of the standing point, from its rows in the area.
 pub fn standing_violation(z: Sizes, area: &[f64]) -> Answer
     requires { ⌜ (z .m ≤ 12) × (length (now area) ≡ 8000) ⌝ }
-    ensures { λ r. ⌜ ((w : Memory) → Holds w (now (area .entry)) → resultOf r ≡ violationOf (constraintsOf (z .n) (z .m) (w .standingRows))) ⌝ }
+    ensures { λ r. ⌜ ((w : Memory) → Holds w (now (area .entry)) →
+        resultOf r ≡ violationOf (constraintsOf (z .n) (z .m) (w .standingRows))) ⌝ }
 {
     violation(&area[area::STANDING_ROWS..area::LANDED_ROWS], z.n, z.m)
 }
 
+// The violation of the landed point, from its rows in the area.
 pub fn landed_violation(z: Sizes, area: &[f64]) -> Answer
     requires { ⌜ (z .m ≤ 12) × (length (now area) ≡ 8000) ⌝ }
     ensures { λ r. ⌜ ((w : Memory) → Holds w (now (area .entry)) →

@@ -7,12 +7,14 @@ ghost use Rattle.run.specs.State.{searching, moves, asking, landing, try
 ghost use Rattle.run.specs.State.{stateWith};
 use interval::Scalar;
 
+// What a question asks the rows of: the start, a trial, or a trial moved back onto the constraints.
 pub enum Kind {
     Start,
     Trial,
     Correction,
 }
 
+// Whether a question is open. A run that is over answers no reply.
 pub enum Phase {
     Open(Kind),
     Over,
@@ -33,6 +35,7 @@ pub enum Last {
     Taken(Scalar),
 }
 
+// Why a run finished. Damped and NoChange name the last rejection, so that a caller can tell a minimum from a wall.
 pub enum Stop {
     Infeasible,
     NoChange(Rejection),
@@ -42,6 +45,8 @@ pub enum Stop {
     Budget,
 }
 
+// What a call returns: a question with its number, kind and the standing number; the finish with its stop, iterations,
+// turn-downs and the standing number; or a refusal by its number.
 pub enum Event {
     Question(usize, Kind, usize),
     Finish(Stop, usize, usize, usize),
@@ -56,7 +61,8 @@ pub struct Sizes {
     pub limit: usize,
 }
 
-// The question, the standing and the landed number are those of questions.
+// How far the run is. A point is known by the number of the question that asked for it: `standing` and `landed` are
+// such numbers, so that points are compared by number, never by their coordinates.
 pub struct Counts {
     pub iterations: usize,
     pub question: usize,
@@ -65,7 +71,8 @@ pub struct Counts {
     pub corrections: usize,
 }
 
-// What a search for a proposal changes.
+// What a search for a proposal changes. `first` tells a proposal made with the damping that its iteration began with,
+// since only then can a step that is undecided be taken; `plain` tells one made without the curvature learned.
 pub struct Search {
     pub mu: Scalar,
     pub radius: Scalar,
@@ -81,6 +88,7 @@ pub struct Trial {
     pub tried: Scalar,
 }
 
+// A run between two calls, without the numbers of the area.
 pub struct State {
     pub sizes: Sizes,
     pub counts: Counts,
@@ -92,6 +100,7 @@ pub struct State {
     pub moving: [bool; 12],
 }
 
+// What a call returns, beside what it leaves in the area.
 pub struct Returned {
     pub state: State,
     pub event: Event,
@@ -106,7 +115,8 @@ pub fn with_search(st: State, search: Search) -> State
 }
 
 pub fn with_phase(st: State, phase: Phase) -> State
-    ensures { λ r. ⌜ r ≡ record { sizes = st .sizes; counts = st .counts; search = st .search; trial = st .trial; «max_step» = st .«max_step»; last = st .last; phase = phase; moving = st .moving } ⌝ }
+    ensures { λ r. ⌜ r ≡ record { sizes = st .sizes; counts = st .counts; search = st .search; trial = st .trial;
+        «max_step» = st .«max_step»; last = st .last; phase = phase; moving = st .moving } ⌝ }
 {
     State { phase, ..st }
 }
@@ -143,7 +153,8 @@ pub fn with_landed_number(st: State, corrections: usize) -> State
 
 // A search left with a trial, whose step, multipliers and point stand elsewhere.
 pub fn with_trial_of(st: State, search: Search, trial: Trial) -> State
-    ensures { λ r. ⌜ ((delta lambda next : List Float) → r ≡ trying st search (record { delta = delta; lambda = lambda; next = next; predicted = trial .predicted; tried = trial .tried })) ⌝ }
+    ensures { λ r. ⌜ ((delta lambda next : List Float) → r ≡ trying st search (record { delta = delta; lambda = lambda;
+        next = next; predicted = trial .predicted; tried = trial .tried })) ⌝ }
 {
     let mut t = st;
     t.search = search;
@@ -169,7 +180,7 @@ pub fn standing_on(st: State, length: Scalar, mu: Scalar, radius: Scalar) -> Sta
     }
 }
 
-// A new iteration's.
+// The search of a new iteration: turn-downs count on over the whole run, all else begins anew.
 pub fn renew(x: Search, mu: Scalar, radius: Scalar) -> Search
     ensures { λ r. ⌜ r ≡ anew x mu radius ⌝ }
 {
@@ -183,6 +194,7 @@ pub fn renew(x: Search, mu: Scalar, radius: Scalar) -> Search
     }
 }
 
+// Why the last proposal was rejected, which a stop may name.
 pub fn reject(x: Search, why: Rejection) -> Search
     ensures { λ r. ⌜ r ≡ rejectedFor x why ⌝ }
 {

@@ -1,5 +1,5 @@
-// Vectors of at most 12 scalars as the steps of `minimize` use them, a point moved by one, and whether two points are the
-// same.
+// Vectors of at most 12 scalars as the steps of `minimize` use them, a point moved by one, and whether two points are
+// the same.
 ghost use Prim.Native.Nat.{_*_, _≤_, _<_};
 ghost use mathlib.Core.Path.{_≡_};
 ghost use lib.ListN.{length};
@@ -20,7 +20,7 @@ use linear::minus_scaled;
 use linear::norm;
 use linear::put;
 
-// Whether the first k are finite.
+// Whether the first k scalars are finite.
 pub fn all_finite(xs: &[f64], k: usize) -> bool
     ensures { λ r. ⌜ r ≡ allFinite (now (xs .entry)) k ⌝ }
 {
@@ -32,7 +32,7 @@ pub fn all_finite(xs: &[f64], k: usize) -> bool
     true
 }
 
-// The length of the first k.
+// The length of the first k scalars.
 pub fn norm_of(xs: &[f64], k: usize) -> Answer
     requires { ⌜ (k ≤ 24) × (2 * k ≤ length (now xs)) ⌝ }
     ensures { λ r. ⌜ resultOf r ≡ normOf (at (now (xs .entry))) k ⌝ }
@@ -51,6 +51,7 @@ pub fn chosen(xs: &[f64], base: usize, k: usize, to: &mut [f64])
     }
 }
 
+// The value, or zero where a division is refused.
 pub fn or_zero(q: ScalarResult) -> Scalar
     ensures { λ r. ⌜ r ≡ orZero (scalar.resultOf q) ⌝ }
 {
@@ -121,7 +122,7 @@ pub fn moved(n: usize, x: &[f64], d: &[f64], out: &mut [f64])
     }
 }
 
-// Whether no variable is told apart.
+// Whether no variable of two points is told apart: a step that moves none by more than its rounding is no step.
 pub fn same(n: usize, a: &[f64], b: &[f64]) -> bool
     ensures { λ r. ⌜ r ≡ sameOf n (now (a .entry)) (now (b .entry)) ⌝ }
 {
