@@ -1,8 +1,8 @@
-# What the scripts of this folder build; they source it at the repository's root. The Rust is read from $GEOP_SRC, by default
-# ../shared/docs/src beside the repository. It is copied to target/compare with the edits that compare/prepare.py names, and
-# built by rustc alone, as for release.
+# What the scripts of this folder build; they source it at the repository's root. The Rust is read from $GEOP_SRC, by
+# default ../shared/docs/src beside the repository. It is copied to target/compare with the edits that
+# compare/prepare.py names, and built by rustc alone, as for release.
 
-# The archives that hold what compare/src/archive.rs declares.
+# The archives that hold what compare/src/run_c.rs and rust/src/archive.rs declare.
 archives=(run_c yadzvego)
 
 out=target/compare
@@ -30,7 +30,8 @@ build_archives() {
     done
 }
 
-# build_program FOLDER MAIN NAME: the program NAME from its file MAIN, beside the Rust that prepare.py wrote to FOLDER/geop_core_math
+# build_program FOLDER MAIN NAME: the program NAME from its file MAIN, beside the Rust that prepare.py wrote to
+# FOLDER/geop_core_math
 build_program() {
     rustc "${release[@]}" --cap-lints allow --crate-type rlib --crate-name geop_core_math \
         --out-dir "$1" "$1/geop_core_math/lib.rs"

@@ -1,6 +1,6 @@
 #!/usr/bin/env python3
-"""Copies the scalars of geop-core-math and two of its solvers to a folder, as a crate that rustc compiles alone and that
-tells what a run does.
+"""Copies the scalars of geop-core-math and two of its solvers to a folder, as a crate that rustc compiles alone and
+that tells what a run does.
 
 usage: prepare.py SOURCE OUT [--silent]
   SOURCE: the folder that holds core/geop-core-math; OUT: where the crate is written
@@ -73,8 +73,8 @@ EDITS = [
     ("solvers/least_squares.rs", 1, "\nasync fn corrected<", "\npub async fn corrected<"),
     *[("solvers/least_squares.rs", 1, f"\n    fn {name}(", f"\n    pub fn {name}(") for name in METHODS],
     *[("solvers/least_squares.rs", 1, f"\nstruct {name} {{", f"\npub struct {name} {{") for name in STRUCTS],
-    # Where more rows are independent than variables move, k - r wraps and the loop may not end: here there are no directions
-    # then. It was met outside the domain only.
+    # Where more rows are independent than variables move, k - r wraps and the loop may not end: here there are no
+    # directions then. It was met outside the domain only.
     ("solvers/least_squares.rs", 1, "while z.len() < k - r {", "while z.len() < k.saturating_sub(r) {"),
     # A run tells the kind of each question, what it turns down, and when the point of a question is kept or stands.
     (
@@ -95,7 +95,12 @@ EDITS = [
         "        let Some(e_next) = evaluate(&next).await else {",
         f"        {told('Correction')}\n        let Some(e_next) = evaluate(&next).await else {{",
     ),
-    ("solvers/least_squares.rs", 1, KEPT + "    Ok((x, e, taken))", f"        {told('Kept')}\n{KEPT}    Ok((x, e, taken))"),
+    (
+        "solvers/least_squares.rs",
+        1,
+        KEPT + "    Ok((x, e, taken))",
+        f"        {told('Kept')}\n{KEPT}    Ok((x, e, taken))",
+    ),
     ("solvers/least_squares.rs", 1, KEPT + "    Ok(Outcome {", f"        {told('Stands')}\n{KEPT}    Ok(Outcome {{"),
     (
         "solvers/least_squares.rs",
@@ -113,7 +118,12 @@ EDITS = [
     ("solvers/least_squares.rs", 2, "turned_down += 1;", f"turned_down += 1; {told('TurnedDown')}"),
     ("solvers/least_squares.rs", 1, "plain = true;", f"plain = true; {told('Retried')}"),
     *[
-        ("solvers/least_squares.rs", 1, f"rejected = Some(Rejection::{why});", f"rejected = Some(Rejection::{why}); {told(why)}")
+        (
+            "solvers/least_squares.rs",
+            1,
+            f"rejected = Some(Rejection::{why});",
+            f"rejected = Some(Rejection::{why}); {told(why)}",
+        )
         for why in REJECTIONS
     ],
     # Small matrices and vectors of fixed size are not copied, nor are the functions over them compared.
@@ -195,7 +205,8 @@ def prepared(folder):
         data = open(path, "rb").read()
         found = hashlib.sha256(data).hexdigest()
         if found != expected:
-            sys.exit(f"compare: {path} is not the file that this comparison was written for: sha256 {found}, not {expected}")
+            other = "is not the file that this comparison was written for"
+            sys.exit(f"compare: {path} {other}: sha256 {found}, not {expected}")
         texts[name] = data.decode("utf-8")
     for name, times, old, new in EDITS:
         found = texts[name].count(old)

@@ -1,5 +1,6 @@
-/* The header against the archive. Hosts that do not keep to the calls get the number of a refusal, with run and area as they were. That a field stands where the header says is seen by what
- * it holds after a begin and two replies, or by altering it; that a list is passed as the header says, by what comes out. Prints what is otherwise. */
+/* The header against the archive. Hosts that do not keep to the calls get the number of a refusal, with run and area as
+ * they were. That a field stands where the header says is seen by what it holds after a begin and two replies, or by
+ * altering it; that a list is passed as the header says, by what comes out. Prints what is otherwise. */
 #include "yadzvego.h"
 #include <stdio.h>
 #include <string.h>
@@ -15,7 +16,8 @@ static void expect(const char *what, size_t got, size_t wanted)
     }
 }
 
-/* Two variables, of which the first moves: the constraint x with slope 1, and the sum rows x - 1 and 0 with slopes 1 and 0. */
+/* Two variables, of which the first moves: the constraint x with slope 1, and the sum rows x - 1 and 0 with slopes 1
+ * and 0. */
 static const double rows[18] = {3, 3, 1, 1, 0, 0, 2, 2, 0, 0, 1, 1, 0, 0, 0, 0, 0, 0};
 static const double next[18] = {0, 0, 1, 1, 0, 0, -1, -1, 0, 0, 1, 1, 0, 0, 0, 0, 0, 0};
 
@@ -23,9 +25,9 @@ static void expect_refused(const char *what, YadzvegoRun run, size_t area_len, s
 {
     static double before[YADZVEGO_AREA];
     memcpy(before, area, sizeof area);
-    YadzvegoReply r = yadzvego_reply(run, area, area_len, rows, rows_len);
-    expect(what, r.answer.which, YADZVEGO_REFUSED);
-    expect(what, r.answer.number, number);
+    YadzvegoReturned r = yadzvego_reply(run, area, area_len, rows, rows_len);
+    expect(what, r.event.which, YADZVEGO_REFUSED);
+    expect(what, r.event.number, number);
     expect(what, (size_t)memcmp(&r.run, &run, offsetof(YadzvegoRun, moving) + sizeof run.moving), 0);
     expect(what, (size_t)memcmp(before, area, sizeof area), 0);
 }
@@ -61,23 +63,25 @@ static void expect_near(const char *what, const double *got, double wanted)
 
 static void expect_lists(void)
 {
-    const double line[4] = {3, 3, 4, 4}, twice[4] = {6, 6, 8, 8}, length[2] = {25, 25}, squares[8] = {4, 4, 0, 0, 0, 0, 9, 9};
+    const double line[4] = {3, 3, 4, 4}, twice[4] = {6, 6, 8, 8}, length[2] = {25, 25};
+    const double squares[8] = {4, 4, 0, 0, 0, 0, 9, 9};
     double l[8], out[4];
     bool left_out[2];
-    YadzvegoScalarAnswer norm = linear_norm(2, line, 4), dot = linear_dot(2, line, 4, twice, 4);
+    YadzvegoScalarResult norm = yadzvego_linear_norm(2, line, 4);
+    YadzvegoScalarResult dot = yadzvego_linear_dot(2, line, 4, twice, 4);
     expect_near("norm", &norm.value.lo, 5);
     expect_near("dot", &dot.value.lo, 50);
-    expect("sharp", linear_sharp(2, line, 4, out, 4), 0);
-    expect_near("sharp", out + 2, linear_choose(norm.value).lo - 1);
-    expect("cholesky", linear_cholesky(2, squares, 8, l, 8, left_out, 2) + left_out[0] + left_out[1], 0);
-    expect("solved", linear_solve_cholesky(2, l, 8, left_out, 2, line, 4, out, 4), 0);
+    expect("sharp", yadzvego_linear_sharp(2, line, 4, out, 4), 0);
+    expect_near("sharp", out + 2, yadzvego_linear_choose(norm.value).lo - 1);
+    expect("cholesky", yadzvego_linear_cholesky(2, squares, 8, l, 8, left_out, 2) + left_out[0] + left_out[1], 0);
+    expect("solved", yadzvego_linear_solve_cholesky(2, l, 8, left_out, 2, line, 4, out, 4), 0);
     expect_near("solved", out, 0.75);
-    expect("least squares", linear_least_squares(2, 1, line, 4, twice, 4, out, 2), 0);
+    expect("least squares", yadzvego_linear_least_squares(2, 1, line, 4, twice, 4, out, 2), 0);
     expect_near("least squares", out, 2);
-    expect("minus solved", linear_minus_solved(1, 2, line, 4, length, 2, twice, 4, out, 4), 0);
+    expect("minus solved", yadzvego_linear_minus_solved(1, 2, line, 4, length, 2, twice, 4, out, 4), 0);
     expect_near("minus solved", out + 2, 4);
-    expect("25 of a list", linear_norm(25, line, 4).number, 1);
-    expect("a list short", linear_sharp(2, line, 3, out, 4), 2);
+    expect("25 of a list", yadzvego_linear_norm(25, line, 4).number, 1);
+    expect("a list short", yadzvego_linear_sharp(2, line, 3, out, 4), 2);
 }
 
 int main(void)
@@ -98,10 +102,12 @@ int main(void)
     run = yadzvego_reply(run, area, YADZVEGO_AREA, rows, 18).run;
     expect("trial", run.phase == YADZVEGO_TRIAL_OPEN && run.question == 1 && run.first && !run.plain, 1);
     expect("moving", run.moving[0] && !run.moving[1] && run.tried.hi >= 3 && run.predicted.hi < 1, 1);
-    YadzvegoReply taken = yadzvego_reply(run, area, YADZVEGO_AREA, next, 18);
-    expect("taken", taken.run.iterations == 1 && taken.run.standing == 1 && taken.run.last == 1 && taken.run.last_length.hi >= 3, 1);
-    expect("finish", taken.answer.which == YADZVEGO_FINISH && taken.answer.stop == YADZVEGO_FLAT && taken.answer.constraints == 1, 1);
-    expect_refused("over", taken.run, YADZVEGO_AREA, 18, 4);
+    YadzvegoReturned taken = yadzvego_reply(run, area, YADZVEGO_AREA, next, 18);
+    YadzvegoEvent event = taken.event;
+    run = taken.run;
+    expect("taken", run.iterations == 1 && run.standing == 1 && run.last == 1 && run.last_length.hi >= 3, 1);
+    expect("finish", event.which == YADZVEGO_FINISH && event.stop == YADZVEGO_FLAT && event.constraints == 1, 1);
+    expect_refused("over", run, YADZVEGO_AREA, 18, 4);
     expect_lists();
     return failures != 0;
 }

@@ -1,4 +1,5 @@
-/* Settles a small drawing by question and reply: a hinge at (3, 4) goes to where a strut of 10 from the origin reaches it, as near to where it was as can be. */
+/* Settles a small drawing by question and reply: a hinge at (3, 4) goes to where a strut of 10 from the origin reaches
+ * it, as near to where it was as can be. */
 #include "yadzvego.h"
 #include <stdio.h>
 
@@ -8,20 +9,20 @@ static const char *const stops[] = {"infeasible", "nochange", "undecided", "flat
 static void rows_at(const double *point, YadzvegoScalar rows[9])
 {
     YadzvegoScalar x = {point[0], point[1]}, y = {point[2], point[3]};
-    YadzvegoScalar squares = interval_add(interval_mul(x, x), interval_mul(y, y));
-    rows[0] = interval_sub(squares, interval_from_i64(100));
-    rows[1] = interval_mul(interval_two(), x);
-    rows[2] = interval_mul(interval_two(), y);
-    rows[3] = interval_sub(x, interval_from_i64(3));
-    rows[4] = interval_sub(y, interval_from_i64(4));
-    rows[5] = rows[8] = interval_one();
-    rows[6] = rows[7] = interval_zero();
+    YadzvegoScalar squares = yadzvego_interval_add(yadzvego_interval_mul(x, x), yadzvego_interval_mul(y, y));
+    rows[0] = yadzvego_interval_sub(squares, yadzvego_interval_from_i64(100));
+    rows[1] = yadzvego_interval_mul(yadzvego_interval_two(), x);
+    rows[2] = yadzvego_interval_mul(yadzvego_interval_two(), y);
+    rows[3] = yadzvego_interval_sub(x, yadzvego_interval_from_i64(3));
+    rows[4] = yadzvego_interval_sub(y, yadzvego_interval_from_i64(4));
+    rows[5] = rows[8] = yadzvego_interval_one();
+    rows[6] = rows[7] = yadzvego_interval_zero();
 }
 
 static double middle(const double *ends)
 {
     YadzvegoScalar v = {ends[0], ends[1]};
-    return interval_sharpen(v).lo;
+    return yadzvego_interval_sharpen(v).lo;
 }
 
 int main(void)
@@ -29,17 +30,18 @@ int main(void)
     static double area[YADZVEGO_AREA];
     const double start[4] = {3, 3, 4, 4};
     YadzvegoScalar rows[9];
-    YadzvegoReply now = yadzvego_begin(2, 1, 2, 50, start, 4, interval_from_i64(5), area, YADZVEGO_AREA);
-    while (now.answer.which == YADZVEGO_QUESTION) {
+    YadzvegoReturned now = yadzvego_begin(2, 1, 2, 50, start, 4, yadzvego_interval_from_i64(5), area, YADZVEGO_AREA);
+    while (now.event.which == YADZVEGO_QUESTION) {
         rows_at(area + yadzvego_point_place(now.run, YADZVEGO_AREA), rows);
         now = yadzvego_reply(now.run, area, YADZVEGO_AREA, &rows[0].lo, 18);
     }
-    if (now.answer.which == YADZVEGO_REFUSED) {
-        printf("refusal=%zu\n", now.answer.number);
+    if (now.event.which == YADZVEGO_REFUSED) {
+        printf("refusal=%zu\n", now.event.number);
         return 1;
     }
     const double *point = area + yadzvego_point_place(now.run, YADZVEGO_AREA);
-    printf("stop=%s\niterations=%zu\nturned=%zu\n", stops[now.answer.stop], now.answer.iterations, now.answer.turned_down);
+    printf("stop=%s\n", stops[now.event.stop]);
+    printf("iterations=%zu\nturned=%zu\n", now.event.iterations, now.event.turned_down);
     printf("at=%.16f,%.16f\n", middle(point), middle(point + 2));
     return 0;
 }

@@ -1,4 +1,5 @@
-//! Finds libyadzvego.a: in the folder that YADZVEGO_LIB names, or in ../target/staticlib, where `rt staticlib yadzvego` writes it.
+//! Finds libyadzvego.a: in the folder that YADZVEGO_LIB names, or in ../target/staticlib, where `rt staticlib yadzvego`
+//! writes it.
 
 use std::env;
 use std::path::{Path, PathBuf};

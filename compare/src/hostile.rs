@@ -1,6 +1,6 @@
-//! Calls that no honest caller makes: runs and areas altered between calls, wrong lengths, numbers outside the domain, replies out
-//! of turn. Each call must end, be refused with the number of document 01's table and then change not one bit of run
-//! and area, and leave a canonical area else.
+//! Calls that no honest caller makes: runs and areas altered between calls, wrong lengths, numbers outside the domain,
+//! replies out of turn. Each call must end, be refused with the number of document 01's table and then change not one
+//! bit of run and area, and leave a canonical area else.
 
 mod altered;
 mod begins;
@@ -9,14 +9,14 @@ mod rule;
 mod smaller;
 
 use crate::Count;
-use crate::archive::{Run, RunAnswer};
+use crate::archive::{EventNumbers, Run};
 use crate::interval::operands::Random;
 use crate::parts::side_by_side;
 use crate::progress::Progress;
 use crate::runs::beside::{Held, Manner, compared};
 use crate::runs::problem::{self, MOST};
 use crate::runs::rattle::AREA;
-use crate::runs::rust::{Played, played};
+use crate::runs::rust::{History, history_of};
 use altered::alterations;
 use call::Call;
 
@@ -65,7 +65,7 @@ impl Sum {
         self.kinds.iter().sum()
     }
 
-    fn count(&mut self, kind: Kind, told: &RunAnswer) {
+    fn count(&mut self, kind: Kind, told: &EventNumbers) {
         self.kinds[kind as usize] += 1;
         let number = if told.which == 2 { told.number } else { 0 };
         if let Some(count) = self.numbers.get_mut(number) {
@@ -153,19 +153,19 @@ impl Sum {
     }
 
     /// The states of a run as they are met, some of them altered, until there are so many calls.
-    fn alter(&mut self, played: &Played, wanted: u64, random: &mut Random) {
+    fn alter(&mut self, history: &History, wanted: u64, random: &mut Random) {
         let manner = Manner {
             word: random.word(),
             refuses: false,
             tells: false,
         };
-        let nothing = vec![1.0; played.sizes.row_numbers()];
+        let nothing = vec![1.0; history.sizes.row_numbers()];
         let mut earlier = Vec::new();
-        compared(played, manner, |held, at| {
+        compared(history, manner, |held, at| {
             if self.calls() >= wanted {
                 return;
             }
-            let reply = played.replies.get(at).and_then(Option::as_deref);
+            let reply = history.replies.get(at).and_then(Option::as_deref);
             let rows = reply.unwrap_or(&nothing);
             self.out_of_turn(held, &earlier, rows);
             if random.at_odds(2 + at as u64) {
@@ -204,7 +204,8 @@ impl Sum {
             .map(|(name, count)| format!("{name}: {count}"))
             .collect();
         println!(
-            "hostile: {} states, {} calls, {} differ; accepted: {accepted}, 1: {n1}, 2: {n2}, 3: {n3}, 4: {n4}, 5: {n5}, 6: {n6}",
+            "hostile: {} states, {} calls, {} differ; accepted: {accepted}, \
+             1: {n1}, 2: {n2}, 3: {n3}, 4: {n4}, 5: {n5}, 6: {n6}",
             self.states,
             self.calls(),
             self.differ
@@ -244,7 +245,7 @@ fn compare_part(seed: u64, wanted: u64, part: usize, progress: &Progress) -> Sum
         let drawn = problem::drawn(seed ^ 0x5EED, i);
         let sizes = drawn.sizes;
         if sizes.n + sizes.m + sizes.s <= SMALL {
-            sum.alter(&played(drawn), wanted, &mut random);
+            sum.alter(&history_of(drawn), wanted, &mut random);
             progress.add(sum.calls() - calls);
         }
     }

@@ -100,7 +100,8 @@ fn compare_function(
     }
     let [finished, n1, n2, _, _, n5, n6] = tally.numbers;
     text += &format!(
-        "{:<20} {lengths:>8} lengths {random:>9} random {:>4} differ; 0: {finished}, 1: {n1}, 2: {n2}, 5: {n5}, 6: {n6}",
+        "{:<20} {lengths:>8} lengths {random:>9} random {:>4} differ; \
+         0: {finished}, 1: {n1}, 2: {n2}, 5: {n5}, 6: {n6}",
         function.name, tally.differ
     );
     let count = Count {

@@ -1,8 +1,9 @@
-//! Compares the crates interval, linear and run with the Rust that they follow: function by function, the pieces of a run, whole
-//! runs question by question, and calls that must be refused. A NaN equals a NaN, other numbers compare by bits, refusals by
-//! number. Of what differs the smallest case that is found is printed, as a case of the fixed list. The exit status is 1 where
-//! any answer differs, or where runs never show what they must.
+//! Compares the crates interval, linear and run with the Rust that they follow: function by function, the pieces of a
+//! run, whole runs question by question, and calls that must be refused. A NaN equals a NaN, other numbers compare by
+//! bits, refusals by number. Of what differs the smallest case that is found is printed, as a case of the fixed list.
+//! The exit status is 1 where any answer differs, or where runs never show what they must.
 
+#[path = "../../rust/src/archive.rs"]
 mod archive;
 mod bench;
 mod hostile;
@@ -11,6 +12,7 @@ mod linear;
 mod parts;
 mod progress;
 mod run;
+mod run_c;
 mod runs;
 mod settle;
 mod shrink;

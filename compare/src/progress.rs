@@ -1,5 +1,5 @@
-//! How far a part of the comparison is, on standard error: a line that is written over where that is a terminal, and with
-//! `--progress` a line now and then anywhere else.
+//! How far a part of the comparison is, on standard error: a line that is written over where that is a terminal, and
+//! with `--progress` a line now and then anywhere else.
 
 use std::io::{IsTerminal, Write};
 use std::sync::Mutex;

@@ -72,7 +72,8 @@ impl Tally {
             .map(|(name, count)| format!("; {name}: {count}"))
             .collect();
         format!(
-            "{name:<20} {lengths:>8} lengths {random:>9} random {:>4} differ; 0: {finished}, 1: {n1}, 2: {n2}, 5: {n5}, 6: {n6}{said}",
+            "{name:<20} {lengths:>8} lengths {random:>9} random {:>4} differ; \
+             0: {finished}, 1: {n1}, 2: {n2}, 5: {n5}, 6: {n6}{said}",
             self.differ
         )
     }

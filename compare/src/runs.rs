@@ -20,7 +20,7 @@ use crate::parts::side_by_side;
 use crate::progress::Progress;
 use beside::{Manner, compared};
 use problem::Problem;
-use rust::{Played, played};
+use rust::{History, history_of};
 use smaller::Smaller;
 use std::collections::BTreeMap;
 use tally::{Tally, shown};
@@ -42,29 +42,29 @@ struct Sum {
     least: Option<(Size, Smaller)>,
 }
 
-fn size(played: &Played) -> Size {
-    let sizes = played.sizes;
-    (played.replies.len(), sizes.n + sizes.m + sizes.s)
+fn size(history: &History) -> Size {
+    let sizes = history.sizes;
+    (history.replies.len(), sizes.n + sizes.m + sizes.s)
 }
 
 impl Sum {
     fn add(&mut self, problem: Problem, word: u64) {
-        let played = played(problem);
+        let history = history_of(problem);
         let manner = Manner {
             word,
             refuses: true,
             tells: false,
         };
-        let compared = compared(&played, manner, |_, _| {});
-        *self.problems.entry(played.source).or_default() += 1;
-        self.tally.add(shown(&played));
+        let compared = compared(&history, manner, |_, _| {});
+        *self.problems.entry(history.source).or_default() += 1;
+        self.tally.add(shown(&history));
         self.answers += compared.answers;
         for (sum, refused) in self.refused.iter_mut().zip(compared.refused) {
             *sum += refused;
         }
         if let Some((at, _)) = compared.differs {
             self.differ += 1;
-            self.least_of(size(&played), Smaller::of(&played, at, manner));
+            self.least_of(size(&history), Smaller::of(&history, at, manner));
         }
     }
 

@@ -1,4 +1,5 @@
-//! What the program `settle` must print: its two drawings settled by the Rust, with rows worked out by the Rust's scalars.
+//! What the program `settle` must print: its two drawings settled by the Rust, with rows worked out by the Rust's
+//! scalars.
 
 use crate::Count;
 use crate::run::rust::finished;

@@ -1,4 +1,5 @@
-//! The smallest case that still differs: changes are tried one after another, and each that keeps the difference is kept.
+//! The smallest case that still differs: changes are tried one after another, and each that keeps the difference is
+//! kept.
 
 use crate::words::NAN;
 

@@ -1,4 +1,5 @@
-//! Settles a small drawing: a hinge at (3, 4) goes to where a strut of 10 from the origin reaches it, as near to where it was as can be.
+//! Settles a small drawing: a hinge at (3, 4) goes to where a strut of 10 from the origin reaches it, as near to where
+//! it was as can be.
 
 use yadzvego::geop_error::GeopResult;
 use yadzvego::minimize;

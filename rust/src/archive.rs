@@ -1,17 +1,53 @@
-//! What of include/yadzvego.h is called here.
+//! What include/yadzvego.h declares. The comparison with geop (compare/) reads this file too.
 
-use crate::calls::Run;
-use crate::scalars::Scalar;
+/// An interval `[lo, hi]` of `f64`.
+#[repr(C)]
+#[derive(Copy, Clone, Debug, Default, PartialEq)]
+pub struct Scalar {
+    pub lo: f64,
+    pub hi: f64,
+}
 
 /// `number` 0 and a value, or a refusal's number.
 #[repr(C)]
-pub struct ScalarAnswer {
+#[derive(Clone, Copy)]
+pub struct ScalarResult {
     pub number: u64,
     pub value: Scalar,
 }
 
+/// A run between two calls. A caller hands it on as it is; one that no call leaves is refused.
 #[repr(C)]
-pub struct AnswerNumbers {
+#[derive(Clone, Copy, Debug, PartialEq)]
+pub struct Run {
+    pub n: usize,
+    pub m: usize,
+    pub s: usize,
+    pub limit: usize,
+    pub iterations: usize,
+    pub question: usize,
+    pub standing: usize,
+    pub landed: usize,
+    pub corrections: usize,
+    pub turned_down: usize,
+    pub mu: Scalar,
+    pub radius: Scalar,
+    pub predicted: Scalar,
+    pub tried: Scalar,
+    pub max_step: Scalar,
+    pub last_length: Scalar,
+    pub phase: u8,
+    pub rejected: u8,
+    pub last: u8,
+    pub first: bool,
+    pub plain: bool,
+    pub moving: [bool; 12],
+}
+
+/// The event that a call returns: `which` is 0 for a question, 1 for the finish and 2 for a refusal.
+#[repr(C)]
+#[derive(Clone, Copy, Debug)]
+pub struct EventNumbers {
     pub which: u8,
     pub kind: u8,
     pub stop: u8,
@@ -24,37 +60,105 @@ pub struct AnswerNumbers {
     pub turned_down: usize,
 }
 
+/// What a call returns.
 #[repr(C)]
-pub struct ReplyNumbers {
+#[derive(Clone, Copy, Debug)]
+pub struct ReturnedNumbers {
     pub run: Run,
-    pub answer: AnswerNumbers,
+    pub event: EventNumbers,
 }
 
-// No function asks anything of its caller but that a pointer and its count are those of a slice: a `safe` one takes none.
+// No function asks anything of its caller but that a pointer and its count are those of a slice: a `safe` one takes
+// none.
 unsafe extern "C" {
-    pub safe fn interval_from_i64(v: i64) -> Scalar;
-    pub safe fn interval_from_ratio(num: i64, den: i64) -> ScalarAnswer;
-    pub safe fn interval_add(x: Scalar, y: Scalar) -> Scalar;
-    pub safe fn interval_sub(x: Scalar, y: Scalar) -> Scalar;
-    pub safe fn interval_mul(x: Scalar, y: Scalar) -> Scalar;
-    pub safe fn interval_neg(x: Scalar) -> Scalar;
-    pub safe fn interval_div(x: Scalar, y: Scalar) -> ScalarAnswer;
-    pub safe fn interval_abs(x: Scalar) -> Scalar;
-    pub safe fn interval_sqrt(x: Scalar) -> ScalarAnswer;
-    pub safe fn interval_could_be_equal(x: Scalar, y: Scalar) -> bool;
-    pub safe fn interval_definitely_not_equal(x: Scalar, y: Scalar) -> bool;
-    pub safe fn interval_could_be_greater(x: Scalar, y: Scalar) -> bool;
-    pub safe fn interval_definitely_greater(x: Scalar, y: Scalar) -> bool;
-    pub safe fn interval_could_be_less(x: Scalar, y: Scalar) -> bool;
-    pub safe fn interval_definitely_less(x: Scalar, y: Scalar) -> bool;
-    pub safe fn interval_is_zero(x: Scalar) -> bool;
-    pub safe fn interval_is_finite(x: Scalar) -> bool;
-    pub safe fn interval_midpoint(x: Scalar) -> Scalar;
-    pub safe fn interval_is_sharp(x: Scalar) -> bool;
-    pub safe fn interval_lower(x: Scalar) -> Scalar;
-    pub safe fn interval_upper(x: Scalar) -> Scalar;
-    pub safe fn interval_sharpen(x: Scalar) -> Scalar;
-    pub safe fn interval_max(x: Scalar, y: Scalar) -> Scalar;
+    pub safe fn yadzvego_interval_zero() -> Scalar;
+    pub safe fn yadzvego_interval_one() -> Scalar;
+    pub safe fn yadzvego_interval_two() -> Scalar;
+    pub safe fn yadzvego_interval_next_up(x: f64) -> f64;
+    pub safe fn yadzvego_interval_next_down(x: f64) -> f64;
+    pub safe fn yadzvego_interval_degenerate(v: f64) -> Scalar;
+    pub safe fn yadzvego_interval_from_i64(v: i64) -> Scalar;
+    pub safe fn yadzvego_interval_from_ratio(num: i64, den: i64) -> ScalarResult;
+    pub safe fn yadzvego_interval_add(x: Scalar, y: Scalar) -> Scalar;
+    pub safe fn yadzvego_interval_sub(x: Scalar, y: Scalar) -> Scalar;
+    pub safe fn yadzvego_interval_mul(x: Scalar, y: Scalar) -> Scalar;
+    pub safe fn yadzvego_interval_neg(x: Scalar) -> Scalar;
+    pub safe fn yadzvego_interval_div(x: Scalar, y: Scalar) -> ScalarResult;
+    pub safe fn yadzvego_interval_abs(x: Scalar) -> Scalar;
+    pub safe fn yadzvego_interval_sqrt(x: Scalar) -> ScalarResult;
+    pub safe fn yadzvego_interval_could_be_equal(x: Scalar, y: Scalar) -> bool;
+    pub safe fn yadzvego_interval_definitely_not_equal(x: Scalar, y: Scalar) -> bool;
+    pub safe fn yadzvego_interval_could_be_greater(x: Scalar, y: Scalar) -> bool;
+    pub safe fn yadzvego_interval_definitely_greater(x: Scalar, y: Scalar) -> bool;
+    pub safe fn yadzvego_interval_could_be_less(x: Scalar, y: Scalar) -> bool;
+    pub safe fn yadzvego_interval_definitely_less(x: Scalar, y: Scalar) -> bool;
+    pub safe fn yadzvego_interval_is_zero(x: Scalar) -> bool;
+    pub safe fn yadzvego_interval_is_finite(x: Scalar) -> bool;
+    pub safe fn yadzvego_interval_midpoint(x: Scalar) -> Scalar;
+    pub safe fn yadzvego_interval_is_sharp(x: Scalar) -> bool;
+    pub safe fn yadzvego_interval_lower(x: Scalar) -> Scalar;
+    pub safe fn yadzvego_interval_upper(x: Scalar) -> Scalar;
+    pub safe fn yadzvego_interval_sharpen(x: Scalar) -> Scalar;
+    pub safe fn yadzvego_interval_max(x: Scalar, y: Scalar) -> Scalar;
+
+    pub fn yadzvego_linear_dot(
+        n: usize,
+        a: *const f64,
+        a_len: usize,
+        b: *const f64,
+        b_len: usize,
+    ) -> ScalarResult;
+    pub fn yadzvego_linear_norm(n: usize, v: *const f64, v_len: usize) -> ScalarResult;
+    pub safe fn yadzvego_linear_choose(v: Scalar) -> Scalar;
+    pub fn yadzvego_linear_sharp(
+        n: usize,
+        v: *const f64,
+        v_len: usize,
+        out: *mut f64,
+        out_len: usize,
+    ) -> u64;
+    pub fn yadzvego_linear_cholesky(
+        n: usize,
+        a: *const f64,
+        a_len: usize,
+        l: *mut f64,
+        l_len: usize,
+        left_out: *mut bool,
+        left_out_len: usize,
+    ) -> u64;
+    pub fn yadzvego_linear_solve_cholesky(
+        n: usize,
+        l: *const f64,
+        l_len: usize,
+        left_out: *const bool,
+        left_out_len: usize,
+        b: *const f64,
+        b_len: usize,
+        x: *mut f64,
+        x_len: usize,
+    ) -> u64;
+    pub fn yadzvego_linear_least_squares(
+        m: usize,
+        r: usize,
+        rows: *const f64,
+        rows_len: usize,
+        rhs: *const f64,
+        rhs_len: usize,
+        y: *mut f64,
+        y_len: usize,
+    ) -> u64;
+    pub fn yadzvego_linear_minus_solved(
+        m: usize,
+        n: usize,
+        jc: *const f64,
+        jc_len: usize,
+        rhs: *const f64,
+        rhs_len: usize,
+        from: *const f64,
+        from_len: usize,
+        out: *mut f64,
+        out_len: usize,
+    ) -> u64;
 
     pub fn yadzvego_begin(
         n: usize,
@@ -66,15 +170,15 @@ unsafe extern "C" {
         max_step: Scalar,
         area: *mut f64,
         area_len: usize,
-    ) -> ReplyNumbers;
+    ) -> ReturnedNumbers;
     pub fn yadzvego_reply(
         run: Run,
         area: *mut f64,
         area_len: usize,
         rows: *const f64,
         rows_len: usize,
-    ) -> ReplyNumbers;
-    pub fn yadzvego_reply_none(run: Run, area: *mut f64, area_len: usize) -> ReplyNumbers;
+    ) -> ReturnedNumbers;
+    pub fn yadzvego_reply_none(run: Run, area: *mut f64, area_len: usize) -> ReturnedNumbers;
     pub safe fn yadzvego_point_place(run: Run, area_len: usize) -> usize;
     pub safe fn yadzvego_point_length(run: Run, area_len: usize) -> usize;
 }

@@ -1,7 +1,8 @@
 //! A run by question and reply. Nothing is kept here: the caller has the run, a plain value, and lends the area.
 
+pub use crate::archive::Run;
 use crate::archive::{
-    AnswerNumbers, ReplyNumbers, yadzvego_begin, yadzvego_point_length, yadzvego_point_place,
+    EventNumbers, ReturnedNumbers, yadzvego_begin, yadzvego_point_length, yadzvego_point_place,
     yadzvego_reply, yadzvego_reply_none,
 };
 use crate::geop_error::GeopError;
@@ -11,34 +12,6 @@ use crate::solvers::least_squares::{Rejection, Stop};
 /// How many numbers an area has.
 pub const AREA: usize = 8000;
 
-/// A run between two calls, as include/yadzvego.h has it. A caller hands it on as it is; one that no call leaves is refused.
-#[repr(C)]
-#[derive(Clone, Copy, Debug, PartialEq)]
-pub struct Run {
-    pub n: usize,
-    pub m: usize,
-    pub s: usize,
-    pub limit: usize,
-    pub iterations: usize,
-    pub question: usize,
-    pub standing: usize,
-    pub landed: usize,
-    pub corrections: usize,
-    pub turned_down: usize,
-    pub mu: Scalar,
-    pub radius: Scalar,
-    pub predicted: Scalar,
-    pub tried: Scalar,
-    pub max_step: Scalar,
-    pub last_length: Scalar,
-    pub phase: u8,
-    pub rejected: u8,
-    pub last: u8,
-    pub first: bool,
-    pub plain: bool,
-    pub moving: [bool; 12],
-}
-
 #[derive(Clone, Copy, Debug, PartialEq, Eq)]
 pub enum Kind {
     Start,
@@ -46,9 +19,9 @@ pub enum Kind {
     Correction,
 }
 
-/// `standing` is the number of the question whose point stands.
+/// A question, the finish or a refusal. `standing` is the number of the question whose point stands.
 #[derive(Clone, Copy, Debug, PartialEq, Eq)]
-pub enum Answer {
+pub enum Event {
     Question {
         number: usize,
         kind: Kind,
@@ -63,11 +36,11 @@ pub enum Answer {
     Refused(GeopError),
 }
 
-/// The run after a call, and its answer. A reply that is refused by 1 to 4 has the run that was handed in.
+/// What a call returns: the run after it, and the event. A reply that is refused by 1 to 4 returns the run as it was.
 #[derive(Clone, Copy, Debug, PartialEq)]
-pub struct Reply {
+pub struct Returned {
     pub run: Run,
-    pub answer: Answer,
+    pub event: Event,
 }
 
 fn kind_of(number: u8) -> Kind {
@@ -88,47 +61,47 @@ fn rejection_of(number: u8) -> Option<Rejection> {
     }
 }
 
-fn stop_of(a: &AnswerNumbers) -> Stop {
-    let rejected = rejection_of(a.rejected);
-    match a.stop {
+fn stop_of(e: &EventNumbers) -> Stop {
+    let rejected = rejection_of(e.rejected);
+    match e.stop {
         0 => Stop::Infeasible,
         1 => Stop::NoChange { rejected },
         2 => Stop::Undecided,
         3 => Stop::Flat {
-            independent: a.independent,
-            constraints: a.constraints,
+            independent: e.independent,
+            constraints: e.constraints,
         },
         4 => Stop::Damped { rejected },
         _ => Stop::Budget,
     }
 }
 
-fn answer_of(a: &AnswerNumbers) -> Answer {
-    match a.which {
-        0 => Answer::Question {
-            number: a.number,
-            kind: kind_of(a.kind),
-            standing: a.standing,
+fn event_of(e: &EventNumbers) -> Event {
+    match e.which {
+        0 => Event::Question {
+            number: e.number,
+            kind: kind_of(e.kind),
+            standing: e.standing,
         },
-        1 => Answer::Finish {
-            stop: stop_of(a),
-            iterations: a.iterations,
-            turned_down: a.turned_down,
-            standing: a.standing,
+        1 => Event::Finish {
+            stop: stop_of(e),
+            iterations: e.iterations,
+            turned_down: e.turned_down,
+            standing: e.standing,
         },
-        _ => Answer::Refused(GeopError::numbered(a.number)),
+        _ => Event::Refused(GeopError::numbered(e.number)),
     }
 }
 
-fn reply_of(r: ReplyNumbers) -> Reply {
-    Reply {
+fn returned_of(r: ReturnedNumbers) -> Returned {
+    Returned {
         run: r.run,
-        answer: answer_of(&r.answer),
+        event: event_of(&r.event),
     }
 }
 
-/// Begins a run of `n` variables, `m` constraints and `s` sum rows: its first question asks for the rows of `start`, which has
-/// 2 `n` ends. The area has [`AREA`] numbers.
+/// Begins a run of `n` variables, `m` constraints and `s` sum rows: its first question asks for the rows of `start`,
+/// which has 2 `n` ends. The area has [`AREA`] numbers.
 pub fn begin(
     n: usize,
     m: usize,
@@ -137,9 +110,9 @@ pub fn begin(
     start: &[f64],
     max_step: Scalar,
     area: &mut [f64],
-) -> Reply {
+) -> Returned {
     // Safety: each pointer and its count are those of a slice, and the slice that is written overlaps no other.
-    reply_of(unsafe {
+    returned_of(unsafe {
         yadzvego_begin(
             n,
             m,
@@ -154,10 +127,11 @@ pub fn begin(
     })
 }
 
-/// Answers the open question with rows, 2 (m + s) (n + 1) ends: the constraints' values, their slopes row by row, then the sum's.
-pub fn reply(run: Run, area: &mut [f64], rows: &[f64]) -> Reply {
+/// Answers the open question with rows, 2 (m + s) (n + 1) ends: the constraints' values, their slopes row by row, then
+/// the sum's.
+pub fn reply(run: Run, area: &mut [f64], rows: &[f64]) -> Returned {
     // Safety: as in `begin`.
-    reply_of(unsafe {
+    returned_of(unsafe {
         yadzvego_reply(
             run,
             area.as_mut_ptr(),
@@ -169,12 +143,13 @@ pub fn reply(run: Run, area: &mut [f64], rows: &[f64]) -> Reply {
 }
 
 /// Answers the open question with none: the point cannot be evaluated.
-pub fn reply_none(run: Run, area: &mut [f64]) -> Reply {
+pub fn reply_none(run: Run, area: &mut [f64]) -> Returned {
     // Safety: as in `begin`.
-    reply_of(unsafe { yadzvego_reply_none(run, area.as_mut_ptr(), area.len()) })
+    returned_of(unsafe { yadzvego_reply_none(run, area.as_mut_ptr(), area.len()) })
 }
 
-/// The asked point, or the standing one where no question is open: 2 n ends, none for a run or an area that no call leaves.
+/// The asked point, or the standing one where no question is open: 2 n ends, none for a run or an area that no call
+/// leaves.
 pub fn point(run: Run, area: &[f64]) -> &[f64] {
     let place = yadzvego_point_place(run, area.len());
     &area[place..place + yadzvego_point_length(run, area.len())]

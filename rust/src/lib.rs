@@ -1,17 +1,19 @@
 //! Least squares under constraints over interval ends, as the proved archive libyadzvego.a settles them.
 //!
-//! [`begin`], [`reply`], [`reply_none`] and [`point`] are the archive's calls: the caller owns the run and the area, and hands both
-//! on from call to call. [`minimize`] makes a whole run of them. The module [`solvers::least_squares`] has the names and shapes of
-//! geop's module of that name, with its `minimize` by `await`, and [`scalars`] those of its `Scalar`, so that a caller of geop's
-//! changes the crate that it imports. docs/DIFFERENCES.md names what cannot be the same.
+//! [`begin`], [`reply`], [`reply_none`] and [`point`] are the archive's calls: the caller owns the run and the area,
+//! and hands both on from call to call. [`minimize`] makes a whole run of them. The module [`solvers::least_squares`]
+//! has the names and shapes of geop's module of that name, with its `minimize` by `await`, and [`scalars`] those of its
+//! `Scalar`, so that a caller of geop's changes the crate that it imports. docs/DIFFERENCES.md names what cannot be the
+//! same.
 
+#[allow(dead_code, reason = "it declares all of the header")]
 mod archive;
 mod calls;
 pub mod geop_error;
 pub mod scalars;
 pub mod solvers;
 
-pub use calls::{AREA, Answer, Kind, Reply, Run, begin, point, reply, reply_none};
+pub use calls::{AREA, Event, Kind, Returned, Run, begin, point, reply, reply_none};
 
 use crate::geop_error::GeopResult;
 use crate::scalars::Scalar;

@@ -1,15 +1,10 @@
-//! geop's number, an interval `[lo, hi]` of `f64` with every operation rounded outward: the methods that the archive has.
+//! geop's number, an interval `[lo, hi]` of `f64` with every operation rounded outward: the methods that the archive
+//! has.
 
-use crate::archive::{self, ScalarAnswer};
+pub use crate::archive::Scalar;
+use crate::archive::{self, ScalarResult};
 use crate::geop_error::{GeopError, GeopResult};
 use std::fmt::{self, Display, Formatter};
-
-#[repr(C)]
-#[derive(Copy, Clone, Debug, Default, PartialEq)]
-pub struct Scalar {
-    pub lo: f64,
-    pub hi: f64,
-}
 
 impl Display for Scalar {
     fn fmt(&self, f: &mut Formatter<'_>) -> fmt::Result {
@@ -18,9 +13,9 @@ impl Display for Scalar {
 }
 
 /// The value, or the refusal of that number.
-fn result(answer: ScalarAnswer) -> GeopResult<Scalar> {
-    match answer.number {
-        0 => Ok(answer.value),
+fn result(r: ScalarResult) -> GeopResult<Scalar> {
+    match r.number {
+        0 => Ok(r.value),
         number => Err(GeopError::numbered(number as usize)),
     }
 }
@@ -52,96 +47,96 @@ impl Scalar {
     }
 
     pub fn from_i64(v: i64) -> Self {
-        archive::interval_from_i64(v)
+        archive::yadzvego_interval_from_i64(v)
     }
 
     pub fn from_ratio(num: i64, den: i64) -> GeopResult<Self> {
-        result(archive::interval_from_ratio(num, den))
+        result(archive::yadzvego_interval_from_ratio(num, den))
     }
 
     pub fn add(self, other: Self) -> Self {
-        archive::interval_add(self, other)
+        archive::yadzvego_interval_add(self, other)
     }
 
     pub fn sub(self, other: Self) -> Self {
-        archive::interval_sub(self, other)
+        archive::yadzvego_interval_sub(self, other)
     }
 
     pub fn mul(self, other: Self) -> Self {
-        archive::interval_mul(self, other)
+        archive::yadzvego_interval_mul(self, other)
     }
 
     pub fn neg(self) -> Self {
-        archive::interval_neg(self)
+        archive::yadzvego_interval_neg(self)
     }
 
     /// Fails where the divisor could be zero.
     pub fn div(self, other: Self) -> GeopResult<Self> {
-        result(archive::interval_div(self, other))
+        result(archive::yadzvego_interval_div(self, other))
     }
 
     pub fn abs(self) -> Self {
-        archive::interval_abs(self)
+        archive::yadzvego_interval_abs(self)
     }
 
     /// Fails where it is definitely negative.
     pub fn sqrt(self) -> GeopResult<Self> {
-        result(archive::interval_sqrt(self))
+        result(archive::yadzvego_interval_sqrt(self))
     }
 
     pub fn could_be_equal(self, other: Self) -> bool {
-        archive::interval_could_be_equal(self, other)
+        archive::yadzvego_interval_could_be_equal(self, other)
     }
 
     pub fn definitely_not_equal(self, other: Self) -> bool {
-        archive::interval_definitely_not_equal(self, other)
+        archive::yadzvego_interval_definitely_not_equal(self, other)
     }
 
     pub fn could_be_greater(self, other: Self) -> bool {
-        archive::interval_could_be_greater(self, other)
+        archive::yadzvego_interval_could_be_greater(self, other)
     }
 
     pub fn definitely_greater(self, other: Self) -> bool {
-        archive::interval_definitely_greater(self, other)
+        archive::yadzvego_interval_definitely_greater(self, other)
     }
 
     pub fn could_be_less(self, other: Self) -> bool {
-        archive::interval_could_be_less(self, other)
+        archive::yadzvego_interval_could_be_less(self, other)
     }
 
     pub fn definitely_less(self, other: Self) -> bool {
-        archive::interval_definitely_less(self, other)
+        archive::yadzvego_interval_definitely_less(self, other)
     }
 
     pub fn is_zero(self) -> bool {
-        archive::interval_is_zero(self)
+        archive::yadzvego_interval_is_zero(self)
     }
 
     pub fn is_finite(self) -> bool {
-        archive::interval_is_finite(self)
+        archive::yadzvego_interval_is_finite(self)
     }
 
     pub fn midpoint(self) -> Self {
-        archive::interval_midpoint(self)
+        archive::yadzvego_interval_midpoint(self)
     }
 
     pub fn is_sharp(self) -> bool {
-        archive::interval_is_sharp(self)
+        archive::yadzvego_interval_is_sharp(self)
     }
 
     pub fn lower(self) -> Self {
-        archive::interval_lower(self)
+        archive::yadzvego_interval_lower(self)
     }
 
     pub fn upper(self) -> Self {
-        archive::interval_upper(self)
+        archive::yadzvego_interval_upper(self)
     }
 
     pub fn sharpen(self) -> Self {
-        archive::interval_sharpen(self)
+        archive::yadzvego_interval_sharpen(self)
     }
 
     pub fn max(self, other: Self) -> Self {
-        archive::interval_max(self, other)
+        archive::yadzvego_interval_max(self, other)
     }
 }

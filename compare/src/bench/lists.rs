@@ -1,8 +1,8 @@
-//! Lists and matrices: ordinary numbers, each side in its own layout, made before the clock starts. What the Rust allocates for
-//! its results counts, since its functions do that.
+//! Lists and matrices: ordinary numbers, each side in its own layout, made before the clock starts. What the Rust
+//! allocates for its results counts, since its functions do that.
 
 use super::{Task, mixed, timed};
-use crate::archive::{self, Answer};
+use crate::archive::{self, ScalarResult};
 use crate::interval::operands::Random;
 use crate::run::pieces::flat;
 use geop_core_math::scalars::Scalar;
@@ -81,8 +81,8 @@ impl Inputs {
 
 pub struct Lists(Vec<Vec<Inputs>>);
 
-/// What the Rattle is lent to write into, kept between calls.
-struct Lent {
+/// What the Rattle writes into, kept between calls.
+struct Output {
     numbers: [f64; 1152],
     marks: [bool; 24],
 }
@@ -97,66 +97,66 @@ fn rust_words(sum: u64, list: &[Scalar]) -> u64 {
     })
 }
 
-fn value(sum: u64, answer: Answer) -> u64 {
+fn value(sum: u64, answer: ScalarResult) -> u64 {
     words(sum, &[answer.value.lo, answer.value.hi])
 }
 
 // ---- one call of each side: the words of what it gives
 
-fn rust_dot(sum: u64, x: &Inputs, _: &mut Lent) -> u64 {
+fn rust_dot(sum: u64, x: &Inputs, _: &mut Output) -> u64 {
     rust_words(sum, &[solver::dot(&x.a.rows[0], &x.a.rows[1])])
 }
 
-fn rattle_dot(sum: u64, x: &Inputs, _: &mut Lent) -> u64 {
+fn rattle_dot(sum: u64, x: &Inputs, _: &mut Output) -> u64 {
     let (a, b) = (x.list(0), x.list(1));
     value(sum, unsafe {
-        archive::linear_dot(x.n, a.as_ptr(), a.len(), b.as_ptr(), b.len())
+        archive::yadzvego_linear_dot(x.n, a.as_ptr(), a.len(), b.as_ptr(), b.len())
     })
 }
 
-fn rust_norm(sum: u64, x: &Inputs, _: &mut Lent) -> u64 {
+fn rust_norm(sum: u64, x: &Inputs, _: &mut Output) -> u64 {
     rust_words(sum, &[solver::norm(&x.a.rows[0]).expect("it has a root")])
 }
 
-fn rattle_norm(sum: u64, x: &Inputs, _: &mut Lent) -> u64 {
+fn rattle_norm(sum: u64, x: &Inputs, _: &mut Output) -> u64 {
     let v = x.list(0);
     value(sum, unsafe {
-        archive::linear_norm(x.n, v.as_ptr(), v.len())
+        archive::yadzvego_linear_norm(x.n, v.as_ptr(), v.len())
     })
 }
 
-fn rust_cholesky(sum: u64, x: &Inputs, _: &mut Lent) -> u64 {
+fn rust_cholesky(sum: u64, x: &Inputs, _: &mut Output) -> u64 {
     let (l, _) = linear::cholesky(&x.symmetric.rows).expect("it has roots");
     // The corner alone, so that the words do not weigh more than the work.
     rust_words(sum, &l[x.n - 1][x.n - 1..])
 }
 
-fn rattle_cholesky(sum: u64, x: &Inputs, lent: &mut Lent) -> u64 {
+fn rattle_cholesky(sum: u64, x: &Inputs, output: &mut Output) -> u64 {
     let (a, count) = (&x.symmetric.flat, 2 * x.n * x.n);
     unsafe {
-        archive::linear_cholesky(
+        archive::yadzvego_linear_cholesky(
             x.n,
             a.as_ptr(),
             a.len(),
-            lent.numbers.as_mut_ptr(),
+            output.numbers.as_mut_ptr(),
             count,
-            lent.marks.as_mut_ptr(),
+            output.marks.as_mut_ptr(),
             x.n,
         );
     }
-    words(sum, &lent.numbers[count - 2..count])
+    words(sum, &output.numbers[count - 2..count])
 }
 
-fn rust_solve(sum: u64, x: &Inputs, _: &mut Lent) -> u64 {
+fn rust_solve(sum: u64, x: &Inputs, _: &mut Output) -> u64 {
     let solved = linear::solve_cholesky(&x.factor.rows, &x.left_out, &x.a.rows[0]);
     rust_words(sum, &solved.expect("it divides")[..1])
 }
 
-fn rattle_solve(sum: u64, x: &Inputs, lent: &mut Lent) -> u64 {
+fn rattle_solve(sum: u64, x: &Inputs, output: &mut Output) -> u64 {
     let (l, b) = (&x.factor.flat, x.list(0));
-    let (marks, out) = (x.left_out.as_ptr(), lent.numbers.as_mut_ptr());
+    let (marks, out) = (x.left_out.as_ptr(), output.numbers.as_mut_ptr());
     unsafe {
-        archive::linear_solve_cholesky(
+        archive::yadzvego_linear_solve_cholesky(
             x.n,
             l.as_ptr(),
             l.len(),
@@ -168,19 +168,19 @@ fn rattle_solve(sum: u64, x: &Inputs, lent: &mut Lent) -> u64 {
             2 * x.n,
         );
     }
-    words(sum, &lent.numbers[..2])
+    words(sum, &output.numbers[..2])
 }
 
-fn rust_minus_solved(sum: u64, x: &Inputs, _: &mut Lent) -> u64 {
+fn rust_minus_solved(sum: u64, x: &Inputs, _: &mut Output) -> u64 {
     let solved = solver::minus_solved(&x.square.rows, &x.a.rows[0], &x.a.rows[1]);
     rust_words(sum, &solved.expect("it has roots")[..1])
 }
 
-fn rattle_minus_solved(sum: u64, x: &Inputs, lent: &mut Lent) -> u64 {
+fn rattle_minus_solved(sum: u64, x: &Inputs, output: &mut Output) -> u64 {
     let (jc, rhs, from) = (&x.square.flat, x.list(0), x.list(1));
     let (j, r, f) = (jc.as_ptr(), rhs.as_ptr(), from.as_ptr());
     unsafe {
-        archive::linear_minus_solved(
+        archive::yadzvego_linear_minus_solved(
             x.n,
             x.n,
             j,
@@ -189,11 +189,11 @@ fn rattle_minus_solved(sum: u64, x: &Inputs, lent: &mut Lent) -> u64 {
             rhs.len(),
             f,
             from.len(),
-            lent.numbers.as_mut_ptr(),
+            output.numbers.as_mut_ptr(),
             2 * x.n,
         );
     }
-    words(sum, &lent.numbers[..2])
+    words(sum, &output.numbers[..2])
 }
 
 /// The rows are given away to the Rust: their copies are made before the clock starts.
@@ -218,11 +218,11 @@ fn timed_once(work: impl FnOnce() -> u64) -> (u64, std::time::Duration) {
     (sum, start.elapsed())
 }
 
-fn rattle_least_squares(sum: u64, x: &Inputs, lent: &mut Lent) -> u64 {
+fn rattle_least_squares(sum: u64, x: &Inputs, output: &mut Output) -> u64 {
     let (rows, rhs) = (&x.square.flat, x.list(0));
-    let out = lent.numbers.as_mut_ptr();
+    let out = output.numbers.as_mut_ptr();
     unsafe {
-        archive::linear_least_squares(
+        archive::yadzvego_linear_least_squares(
             x.n,
             x.n,
             rows.as_ptr(),
@@ -233,18 +233,18 @@ fn rattle_least_squares(sum: u64, x: &Inputs, lent: &mut Lent) -> u64 {
             2 * x.n,
         );
     }
-    words(sum, &lent.numbers[..2])
+    words(sum, &output.numbers[..2])
 }
 
-type Side = fn(u64, &Inputs, &mut Lent) -> u64;
+type Side = fn(u64, &Inputs, &mut Output) -> u64;
 
 fn by<'a>(inputs: &'a [Inputs], side: Side) -> super::Timed<'a> {
     let side = black_box(side);
-    let mut lent = Lent {
+    let mut output = Output {
         numbers: [0.0; 1152],
         marks: [false; 24],
     };
-    timed(move || inputs.iter().fold(0, |sum, x| side(sum, x, &mut lent)))
+    timed(move || inputs.iter().fold(0, |sum, x| side(sum, x, &mut output)))
 }
 
 impl Lists {

@@ -1,7 +1,7 @@
 //! Scalars: ordinary operands, one call after another by the same interface for C, so that neither side is inlined.
 
 use super::{Task, mixed, timed};
-use crate::archive::{self, Answer, Scalar};
+use crate::archive::{self, Scalar, ScalarResult};
 use crate::interval::functions::number_of;
 use crate::interval::operands::Random;
 use geop_core_math::geop_error::GeopResult;
@@ -12,8 +12,8 @@ use std::rc::Rc;
 const OPERANDS: usize = 1024;
 
 type Binary = extern "C" fn(Scalar, Scalar) -> Scalar;
-type Quotient = extern "C" fn(Scalar, Scalar) -> Answer;
-type Root = extern "C" fn(Scalar) -> Answer;
+type Quotient = extern "C" fn(Scalar, Scalar) -> ScalarResult;
+type Root = extern "C" fn(Scalar) -> ScalarResult;
 
 fn rust(x: Scalar) -> scalars::Scalar {
     scalars::Scalar { lo: x.lo, hi: x.hi }
@@ -23,13 +23,13 @@ fn plain(x: scalars::Scalar) -> Scalar {
     Scalar { lo: x.lo, hi: x.hi }
 }
 
-fn answer(result: GeopResult<scalars::Scalar>) -> Answer {
+fn answer(result: GeopResult<scalars::Scalar>) -> ScalarResult {
     match result {
-        Ok(value) => Answer {
+        Ok(value) => ScalarResult {
             number: 0,
             value: plain(value),
         },
-        Err(error) => Answer {
+        Err(error) => ScalarResult {
             number: number_of(&error),
             value: Scalar { lo: 0.0, hi: 0.0 },
         },
@@ -48,11 +48,11 @@ extern "C" fn rust_mul(x: Scalar, y: Scalar) -> Scalar {
     plain(rust(x).mul(rust(y)))
 }
 
-extern "C" fn rust_div(x: Scalar, y: Scalar) -> Answer {
+extern "C" fn rust_div(x: Scalar, y: Scalar) -> ScalarResult {
     answer(rust(x).div(rust(y)))
 }
 
-extern "C" fn rust_sqrt(x: Scalar) -> Answer {
+extern "C" fn rust_sqrt(x: Scalar) -> ScalarResult {
     answer(rust(x).sqrt())
 }
 
@@ -136,27 +136,27 @@ pub fn tasks() -> Vec<Task<'static>> {
         task(
             "add",
             Some(0.75),
-            [binary(rust_add), binary(archive::interval_add)],
+            [binary(rust_add), binary(archive::yadzvego_interval_add)],
         ),
         task(
             "sub",
             None,
-            [binary(rust_sub), binary(archive::interval_sub)],
+            [binary(rust_sub), binary(archive::yadzvego_interval_sub)],
         ),
         task(
             "mul",
             Some(1.15),
-            [binary(rust_mul), binary(archive::interval_mul)],
+            [binary(rust_mul), binary(archive::yadzvego_interval_mul)],
         ),
         task(
             "div",
             Some(0.75),
-            [quotient(rust_div), quotient(archive::interval_div)],
+            [quotient(rust_div), quotient(archive::yadzvego_interval_div)],
         ),
         task(
             "sqrt",
             Some(9.0),
-            [root(rust_sqrt), root(archive::interval_sqrt)],
+            [root(rust_sqrt), root(archive::yadzvego_interval_sqrt)],
         ),
     ]
 }

@@ -1,6 +1,7 @@
-//! Whole runs: frames of several sizes, each with the replies that its questions get, worked out beforehand. So no evaluation is
-//! in the time. The Rust is given evaluations, whose copies are made before the clock starts; the Rattle is lent their numbers.
-//! Frames of one size tell what a small drawing takes and what one call takes, which a caller waits for.
+//! Whole runs: frames of several sizes, each with the replies that its questions get, worked out beforehand. So no
+//! evaluation is in the time. The Rust is given evaluations, whose copies are made before the clock starts; the Rattle
+//! is lent their numbers. Frames of one size tell what a small drawing takes and what one call takes, which a caller
+//! waits for.
 
 use super::{ROUNDS, Task, Timed, mixed};
 use crate::archive::Run;
@@ -10,7 +11,7 @@ use crate::run::rust::finished;
 use crate::runs::frame::Frame;
 use crate::runs::problem::{Problem, Source};
 use crate::runs::rattle::{self, AREA};
-use crate::runs::rust::{Played, evaluated, played};
+use crate::runs::rust::{History, evaluated, history_of};
 use geop_core_math::scalars::Scalar;
 use geop_core_math::solvers::least_squares::{Euclidean, Evaluation, Options, minimize};
 use std::cell::RefCell;
@@ -27,7 +28,7 @@ const SIZED: usize = 16;
 const RUN_SIZES: [usize; 2] = [2, 4];
 const CALL_SIZES: [usize; 2] = [2, 12];
 
-struct Corpus(Vec<Played>);
+struct Corpus(Vec<History>);
 
 /// The next frame whose number of variables is wanted.
 fn frame(random: &mut Random, wanted: &impl Fn(usize) -> bool) -> Frame {
@@ -39,10 +40,10 @@ fn frame(random: &mut Random, wanted: &impl Fn(usize) -> bool) -> Frame {
     }
 }
 
-fn run_of(frame: Frame, random: &mut Random) -> Played {
+fn run_of(frame: Frame, random: &mut Random) -> History {
     let mut sizes = frame.sizes(random);
     sizes.limit = LIMIT;
-    played(Problem {
+    history_of(Problem {
         sizes,
         max_step: frame.reach(random),
         start: frame.start.clone(),
@@ -54,7 +55,7 @@ fn words(numbers: &[f64]) -> u64 {
     numbers.iter().fold(0, |sum, x| mixed(sum, x.to_bits()))
 }
 
-fn rust(run: &Played) -> (u64, Duration) {
+fn rust(run: &History) -> (u64, Duration) {
     let given = run
         .replies
         .iter()
@@ -77,7 +78,7 @@ fn rust(run: &Played) -> (u64, Duration) {
 }
 
 /// The run by the Rattle, with what is done after each call; where it has ended, what it ended as.
-fn called(run: &Played, area: &mut [f64], mut after: impl FnMut()) -> Option<Run> {
+fn called(run: &History, area: &mut [f64], mut after: impl FnMut()) -> Option<Run> {
     let (mut state, _) = rattle::begin(run.sizes, &run.start, run.max_step, area);
     after();
     let mut over = false;
@@ -90,7 +91,7 @@ fn called(run: &Played, area: &mut [f64], mut after: impl FnMut()) -> Option<Run
     over.then_some(state)
 }
 
-fn rattle(run: &Played, area: &mut [f64]) -> (u64, Duration) {
+fn rattle(run: &History, area: &mut [f64]) -> (u64, Duration) {
     let clock = Instant::now();
     let end = called(run, area, || ());
     let time = clock.elapsed();

@@ -1,6 +1,6 @@
 //! Begins with counts, lengths and ends at the limits and beyond, and replies to a run that has not begun.
 
-use crate::archive::RunAnswer;
+use crate::archive::EventNumbers;
 use crate::hostile::call::{Fault, same_bits};
 use crate::hostile::{Kind, Sum, rule};
 use crate::runs::area::is_canonical;
@@ -23,7 +23,7 @@ impl Begin<'_> {
     }
 
     /// As a case of the list, which has no areas.
-    fn case(&self, told: &RunAnswer, fault: &Fault) -> String {
+    fn case(&self, told: &EventNumbers, fault: &Fault) -> String {
         let text = beginning(self.sizes, self.max_step, self.start);
         let expected = self
             .expected()

@@ -1,6 +1,6 @@
 //! One reply over any run and any area: what it must be answered, and what is wrong with what it is.
 
-use crate::archive::{Run, RunAnswer, yadzvego_point_length, yadzvego_point_place};
+use crate::archive::{EventNumbers, Run, yadzvego_point_length, yadzvego_point_place};
 use crate::hostile::rule;
 use crate::runs::area::is_canonical;
 use crate::runs::rattle::{self, run_bits};
@@ -26,7 +26,7 @@ fn fault(
     expected: Option<u64>,
     left: &Run,
     after: &[f64],
-    told: &RunAnswer,
+    told: &EventNumbers,
 ) -> Option<Fault> {
     let place = yadzvego_point_place(*run, area.len());
     let point = (place, yadzvego_point_length(*run, area.len()));
@@ -53,7 +53,7 @@ fn fault(
 }
 
 /// What the call is answered, and what is wrong with that.
-pub fn made(run: &Run, area: &[f64], rows: Option<&[f64]>) -> (RunAnswer, Option<Fault>) {
+pub fn made(run: &Run, area: &[f64], rows: Option<&[f64]>) -> (EventNumbers, Option<Fault>) {
     let mut after = area.to_vec();
     let (left, told) = rattle::reply(*run, &mut after, rows);
     let expected = rule::refusal(run, area.len(), rows);

@@ -1,4 +1,5 @@
-//! The functions of `interval` compared. Operands and answers are words: the bits of a float, the two's complement of an integer.
+//! The functions of `interval` compared. Operands and answers are words: the bits of a float, the two's complement of
+//! an integer.
 
 use crate::archive;
 use crate::words::word;
@@ -75,7 +76,7 @@ impl Answers for archive::Scalar {
     }
 }
 
-impl Answers for archive::Answer {
+impl Answers for archive::ScalarResult {
     fn answer(self) -> Answer {
         Answer {
             number: self.number,
@@ -178,19 +179,29 @@ macro_rules! binary {
 }
 
 pub const FUNCTIONS: [Function; 29] = [
-    constant!(0x50, "ZERO", ZERO, interval_zero),
-    constant!(0x51, "ONE", ONE, interval_one),
-    constant!(0x52, "TWO", TWO, interval_two),
-    float!(0x00, "next_up", scalars::next_up, interval_next_up),
-    float!(0x01, "next_down", scalars::next_down, interval_next_down),
-    float!(0x02, "degenerate", Scalar::degenerate, interval_degenerate),
+    constant!(0x50, "ZERO", ZERO, yadzvego_interval_zero),
+    constant!(0x51, "ONE", ONE, yadzvego_interval_one),
+    constant!(0x52, "TWO", TWO, yadzvego_interval_two),
+    float!(0x00, "next_up", scalars::next_up, yadzvego_interval_next_up),
+    float!(
+        0x01,
+        "next_down",
+        scalars::next_down,
+        yadzvego_interval_next_down
+    ),
+    float!(
+        0x02,
+        "degenerate",
+        Scalar::degenerate,
+        yadzvego_interval_degenerate
+    ),
     function!(
         0x03,
         "from_i64",
         Integer,
         w,
         Scalar::from_i64(w[0] as i64),
-        archive::interval_from_i64(w[0] as i64)
+        archive::yadzvego_interval_from_i64(w[0] as i64)
     ),
     function!(
         0x04,
@@ -198,52 +209,57 @@ pub const FUNCTIONS: [Function; 29] = [
         Integers,
         w,
         Scalar::from_ratio(w[0] as i64, w[1] as i64),
-        archive::interval_from_ratio(w[0] as i64, w[1] as i64)
+        archive::yadzvego_interval_from_ratio(w[0] as i64, w[1] as i64)
     ),
-    unary!(0x10, "neg", neg, interval_neg),
-    unary!(0x11, "abs", abs, interval_abs),
-    unary!(0x12, "sqrt", sqrt, interval_sqrt),
-    unary!(0x13, "midpoint", midpoint, interval_midpoint),
-    unary!(0x14, "lower", lower, interval_lower),
-    unary!(0x15, "upper", upper, interval_upper),
-    unary!(0x16, "sharpen", sharpen, interval_sharpen),
-    unary!(0x20, "is_zero", is_zero, interval_is_zero),
-    unary!(0x21, "is_finite", is_finite, interval_is_finite),
-    unary!(0x22, "is_sharp", is_sharp, interval_is_sharp),
-    binary!(0x30, "add", add, interval_add),
-    binary!(0x31, "sub", sub, interval_sub),
-    binary!(0x32, "mul", mul, interval_mul),
-    binary!(0x33, "div", div, interval_div),
-    binary!(0x34, "max", max, interval_max),
+    unary!(0x10, "neg", neg, yadzvego_interval_neg),
+    unary!(0x11, "abs", abs, yadzvego_interval_abs),
+    unary!(0x12, "sqrt", sqrt, yadzvego_interval_sqrt),
+    unary!(0x13, "midpoint", midpoint, yadzvego_interval_midpoint),
+    unary!(0x14, "lower", lower, yadzvego_interval_lower),
+    unary!(0x15, "upper", upper, yadzvego_interval_upper),
+    unary!(0x16, "sharpen", sharpen, yadzvego_interval_sharpen),
+    unary!(0x20, "is_zero", is_zero, yadzvego_interval_is_zero),
+    unary!(0x21, "is_finite", is_finite, yadzvego_interval_is_finite),
+    unary!(0x22, "is_sharp", is_sharp, yadzvego_interval_is_sharp),
+    binary!(0x30, "add", add, yadzvego_interval_add),
+    binary!(0x31, "sub", sub, yadzvego_interval_sub),
+    binary!(0x32, "mul", mul, yadzvego_interval_mul),
+    binary!(0x33, "div", div, yadzvego_interval_div),
+    binary!(0x34, "max", max, yadzvego_interval_max),
     binary!(
         0x40,
         "could_be_equal",
         could_be_equal,
-        interval_could_be_equal
+        yadzvego_interval_could_be_equal
     ),
     binary!(
         0x41,
         "definitely_not_equal",
         definitely_not_equal,
-        interval_definitely_not_equal
+        yadzvego_interval_definitely_not_equal
     ),
     binary!(
         0x42,
         "could_be_greater",
         could_be_greater,
-        interval_could_be_greater
+        yadzvego_interval_could_be_greater
     ),
     binary!(
         0x43,
         "definitely_greater",
         definitely_greater,
-        interval_definitely_greater
+        yadzvego_interval_definitely_greater
     ),
-    binary!(0x44, "could_be_less", could_be_less, interval_could_be_less),
+    binary!(
+        0x44,
+        "could_be_less",
+        could_be_less,
+        yadzvego_interval_could_be_less
+    ),
     binary!(
         0x45,
         "definitely_less",
         definitely_less,
-        interval_definitely_less
+        yadzvego_interval_definitely_less
     ),
 ];

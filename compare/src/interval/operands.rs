@@ -41,7 +41,8 @@ const SINGLES: [f64; 12] = [
     1e16,
 ];
 
-/// Both zeros, infinities, NaNs of several payloads, the largest and smallest of each kind, powers of two and their neighbours, of both signs.
+/// Both zeros, infinities, NaNs of several payloads, the largest and smallest of each kind, powers of two and their
+/// neighbours, of both signs.
 pub fn special_floats() -> Vec<u64> {
     let mut sizes = vec![
         0,
@@ -64,7 +65,8 @@ pub fn special_floats() -> Vec<u64> {
     floats
 }
 
-/// The point intervals of the special floats, and every pair of ends out of a few: also inverted, touching and straddling zero, with NaN ends.
+/// The point intervals of the special floats, and every pair of ends out of a few: also inverted, touching and
+/// straddling zero, with NaN ends.
 pub fn special_scalars() -> Vec<Ends> {
     let sizes = [
         0,

@@ -182,7 +182,7 @@ fn minus(call: &Call) -> Reply {
 
 // ---- the archive: a pointer and its count are those of one slice
 
-fn value(answer: archive::Answer, out: &mut [f64]) -> u64 {
+fn value(answer: archive::ScalarResult, out: &mut [f64]) -> u64 {
     out[0] = answer.value.lo;
     out[1] = answer.value.hi;
     answer.number
@@ -191,7 +191,7 @@ fn value(answer: archive::Answer, out: &mut [f64]) -> u64 {
 fn archive_dot(call: &Call, out: &mut [f64], _marks: &mut [bool]) -> u64 {
     let (a, b) = (&call.inputs[0], &call.inputs[1]);
     value(
-        unsafe { archive::linear_dot(call.n, a.as_ptr(), a.len(), b.as_ptr(), b.len()) },
+        unsafe { archive::yadzvego_linear_dot(call.n, a.as_ptr(), a.len(), b.as_ptr(), b.len()) },
         out,
     )
 }
@@ -199,13 +199,13 @@ fn archive_dot(call: &Call, out: &mut [f64], _marks: &mut [bool]) -> u64 {
 fn archive_norm(call: &Call, out: &mut [f64], _marks: &mut [bool]) -> u64 {
     let v = &call.inputs[0];
     value(
-        unsafe { archive::linear_norm(call.n, v.as_ptr(), v.len()) },
+        unsafe { archive::yadzvego_linear_norm(call.n, v.as_ptr(), v.len()) },
         out,
     )
 }
 
 fn archive_choose(call: &Call, out: &mut [f64], _marks: &mut [bool]) -> u64 {
-    let value = archive::linear_choose(archive::Scalar {
+    let value = archive::yadzvego_linear_choose(archive::Scalar {
         lo: call.inputs[0][0],
         hi: call.inputs[0][1],
     });
@@ -215,13 +215,15 @@ fn archive_choose(call: &Call, out: &mut [f64], _marks: &mut [bool]) -> u64 {
 
 fn archive_sharp(call: &Call, out: &mut [f64], _marks: &mut [bool]) -> u64 {
     let v = &call.inputs[0];
-    unsafe { archive::linear_sharp(call.n, v.as_ptr(), v.len(), out.as_mut_ptr(), out.len()) }
+    unsafe {
+        archive::yadzvego_linear_sharp(call.n, v.as_ptr(), v.len(), out.as_mut_ptr(), out.len())
+    }
 }
 
 fn archive_cholesky(call: &Call, out: &mut [f64], marks: &mut [bool]) -> u64 {
     let a = &call.inputs[0];
     unsafe {
-        archive::linear_cholesky(
+        archive::yadzvego_linear_cholesky(
             call.n,
             a.as_ptr(),
             a.len(),
@@ -236,7 +238,7 @@ fn archive_cholesky(call: &Call, out: &mut [f64], marks: &mut [bool]) -> u64 {
 fn archive_solve_cholesky(call: &Call, out: &mut [f64], marks: &mut [bool]) -> u64 {
     let (l, b) = (&call.inputs[0], &call.inputs[1]);
     unsafe {
-        archive::linear_solve_cholesky(
+        archive::yadzvego_linear_solve_cholesky(
             call.n,
             l.as_ptr(),
             l.len(),
@@ -253,7 +255,7 @@ fn archive_solve_cholesky(call: &Call, out: &mut [f64], marks: &mut [bool]) -> u
 fn archive_least_squares(call: &Call, out: &mut [f64], _marks: &mut [bool]) -> u64 {
     let (rows, rhs) = (&call.inputs[0], &call.inputs[1]);
     unsafe {
-        archive::linear_least_squares(
+        archive::yadzvego_linear_least_squares(
             call.m,
             call.n,
             rows.as_ptr(),
@@ -269,7 +271,7 @@ fn archive_least_squares(call: &Call, out: &mut [f64], _marks: &mut [bool]) -> u
 fn archive_minus_solved(call: &Call, out: &mut [f64], _marks: &mut [bool]) -> u64 {
     let (jc, rhs, from) = (&call.inputs[0], &call.inputs[1], &call.inputs[2]);
     unsafe {
-        archive::linear_minus_solved(
+        archive::yadzvego_linear_minus_solved(
             call.m,
             call.n,
             jc.as_ptr(),

@@ -13,7 +13,8 @@ const ABOVE: [(usize, usize); 7] = [(25, 25), (25, 24), (25, 0), (24, 25), (0, 2
 #[rustfmt::skip]
 const WITHIN: [(usize, usize); 8] = [(24, 24), (24, 1), (1, 24), (12, 12), (3, 2), (2, 3), (1, 1), (0, 0)];
 
-/// A call whose slices all have the shape's lengths, but for the slice `changed`, which is longer by `by`; with the length of its output.
+/// A call whose slices all have the shape's lengths, but for the slice `changed`, which is longer by `by`; with the
+/// length of its output.
 fn call(
     function: &Function,
     m: usize,

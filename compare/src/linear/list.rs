@@ -1,24 +1,26 @@
-//! The fixed list that `linear_replay` reads: a line for each call, of words with 16 digits. Refusals 1 and 2 are by the
-//! rule, all else is by the Rust.
+//! The fixed list that `linear_replay` reads: a line for each call, of words with 16 digits. Refusals 1 and 2 are by
+//! the rule, all else is by the Rust.
 
 use crate::interval::operands::Random;
 use crate::linear::functions::{Call, FUNCTIONS, Function, LIMIT, Reply};
 use crate::linear::lengths;
 use crate::words::{hex, word};
 
-/// After one call of each size: so many of small sizes, and so many with each refusal by the scalars, where so many tries
-/// find them.
+/// After one call of each size: so many of small sizes, and so many with each refusal by the scalars, where so many
+/// tries find them.
 const SMALL: usize = 24;
 const SMALL_SIZE: u64 = 4;
 const REFUSED: usize = 6;
 const TRIES: usize = 20_000;
 
-/// Of the refusals by counts and lengths the first, which is of a count of 25, and of those with short slices one in so many.
+/// Of the refusals by counts and lengths the first, which is of a count of 25, and of those with short slices one in so
+/// many.
 const STRIDE: usize = 5;
 const SHORT: usize = 60;
 
 /// The function's code, the counts, the lengths of three inputs, of the marks and of the output, and the number of the
-/// refusal or 0; then the words of the inputs and of the marks, and of the output and the marks as the call leaves them.
+/// refusal or 0; then the words of the inputs and of the marks, and of the output and the marks as the call leaves
+/// them.
 pub fn line(function: &Function, call: &Call, reply: &Reply) -> String {
     let length = |i: usize| call.inputs.get(i).map_or(0, Vec::len);
     let counts = [

@@ -1,5 +1,5 @@
-//! Refusals 1 and 2, which the Rust has not: counts above their limits, and slices that are too short or too long. Nothing is
-//! written then, and a value is zero.
+//! Refusals 1 and 2, which the Rust has not: counts above their limits, and slices that are too short or too long.
+//! Nothing is written then, and a value is zero.
 
 use crate::run::pieces::{Call, PAIRS, Piece, Reply};
 use crate::words::words;
@@ -10,9 +10,13 @@ const BEFORE: f64 = 1.0;
 
 /// Variables, constraint rows and sum rows of which some count is above its limit, and within it.
 #[rustfmt::skip]
-const ABOVE: [(usize, usize, usize); 7] = [(13, 0, 0), (0, 13, 0), (0, 0, 25), (13, 12, 24), (12, 13, 24), (12, 12, 25), (13, 13, 25)];
+const ABOVE: [(usize, usize, usize); 7] = [
+    (13, 0, 0), (0, 13, 0), (0, 0, 25), (13, 12, 24), (12, 13, 24), (12, 12, 25), (13, 13, 25),
+];
 #[rustfmt::skip]
-const WITHIN: [(usize, usize, usize); 8] = [(12, 12, 24), (12, 0, 0), (0, 12, 0), (0, 0, 24), (6, 4, 8), (2, 1, 3), (1, 1, 1), (0, 0, 0)];
+const WITHIN: [(usize, usize, usize); 8] = [
+    (12, 12, 24), (12, 0, 0), (0, 12, 0), (0, 0, 24), (6, 4, 8), (2, 1, 3), (1, 1, 1), (0, 0, 0),
+];
 
 /// Whether the piece has no other count than n.
 fn only_variables(piece: &Piece) -> bool {

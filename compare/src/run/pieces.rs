@@ -5,6 +5,7 @@ use crate::interval::functions::number_of;
 use crate::interval::operands::Random;
 use crate::run::problems;
 use crate::run::rust;
+use crate::run_c;
 use crate::words::{word, words};
 use geop_core_math::geop_error::GeopResult;
 use geop_core_math::scalars::Scalar;
@@ -303,18 +304,18 @@ fn rust_learned(call: &Call) -> Reply {
 
 // ---- the archive: a pointer and its count are those of one slice
 
-fn lent(x: Scalar) -> archive::Scalar {
+fn archive_scalar(x: Scalar) -> archive::Scalar {
     archive::Scalar { lo: x.lo, hi: x.hi }
 }
 
-fn answered(answer: archive::Answer) -> (u64, Vec<u64>) {
+fn answered(answer: archive::ScalarResult) -> (u64, Vec<u64>) {
     (
         answer.number,
         vec![word(answer.value.lo), word(answer.value.hi)],
     )
 }
 
-fn held(decision: archive::Decision) -> (u64, Vec<u64>) {
+fn held(decision: run_c::Decision) -> (u64, Vec<u64>) {
     (decision.number, vec![u64::from(decision.holds)])
 }
 
@@ -322,7 +323,7 @@ fn archive_squared(call: &Call, _out: &mut [Vec<f64>], _marks: &mut [bool]) -> (
     let (n, m, s) = (call.n, call.m, call.s);
     let (rows, delta) = (&call.inputs[0], &call.inputs[1]);
     answered(unsafe {
-        archive::run_squared(
+        run_c::run_squared(
             n,
             m,
             s,
@@ -339,7 +340,7 @@ fn archive_predicted(call: &Call, _out: &mut [Vec<f64>], _marks: &mut [bool]) ->
     let (n, m, s) = (call.n, call.m, call.s);
     let (rows, delta) = (&call.inputs[0], &call.inputs[1]);
     answered(unsafe {
-        archive::run_predicted(
+        run_c::run_predicted(
             n,
             m,
             s,
@@ -355,7 +356,7 @@ fn archive_transposed(call: &Call, out: &mut [Vec<f64>], _marks: &mut [bool]) ->
     let (n, m, s) = (call.n, call.m, call.s);
     let (rows, w) = (&call.inputs[0], &call.inputs[1]);
     let number = unsafe {
-        archive::run_transposed(
+        run_c::run_transposed(
             n,
             m,
             s,
@@ -374,7 +375,7 @@ fn archive_moving(call: &Call, _out: &mut [Vec<f64>], marks: &mut [bool]) -> (u6
     let (n, m, s) = (call.n, call.m, call.s);
     let rows = &call.inputs[0];
     let number = unsafe {
-        archive::run_moving(
+        run_c::run_moving(
             n,
             m,
             s,
@@ -393,7 +394,7 @@ fn archive_judge(call: &Call, _out: &mut [Vec<f64>], _marks: &mut [bool]) -> (u6
         panic!("four slices")
     };
     let judged = unsafe {
-        archive::run_judge(
+        run_c::run_judge(
             n,
             m,
             s,
@@ -401,12 +402,12 @@ fn archive_judge(call: &Call, _out: &mut [Vec<f64>], _marks: &mut [bool]) -> (u6
             rows.len(),
             next.as_ptr(),
             next.len(),
-            lent(call.scalars[0]),
+            archive_scalar(call.scalars[0]),
             filter.as_ptr(),
             filter.len(),
             call.count,
             call.taken,
-            lent(call.scalars[1]),
+            archive_scalar(call.scalars[1]),
             step.as_ptr(),
             step.len(),
         )
@@ -420,7 +421,7 @@ fn archive_expects(call: &Call, _out: &mut [Vec<f64>], _marks: &mut [bool]) -> (
     let (n, m, s) = (call.n, call.m, call.s);
     let (rows, b, delta) = (&call.inputs[0], &call.inputs[1], &call.inputs[2]);
     held(unsafe {
-        archive::run_expects(
+        run_c::run_expects(
             n,
             m,
             s,
@@ -428,8 +429,8 @@ fn archive_expects(call: &Call, _out: &mut [Vec<f64>], _marks: &mut [bool]) -> (
             rows.len(),
             b.as_ptr(),
             b.len(),
-            lent(call.scalars[0]),
-            lent(call.scalars[1]),
+            archive_scalar(call.scalars[0]),
+            archive_scalar(call.scalars[1]),
             delta.as_ptr(),
             delta.len(),
         )
@@ -440,7 +441,7 @@ fn archive_along(call: &Call, out: &mut [Vec<f64>], _marks: &mut [bool]) -> (u64
     let (n, m, s) = (call.n, call.m, call.s);
     let (rows, v) = (&call.inputs[0], &call.inputs[1]);
     let number = unsafe {
-        archive::run_along(
+        run_c::run_along(
             n,
             m,
             s,
@@ -459,7 +460,7 @@ fn archive_shift(call: &Call, out: &mut [Vec<f64>], marks: &mut [bool]) -> (u64,
     let (n, m, s) = (call.n, call.m, call.s);
     let rows = &call.inputs[0];
     let number = unsafe {
-        archive::run_shift(
+        run_c::run_shift(
             n,
             m,
             s,
@@ -482,8 +483,8 @@ fn archive_shift(call: &Call, out: &mut [Vec<f64>], marks: &mut [bool]) -> (u64,
 
 fn archive_cut(call: &Call, out: &mut [Vec<f64>], _marks: &mut [bool]) -> (u64, Vec<u64>) {
     let delta = &mut out[0];
-    let radius = lent(call.scalars[0]);
-    let number = unsafe { archive::run_cut(call.n, radius, delta.as_mut_ptr(), delta.len()) };
+    let radius = archive_scalar(call.scalars[0]);
+    let number = unsafe { run_c::run_cut(call.n, radius, delta.as_mut_ptr(), delta.len()) };
     (number, Vec::new())
 }
 
@@ -497,7 +498,7 @@ fn archive_update_curvature(
         panic!("four slices")
     };
     let number = unsafe {
-        archive::run_update_curvature(
+        run_c::run_update_curvature(
             n,
             m,
             s,
@@ -523,7 +524,7 @@ fn archive_step(call: &Call, out: &mut [Vec<f64>], marks: &mut [bool]) -> (u64, 
         panic!("two slices")
     };
     let stepped = unsafe {
-        archive::run_step(
+        run_c::run_step(
             n,
             m,
             s,
@@ -533,7 +534,7 @@ fn archive_step(call: &Call, out: &mut [Vec<f64>], marks: &mut [bool]) -> (u64, 
             b.len(),
             marks.as_ptr(),
             marks.len(),
-            lent(call.scalars[0]),
+            archive_scalar(call.scalars[0]),
             delta.as_mut_ptr(),
             delta.len(),
             lambda.as_mut_ptr(),
@@ -548,7 +549,7 @@ fn archive_step(call: &Call, out: &mut [Vec<f64>], marks: &mut [bool]) -> (u64, 
 
 fn archive_learned(call: &Call, _out: &mut [Vec<f64>], _marks: &mut [bool]) -> (u64, Vec<u64>) {
     let b = &call.inputs[0];
-    held(unsafe { archive::run_learned(call.n, b.as_ptr(), b.len()) })
+    held(unsafe { run_c::run_learned(call.n, b.as_ptr(), b.len()) })
 }
 
 fn shape(inputs: &[usize], marks: usize, out: &[usize]) -> Shape {

@@ -1,5 +1,5 @@
-//! Random calls: rows of every size, within the domain but for a few, well and badly conditioned, with dependent rows, sharp
-//! and wide, or those of a drawing; and the steps, curvatures and dampings that go with them.
+//! Random calls: rows of every size, within the domain but for a few, well and badly conditioned, with dependent rows,
+//! sharp and wide, or those of a drawing; and the steps, curvatures and dampings that go with them.
 
 use crate::interval::operands::Random;
 use crate::run::pieces::{

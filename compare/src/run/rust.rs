@@ -1,4 +1,5 @@
-//! What the Rust writes inside `minimize` and `corrected`, from its own functions, word by word; and what `corrected` asks.
+//! What the Rust writes inside `minimize` and `corrected`, from its own functions, word by word; and what `corrected`
+//! asks.
 
 use crate::interval::functions::number_of;
 use crate::words::words;

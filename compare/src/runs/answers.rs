@@ -1,6 +1,6 @@
-//! What a call answers, in document 01's words, with the point that goes with it. Kinds: 0 start, 1 trial, 2 correction. Stops:
-//! 0 infeasible, 1 nochange, 2 undecided, 3 flat, 4 damped, 5 budget. Rejections: 0 none, 1 notpositive, 2 infeasible,
-//! 3 unresolved, 4 notlower.
+//! What a call answers, in document 01's words, with the point that goes with it. Kinds: 0 start, 1 trial, 2
+//! correction. Stops: 0 infeasible, 1 nochange, 2 undecided, 3 flat, 4 damped, 5 budget. Rejections: 0 none, 1
+//! notpositive, 2 infeasible, 3 unresolved, 4 notlower.
 
 use crate::words::hex;
 
@@ -51,8 +51,8 @@ pub enum Answer {
 }
 
 impl Answer {
-    /// A line: `q number kind standing point`, `f stop rejected independent constraints iterations turned standing point`, or
-    /// `x number`; numbers hexadecimal, points in words.
+    /// A line: `q number kind standing point`, `f stop rejected independent constraints iterations turned standing
+    /// point`, or `x number`; numbers hexadecimal, points in words.
     pub fn line(&self) -> String {
         let with = |start: String, point: &[u64]| format!("{start} {}", hex(point));
         let line = match self {

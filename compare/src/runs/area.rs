@@ -2,7 +2,7 @@
 
 use crate::archive::Run;
 use crate::runs::rattle::AREA;
-use crate::runs::rust::{Played, evaluated};
+use crate::runs::rust::{History, evaluated};
 use crate::words::words;
 use geop_core_math::scalars::Scalar;
 use geop_core_math::solvers::least_squares::norm;
@@ -63,9 +63,9 @@ pub struct Stood {
 
 impl Stood {
     /// Where another question's point stands now.
-    pub fn stands(&mut self, played: &Played, standing: usize) {
+    pub fn stands(&mut self, history: &History, standing: usize) {
         if standing != self.standing {
-            let e = evaluated(played.sizes, played.rows(self.standing));
+            let e = evaluated(history.sizes, history.rows(self.standing));
             let violation = norm(&e.constraints.values).expect("it was worked out in the run");
             self.pairs.extend([e.sum.squared(&[]), violation]);
             self.standing = standing;
@@ -73,16 +73,16 @@ impl Stood {
     }
 }
 
-/// What is wrong with the area after a call that left an open question or an end: of the points and rows that the caller
-/// knows, and of the filter.
-pub fn fault(run: &Run, area: &[f64], played: &Played, stood: &Stood) -> Option<&'static str> {
+/// What is wrong with the area after a call that left an open question or an end: of the points and rows that the
+/// caller knows, and of the filter.
+pub fn fault(run: &Run, area: &[f64], history: &History, stood: &Stood) -> Option<&'static str> {
     if !is_canonical(run, area) {
         return Some("the area is not canonical");
     }
     let holds =
         |(base, _): Slot, expected: &[u64]| words(&area[base..base + expected.len()]) == expected;
-    let rows = |question: usize| words(played.rows(question));
-    if !holds(STANDING, played.point(run.standing)) {
+    let rows = |question: usize| words(history.rows(question));
+    if !holds(STANDING, history.point(run.standing)) {
         return Some("the standing point is another");
     }
     if run.phase == 0 || run.phase == OVER {
@@ -96,7 +96,7 @@ pub fn fault(run: &Run, area: &[f64], played: &Played, stood: &Stood) -> Option<
         return Some("the filter is another");
     }
     if run.phase == 2 {
-        if !holds(LANDED, played.point(run.landed)) {
+        if !holds(LANDED, history.point(run.landed)) {
             return Some("the landed point is another");
         }
         if !holds(LANDED_ROWS, &rows(run.landed)) {

@@ -6,7 +6,7 @@ use crate::runs::answers::Answer;
 use crate::runs::area::{self, Stood};
 use crate::runs::problem::{MOST, Sizes};
 use crate::runs::rattle::{self, AREA, bits, run_bits};
-use crate::runs::rust::Played;
+use crate::runs::rust::History;
 use crate::runs::text;
 
 /// One question in so many gets a refused reply first.
@@ -77,9 +77,9 @@ impl Compared {
     }
 
     /// A refused reply leaves the run and the area as they were.
-    fn refuse(&mut self, at: usize, held: &mut Held, played: &Played, random: &mut Random) {
+    fn refuse(&mut self, at: usize, held: &mut Held, history: &History, random: &mut Random) {
         let which = random.below(3) as usize;
-        let Some((rows, lent, number)) = bad_reply(played.sizes, random, which) else {
+        let Some((rows, lent, number)) = bad_reply(history.sizes, random, which) else {
             return;
         };
         self.refused[which] += 1;
@@ -112,21 +112,28 @@ impl Compared {
     }
 
     /// An answer, and the area after it.
-    fn answer(&mut self, at: usize, held: &Held, answer: &Answer, played: &Played, stood: &Stood) {
+    fn answer(
+        &mut self,
+        at: usize,
+        held: &Held,
+        answer: &Answer,
+        history: &History,
+        stood: &Stood,
+    ) {
         self.answers += 1;
-        let expected = &played.answers[at];
+        let expected = &history.answers[at];
         if answer != expected {
             self.differ(
                 at,
                 format!("{expected:X?} expected, the Rattle gives {answer:X?}"),
             );
-        } else if let Some(fault) = area::fault(&held.run, &held.area, played, stood) {
+        } else if let Some(fault) = area::fault(&held.run, &held.area, history, stood) {
             self.differ(at, fault.to_string());
         }
     }
 
     /// With the run over, a reply is refused.
-    fn after_the_end(&mut self, held: &mut Held, played: &Played) {
+    fn after_the_end(&mut self, held: &mut Held, history: &History) {
         let before = bits(&held.area);
         let (run, told) = rattle::reply(held.run, &mut held.area, None);
         let same = run_bits(&run) == run_bits(&held.run) && bits(&held.area) == before;
@@ -134,12 +141,12 @@ impl Compared {
         self.tell(|| text::reply(&None), &Answer::Refused(4), &answer);
         if answer != Answer::Refused(4) || !same {
             let text = "a reply after the end is not refused by 4, or changes something";
-            self.differ(played.replies.len(), text.to_string());
+            self.differ(history.replies.len(), text.to_string());
         }
     }
 }
 
-/// How the Rattle is played beside a run.
+/// How the Rattle is run beside the Rust.
 #[derive(Clone, Copy, Default)]
 pub struct Manner {
     /// Of what its area holds before, and of the refused replies.
@@ -150,9 +157,9 @@ pub struct Manner {
     pub tells: bool,
 }
 
-/// Plays the Rattle against a run of the Rust, from an area of any bits; `seen` is shown the state before each reply, and at the
-/// end.
-pub fn compared(played: &Played, manner: Manner, mut seen: impl FnMut(&Held, usize)) -> Compared {
+/// Plays the Rattle against a run of the Rust, from an area of any bits; `seen` is shown the state before each reply,
+/// and at the end.
+pub fn compared(history: &History, manner: Manner, mut seen: impl FnMut(&Held, usize)) -> Compared {
     let mut random = Random::new(manner.word);
     let mut compared = Compared {
         texts: manner.tells.then(Default::default),
@@ -160,30 +167,30 @@ pub fn compared(played: &Played, manner: Manner, mut seen: impl FnMut(&Held, usi
     };
     let mut stood = Stood::default();
     let mut area = vec![f64::from_bits(random.word()); AREA];
-    let (run, told) = rattle::begin(played.sizes, &played.start, played.max_step, &mut area);
+    let (run, told) = rattle::begin(history.sizes, &history.start, history.max_step, &mut area);
     let mut held = Held { run, area };
     let answer = rattle::answer(run, &held.area, told);
-    let beginning = || text::beginning(played.sizes, played.max_step, &played.start);
-    compared.tell(beginning, &played.answers[0], &answer);
-    compared.answer(0, &held, &answer, played, &stood);
-    for (i, reply) in played.replies.iter().enumerate() {
+    let beginning = || text::beginning(history.sizes, history.max_step, &history.start);
+    compared.tell(beginning, &history.answers[0], &answer);
+    compared.answer(0, &held, &answer, history, &stood);
+    for (i, reply) in history.replies.iter().enumerate() {
         if compared.differs.is_some() {
             break;
         }
         if random.at_odds(REFUSED) && manner.refuses {
-            compared.refuse(i, &mut held, played, &mut random);
+            compared.refuse(i, &mut held, history, &mut random);
         }
         seen(&held, i);
         let (run, told) = rattle::reply(held.run, &mut held.area, reply.as_deref());
         held.run = run;
         let answer = rattle::answer(run, &held.area, told);
-        stood.stands(played, run.standing);
-        compared.tell(|| text::reply(reply), &played.answers[i + 1], &answer);
-        compared.answer(i + 1, &held, &answer, played, &stood);
+        stood.stands(history, run.standing);
+        compared.tell(|| text::reply(reply), &history.answers[i + 1], &answer);
+        compared.answer(i + 1, &held, &answer, history, &stood);
     }
-    if compared.differs.is_none() && played.is_over() {
-        seen(&held, played.replies.len());
-        compared.after_the_end(&mut held, played);
+    if compared.differs.is_none() && history.is_over() {
+        seen(&held, history.replies.len());
+        compared.after_the_end(&mut held, history);
     }
     for text in compared.texts.iter_mut().flatten() {
         *text += "end\n";

@@ -1,5 +1,5 @@
-//! Frames: points in a plane, held by spans, level and plumb lines, each coordinate preferred where it started. The rows
-//! are worked out by the interval operations, in the order that a sheet's are.
+//! Frames: points in a plane, held by spans, level and plumb lines, each coordinate preferred where it started. The
+//! rows are worked out by the interval operations, in the order that a sheet's are.
 
 use crate::interval::operands::Random;
 use crate::run::pieces::flat;

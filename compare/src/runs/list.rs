@@ -1,17 +1,18 @@
-//! The fixed list that `run_replay` reads: small runs that together show all that `tally::expected` lists, a few of the greatest
-//! sizes, and begins and replies that are refused. Refusals 1 to 4 are by the rule, all else is by the Rust.
+//! The fixed list that `run_replay` reads: small runs that together show all that `tally::expected` lists, a few of the
+//! greatest sizes, and begins and replies that are refused. Refusals 1 to 4 are by the rule, all else is by the Rust.
 
 use crate::interval::operands::Random;
 use crate::runs::beside::bad_reply;
 use crate::runs::named;
 use crate::runs::problem::{self, MOST, Problem, Sizes};
-use crate::runs::rust::{Played, played};
+use crate::runs::rust::{History, history_of};
 use crate::runs::tally::{Tally, expected, shown};
 use crate::runs::text::{beginning, reply};
 use geop_core_math::scalars::Scalar;
 use geop_core_math::trace::Event;
 
-/// So many runs at least, and each thing that is listed is shown by so many of those drawn, where so many tries find them.
+/// So many runs at least, and each thing that is listed is shown by so many of those drawn, where so many tries find
+/// them.
 const RUNS: usize = 200;
 const SHOWN: u64 = 6;
 const TRIES: u64 = 20_000;
@@ -26,16 +27,16 @@ const GREATEST: usize = 2;
 const REFUSED: u64 = 5;
 
 /// The run with refused replies in between and after its end.
-fn text(played: &Played, random: &mut Random) -> String {
-    let mut text = beginning(played.sizes, played.max_step, &played.start);
-    for (i, answer) in played.answers.iter().enumerate() {
+fn text(history: &History, random: &mut Random) -> String {
+    let mut text = beginning(history.sizes, history.max_step, &history.start);
+    for (i, answer) in history.answers.iter().enumerate() {
         text += &format!("{}\n", answer.line());
-        let Some(next) = played.replies.get(i) else {
+        let Some(next) = history.replies.get(i) else {
             continue;
         };
         if random.at_odds(REFUSED) {
             let which = random.below(2) as usize;
-            if let Some((rows, _, number)) = bad_reply(played.sizes, random, which) {
+            if let Some((rows, _, number)) = bad_reply(history.sizes, random, which) {
                 text += &format!("{}x {number:X}\n", reply(&Some(rows)));
             }
         }
@@ -47,10 +48,10 @@ fn text(played: &Played, random: &mut Random) -> String {
     text + "end\n"
 }
 
-fn is_small(played: &Played) -> bool {
+fn is_small(history: &History) -> bool {
     let turned = |&&event: &&Event| event == Event::TurnedDown;
-    let turn_downs = played.events.iter().filter(turned).count();
-    played.replies.len() <= REPLIES && turn_downs <= TURN_DOWNS
+    let turn_downs = history.events.iter().filter(turned).count();
+    history.replies.len() <= REPLIES && turn_downs <= TURN_DOWNS
 }
 
 /// A begin that is refused, and a reply to no run.
@@ -86,7 +87,7 @@ fn refused_begins() -> Vec<String> {
 }
 
 /// The greatest sizes, for one iteration.
-fn greatest(seed: u64) -> Vec<Played> {
+fn greatest(seed: u64) -> Vec<History> {
     let sizes = Sizes {
         n: 12,
         m: 12,
@@ -94,16 +95,16 @@ fn greatest(seed: u64) -> Vec<Played> {
         limit: 1,
     };
     let of_that_size = (0..).map(|i| Problem::smooth(seed ^ i << 8, sizes));
-    let few = |played: &Played| (2..=4).contains(&played.replies.len()) && is_small(played);
+    let few = |history: &History| (2..=4).contains(&history.replies.len()) && is_small(history);
     of_that_size
-        .map(played)
+        .map(history_of)
         .filter(few)
         .take(GREATEST)
         .collect()
 }
 
 /// Runs drawn at random, each for something that few of those before show.
-fn drawn(seed: u64, wanted: usize) -> Vec<Played> {
+fn drawn(seed: u64, wanted: usize) -> Vec<History> {
     let mut tally = Tally::default();
     let mut chosen = Vec::new();
     let names: Vec<String> = expected()
@@ -116,18 +117,18 @@ fn drawn(seed: u64, wanted: usize) -> Vec<Played> {
         if n + m + s > SMALL {
             continue;
         }
-        let played = played(problem);
-        if !is_small(&played) {
+        let history = history_of(problem);
+        if !is_small(&history) {
             continue;
         }
-        let mut shows = shown(&played);
+        let mut shows = shown(&history);
         shows.sort_unstable();
         shows.dedup();
         let rare = |name: &String| names.contains(name) && tally.count(name) < SHOWN;
         let fill = i > TRIES / 2 && chosen.len() < wanted;
         if fill || shows.iter().any(rare) {
             tally.add(shows);
-            chosen.push(played);
+            chosen.push(history);
         }
     }
     chosen
@@ -136,14 +137,14 @@ fn drawn(seed: u64, wanted: usize) -> Vec<Played> {
 pub fn runs(seed: u64) -> Vec<String> {
     let mut random = Random::new(seed);
     let mut all = refused_begins();
-    let named = named::problems().into_iter().map(played);
-    all.extend(named.map(|played| text(&played, &mut random)));
+    let named = named::problems().into_iter().map(history_of);
+    all.extend(named.map(|history| text(&history, &mut random)));
     all.extend(
         greatest(seed)
             .iter()
-            .map(|played| text(played, &mut random)),
+            .map(|history| text(history, &mut random)),
     );
     let rest = drawn(seed, RUNS.saturating_sub(all.len()));
-    all.extend(rest.iter().map(|played| text(played, &mut random)));
+    all.extend(rest.iter().map(|history| text(history, &mut random)));
     all
 }

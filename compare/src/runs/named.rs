@@ -1,5 +1,5 @@
-//! Problems by name: the known answers, what is rare at random, and the traps of document 01. Together they show all that
-//! `tally::expected` lists.
+//! Problems by name: the known answers, what is rare at random, and the traps of document 01. Together they show all
+//! that `tally::expected` lists.
 
 use crate::runs::problem::{Problem, Reply, Sizes, Source};
 use geop_core_math::scalars::Scalar;
@@ -103,7 +103,8 @@ fn refused() -> Vec<Problem> {
 /// Ends that are rare at random.
 fn rare() -> Vec<Problem> {
     let most = power(400);
-    // The curvature at the threshold of what the smallest number can tell: too small at first, positive with more damping.
+    // The curvature at the threshold of what the smallest number can tell: too small at first, positive with more
+    // damping.
     let root = 3f64.sqrt() * power(-537);
     vec![
         // The curvature learned overflows: 518 steps that are not positive.
@@ -151,8 +152,8 @@ fn traps() -> Vec<Problem> {
             &two,
             vec![rows(&[5.0 / 7.0, 1.0 / 7.0, 8.0 / 7.0]), rows(&[0.0; 3])],
         ),
-        // A zero is added to each value before the squares are summed: without it the third point would be lower than the
-        // first, which stood before.
+        // A zero is added to each value before the squares are summed: without it the third point would be lower than
+        // the first, which stood before.
         problem(
             [1, 1, 1, 2],
             9.0,
@@ -165,7 +166,8 @@ fn traps() -> Vec<Problem> {
                 rows(&[0.25, 1.0, 0.5, 1.0]),
             ],
         ),
-        // The last point is lower than the two that stood just before, but not than the first: the filter holds them all.
+        // The last point is lower than the two that stood just before, but not than the first: the filter holds them
+        // all.
         problem(
             [1, 1, 1, 3],
             9.0,
@@ -211,7 +213,8 @@ fn traps() -> Vec<Problem> {
                 wide(&[ends(-5.0, 5.0), at(4.0)]),
             ],
         ),
-        // The retry without curvature is a turn-down but no damping: the next proposal is still the first, and undecided stops.
+        // The retry without curvature is a turn-down but no damping: the next proposal is still the first, and
+        // undecided stops.
         problem(
             [1, 0, 1, 9],
             9.0,
@@ -226,8 +229,8 @@ fn traps() -> Vec<Problem> {
     ]
 }
 
-/// A trial that leaves the constraint, and so many corrections that come nearer, then one more reply; then a step that is
-/// taken.
+/// A trial that leaves the constraint, and so many corrections that come nearer, then one more reply; then a step that
+/// is taken.
 fn corrected(kept: usize, then: Reply) -> Problem {
     let mut replies = vec![rows(&[1.0, 1.0]), rows(&[16.0, 1.0])];
     replies.extend((0..kept).map(|i| rows(&[power(3 - 2 * i as i32), 1.0])));

@@ -1,8 +1,8 @@
 //! A run of the Rattle: the run and the area that a caller keeps between calls, and the calls over them.
 
 use crate::archive::{
-    self, Run, RunAnswer, RunReply, yadzvego_begin, yadzvego_point_length, yadzvego_point_place,
-    yadzvego_reply, yadzvego_reply_none,
+    self, EventNumbers, ReturnedNumbers, Run, yadzvego_begin, yadzvego_point_length,
+    yadzvego_point_place, yadzvego_reply, yadzvego_reply_none,
 };
 use crate::runs::answers::{Answer, Finish, Moment, Question};
 use crate::runs::problem::Sizes;
@@ -12,7 +12,12 @@ use geop_core_math::scalars::Scalar;
 /// How many numbers an area has.
 pub const AREA: usize = 8000;
 
-pub fn begin(sizes: Sizes, start: &[f64], max_step: Scalar, area: &mut [f64]) -> (Run, RunAnswer) {
+pub fn begin(
+    sizes: Sizes,
+    start: &[f64],
+    max_step: Scalar,
+    area: &mut [f64],
+) -> (Run, EventNumbers) {
     let Sizes { n, m, s, limit } = sizes;
     let max_step = archive::Scalar {
         lo: max_step.lo,
@@ -20,7 +25,7 @@ pub fn begin(sizes: Sizes, start: &[f64], max_step: Scalar, area: &mut [f64]) ->
     };
     let (at, count) = (area.as_mut_ptr(), area.len());
     // Safety: each pointer and its count are those of a slice.
-    let RunReply { run, answer } = unsafe {
+    let ReturnedNumbers { run, event } = unsafe {
         yadzvego_begin(
             n,
             m,
@@ -33,20 +38,20 @@ pub fn begin(sizes: Sizes, start: &[f64], max_step: Scalar, area: &mut [f64]) ->
             count,
         )
     };
-    (run, answer)
+    (run, event)
 }
 
 /// With rows, or with none.
-pub fn reply(run: Run, area: &mut [f64], rows: Option<&[f64]>) -> (Run, RunAnswer) {
+pub fn reply(run: Run, area: &mut [f64], rows: Option<&[f64]>) -> (Run, EventNumbers) {
     let (at, count) = (area.as_mut_ptr(), area.len());
     // Safety: each pointer and its count are those of a slice.
-    let RunReply { run, answer } = unsafe {
+    let ReturnedNumbers { run, event } = unsafe {
         match rows {
             Some(rows) => yadzvego_reply(run, at, count, rows.as_ptr(), rows.len()),
             None => yadzvego_reply_none(run, at, count),
         }
     };
-    (run, answer)
+    (run, event)
 }
 
 /// The point that the run hands out: the asked one, or the standing one.
@@ -56,7 +61,7 @@ pub fn point(run: Run, area: &[f64]) -> &[f64] {
 }
 
 /// Document 01's words for an answer, given the run and the area after the call.
-pub fn answer(run: Run, area: &[f64], told: RunAnswer) -> Answer {
+pub fn answer(run: Run, area: &[f64], told: EventNumbers) -> Answer {
     let point = || words(point(run, area));
     match told.which {
         0 => Answer::Question(Question {
@@ -111,7 +116,11 @@ pub fn run_bits(run: &Run) -> Vec<u64> {
         run.last_length,
     ];
     let mut all: Vec<u64> = counts.iter().map(|&count| count as u64).collect();
-    all.extend(scalars.iter().flat_map(|x| [x.lo.to_bits(), x.hi.to_bits()]));
+    all.extend(
+        scalars
+            .iter()
+            .flat_map(|x| [x.lo.to_bits(), x.hi.to_bits()]),
+    );
     all.extend([run.phase, run.rejected, run.last].map(u64::from));
     all.extend([run.first, run.plain].map(u64::from));
     all.extend(run.moving.map(u64::from));

@@ -1,5 +1,5 @@
-//! A run of the Rust: what `minimize` asks, is answered, and ends with. The kinds of the questions and the standing numbers are
-//! told by the edits of compare/prepare.py.
+//! A run of the Rust: what `minimize` asks, is answered, and ends with. The kinds of the questions and the standing
+//! numbers are told by the edits of compare/prepare.py.
 
 use crate::interval::functions::number_of;
 use crate::run::pieces::{Call, evaluation, flat};
@@ -15,9 +15,9 @@ use geop_core_math::solvers::least_squares::{
 use geop_core_math::trace::{self, Event};
 use std::cell::RefCell;
 
-/// A run from its beginning to its end, or to where it was left. The answer to the beginning comes first, then one for each
-/// reply.
-pub struct Played {
+/// A run from its beginning to its end, or to where it was left. The answer to the beginning comes first, then one for
+/// each reply.
+pub struct History {
     pub sizes: Sizes,
     pub max_step: Scalar,
     pub start: Vec<f64>,
@@ -27,7 +27,7 @@ pub struct Played {
     pub source: &'static str,
 }
 
-impl Played {
+impl History {
     pub fn last(&self) -> &Answer {
         self.answers.last().expect("an answer to the beginning")
     }
@@ -151,7 +151,7 @@ fn ended(end: GeopResult<Outcome<Vec<Scalar>>>, told: &Told, standing_point: &[u
 }
 
 /// The Rust's run of a problem.
-pub fn played(problem: Problem) -> Played {
+pub fn history_of(problem: Problem) -> History {
     let Problem {
         sizes,
         max_step,
@@ -194,7 +194,7 @@ pub fn played(problem: Problem) -> Played {
         })
         .collect();
     answers.extend(last);
-    Played {
+    History {
         sizes,
         max_step,
         start: flat(&start),

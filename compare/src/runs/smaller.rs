@@ -3,7 +3,7 @@
 use crate::run::pieces::scalars;
 use crate::runs::beside::{Compared, Manner, compared};
 use crate::runs::problem::{MOST, Problem, Reply, Sizes, Source, in_domain};
-use crate::runs::rust::{Played, played};
+use crate::runs::rust::{History, history_of};
 use crate::shrink::{Case, WHOLES, changes_in, simpler_in, simpler_whole, smallest, without};
 
 /// A run up to the answer that differs.
@@ -49,26 +49,26 @@ fn rows_without(rows: &[f64], sizes: Sizes, along: Axis, i: usize) -> Vec<f64> {
 
 impl Smaller {
     /// The run up to its answer `at`.
-    pub fn of(played: &Played, at: usize, manner: Manner) -> Smaller {
-        let mut numbers = vec![played.max_step.lo, played.max_step.hi];
-        numbers.extend(&played.start);
+    pub fn of(history: &History, at: usize, manner: Manner) -> Smaller {
+        let mut numbers = vec![history.max_step.lo, history.max_step.hi];
+        numbers.extend(&history.start);
         Smaller {
-            sizes: played.sizes,
+            sizes: history.sizes,
             numbers,
-            replies: played.replies[..at.min(played.replies.len())].to_vec(),
+            replies: history.replies[..at.min(history.replies.len())].to_vec(),
             manner,
         }
     }
 
     fn compared(&self) -> Compared {
         let all = scalars(&self.numbers);
-        let played = played(Problem {
+        let history = history_of(Problem {
             sizes: self.sizes,
             max_step: all[0],
             start: all[1..].to_vec(),
             source: Source::Left(self.replies.clone().into_iter()),
         });
-        compared(&played, self.manner, |_, _| {})
+        compared(&history, self.manner, |_, _| {})
     }
 
     /// Whether a begin accepts it.

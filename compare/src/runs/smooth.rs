@@ -1,5 +1,5 @@
-//! Smooth problems: each residual is a constant, a linear part and a few products of two variables, with its derivative, all
-//! of them enclosed more or less widely.
+//! Smooth problems: each residual is a constant, a linear part and a few products of two variables, with its
+//! derivative, all of them enclosed more or less widely.
 
 use crate::interval::operands::Random;
 use crate::runs::problem::Sizes;

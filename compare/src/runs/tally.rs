@@ -1,7 +1,8 @@
-//! What occurred in the runs of the Rust: stops, rejections, refusals by arithmetic and corrections. Each that can occur must.
+//! What occurred in the runs of the Rust: stops, rejections, refusals by arithmetic and corrections. Each that can
+//! occur must.
 
 use crate::runs::answers::{Answer, REJECTIONS, STOPS};
-use crate::runs::rust::Played;
+use crate::runs::rust::History;
 use geop_core_math::trace::Event;
 use std::collections::BTreeMap;
 
@@ -57,15 +58,15 @@ fn stop_name(answer: &Answer) -> String {
 }
 
 /// How the corrections of each landed trial went: how many were kept, and what ended them before the fourth.
-fn corrections(played: &Played) -> Vec<String> {
+fn corrections(history: &History) -> Vec<String> {
     let mut names = Vec::new();
     let mut question = 0;
     // The events of each trial, from its question to the next trial or the end.
-    for trial in played.events.split(|&event| event == Event::Trial).skip(1) {
+    for trial in history.events.split(|&event| event == Event::Trial).skip(1) {
         let count = |wanted: Event| trial.iter().filter(|&&event| event == wanted).count();
         let (asked, kept) = (count(Event::Correction), count(Event::Kept));
         question += 1;
-        let answered = |question: usize| played.replies[question].is_some();
+        let answered = |question: usize| history.replies[question].is_some();
         if answered(question) {
             names.push(format!("{kept} kept"));
         }
@@ -84,9 +85,9 @@ fn corrections(played: &Played) -> Vec<String> {
     names
 }
 
-fn turn_downs(played: &Played) -> Vec<String> {
+fn turn_downs(history: &History) -> Vec<String> {
     let mut names = Vec::new();
-    for event in &played.events {
+    for event in &history.events {
         let name = match event {
             Event::NotPositive => "turned notpositive",
             Event::Infeasible => "turned infeasible",
@@ -100,13 +101,13 @@ fn turn_downs(played: &Played) -> Vec<String> {
         names.push(name.to_string());
     }
     // The last iteration's events: after a retry Flat and Undecided are still told of a first proposal.
-    let events = played.events.rsplit(|&event| event == Event::Stands);
+    let events = history.events.rsplit(|&event| event == Event::Stands);
     let retried = events
         .take(1)
         .flatten()
         .any(|&event| event == Event::Retried);
     let first =
-        matches!(played.last(), Answer::Finish(finish) if finish.stop == 2 || finish.stop == 3);
+        matches!(history.last(), Answer::Finish(finish) if finish.stop == 2 || finish.stop == 3);
     if retried && first {
         names.push(RETRIED[1].to_string());
     }
@@ -114,10 +115,10 @@ fn turn_downs(played: &Played) -> Vec<String> {
 }
 
 /// What a run shows, as often as it does.
-pub fn shown(played: &Played) -> Vec<String> {
-    let mut names = vec![stop_name(played.last())];
-    names.extend(turn_downs(played));
-    names.extend(corrections(played));
+pub fn shown(history: &History) -> Vec<String> {
+    let mut names = vec![stop_name(history.last())];
+    names.extend(turn_downs(history));
+    names.extend(corrections(history));
     names
 }
 

@@ -1,5 +1,6 @@
-//! A run as text: `run n m s limit`, the words of the longest step and of the start, and the answer to the beginning; then for
-//! each reply a line, `r count words` or `n`, and its answer; then `end`. Numbers are hexadecimal, words have 16 digits.
+//! A run as text: `run n m s limit`, the words of the longest step and of the start, and the answer to the beginning;
+//! then for each reply a line, `r count words` or `n`, and its answer; then `end`. Numbers are hexadecimal, words have
+//! 16 digits.
 
 use crate::runs::problem::{Reply, Sizes};
 use crate::words::{hex, words};

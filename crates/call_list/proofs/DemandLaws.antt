@@ -102,11 +102,15 @@ pub record Snoc (before : List ℕ) (code : ℕ) (xs : List Float) (f : Floats x
 
 snoc : (before : List ℕ) (code : ℕ) (xs : List Float) (f : Floats xs) → Snoc before code xs f
 unfolding callsOf
-snoc [] code xs f = record { call = callOf code (take (countOf code) xs) (floats-take (countOf code) xs f); calls-are = refl }
+snoc [] code xs f =
+    record { call = callOf code (take (countOf code) xs) (floats-take (countOf code) xs f); calls-are = refl }
 snoc (d ∷ ds) code xs f =
     let k = countOf d in
     let s = snoc ds code (drop k xs) (floats-drop k xs f) in
-    record { call = s .call; calls-are = ap (λ (cs : List Call). callOf d (take k xs) (floats-take k xs f) ∷ cs) (s .calls-are) }
+    record {
+      call = s .call;
+      calls-are = ap (λ (cs : List Call). callOf d (take k xs) (floats-take k xs f) ∷ cs) (s .calls-are);
+    }
 
 module _ (z : Sizes) (start : List Float) (max : Scalar) (a : List Float) where
   abbrev b : AfterCall
@@ -150,7 +154,9 @@ module _ (z : Sizes) (start : List Float) (max : Scalar) (a : List Float) where
       }
 
   -- where the loop ends
-  pub play-ends : (codes : List ℕ) (xs : List Float) (r₀ : Returned) (a₀ : List Float) {p : CallResult} {i at : ℕ} → afterCall r₀ a₀ ≡ b → Playing (callResultOf r₀ a₀) codes xs p i at → length codes ≤ i → ((j : ℕ) → T (fits binary64 (getD xs j nan))) → Plays z start max a codes xs p
+  pub play-ends : (codes : List ℕ) (xs : List Float) (r₀ : Returned) (a₀ : List Float) {p : CallResult} {i at : ℕ}
+      → afterCall r₀ a₀ ≡ b → Playing (callResultOf r₀ a₀) codes xs p i at → length codes ≤ i
+      → ((j : ℕ) → T (fits binary64 (getD xs j nan))) → Plays z start max a codes xs p
   play-ends codes xs r₀ a₀ {p} begins w over h =
       let f = floats-of xs nan h in
       plays codes xs p f (play-all w over f ∙ ap (λ (l : AfterCall). playedFrom l (callsOf codes xs f)) begins)

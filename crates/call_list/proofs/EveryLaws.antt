@@ -97,7 +97,12 @@ front :
     Named z cs → Named z (c ∷ cs)
 unfolding playedTo callsOf
 front z code c cs xs g count-is call-is n =
-    record { codes = code ∷ n .codes; numbers = ys; floats = floats-append xs (n .numbers) g (n .floats); leaves = leaves }
+    record {
+      codes = code ∷ n .codes;
+      numbers = ys;
+      floats = floats-append xs (n .numbers) g (n .floats);
+      leaves = leaves;
+    }
   where
     ys : List Float
     ys = xs ++ n .numbers

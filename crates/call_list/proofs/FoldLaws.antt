@@ -1,4 +1,5 @@
--- The loop of `play` keeps one fact: the codes that are left, played on from what is in hand, give what the whole list gives from begin. Each turn takes one code and its numbers off the front.
+-- The loop of `play` keeps one fact: the codes that are left, played on from what is in hand, give what the whole list
+-- gives from begin. Each turn takes one code and its numbers off the front.
 use Prim.Native.Nat.{ℕ, zero, suc, _+_, _-_, _≤_, _<_, min}
 use mathlib.Core.Path.{_≡_, refl, sym, ap, _∙_, subst}
 use mathlib.Core.List.{List, [], _∷_}
@@ -20,7 +21,8 @@ floats-of (x ∷ xs) d h = (h 0, floats-of xs d (λ i. h (suc i)))
 take-min : (k : ℕ) (ys : List Float) → take (min k (length ys)) ys ≡ take k ys
 take-min zero ys = ap (λ (j : ℕ). take j ys) (zero-min (length ys))
 take-min (suc k) [] = ap (λ (j : ℕ). take {A = Float} j []) (min-zero (suc k))
-take-min (suc k) (y ∷ ys) = ap (λ (j : ℕ). take j (y ∷ ys)) (suc-min-suc k (length ys)) ∙ ap (λ (l : List Float). y ∷ l) (take-min k ys)
+take-min (suc k) (y ∷ ys) =
+    ap (λ (j : ℕ). take j (y ∷ ys)) (suc-min-suc k (length ys)) ∙ ap (λ (l : List Float). y ∷ l) (take-min k ys)
 
 drop-min : (k : ℕ) (ys : List Float) → drop (min k (length ys)) ys ≡ drop k ys
 drop-min zero ys = ap (λ (j : ℕ). drop j ys) (zero-min (length ys))
@@ -42,17 +44,21 @@ pub playing : (p : CallResult) (codes : List ℕ) (xs : List Float) → Playing 
 playing p codes xs = record { within = omega arith; rest = λ g. record { floats = g; same = refl } }
 
 -- one code and its numbers
-rest-more : {whole p q : CallResult} (code : ℕ) (codes : List ℕ) (ys : List Float) → Rest whole p (code ∷ codes) ys → Called (p .run) code (take (countOf code) ys) q → Rest whole q codes (drop (countOf code) ys)
+rest-more : {whole p q : CallResult} (code : ℕ) (codes : List ℕ) (ys : List Float) → Rest whole p (code ∷ codes) ys
+    → Called (p .run) code (take (countOf code) ys) q → Rest whole q codes (drop (countOf code) ys)
 unfolding playedTo callsOf
 rest-more {whole} {p} {q} code codes ys r called =
     let k = countOf code in
     record {
       floats = floats-drop k ys (r .floats);
-      same = ap (λ (x : CallResult). playedTo x (callsOf codes (drop k ys) (floats-drop k ys (r .floats)))) (called (floats-take k ys (r .floats))) ∙ r .same;
+      same = ap (λ (x : CallResult). playedTo x (callsOf codes (drop k ys) (floats-drop k ys (r .floats))))
+          (called (floats-take k ys (r .floats))) ∙ r .same;
     }
 
-module _ {p₀ : CallResult} {codes : List ℕ} {xs : List Float} {p : CallResult} {i at : ℕ} (playing : Playing p₀ codes xs p i at) where
-  pub play-more : (d e : ℕ) {q : CallResult} → i < length codes → e ≡ at + min (countOf (getD codes i d)) (length xs - at) → Called (p .run) (getD codes i d) (take (e - at) (drop at xs)) q → Playing p₀ codes xs q (i + 1) e
+module _ {p₀ : CallResult} {codes : List ℕ} {xs : List Float} {p : CallResult} {i at : ℕ}
+    (playing : Playing p₀ codes xs p i at) where
+  pub play-more : (d e : ℕ) {q : CallResult} → i < length codes → e ≡ at + min (countOf (getD codes i d)) (length xs - at)
+      → Called (p .run) (getD codes i d) (take (e - at) (drop at xs)) q → Playing p₀ codes xs q (i + 1) e
   play-more d e {q} h at-end called = record { within = omega (arith, at-end, playing .within); rest = more }
     where
       ys : List Float
@@ -71,7 +77,8 @@ module _ {p₀ : CallResult} {codes : List ℕ} {xs : List Float} {p : CallResul
       take-is = ap (λ (n : ℕ). take n ys) (sym length-is) ∙ take-min k ys
 
       drop-is : drop k ys ≡ drop e xs
-      drop-is = sym (drop-min k ys) ∙ ap (λ (n : ℕ). drop n ys) length-is ∙ drop-drop (e - at) at xs ∙ ap (λ (n : ℕ). drop n xs) (let u : at + (e - at) ≡ e = omega (arith, at-end) in u)
+      drop-is = sym (drop-min k ys) ∙ ap (λ (n : ℕ). drop n ys) length-is ∙ drop-drop (e - at) at xs
+          ∙ ap (λ (n : ℕ). drop n xs) (let u : at + (e - at) ≡ e = omega (arith, at-end) in u)
 
       codes-are : drop i codes ≡ code ∷ drop (i + 1) codes
       codes-are = drop-cons codes i d h ∙ ap (λ (n : ℕ). code ∷ drop n codes) (let u : suc i ≡ i + 1 = omega arith in u)
@@ -81,7 +88,9 @@ module _ {p₀ : CallResult} {codes : List ℕ} {xs : List Float} {p : CallResul
           subst
           (λ (l : List Float). Rest (playedTo p₀ (callsOf codes xs g)) q (drop (i + 1) codes) l)
           drop-is
-          (rest-more code (drop (i + 1) codes) ys (subst (λ (l : List ℕ). Rest (playedTo p₀ (callsOf codes xs g)) p l ys) codes-are (playing .rest g)) (subst (λ (l : List Float). Called (p .run) code l q) take-is called))
+          (rest-more code (drop (i + 1) codes) ys
+          (subst (λ (l : List ℕ). Rest (playedTo p₀ (callsOf codes xs g)) p l ys) codes-are (playing .rest g))
+          (subst (λ (l : List Float). Called (p .run) code l q) take-is called))
 
   pub play-all : length codes ≤ i → (g : Floats xs) → p ≡ playedTo p₀ (callsOf codes xs g)
   unfolding playedTo callsOf

@@ -1,10 +1,9 @@
-// The bits of a float as a word, every NaN by one word, and a word as text and back.
+// The bits of a float as a word, every NaN by one word, and a word as text.
 ghost use mathlib.Core.Path.{_≡_};
 ghost use mathlib.Core.Bool.{cond};
 ghost use Prim.Native.Nat.{_+_, _<_};
 ghost use lib.Dec.{ltb};
 ghost use lib.Ieee.{binary64, toBits, ofBits};
-ghost use Rattle.float_bits.specs.Text.{digitOf, numberOf};
 
 // A NaN's pattern, whichever it has.
 const NAN_BITS: u64 = 0x7FF8000000000000;
@@ -50,34 +49,4 @@ pub fn print_word(fd: i32, word: u64) -> bool {
         rest /= 16;
     }
     io::write_all(fd, &text)
-}
-
-// The value of a digit, 16 for a byte that is none.
-pub fn digit_of(b: u8) -> u64
-    ensures { λ r. ⌜ r ≡ digitOf b ⌝ }
-{
-    if b < b'0' {
-        return 16;
-    }
-    if b <= b'9' {
-        return b as u64 - 48;
-    }
-    if b < b'A' {
-        return 16;
-    }
-    if b <= b'F' {
-        return b as u64 - 55;
-    }
-    16
-}
-
-// The number that hexadecimal digits write, the last sixteen of them.
-pub fn number_of(text: &[u8]) -> u64
-    ensures { λ r. ⌜ r ≡ numberOf (now (text .entry)) ⌝ }
-{
-    let mut number: u64 = 0;
-    for i in 0..text.len() {
-        number = number % 0x1000000000000000 * 16 + digit_of(text[i]) % 16;
-    }
-    number
 }

@@ -1,83 +1,64 @@
 // Replays the list of answers on standard input against the interval crate: a line for each answer
 // of the Rust. Prints the number of each line that differs, then how many lines there were.
-ghost use lib.Dec.{eqb};
-ghost use mathlib.Core.Bool.{_&&_};
-ghost use mathlib.Core.Path.{_≡_};
-
 mod answer;
-mod line;
 
-use answer::Answer;
 use answer::answer_of;
-use libc::STDOUT_FILENO;
-use line::is_line;
-use line::number_in;
+use replay_text::comparison::Comparison;
+use replay_text::comparison::both;
+use replay_text::comparison::malformed;
+use replay_text::comparison::same_numbers;
+use replay_text::tally::no_cases;
+use replay_text::tally::print_tally;
+use replay_text::tally::with_next;
+use replay_text::tokens::Token;
+use replay_text::tokens::is_number;
+use replay_text::tokens::next_token;
+use replay_text::tokens::read_numbers;
 
 // More lines are not read: their number shows it.
 const MOST_LINES: u64 = 1000000;
 
-fn same(x: Answer, y: Answer) -> bool
-    ensures { λ r. ⌜ r ≡ (eqb (x .number) (y .number) && (eqb (x .lo) (y .lo) && eqb (x .hi) (y .hi))) ⌝ }
-{
-    if x.number != y.number {
-        return false;
-    }
-    if x.lo != y.lo {
-        return false;
-    }
-    x.hi == y.hi
-}
+const EQUALS: u64 = 0x3D;
 
-fn recorded(line: &[u8; 109]) -> Answer {
-    Answer {
-        number: number_in(line, 73, 74),
-        lo: number_in(line, 75, 91),
-        hi: number_in(line, 92, 108),
-    }
-}
-
-fn computed(line: &[u8; 109]) -> Answer {
-    answer_of(
-        number_in(line, 0, 2),
-        number_in(line, 3, 19),
-        number_in(line, 20, 36),
-        number_in(line, 37, 53),
-        number_in(line, 54, 70),
+// The answer to the code and the operands, held to what the list has behind its sign =: the number of
+// the refusal or 0, and the two words of the answer.
+fn compared(code: u64, operands: &[u64; 4]) -> Comparison {
+    let sign = next_token();
+    let a = answer_of(code, operands[0], operands[1], operands[2], operands[3]);
+    let words = [a.number, a.lo, a.hi];
+    let rest = same_numbers(&words);
+    both(
+        rest,
+        Comparison {
+            same: true,
+            well_formed: sign.text == EQUALS,
+        },
     )
 }
 
-// Whether a line, of which n bytes were read, is whole and the crate gives its answer.
-fn holds(line: &[u8; 109], n: usize) -> bool {
-    n == 109 && is_line(line) && same(computed(line), recorded(line))
-}
-
-fn print_difference(number: u64) {
-    io::write_all(STDOUT_FILENO, b"line ");
-    io::print_decimal(STDOUT_FILENO, number);
-    io::write_all(STDOUT_FILENO, b" differs\n");
-}
-
-fn print_summary(lines: u64, differ: u64) {
-    io::print_decimal(STDOUT_FILENO, lines);
-    io::write_all(STDOUT_FILENO, b" answers, ");
-    io::print_decimal(STDOUT_FILENO, differ);
-    io::write_all(STDOUT_FILENO, b" differ\n");
+// The line that starts with a token, the function's code; four operands follow it.
+fn replay(first: Token) -> Comparison {
+    let mut operands = [0u64; 4];
+    if !is_number(first) {
+        return malformed();
+    }
+    if !read_numbers(&mut operands) {
+        return malformed();
+    }
+    compared(first.number, &operands)
 }
 
 fn main() {
-    let mut line = [0u8; 109];
-    let mut lines: u64 = 0;
-    let mut differ: u64 = 0;
-    while lines < MOST_LINES {
-        let n = io::read_full(0, &mut line);
-        if n == 0 {
+    let mut t = no_cases();
+    for _ in 0..MOST_LINES {
+        let first = next_token();
+        if first.length == 0 {
             break;
         }
-        lines += 1;
-        if !holds(&line, n) {
-            differ += 1;
-            print_difference(lines);
+        t = with_next(t, b"line ", replay(first));
+        if !t.well_formed {
+            break;
         }
     }
-    print_summary(lines, differ);
+    print_tally(t, b" answers, ");
 }

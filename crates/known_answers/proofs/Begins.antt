@@ -1,4 +1,5 @@
--- A begin that is accepted leaves the run that `begunOf` gives: its sizes are within the limits, its area has 8,000 numbers, and number 4 does not refuse it.
+-- A begin that is accepted leaves the run that `begunOf` gives: its sizes are within the limits, its area has 8,000
+-- numbers, and number 4 does not refuse it.
 use Prim.Native.Nat.{ℕ, _+_, _*_, _≤_, zero-le}
 use mathlib.Core.Bool.{Bool, true, false, _&&_}
 use mathlib.Core.Path.{_≡_, refl, _∙_}
@@ -14,10 +15,11 @@ use Rattle.interval.specs.declared.Scalar.{Scalar}
 use Rattle.linear.specs.Flat.{zeros}
 use Rattle.run.specs.Limits.{AREA}
 use Rattle.run.specs.Area.{POINT, SPARE, Memory, areaOf, begunMemory}
-use Rattle.run.specs.Calls.{AfterCall, Accepted, unchanged, checks, beginOf, begunOf}
+use Rattle.run.specs.Calls.{AfterCall, Accepted, unchanged, checks}
 use Rattle.run.specs.Checks.{sizesFit, valid, inDomain, allInDomain, stepFits}
 use Rattle.run.specs.State.{stateWith, noRun}
 use Rattle.run.specs.Damping.{firstMu}
+use Rattle.run.specs.Calls.{beginOf, begunOf}
 use Rattle.run.specs.declared.state.Kind.the-variants as kind
 use Rattle.run.specs.declared.state.Phase.the-variants.{Open}
 use Rattle.run.specs.declared.state.Sizes.{Sizes}
@@ -30,7 +32,8 @@ use Rattle.known_answers.specs.KnownAnswers.{between}
 use Rattle.known_answers.proofs.Zeros.{zeros-all}
 
 -- a check, passed or not
-checked : (P : AfterCall → Type 0) (b : Bool) (k : ℕ) (back : ℕ → AfterCall) (next : AfterCall) → P (back k) → (b ≡ true → P next) → P (checks b k back next)
+checked : (P : AfterCall → Type 0) (b : Bool) (k : ℕ) (back : ℕ → AfterCall) (next : AfterCall) → P (back k) → (b ≡ true → P next)
+    → P (checks b k back next)
 checked P true k back next p h = h refl
 checked P false k back next p h = p
 
@@ -42,7 +45,8 @@ pub record Begins (z : Sizes) (start : List Float) (max : Scalar) (b : AfterCall
   pub fit : sizesFit z ≡ true
   pub size : length start ≡ 2 * z .n
 
-pub begins : (z : Sizes) (start : List Float) (max : Scalar) (a : List Float) → Accepted (beginOf z start max a) → Begins z start max (beginOf z start max a)
+pub begins : (z : Sizes) (start : List Float) (max : Scalar) (a : List Float) → Accepted (beginOf z start max a)
+    → Begins z start max (beginOf z start max a)
 unfolding beginOf
 begins z start max a =
     checked IfAccepted (sizesFit z) 1 (unchanged noRun a) _ (not-asked 1)
@@ -50,7 +54,11 @@ begins z start max a =
     checked IfAccepted (eqb (length start) (2 * z .n) && eqb (length a) AREA) 2 (unchanged noRun a) _ (not-asked 2)
     (λ g.
     checked IfAccepted (allInDomain start (z .n) && stepFits max) 3 (unchanged noRun a) _ (not-asked 3)
-    (λ h q. record { is = refl; fit = fit; size = eqb-true _ _ (and-left (eqb (length start) (2 * z .n)) (eqb (length a) AREA) g) })))
+    (λ h q. record {
+      is = refl;
+      fit = fit;
+      size = eqb-true _ _ (and-left (eqb (length start) (2 * z .n)) (eqb (length a) AREA) g);
+    })))
   where
     IfAccepted : AfterCall → Type 0
     IfAccepted b = Accepted b → Begins z start max b
@@ -61,7 +69,9 @@ begins z start max a =
 -- how many numbers the slots have
 area-length : (w : Memory)
     → length (areaOf w)
-    ≡ length (w .standing) + (length (w .landed) + (length (w .asked) + (length (w .standingRows) + (length (w .landedRows) + (length (w .step) + (length (w .multipliers) + (length (w .curvature) + (length (w .filter) + SPARE))))))))
+    ≡ length (w .standing)
+    + (length (w .landed) + (length (w .asked) + (length (w .standingRows) + (length (w .landedRows)
+    + (length (w .step) + (length (w .multipliers) + (length (w .curvature) + (length (w .filter) + SPARE))))))))
 unfolding areaOf
 area-length w = simp (length-append, length-clear)
 
@@ -72,13 +82,21 @@ begun-area start h =
 pub begun-valid : (z : Sizes) (max : Scalar) → sizesFit z ≡ true → valid (begunState z max) ≡ true
 begun-valid z max fit =
     sound-valid (begunState z max)
-    (record { sizes-fit = fit; within = zero-le; few-turned = zero-le; few-asked = zero-le; few-corrections = zero-le; phase-fits = growth-positive growth-begin })
+    (record {
+      sizes-fit = fit;
+      within = zero-le;
+      few-turned = zero-le;
+      few-asked = zero-le;
+      few-corrections = zero-le;
+      phase-fits = growth-positive growth-begin;
+    })
 
 -- zeros as start, with steps up to 1
 zeros-domain : (n : ℕ) → allInDomain (zeros (2 * n)) n ≡ true
 unfolding le lt eq neg ofBits
 zeros-domain n = zeros-all inDomain refl (2 * n) n (le-refl (2 * n))
 
-pub begin-accepted : (z : Sizes) (a : List Float) → sizesFit z ≡ true → length a ≡ AREA → Accepted (beginOf z (zeros (2 * z .n)) (between (pos 1) (pos 1)) a)
+pub begin-accepted : (z : Sizes) (a : List Float) → sizesFit z ≡ true → length a ≡ AREA
+    → Accepted (beginOf z (zeros (2 * z .n)) (between (pos 1) (pos 1)) a)
 unfolding beginOf le lt eq neg ofBits ofInt round
 begin-accepted z a fit l = rw (fit, eq-eqb _ _ (length-clear (2 * z .n)), eq-eqb _ _ l, zeros-domain (z .n))

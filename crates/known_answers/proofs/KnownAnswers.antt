@@ -1,4 +1,5 @@
--- The known answers, by one theorem. P1 to P10 are computed from the definitions; in P10 to P13 an accepted begin leaves the run that `begunOf` gives, and its next call passes every check.
+-- The known answers, by one theorem. P1 to P10 are computed from the definitions; in P10 to P13 an accepted begin
+-- leaves the run that `begunOf` gives, and its next call passes every check.
 use Prim.Native.Nat.{_+_, _*_}
 use mathlib.Core.Bool.{true}
 use mathlib.Core.Path.{_≡_, refl, ap, _∙_}
@@ -30,7 +31,8 @@ use Rattle.run.specs.declared.state.Phase.the-variants.{Open}
 use Rattle.run.specs.declared.state.Sizes.{Sizes}
 use Rattle.run.specs.declared.state.Stop.the-variants as stop
 use Rattle.run.proofs.CheckLaws.{size-bounds, none-accepted, rows-accepted}
-use Rattle.known_answers.specs.KnownAnswers.{OfScalars, OfBegin, OfReply, KnownAnswers, sizes, answerTo, answerToNone}
+use Rattle.known_answers.specs.KnownAnswers.{OfScalars, OfBegin, OfReply, KnownAnswers, sizes, answerTo}
+use Rattle.known_answers.specs.KnownAnswers.{answerToNone}
 use Rattle.known_answers.proofs.Begins.{Begins, begins, begunState, begun-area, begun-valid, begin-accepted}
 use Rattle.known_answers.proofs.NoVariables.{started-none}
 
@@ -44,23 +46,29 @@ module _ (z : Sizes) (start : List Float) (max : Scalar) (b : AfterCall) (g : Be
   unfolding checkOf
   accepted = rw (begun-valid z max (g .fit), whole)
 
-  accepted-rows : (rows : List Float) → length rows ≡ rowNumbers (z .n) (z .m) (z .s) → allInDomain rows ((z .m + z .s) * (z .n + 1)) ≡ true
+  accepted-rows : (rows : List Float) → length rows ≡ rowNumbers (z .n) (z .m) (z .s)
+      → allInDomain rows ((z .m + z .s) * (z .n + 1)) ≡ true
       → checkRowsOf (begunState z max) (length (areaOf (begunMemory start))) rows ≡ Accept kind.Start
   unfolding checkRowsOf
   accepted-rows rows l d = rw (accepted, eq-eqb _ _ l, d)
 
   none-answer : answerToNone b ≡ Finish stop.Infeasible 0 0 0
-  none-answer = ap answerToNone (g .is) ∙ ap (λ (o : AfterCall). o .event) (none-accepted (begunState z max) (areaOf (begunMemory start)) kind.Start accepted)
+  none-answer = ap answerToNone (g .is)
+      ∙ ap (λ (o : AfterCall). o .event) (none-accepted (begunState z max) (areaOf (begunMemory start)) kind.Start accepted)
 
-  rows-answer : (rows : List Float) → length rows ≡ rowNumbers (z .n) (z .m) (z .s) → allInDomain rows ((z .m + z .s) * (z .n + 1)) ≡ true
-      → answerTo b rows ≡ started (begunState z max) (memoryOf (begunState z max) (areaOf (begunMemory start))) rows .event
+  rows-answer : (rows : List Float) → length rows ≡ rowNumbers (z .n) (z .m) (z .s)
+      → allInDomain rows ((z .m + z .s) * (z .n + 1)) ≡ true
+      → answerTo b rows
+      ≡ started (begunState z max) (memoryOf (begunState z max) (areaOf (begunMemory start))) rows .event
   rows-answer rows l d =
       ap (λ (o : AfterCall). answerTo o rows) (g .is)
-      ∙ ap (λ (o : AfterCall). o .event) (rows-accepted (begunState z max) (areaOf (begunMemory start)) rows kind.Start (accepted-rows rows l d))
+      ∙ ap (λ (o : AfterCall). o .event)
+      (rows-accepted (begunState z max) (areaOf (begunMemory start)) rows kind.Start (accepted-rows rows l d))
 
 -- ---- the table
 
-budget : (z : Sizes) (mu max : Scalar) (w : Memory) (rows : List Float) → z .limit ≡ 0 → started (stateWith z mu max (Open kind.Start)) w rows .event ≡ Finish stop.Budget 0 0 0
+budget : (z : Sizes) (mu max : Scalar) (w : Memory) (rows : List Float) → z .limit ≡ 0
+    → started (stateWith z mu max (Open kind.Start)) w rows .event ≡ Finish stop.Budget 0 0 0
 unfolding started iterate
 budget z mu max w rows e = rw e
 
@@ -89,8 +97,11 @@ of-reply : OfReply
 unfolding allTo
 of-reply = record {
   p11 = λ n m s start max a q. none-answer (sizes n m s 0) start max _ (begins (sizes n m s 0) start max a q);
-  p12 = λ n m s start max a rows q l d. rows-answer (sizes n m s 0) start max _ (begins (sizes n m s 0) start max a q) rows l d ∙ budget (sizes n m s 0) firstMu max _ rows refl;
-  p13 = λ start max a q. rows-answer (sizes 0 0 0 5) start max _ (begins (sizes 0 0 0 5) start max a q) [] refl refl ∙ started-none firstMu max _ [];
+  p12 = λ n m s start max a rows q l d.
+      rows-answer (sizes n m s 0) start max _ (begins (sizes n m s 0) start max a q) rows l d
+      ∙ budget (sizes n m s 0) firstMu max _ rows refl;
+  p13 = λ start max a q. rows-answer (sizes 0 0 0 5) start max _ (begins (sizes 0 0 0 5) start max a q) [] refl refl
+      ∙ started-none firstMu max _ [];
 }
 
 pub known-answers : KnownAnswers

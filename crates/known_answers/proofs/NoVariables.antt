@@ -1,4 +1,5 @@
--- With no variable and no row there is a step, of no length, and neither the sum nor the violation is expected to drop: each of the two drops is worked out between zeros, and stepped outward it holds 0.
+-- With no variable and no row there is a step, of no length, and neither the sum nor the violation is expected to drop:
+-- each of the two drops is worked out between zeros, and stepped outward it holds 0.
 use Prim.Native.Nat.{ℕ, _*_, _≤_}
 use mathlib.Core.Bool.{Bool, true, false}
 use mathlib.Core.Path.{_≡_, refl}
@@ -60,11 +61,14 @@ norm-none f = refl
 -- ---- the step
 
 -- a problem of no variables and no constraints
-kept-step : (c : ℕ → Scalar) (wide jc h : List Float) → keptStep (problemIn 0 0 c wide jc h vector) ≡ ok (found (stepIn vector vector 0))
-unfolding keptStep bind basisOf foldR correctionOf leastSquaresOf combinedTo directionsOf directionsTo freeStep choleskyOf refusedTo weightsOf anyTo solveOf steppedBy pullOf fillTo multipliersOf spreadTo
+kept-step : (c : ℕ → Scalar) (wide jc h : List Float)
+    → keptStep (problemIn 0 0 c wide jc h vector) ≡ ok (found (stepIn vector vector 0))
+unfolding keptStep bind basisOf foldR correctionOf leastSquaresOf combinedTo directionsOf directionsTo freeStep
+    choleskyOf refusedTo weightsOf anyTo solveOf steppedBy pullOf fillTo multipliersOf spreadTo
 kept-step c wide jc h = rw (zeros-finite 24 12 (omega arith))
 
-step-none : (rows b : List Float) (moving : List Bool) (mu : Scalar) → stepOf 0 (evaluationOf 0 0 0 rows) b moving mu ≡ ok (found (stepIn vector vector 0))
+step-none : (rows b : List Float) (moving : List Bool) (mu : Scalar)
+    → stepOf 0 (evaluationOf 0 0 0 rows) b moving mu ≡ ok (found (stepIn vector vector 0))
 unfolding stepOf problemOf keptTo dampedOf fillRows gradientOf fillTo spreadTo bind
 step-none rows b moving mu = rw (zeros-finite 288 144 (omega arith), kept-step _ _ _ _)
 
@@ -73,21 +77,25 @@ step-none rows b moving mu = rw (zeros-finite 288 144 (omega arith), kept-step _
 abbrev pub standing : List Float → List Float → List Float → List Bool → Standing
 standing x rows b moving = standingWith 0 x (evaluationOf 0 0 0 rows) zeroS normOfNone b moving
 
-expects-none : (x rows b delta : List Float) (moving : List Bool) → expectsOf (standing x rows b moving) delta ≡ ok false
+expects-none : (x rows b delta : List Float) (moving : List Bool)
+    → expectsOf (standing x rows b moving) delta ≡ ok false
 unfolding expectsOf bind squaredOf plusTo predictedOf ofBits toBits neg lt le eq add sub round nextUp
 expects-none x rows b delta moving = rw (norm-none _, root-of-zero)
 
-proposal-none : (x rows b : List Float) (moving : List Bool) (mu radius : Scalar) → proposalOf (standing x rows b moving) mu radius ≡ ok (noDrop 0)
+proposal-none : (x rows b : List Float) (moving : List Bool) (mu radius : Scalar)
+    → proposalOf (standing x rows b moving) mu radius ≡ ok (noDrop 0)
 unfolding proposalOf bind
 proposal-none x rows b moving mu radius = rw (step-none rows b moving mu, expects-none x rows b vector moving)
 
 -- ---- the search stops at once
 
-search-none : (x rows b : List Float) (moving : List Bool) (max : Scalar) (y : Search) → searchOf (standing x rows b moving) max y ≡ stops y (flatOr y 0 0)
+search-none : (x rows b : List Float) (moving : List Bool) (max : Scalar) (y : Search)
+    → searchOf (standing x rows b moving) max y ≡ stops y (flatOr y 0 0)
 unfolding searchOf searchTo
 search-none x rows b moving max y = rw (proposal-none x rows b moving (y .mu) (y .radius))
 
 -- in the first iteration
-pub started-none : (mu max : Scalar) (w : Memory) (rows : List Float) → started (stateWith (sizes 0 0 0 5) mu max (Open kind.Start)) w rows .event ≡ Finish (stop.Flat 0 0) 0 0 0
+pub started-none : (mu max : Scalar) (w : Memory) (rows : List Float)
+    → started (stateWith (sizes 0 0 0 5) mu max (Open kind.Start)) w rows .event ≡ Finish (stop.Flat 0 0) 0 0 0
 unfolding started iterate search violationOf leftAt squaredOf plusTo
 started-none mu max w rows = rw (norm-none _, root-of-zero, search-none _ _ _ _ _ _)

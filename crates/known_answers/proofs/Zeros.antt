@@ -17,7 +17,11 @@ at-zeros : (n i : ℕ) → 2 * i + 1 < n → at (zeros n) i ≡ zeroS
 at-zeros n i h =
     let l : 2 * i + 1 < length (zeros n) = rw (length-clear n) h in
     let h₀ : 2 * i < n = omega arith in
-    rw (at-inside (zeros n) i (lt-ltb _ _ l), getD-replicate n (2 * i) zero64 nan h₀, getD-replicate n (2 * i + 1) zero64 nan h)
+    rw (
+      at-inside (zeros n) i (lt-ltb _ _ l),
+      getD-replicate n (2 * i) zero64 nan h₀,
+      getD-replicate n (2 * i + 1) zero64 nan h,
+    )
 
 pub zeros-all : (p : Scalar → Bool) → p zeroS ≡ true → (n k : ℕ) → 2 * k ≤ n → allTo (λ i. p (at (zeros n) i)) k ≡ true
 unfolding allTo

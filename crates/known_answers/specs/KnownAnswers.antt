@@ -1,4 +1,5 @@
--- Document 01, "Known answers": P1 to P13 in one table, over the definitions that the contracts cite. Bit patterns are hexadecimal.
+-- Document 01, "Known answers": P1 to P13 in one table, over the definitions that the contracts cite. Bit patterns are
+-- hexadecimal.
 use Prim.Native.Nat.{ℕ, _+_, _*_}
 use mathlib.Core.Path.{_≡_}
 use mathlib.Core.Bool.{true, false}
@@ -71,7 +72,8 @@ pub record OfBegin : Type 0 where
   -- runs begin: from zero, with steps up to 1, in any area
   pub accepted :
       (n m s limit : ℕ) (a : List Float) →
-      sizesFit (sizes n m s limit) ≡ true → length a ≡ AREA → Accepted (beginOf (sizes n m s limit) (zeros (2 * n)) (between (pos 1) (pos 1)) a)
+      sizesFit (sizes n m s limit) ≡ true → length a ≡ AREA
+      → Accepted (beginOf (sizes n m s limit) (zeros (2 * n)) (between (pos 1) (pos 1)) a)
   -- P10 first mu: ends 3F50624DD2F1A9FB, 3F50624DD2F1A9FD; it is the mu of every run that begins
   pub p10 :
       let mu = bits 0x3F50_624D_D2F1_A9FB 0x3F50_624D_D2F1_A9FD in
@@ -92,7 +94,8 @@ pub record OfReply : Type 0 where
       (n m s : ℕ) (start : List Float) (max : Scalar) (a rows : List Float) →
       let b = beginOf (sizes n m s 0) start max a in
       Accepted b →
-      length rows ≡ rowNumbers n m s → allInDomain rows ((m + s) * (n + 1)) ≡ true → answerTo b rows ≡ Finish stop.Budget 0 0 0
+      length rows ≡ rowNumbers n m s → allInDomain rows ((m + s) * (n + 1)) ≡ true
+      → answerTo b rows ≡ Finish stop.Budget 0 0 0
   -- P13 n = m = s = 0, limit 5: Flat, 0 independent, 0 iterations
   pub p13 :
       (start : List Float) (max : Scalar) (a : List Float) →

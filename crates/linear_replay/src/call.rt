@@ -1,12 +1,16 @@
 // A call of the list: its head, then the words of the slices a, b and c and of the marks, which the
 // function reads, then those of the output and of the marks, which it leaves.
-use crate::words::read_floats;
-use crate::words::read_marks;
-use crate::words::same_floats;
-use crate::words::same_marks;
 use interval::Scalar;
+use replay_text::comparison::Comparison;
+use replay_text::comparison::both;
+use replay_text::comparison::equal_if;
+use replay_text::comparison::malformed;
+use replay_text::comparison::same_floats;
+use replay_text::comparison::same_marks;
+use replay_text::tokens::read_floats;
+use replay_text::tokens::read_marks;
 use yadzvego::lists;
-use yadzvego::scalars::ScalarAnswer;
+use yadzvego::scalars::ScalarResult;
 
 // The function's code, its counts (one alone is n), the lengths of its slices, and the number of the
 // refusal or 0.
@@ -30,13 +34,13 @@ fn fill(out: &mut [f64]) {
 }
 
 // A value goes to the output.
-fn given(r: ScalarAnswer, out: &mut [f64]) -> u64 {
+fn given(r: ScalarResult, out: &mut [f64]) -> u64 {
     linear::put(out, 0, r.value);
     r.number
 }
 
 fn chosen(v: Scalar, out: &mut [f64]) -> u64 {
-    linear::put(out, 0, lists::linear_choose(v));
+    linear::put(out, 0, lists::yadzvego_linear_choose(v));
     0
 }
 
@@ -44,25 +48,32 @@ fn chosen(v: Scalar, out: &mut [f64]) -> u64 {
 fn called(h: Head, a: &[f64], b: &[f64], c: &[f64], out: &mut [f64], marks: &mut [bool]) -> u64 {
     let code = h.code;
     match code {
-        1 => given(lists::linear_dot(h.n, a, b), out),
-        2 => given(lists::linear_norm(h.n, a), out),
+        1 => given(lists::yadzvego_linear_dot(h.n, a, b), out),
+        2 => given(lists::yadzvego_linear_norm(h.n, a), out),
         3 => chosen(linear::at(a, 0), out),
-        4 => lists::linear_sharp(h.n, a, out),
-        5 => lists::linear_cholesky(h.n, a, out, marks),
-        6 => lists::linear_solve_cholesky(h.n, a, marks, b, out),
-        7 => lists::linear_least_squares(h.m, h.n, a, b, out),
-        8 => lists::linear_minus_solved(h.m, h.n, a, b, c, out),
+        4 => lists::yadzvego_linear_sharp(h.n, a, out),
+        5 => lists::yadzvego_linear_cholesky(h.n, a, out, marks),
+        6 => lists::yadzvego_linear_solve_cholesky(h.n, a, marks, b, out),
+        7 => lists::yadzvego_linear_least_squares(h.m, h.n, a, b, out),
+        8 => lists::yadzvego_linear_minus_solved(h.m, h.n, a, b, c, out),
         _ => 255,
     }
 }
 
 // Makes the call and reads what it must leave.
-fn left(h: Head, a: &[f64], b: &[f64], c: &[f64], out: &mut [f64], marks: &mut [bool]) -> bool {
+fn left(
+    h: Head,
+    a: &[f64],
+    b: &[f64],
+    c: &[f64],
+    out: &mut [f64],
+    marks: &mut [bool],
+) -> Comparison {
     fill(out);
     let number = called(h, a, b, c, out, marks);
     let same_out = same_floats(out);
-    let same_after = same_marks(marks);
-    number == h.number && same_out && same_after
+    let same_after = both(same_out, same_marks(marks));
+    both(same_after, equal_if(number == h.number))
 }
 
 // With slices of the call's lengths.
@@ -73,18 +84,18 @@ fn replay_cut(
     c: &mut [f64],
     out: &mut [f64],
     marks: &mut [bool],
-) -> bool {
+) -> Comparison {
     if !read_floats(a) {
-        return false;
+        return malformed();
     }
     if !read_floats(b) {
-        return false;
+        return malformed();
     }
     if !read_floats(c) {
-        return false;
+        return malformed();
     }
     if !read_marks(marks) {
-        return false;
+        return malformed();
     }
     left(h, a, b, c, out, marks)
 }
@@ -97,26 +108,26 @@ fn replay_in(
     c: &mut [f64],
     out: &mut [f64],
     marks: &mut [bool],
-) -> bool {
+) -> Comparison {
     let na = h.a;
     let nb = h.b;
     let nc = h.c;
     let no = h.out;
     let nm = h.marks;
     if na > a.len() {
-        return false;
+        return malformed();
     }
     if nb > b.len() {
-        return false;
+        return malformed();
     }
     if nc > c.len() {
-        return false;
+        return malformed();
     }
     if no > out.len() {
-        return false;
+        return malformed();
     }
     if nm > marks.len() {
-        return false;
+        return malformed();
     }
     replay_cut(
         h,
@@ -129,7 +140,7 @@ fn replay_in(
 }
 
 // There is room for a count of 25, and for a slice that is too long.
-pub fn replay_sized(h: Head) -> bool {
+pub fn replay_sized(h: Head) -> Comparison {
     let mut a = [0.0; 1260];
     let mut b = [0.0; 60];
     let mut c = [0.0; 60];

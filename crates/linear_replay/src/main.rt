@@ -2,26 +2,33 @@
 // line for each call, with what the Rust gives. Prints the number of each call that differs, then how
 // many calls there were.
 mod call;
-mod words;
 
 use call::Head;
 use call::replay_sized;
-use libc::STDOUT_FILENO;
-use words::Word;
-use words::is_end;
-use words::next_word;
-use words::read_words;
+use replay_text::comparison::Comparison;
+use replay_text::comparison::malformed;
+use replay_text::tally::no_cases;
+use replay_text::tally::print_tally;
+use replay_text::tally::with_next;
+use replay_text::tokens::Token;
+use replay_text::tokens::is_number;
+use replay_text::tokens::next_token;
+use replay_text::tokens::read_numbers;
 
 // More calls are not read: their number shows it.
 const MOST_CALLS: u64 = 1000000;
 
-fn replay(code: u64) -> bool {
+// The call that starts with a token, the function's code.
+fn replay(first: Token) -> Comparison {
     let mut w = [0u64; 8];
-    if !read_words(&mut w) {
-        return false;
+    if !is_number(first) {
+        return malformed();
+    }
+    if !read_numbers(&mut w) {
+        return malformed();
     }
     replay_sized(Head {
-        code,
+        code: first.number,
         m: w[0] as usize,
         n: w[1] as usize,
         a: w[2] as usize,
@@ -33,41 +40,17 @@ fn replay(code: u64) -> bool {
     })
 }
 
-// Whether the call that starts with a word is whole, and leaves what the list says.
-fn holds(first: Word) -> bool {
-    match first {
-        Word::Is(code) => replay(code),
-        Word::Malformed => false,
-        Word::End => false,
-    }
-}
-
-fn print_difference(number: u64) {
-    io::write_all(STDOUT_FILENO, b"call ");
-    io::print_decimal(STDOUT_FILENO, number);
-    io::write_all(STDOUT_FILENO, b" differs\n");
-}
-
-fn print_summary(calls: u64, differ: u64) {
-    io::print_decimal(STDOUT_FILENO, calls);
-    io::write_all(STDOUT_FILENO, b" calls, ");
-    io::print_decimal(STDOUT_FILENO, differ);
-    io::write_all(STDOUT_FILENO, b" differ\n");
-}
-
 fn main() {
-    let mut calls: u64 = 0;
-    let mut differ: u64 = 0;
-    while calls < MOST_CALLS {
-        let first = next_word();
-        if is_end(first) {
+    let mut t = no_cases();
+    for _ in 0..MOST_CALLS {
+        let first = next_token();
+        if first.length == 0 {
             break;
         }
-        calls += 1;
-        if !holds(first) {
-            differ += 1;
-            print_difference(calls);
+        t = with_next(t, b"call ", replay(first));
+        if !t.well_formed {
+            break;
         }
     }
-    print_summary(calls, differ);
+    print_tally(t, b" calls, ");
 }

@@ -67,8 +67,13 @@ fn curvature_from(plain: bool) -> usize
 // The numbers of the standing point's problem, from its rows and their violation.
 fn standing_point(z: Sizes, rows: &[f64], theta: Scalar) -> StandingPoint
     requires { ⌜ (z .n ≤ 12) × ((z .m ≤ 12) × (z .s ≤ 24)) ⌝ }
-    ensures { λ r. ⌜ r ≡ record { n = z .n; m = z .m; s = z .s;
-        f = sumSquared (sumOf (z .n) (z .m) (z .s) (now (rows .entry))); theta = theta } ⌝ }
+    ensures { λ r. ⌜ r ≡ record {
+      n = z .n;
+      m = z .m;
+      s = z .s;
+      f = sumSquared (sumOf (z .n) (z .m) (z .s) (now (rows .entry)));
+      theta = theta;
+    } ⌝ }
 {
     StandingPoint {
         n: z.n,

@@ -115,8 +115,16 @@ pub fn with_search(st: State, search: Search) -> State
 }
 
 pub fn with_phase(st: State, phase: Phase) -> State
-    ensures { λ r. ⌜ r ≡ record { sizes = st .sizes; counts = st .counts; search = st .search; trial = st .trial;
-        «max_step» = st .«max_step»; last = st .last; phase = phase; moving = st .moving } ⌝ }
+    ensures { λ r. ⌜ r ≡ record {
+      sizes = st .sizes;
+      counts = st .counts;
+      search = st .search;
+      trial = st .trial;
+      «max_step» = st .«max_step»;
+      last = st .last;
+      phase = phase;
+      moving = st .moving;
+    } ⌝ }
 {
     State { phase, ..st }
 }
@@ -153,8 +161,13 @@ pub fn with_landed_number(st: State, corrections: usize) -> State
 
 // A search left with a trial, whose step, multipliers and point stand elsewhere.
 pub fn with_trial_of(st: State, search: Search, trial: Trial) -> State
-    ensures { λ r. ⌜ ((delta lambda next : List Float) → r ≡ trying st search (record { delta = delta; lambda = lambda;
-        next = next; predicted = trial .predicted; tried = trial .tried })) ⌝ }
+    ensures { λ r. ⌜ ((delta lambda next : List Float) → r ≡ trying st search (record {
+      delta = delta;
+      lambda = lambda;
+      next = next;
+      predicted = trial .predicted;
+      tried = trial .tried;
+    })) ⌝ }
 {
     let mut t = st;
     t.search = search;

@@ -1,4 +1,5 @@
--- What crosses to C for a piece that answers neither a scalar nor a slice alone: number 0 and the answer, or the refusal's number and an answer of zeros.
+-- What crosses to C for a piece that answers neither a scalar nor a slice alone: number 0 and the answer, or the
+-- refusal's number and an answer of zeros.
 use Prim.Native.Nat.{ℕ}
 use mathlib.Core.Bool.{Bool, true, false}
 use mathlib.Core.List.{List}
@@ -19,7 +20,8 @@ decisionOf (ok b) = record { number = 0; holds = b }
 decisionOf (refused k) = record { number = k; holds = false }
 
 abbrev pub judgedOf : Res Judged → JudgedStep
-judgedOf (ok j) = record { number = 0; length = j .length; lower = j .lower; undecided = j .undecided; contracting = j .contracting }
+judgedOf (ok j) =
+    record { number = 0; length = j .length; lower = j .lower; undecided = j .undecided; contracting = j .contracting }
 judgedOf (refused k) = record { number = k; length = zeroS; lower = false; undecided = false; contracting = false }
 
 -- the last step's length, if one was taken

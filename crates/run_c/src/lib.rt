@@ -1,10 +1,12 @@
 // The pieces of a run for C and Rust: each by name. A slice is passed as its pointer and count. Every
 // function takes every number and every length, and equals the definition of the call beneath it.
 ghost use mathlib.Core.Path.{_≡_};
-ghost use Rattle.yadzvego.specs.ScalarAnswer.{answerOf};
+ghost use Rattle.yadzvego.specs.ScalarResult.{scalarResultOf};
 ghost use Rattle.yadzvego.specs.Written.{written, writtenOf};
 ghost use Rattle.run.specs.program.Judgement.{judgementOf};
-ghost use Rattle.run.specs.Pieces.{squaredReply, predictedReply, transposedReply, movingReply, judgeReply, expectsReply, cutReply, alongReply, shiftReply, updateReply, learnedReply, learningOf, stepReply, endingOf};
+ghost use Rattle.run.specs.Pieces.{squaredReply, predictedReply, transposedReply, movingReply, judgeReply};
+ghost use Rattle.run.specs.Pieces.{expectsReply, cutReply, alongReply, shiftReply, updateReply, learnedReply};
+ghost use Rattle.run.specs.Pieces.{learningOf, stepReply, endingOf};
 ghost use Rattle.run.specs.program.Proposal.{expectedResult};
 ghost use Rattle.run_c.specs.Replies.{decisionOf, judgedOf, lastOf, steppedOf, stepWritten, stepWrittenOf};
 use interval::Scalar;
@@ -13,10 +15,10 @@ use run::Judgement;
 use run::Last;
 use run::Learning;
 use run::StepEnd;
-use yadzvego::lists::answer_of;
 use yadzvego::lists::number_of;
 use yadzvego::lists::number_of_done;
-use yadzvego::scalars::ScalarAnswer;
+use yadzvego::lists::scalar_result_of;
+use yadzvego::scalars::ScalarResult;
 
 // Number 0 and whether it holds, or the number of the refusal.
 #[repr(C)]
@@ -144,10 +146,10 @@ pub extern "C" fn run_squared(
     rows: &[f64],
     delta: &[f64],
     d: usize,
-) -> ScalarAnswer
-    ensures { λ r. ⌜ r ≡ answerOf (squaredReply n m s (now (rows .entry)) (now (delta .entry)) d) ⌝ }
+) -> ScalarResult
+    ensures { λ r. ⌜ r ≡ scalarResultOf (squaredReply n m s (now (rows .entry)) (now (delta .entry)) d) ⌝ }
 {
-    answer_of(run::squared(n, m, s, rows, delta, d))
+    scalar_result_of(run::squared(n, m, s, rows, delta, d))
 }
 
 #[no_mangle]
@@ -157,10 +159,10 @@ pub extern "C" fn run_predicted(
     s: usize,
     rows: &[f64],
     delta: &[f64],
-) -> ScalarAnswer
-    ensures { λ r. ⌜ r ≡ answerOf (predictedReply n m s (now (rows .entry)) (now (delta .entry))) ⌝ }
+) -> ScalarResult
+    ensures { λ r. ⌜ r ≡ scalarResultOf (predictedReply n m s (now (rows .entry)) (now (delta .entry))) ⌝ }
 {
-    answer_of(run::predicted(n, m, s, rows, delta))
+    scalar_result_of(run::predicted(n, m, s, rows, delta))
 }
 
 #[no_mangle]
@@ -172,14 +174,16 @@ pub extern "C" fn run_transposed(
     w: &[f64],
     out: &mut [f64],
 ) -> u64
-    ensures { λ r. ⌜ written r (now (out .exit)) ≡ writtenOf (transposedReply n m s (now (rows .entry)) (now (w .entry)) (now (out .entry))) ⌝ }
+    ensures { λ r. ⌜ written r (now (out .exit))
+        ≡ writtenOf (transposedReply n m s (now (rows .entry)) (now (w .entry)) (now (out .entry))) ⌝ }
 {
     number_of_done(run::transposed(n, m, s, rows, w, out))
 }
 
 #[no_mangle]
 pub extern "C" fn run_moving(n: usize, m: usize, s: usize, rows: &[f64], marks: &mut [bool]) -> u64
-    ensures { λ r. ⌜ written r (now (marks .exit)) ≡ writtenOf (movingReply n m s (now (rows .entry)) (now (marks .entry))) ⌝ }
+    ensures { λ r.
+        ⌜ written r (now (marks .exit)) ≡ writtenOf (movingReply n m s (now (rows .entry)) (now (marks .entry))) ⌝ }
 {
     number_of_done(run::moving(n, m, s, rows, marks))
 }
@@ -198,7 +202,8 @@ pub extern "C" fn run_judge(
     last: Scalar,
     step: &[f64],
 ) -> JudgedStep
-    ensures { λ r. ⌜ r ≡ judgedOf (judgeReply n m s (now (rows .entry)) (now (next .entry)) theta (now (filter .entry)) count (lastOf taken last) (now (step .entry))) ⌝ }
+    ensures { λ r. ⌜ r ≡ judgedOf (judgeReply n m s (now (rows .entry)) (now (next .entry)) theta
+        (now (filter .entry)) count (lastOf taken last) (now (step .entry))) ⌝ }
 {
     judged_of(run::judge(
         n,
@@ -225,7 +230,8 @@ pub extern "C" fn run_expects(
     theta: Scalar,
     delta: &[f64],
 ) -> Decision
-    ensures { λ r. ⌜ r ≡ decisionOf (expectsReply n m s (now (rows .entry)) (now (b .entry)) f theta (now (delta .entry))) ⌝ }
+    ensures { λ r.
+        ⌜ r ≡ decisionOf (expectsReply n m s (now (rows .entry)) (now (b .entry)) f theta (now (delta .entry))) ⌝ }
 {
     expected_of(run::expects(n, m, s, rows, b, f, theta, delta))
 }
@@ -239,7 +245,8 @@ pub extern "C" fn run_along(
     v: &[f64],
     out: &mut [f64],
 ) -> u64
-    ensures { λ r. ⌜ written r (now (out .exit)) ≡ writtenOf (alongReply n m s (now (rows .entry)) (now (v .entry)) (now (out .entry))) ⌝ }
+    ensures { λ r. ⌜ written r (now (out .exit))
+        ≡ writtenOf (alongReply n m s (now (rows .entry)) (now (v .entry)) (now (out .entry))) ⌝ }
 {
     number_of_done(run::along(n, m, s, rows, v, out))
 }
@@ -253,7 +260,8 @@ pub extern "C" fn run_shift(
     moving: &[bool],
     d: &mut [f64],
 ) -> u64
-    ensures { λ r. ⌜ written r (now (d .exit)) ≡ writtenOf (shiftReply n m s (now (rows .entry)) (now (moving .entry)) (now (d .entry))) ⌝ }
+    ensures { λ r. ⌜ written r (now (d .exit))
+        ≡ writtenOf (shiftReply n m s (now (rows .entry)) (now (moving .entry)) (now (d .entry))) ⌝ }
 {
     number_of_done(run::shift(n, m, s, rows, moving, d))
 }
@@ -276,7 +284,8 @@ pub extern "C" fn run_update_curvature(
     next: &[f64],
     lambda: &[f64],
 ) -> u64
-    ensures { λ r. ⌜ written r (now (b .exit)) ≡ writtenOf (updateReply n m s (now (b .entry)) (now (step .entry)) (now (rows .entry)) (now (next .entry)) (now (lambda .entry))) ⌝ }
+    ensures { λ r. ⌜ written r (now (b .exit)) ≡ writtenOf (updateReply n m s (now (b .entry)) (now (step .entry))
+        (now (rows .entry)) (now (next .entry)) (now (lambda .entry))) ⌝ }
 {
     number_of_done(run::update_curvature(n, m, s, b, step, rows, next, lambda))
 }
@@ -300,7 +309,8 @@ pub extern "C" fn run_step(
     delta: &mut [f64],
     lambda: &mut [f64],
 ) -> Stepped
-    ensures { λ r. ⌜ stepWritten r (now (delta .exit)) (now (lambda .exit)) ≡ stepWrittenOf (stepReply n m s (now (rows .entry)) (now (b .entry)) (now (moving .entry)) mu (now (delta .entry)) (now (lambda .entry))) ⌝ }
+    ensures { λ r. ⌜ stepWritten r (now (delta .exit)) (now (lambda .exit)) ≡ stepWrittenOf (stepReply n m s
+        (now (rows .entry)) (now (b .entry)) (now (moving .entry)) mu (now (delta .entry)) (now (lambda .entry))) ⌝ }
 {
     stepped_of(run::step_at(n, m, s, rows, b, moving, mu, delta, lambda))
 }

@@ -1,10 +1,14 @@
 // What a call answered, held to what the list says next. An answer there is `q` with the question's number,
 // kind and standing, or `f` with the stop, its rejection, its independent rows and constraints, iterations,
 // turn-downs and standing, each with the words of the point; or `x` with the number of the refusal.
-use crate::tokens::Token;
-use crate::tokens::is_number;
-use crate::tokens::next_token;
-use float_bits::bits_of;
+use replay_text::comparison::Comparison;
+use replay_text::comparison::both;
+use replay_text::comparison::equal_if;
+use replay_text::comparison::malformed;
+use replay_text::comparison::same_floats;
+use replay_text::comparison::same_numbers;
+use replay_text::tokens::Token;
+use replay_text::tokens::next_token;
 use run::Event;
 use run::Kind;
 use run::Rejection;
@@ -15,12 +19,6 @@ const QUESTION: u64 = 0x71;
 const FINISH: u64 = 0x66;
 
 const REFUSED: u64 = 0x78;
-
-// Whether the list says the same, and whether it is in order.
-pub struct Seen {
-    pub same: bool,
-    pub whole: bool,
-}
 
 // A stop by its number, with its fields.
 struct Ending {
@@ -102,93 +100,49 @@ fn line_of(a: Event) -> [u64; 8] {
     }
 }
 
-fn both(a: Seen, b: Seen) -> Seen {
-    Seen {
-        same: a.same && b.same,
-        whole: a.whole && b.whole,
-    }
-}
-
-// Reads a number, and says whether it is this one.
-fn is_next(number: u64) -> Seen {
-    let t = next_token();
-    Seen {
-        same: t.number == number,
-        whole: is_number(t),
-    }
-}
-
-// The i-th number behind the letter.
-fn number_at(line: &[u64; 8], i: usize) -> u64 {
-    if i < 7 {
-        return line[i + 1];
-    }
-    0
-}
-
-// Reads so many numbers, and says whether they are the line's.
-fn same_numbers(line: &[u64; 8], count: usize) -> Seen {
-    let mut seen = Seen {
-        same: true,
-        whole: true,
-    };
-    for i in 0..count {
-        seen = both(seen, is_next(number_at(line, i)));
-    }
-    seen
-}
-
-// The bits of the i-th number; those of a NaN outside the point.
-fn word_at(point: &[f64], i: usize) -> u64 {
-    if i < point.len() {
-        return bits_of(point[i]);
-    }
-    bits_of(0.0 / 0.0)
-}
-
-// Reads so many words, and says whether they are the point's.
-fn same_point(point: &[f64], numbers: usize) -> Seen {
-    let mut seen = Seen {
-        same: point.len() == numbers,
-        whole: true,
-    };
-    for i in 0..numbers {
-        seen = both(seen, is_next(word_at(point, i)));
-    }
-    seen
-}
-
 // Whether the letter is the answer's.
-fn same_letter(line: &[u64; 8], t: Token) -> Seen {
-    Seen {
+fn same_letter(line: &[u64; 8], t: Token) -> Comparison {
+    Comparison {
         same: t.text == line[0],
-        whole: t.length == 1,
+        well_formed: t.length == 1,
     }
+}
+
+// The first numbers, or all there are.
+pub fn first_of(xs: &[f64], count: usize) -> &[f64] {
+    if count > xs.len() {
+        return xs;
+    }
+    &xs[..count]
+}
+
+// Reads the words of a point, which must have so many numbers.
+fn same_point(point: &[f64], numbers: usize) -> Comparison {
+    let c = same_floats(first_of(point, numbers));
+    both(c, equal_if(point.len() == numbers))
 }
 
 // The numbers behind the letter that was read, and then the words of the point.
-fn same_rest(letter: u64, line: &[u64; 8], point: &[f64], numbers: usize) -> Seen {
+fn same_rest(letter: u64, line: &[u64; 8], point: &[f64], numbers: usize) -> Comparison {
+    let words = &line[..];
     match letter {
         QUESTION => {
-            let seen = same_numbers(line, 3);
-            both(seen, same_point(point, numbers))
+            let c = same_numbers(&words[1..4]);
+            both(c, same_point(point, numbers))
         }
         FINISH => {
-            let seen = same_numbers(line, 7);
-            both(seen, same_point(point, numbers))
+            let c = same_numbers(&words[1..8]);
+            both(c, same_point(point, numbers))
         }
-        REFUSED => same_numbers(line, 1),
-        _ => Seen {
-            same: false,
-            whole: false,
-        },
+        REFUSED => same_numbers(&words[1..2]),
+        _ => malformed(),
     }
 }
 
 // Reads the answer that the list has next, with so many words for a point.
-pub fn same_answer(answer: Event, point: &[f64], numbers: usize) -> Seen {
+pub fn same_answer(answer: Event, point: &[f64], numbers: usize) -> Comparison {
     let line = line_of(answer);
     let t = next_token();
-    let seen = same_letter(&line, t);
-    both(seen, same_rest(t.text, &line, point, numbers))
+    let c = same_letter(&line, t);
+    both(c, same_rest(t.text, &line, point, numbers))
 }

@@ -1,15 +1,21 @@
 // A run of the list: `run` with its counts, limit, longest step and start, and the answer to its beginning;
 // then for each reply `r` with the numbers of its rows, or `n`, and the answer to it; then `end`.
-use crate::answer::Seen;
+use crate::answer::first_of;
 use crate::answer::same_answer;
-use crate::tokens::Token;
-use crate::tokens::is_number;
-use crate::tokens::next_token;
-use crate::tokens::read_floats;
-use crate::tokens::read_numbers;
 use float_bits::float_of;
 use interval::Scalar;
 use libc::STDOUT_FILENO;
+use replay_text::comparison::Comparison;
+use replay_text::tally::Tally;
+use replay_text::tally::malformed_after;
+use replay_text::tally::no_cases;
+use replay_text::tally::one_more;
+use replay_text::tally::with_case;
+use replay_text::tokens::Token;
+use replay_text::tokens::is_number;
+use replay_text::tokens::next_token;
+use replay_text::tokens::read_floats;
+use replay_text::tokens::read_numbers;
 use run::Returned;
 use run::State;
 
@@ -24,20 +30,17 @@ const NONE: u64 = 0x6E;
 // More are not read: their numbers show it.
 const MOST: u64 = 100000000;
 
-// How many runs and calls there were, how many calls differ, the call's number in its run, whether the list is
-// in order so far, and whether the run goes on.
-pub struct Tally {
+// The tally of the calls, how many runs there were, the call's number in its run, and whether the run goes on.
+pub struct Counts {
+    pub calls: Tally,
     pub runs: u64,
-    pub calls: u64,
-    pub differ: u64,
     pub call: u64,
-    pub whole: bool,
     pub more: bool,
 }
 
 // A run as far as it was replayed.
 struct Progress {
-    tally: Tally,
+    counts: Counts,
     out: Returned,
 }
 
@@ -58,75 +61,47 @@ enum Reply {
     Malformed,
 }
 
-fn print_difference(run: u64, call: u64) {
-    io::write_all(STDOUT_FILENO, b"run ");
-    io::print_decimal(STDOUT_FILENO, run);
-    io::write_all(STDOUT_FILENO, b", call ");
-    io::print_decimal(STDOUT_FILENO, call);
-    io::write_all(STDOUT_FILENO, b" differs\n");
-}
-
-pub fn nothing_yet() -> Tally {
-    Tally {
+pub fn nothing_yet() -> Counts {
+    Counts {
+        calls: no_cases(),
         runs: 0,
-        calls: 0,
-        differ: 0,
         call: 0,
-        whole: true,
         more: true,
     }
 }
 
-// One more, but for a count that no list reaches.
-fn one_more(count: u64) -> u64 {
-    if count < MOST {
-        return count + 1;
-    }
-    count
-}
-
-fn malformed(t: Tally) -> Tally {
-    Tally {
-        whole: false,
+fn malformed(k: Counts) -> Counts {
+    Counts {
+        calls: malformed_after(k.calls),
         more: false,
-        ..t
+        ..k
     }
 }
 
-// A call, with how its answer compares.
-fn counted(t: Tally, seen: Seen) -> Tally {
-    if !seen.whole {
-        return malformed(t);
+// The number of a run in which a call differs, before that of the call.
+fn print_run(run: u64, c: Comparison) {
+    if c.well_formed && !c.same {
+        io::write_all(STDOUT_FILENO, b"run ");
+        io::print_decimal(STDOUT_FILENO, run);
     }
-    if seen.same {
-        return Tally {
-            calls: one_more(t.calls),
-            call: one_more(t.call),
-            ..t
-        };
-    }
-    print_difference(t.runs, t.call);
-    Tally {
-        calls: one_more(t.calls),
-        call: one_more(t.call),
-        differ: one_more(t.differ),
-        ..t
+}
+
+// One call more, with how its answer compares.
+fn counted(k: Counts, c: Comparison) -> Counts {
+    print_run(k.runs, c);
+    Counts {
+        calls: with_case(k.calls, b", call ", k.call, c),
+        call: one_more(k.call),
+        more: c.well_formed,
+        ..k
     }
 }
 
 // The answer to a call, where points have so many numbers.
-fn compared(t: Tally, out: Returned, area: &[f64], numbers: usize) -> Tally {
+fn compared(k: Counts, out: Returned, area: &[f64], numbers: usize) -> Counts {
     let answer = out.event;
     let state = out.state;
-    counted(t, same_answer(answer, run::point(state, area), numbers))
-}
-
-// The first numbers, or all there are.
-fn first_of(xs: &[f64], count: usize) -> &[f64] {
-    if count > xs.len() {
-        return xs;
-    }
-    &xs[..count]
+    counted(k, same_answer(answer, run::point(state, area), numbers))
 }
 
 fn read_cut(count: usize, rows: &mut [f64]) -> Reply {
@@ -159,12 +134,12 @@ fn read_reply(rows: &mut [f64]) -> Reply {
 }
 
 // The run goes on with a reply.
-fn after(t: Tally, reply: Reply) -> Tally {
+fn after(k: Counts, reply: Reply) -> Counts {
     match reply {
-        Reply::Rows(_) => t,
-        Reply::NoRows => t,
-        Reply::End => Tally { more: false, ..t },
-        Reply::Malformed => malformed(t),
+        Reply::Rows(_) => k,
+        Reply::NoRows => k,
+        Reply::End => Counts { more: false, ..k },
+        Reply::Malformed => malformed(k),
     }
 }
 
@@ -179,55 +154,61 @@ fn made(reply: Reply, st: State, rows: &[f64], area: &mut [f64]) -> Returned {
 
 // The next reply of a run, or its end.
 fn replay_reply(p: Progress, numbers: usize, rows: &mut [f64], area: &mut [f64]) -> Progress {
-    let before = p.tally;
+    let before = p.counts;
     let out = p.out;
     let state = out.state;
     let reply = read_reply(rows);
-    let t = after(before, reply);
-    if !t.more {
-        return Progress { tally: t, out };
+    let k = after(before, reply);
+    if !k.more {
+        return Progress { counts: k, out };
     }
     let next = made(reply, state, rows, area);
-    let tally = compared(t, next, area, numbers);
-    Progress { tally, out: next }
+    let counts = compared(k, next, area, numbers);
+    Progress { counts, out: next }
 }
 
 fn replay_replies(
-    before: Tally,
+    before: Counts,
     first: Returned,
     numbers: usize,
     rows: &mut [f64],
     area: &mut [f64],
-) -> Tally {
-    let tally = compared(before, first, area, numbers);
-    let mut p = Progress { tally, out: first };
+) -> Counts {
+    let counts = compared(before, first, area, numbers);
+    let mut p = Progress { counts, out: first };
     for _ in 0..MOST {
         p = replay_reply(p, numbers, rows, area);
-        let t = p.tally;
-        if !t.more {
-            return t;
+        let k = p.counts;
+        if !k.more {
+            return k;
         }
     }
-    p.tally
+    p.counts
 }
 
 // With a start of the run's length.
-fn replay_from(t: Tally, h: Head, start: &mut [f64], rows: &mut [f64], area: &mut [f64]) -> Tally {
+fn replay_from(
+    k: Counts,
+    h: Head,
+    start: &mut [f64],
+    rows: &mut [f64],
+    area: &mut [f64],
+) -> Counts {
     if !read_floats(start) {
-        return malformed(t);
+        return malformed(k);
     }
     let first = run::begin(h.n, h.m, h.s, h.limit, start, h.max_step, area);
-    replay_replies(t, first, start.len(), rows, area)
+    replay_replies(k, first, start.len(), rows, area)
 }
 
 // With a start that must be long enough.
-fn replay_cut(t: Tally, h: Head, start: &mut [f64], rows: &mut [f64], area: &mut [f64]) -> Tally {
+fn replay_cut(k: Counts, h: Head, start: &mut [f64], rows: &mut [f64], area: &mut [f64]) -> Counts {
     let n = h.n;
     if n > start.len() / 2 {
-        return malformed(t);
+        return malformed(k);
     }
     let numbers = 2 * n;
-    replay_from(t, h, &mut start[..numbers], rows, area)
+    replay_from(k, h, &mut start[..numbers], rows, area)
 }
 
 fn head_of(w: &[u64; 6]) -> Head {
@@ -243,32 +224,32 @@ fn head_of(w: &[u64; 6]) -> Head {
     }
 }
 
-fn replay_run(t: Tally, start: &mut [f64], rows: &mut [f64], area: &mut [f64]) -> Tally {
+fn replay_run(k: Counts, start: &mut [f64], rows: &mut [f64], area: &mut [f64]) -> Counts {
     let mut w = [0u64; 6];
     if !read_numbers(&mut w) {
-        return malformed(t);
+        return malformed(k);
     }
-    replay_cut(t, head_of(&w), start, rows, area)
+    replay_cut(k, head_of(&w), start, rows, area)
 }
 
 // The run that starts with a token.
 pub fn replay(
-    t: Tally,
+    k: Counts,
     first: Token,
     start: &mut [f64],
     rows: &mut [f64],
     area: &mut [f64],
-) -> Tally {
+) -> Counts {
     if first.text != RUN {
-        return malformed(t);
+        return malformed(k);
     }
-    let begun = Tally {
+    let begun = Counts {
         call: 0,
         more: true,
-        ..t
+        ..k
     };
     let ended = replay_run(begun, start, rows, area);
-    Tally {
+    Counts {
         runs: one_more(ended.runs),
         ..ended
     }

@@ -1,6 +1,6 @@
--- What the exports' definitions say of a mirror whose numbers fit and of one whose numbers do not, the point as a part
--- of the area, that a refusal by 1 to 4 hands back what was handed in, and that the next call over a mirror is the next
--- call over its state. The last two rest on run's law that such a refusal leaves state and area as they were.
+-- What the exports' definitions say of a C state whose numbers fit and of one whose numbers do not, the point as a part
+-- of the area, that a refusal by 1 to 4 returns run and area as they were, and that the next call over a C state is the
+-- next call over its state. The last two rest on run's law that such a refusal leaves state and area as they were.
 use Prim.Native.Nat.{ℕ, _≤_}
 use mathlib.Core.Bool.{Bool, true, false, _&&_}
 use mathlib.Core.List.{List, []}
@@ -19,21 +19,22 @@ use Rattle.run.specs.Cleared.{Replied}
 use Rattle.run.proofs.Booleans.{never}
 use Rattle.run.proofs.CheckLaws.{both, bounds}
 use Rattle.run.proofs.Cleared.{reply-leaves, reply-none-leaves}
-use Rattle.yadzvego.specs.Mirror.{mirrorOf, numbersFit, stateAt, stateOf}
-use Rattle.yadzvego.specs.Answers.{numbersOf}
-use Rattle.yadzvego.specs.Exports.{Handed, handed, handedBy, handedAfter, byCheck, refusedWith, calledWith}
+use Rattle.yadzvego.specs.CState.{cStateOf, numbersFit, stateAt, stateOf}
+use Rattle.yadzvego.specs.Events.{numbersOf}
+use Rattle.yadzvego.specs.Exports.{AfterExport, afterExport, afterExportOf, afterExportOver, byCheck, refusedWith}
+use Rattle.yadzvego.specs.Exports.{calledWith}
 use Rattle.yadzvego.specs.Exports.{replyExport, replyNoneExport, hasPoint, pointPlace, pointLength, pointPart}
-use Rattle.yadzvego.specs.declared.mirror.Run.{Run}
-use Rattle.yadzvego.proofs.MirrorLaws.{there-and-back}
+use Rattle.yadzvego.specs.declared.c_state.Run.{Run}
+use Rattle.yadzvego.proofs.CStateLaws.{there-and-back}
 
 -- ---- a call
 
 module _ (r : Run) (a : List Float) (call : State → AfterCall) where
-  pub called : numbersFit r ≡ true → calledWith r a call (stateOf r) ≡ handedAfter r (call (stateAt r))
+  pub called : numbersFit r ≡ true → calledWith r a call (stateOf r) ≡ afterExportOver r (call (stateAt r))
   unfolding stateOf
   called e = rw e
 
-  pub not-called : numbersFit r ≡ false → calledWith r a call (stateOf r) ≡ handed (refusedWith r 4) a
+  pub not-called : numbersFit r ≡ false → calledWith r a call (stateOf r) ≡ afterExport (refusedWith r 4) a
   unfolding stateOf
   not-called e = rw e
 
@@ -45,7 +46,8 @@ few-variables r area e = bounds (stateAt r) (both (valid (stateAt r)) _ (both (n
 
 -- the part of the area at that place and of that length is the one that `point` gives
 module _ (r : Run) (a : List Float) where
-  part : (f g : Bool) → numbersFit r ≡ f → (valid (stateAt r) && eqb (length a) AREA) ≡ g → take (pointLength r (length a)) (drop (pointPlace r (length a)) a) ≡ pointPart r a
+  part : (f g : Bool) → numbersFit r ≡ f → (valid (stateAt r) && eqb (length a) AREA) ≡ g
+      → take (pointLength r (length a)) (drop (pointPlace r (length a)) a) ≡ pointPart r a
   unfolding pointPlace pointLength hasPoint stateOf stateAt pointOf
   part false g e h = rw e
   part true false e h = rw (e, h)
@@ -54,10 +56,10 @@ module _ (r : Run) (a : List Float) where
   pub point-part : take (pointLength r (length a)) (drop (pointPlace r (length a)) a) ≡ pointPart r a
   point-part = part _ _ refl refl
 
--- ---- a refusal by 1 to 4 hands back the mirror and the area as they were
+-- ---- a refusal by 1 to 4 returns the C state and the area as they were
 
-abbrev AsHanded : Run → List Float → Handed → Type 0
-AsHanded r a h = byCheck (h .reply .event) ≡ true → (h .reply .run ≡ r) × (h .area ≡ a)
+abbrev AsItWas : Run → List Float → AfterExport → Type 0
+AsItWas r a h = byCheck (h .returned .event) ≡ true → (h .returned .run ≡ r) × (h .area ≡ a)
 
 -- it is the one of the call beneath
 refused-beneath : (x : Event) → byCheck (numbersOf x) ≡ true → refusedByCheck x ≡ true
@@ -66,37 +68,39 @@ refused-beneath (event.Finish s i t n) e = never e
 refused-beneath (event.Refused k) e = e
 
 module _ (r : Run) (a : List Float) (call : State → AfterCall) (leaves : (st : State) → Replied st a (call st)) where
-  as-handed : (x : Res State) → AsHanded r a (calledWith r a call x)
-  as-handed (refused k) e = (refl, refl)
-  as-handed (ok st) e = let h = refused-beneath (call st .event) e in (rw h, leaves st .unchanged h .1)
+  as-it-was : (x : Res State) → AsItWas r a (calledWith r a call x)
+  as-it-was (refused k) e = (refl, refl)
+  as-it-was (ok st) e = let h = refused-beneath (call st .event) e in (rw h, leaves st .unchanged h .1)
 
 module _ (r : Run) (a : List Float) where
-  pub reply-refused : (rows : List Float) → AsHanded r a (replyExport r a rows)
+  pub reply-refused : (rows : List Float) → AsItWas r a (replyExport r a rows)
   unfolding replyExport
-  reply-refused rows = as-handed r a (λ st. replyOf st a rows) (λ st. reply-leaves st a rows) (stateOf r)
+  reply-refused rows = as-it-was r a (λ st. replyOf st a rows) (λ st. reply-leaves st a rows) (stateOf r)
 
-  pub reply-none-refused : AsHanded r a (replyNoneExport r a)
+  pub reply-none-refused : AsItWas r a (replyNoneExport r a)
   unfolding replyNoneExport
-  reply-none-refused = as-handed r a (λ st. replyNoneOf st a) (λ st. reply-none-leaves st a) (stateOf r)
+  reply-none-refused = as-it-was r a (λ st. replyNoneOf st a) (λ st. reply-none-leaves st a) (stateOf r)
 
--- ---- a mirror that a call left is the state that the call beneath left
+-- ---- a C state that a call left is the state that the call beneath left
 
--- over the mirror of a state, what is handed back is the mirror of the state that is left
-after-mirror : (st : State) (a : List Float) (l : AfterCall) → Replied st a l → handedAfter (mirrorOf st) l ≡ handedBy l
-after-mirror st a l p = by (refusedByCheck (l .event)) refl
+-- over the C state of a state, what is returned is the C state of the state that is left
+after-c-state : (st : State) (a : List Float) (l : AfterCall) → Replied st a l
+    → afterExportOver (cStateOf st) l ≡ afterExportOf l
+after-c-state st a l p = by (refusedByCheck (l .event)) refl
   where
-    by : (b : Bool) → refusedByCheck (l .event) ≡ b → handedAfter (mirrorOf st) l ≡ handedBy l
+    by : (b : Bool) → refusedByCheck (l .event) ≡ b → afterExportOver (cStateOf st) l ≡ afterExportOf l
     by true e = rw (e, p .unchanged e .0)
     by false e = rw e
 
 module _ (st : State) (a : List Float) where
-  pub reply-again : (rows : List Float) → replyExport (mirrorOf st) a rows ≡ handedBy (replyOf st a rows)
+  pub reply-again : (rows : List Float) → replyExport (cStateOf st) a rows ≡ afterExportOf (replyOf st a rows)
   unfolding replyExport
-  reply-again rows = rw (there-and-back st) (after-mirror st a (replyOf st a rows) (reply-leaves st a rows))
+  reply-again rows = rw (there-and-back st) (after-c-state st a (replyOf st a rows) (reply-leaves st a rows))
 
-  pub reply-none-again : replyNoneExport (mirrorOf st) a ≡ handedBy (replyNoneOf st a)
+  pub reply-none-again : replyNoneExport (cStateOf st) a ≡ afterExportOf (replyNoneOf st a)
   unfolding replyNoneExport
-  reply-none-again = rw (there-and-back st) (after-mirror st a (replyNoneOf st a) (reply-none-leaves st a))
+  reply-none-again = rw (there-and-back st) (after-c-state st a (replyNoneOf st a) (reply-none-leaves st a))
 
-  pub point-again : take (pointLength (mirrorOf st) (length a)) (drop (pointPlace (mirrorOf st) (length a)) a) ≡ pointOf st a
-  point-again = point-part (mirrorOf st) a ∙ rw (there-and-back st)
+  pub point-again : take (pointLength (cStateOf st) (length a)) (drop (pointPlace (cStateOf st) (length a)) a)
+      ≡ pointOf st a
+  point-again = point-part (cStateOf st) a ∙ rw (there-and-back st)

@@ -1,2 +1,2 @@
-pub mod MirrorLaws
+pub mod CStateLaws
 pub mod ExportLaws

@@ -1,6 +1,6 @@
--- The calls of a run as C and Rust make them: each is the call of run beneath it, over the state that the mirror holds
--- (document 01, "A run by question and reply"). A refusal by 1 to 4 hands back the mirror that was handed in, not the
--- mirror of the state read from it, which has no length where no step was taken. A mirror with a number that is none of
+-- The calls of a run as C and Rust make them: each is the call of run beneath it, over the state that the C state holds
+-- (document 01, "A run by question and reply"). A refusal by 1 to 4 returns the C state that it was given, not the C
+-- state of the state read from it, which has no length where no step was taken. A C state with a number that is none of
 -- an enum's cases is refused by number 4; it has no point.
 use Prim.Native.Nat.{ℕ, _*_}
 use mathlib.Core.Bool.{Bool, _&&_}
@@ -17,60 +17,60 @@ use Rattle.run.specs.declared.state.Event.{Event}
 use Rattle.run.specs.declared.state.Returned.{Returned}
 use Rattle.run.specs.declared.state.Sizes.{Sizes}
 use Rattle.run.specs.declared.state.State.{State}
-use Rattle.yadzvego.specs.Mirror.{mirrorOf, numbersFit, stateAt, stateOf}
-use Rattle.yadzvego.specs.Answers.{asked, numbersOf}
-use Rattle.yadzvego.specs.declared.answers.AnswerNumbers.{AnswerNumbers}
-use Rattle.yadzvego.specs.declared.answers.Reply.{Reply}
-use Rattle.yadzvego.specs.declared.mirror.Run.{Run}
+use Rattle.yadzvego.specs.CState.{cStateOf, numbersFit, stateAt, stateOf}
+use Rattle.yadzvego.specs.Events.{asked, numbersOf}
+use Rattle.yadzvego.specs.declared.events.EventNumbers.{EventNumbers}
+use Rattle.yadzvego.specs.declared.events.CReturned.{CReturned}
+use Rattle.yadzvego.specs.declared.c_state.Run.{Run}
 
 -- what a call returns, with the area after it
-pub record Handed : Type 0 where
-  pub reply : Reply
+pub record AfterExport : Type 0 where
+  pub returned : CReturned
   pub area : List Float
 
-abbrev pub handed : Reply → List Float → Handed
-handed r a = record { reply = r; area = a }
+abbrev pub afterExport : CReturned → List Float → AfterExport
+afterExport r a = record { returned = r; area = a }
 
-abbrev pub replyWith : State → Event → Reply
-replyWith st a = record { run = mirrorOf st; event = numbersOf a }
+abbrev pub returnedWith : State → Event → CReturned
+returnedWith st a = record { run = cStateOf st; event = numbersOf a }
 
-abbrev pub replyFrom : Returned → Reply
-replyFrom o = replyWith (o .state) (o .event)
+abbrev pub returnedFrom : Returned → CReturned
+returnedFrom o = returnedWith (o .state) (o .event)
 
 -- what a call of run leaves
-abbrev pub handedBy : AfterCall → Handed
-handedBy l = handed (replyWith (l .state) (l .event)) (l .area)
+abbrev pub afterExportOf : AfterCall → AfterExport
+afterExportOf l = afterExport (returnedWith (l .state) (l .event)) (l .area)
 
--- what a call over the mirror r leaves
+-- what a call over the C state r leaves
 abbrev pub runAfter : Run → State → Event → Run
-runAfter r st a = pick (refusedByCheck a) r (mirrorOf st)
+runAfter r st a = pick (refusedByCheck a) r (cStateOf st)
 
-abbrev pub replyAfter : Run → State → Event → Reply
-replyAfter r st a = record { run = runAfter r st a; event = numbersOf a }
+abbrev pub returnedAfter : Run → State → Event → CReturned
+returnedAfter r st a = record { run = runAfter r st a; event = numbersOf a }
 
-abbrev pub handedAfter : Run → AfterCall → Handed
-handedAfter r l = handed (replyAfter r (l .state) (l .event)) (l .area)
+abbrev pub afterExportOver : Run → AfterCall → AfterExport
+afterExportOver r l = afterExport (returnedAfter r (l .state) (l .event)) (l .area)
 
 -- a refusal by 1 to 4, as numbers
-abbrev pub byCheck : AnswerNumbers → Bool
+abbrev pub byCheck : EventNumbers → Bool
 byCheck a = eqb (a .which) 2 && leb (a .number) 4
 
 -- refused, with all as it was
-abbrev pub refusedWith : Run → ℕ → Reply
+abbrev pub refusedWith : Run → ℕ → CReturned
 refusedWith r k = record { run = r; event = asked 2 0 k 0 }
 
--- a call over the state, if the mirror holds one
-abbrev pub calledWith : Run → List Float → (State → AfterCall) → Res State → Handed
-calledWith r a call (ok st) = handedAfter r (call st)
-calledWith r a call (refused k) = handed (refusedWith r k) a
+-- a call over the state, if the C state holds one
+abbrev pub calledWith : Run → List Float → (State → AfterCall) → Res State → AfterExport
+calledWith r a call (ok st) = afterExportOver r (call st)
+calledWith r a call (refused k) = afterExport (refusedWith r k) a
 
-unfoldable pub beginExport : Sizes → List Float → Scalar → List Float → Handed
-beginExport z start max a = handedBy (beginOf z start max a)
+unfoldable pub beginExport : Sizes → List Float → Scalar → List Float → AfterExport
+beginExport z start max a = afterExportOf (beginOf z start max a)
 
-unfoldable pub replyExport : Run → List Float → List Float → Handed
+unfoldable pub replyExport : Run → List Float → List Float → AfterExport
 replyExport r a rows = calledWith r a (λ st. replyOf st a rows) (stateOf r)
 
-unfoldable pub replyNoneExport : Run → List Float → Handed
+unfoldable pub replyNoneExport : Run → List Float → AfterExport
 replyNoneExport r a = calledWith r a (λ st. replyNoneOf st a) (stateOf r)
 
 -- ---- the point, as a place in an area of that length, and a count of numbers

@@ -1,5 +1,5 @@
-pub mod Mirror
-pub mod Answers
+pub mod CState
+pub mod Events
 pub mod Exports
-pub mod ScalarAnswer
+pub mod ScalarResult
 pub mod Written

@@ -1,22 +1,24 @@
-// The calls of a run for C and Rust, each by name. A slice is passed as its pointer and count. Every function takes every number and every length, and equals the definition of the call beneath it.
+// The calls of a run for C and Rust, each by name. A slice is passed as its pointer and count. Every function takes
+// every number and every length, and equals the definition of the call beneath it.
 ghost use mathlib.Core.Path.{_≡_};
 ghost use Rattle.run.specs.Calls.{pointAt};
-ghost use Rattle.yadzvego.specs.Exports.{handed, beginExport, replyExport, replyNoneExport, hasPoint, pointPlace, pointLength};
+ghost use Rattle.yadzvego.specs.Exports.{afterExport, beginExport, replyExport, replyNoneExport, hasPoint};
+ghost use Rattle.yadzvego.specs.Exports.{pointPlace, pointLength};
 
-mod answers;
+mod c_state;
+mod events;
 pub mod lists;
-mod mirror;
 pub mod scalars;
 
-use crate::answers::altered;
-use crate::answers::reply_after;
-use crate::answers::reply_of;
-use crate::mirror::numbers_fit;
-use crate::mirror::state_at;
-pub use answers::AnswerNumbers;
-pub use answers::Reply;
+use crate::c_state::numbers_fit;
+use crate::c_state::state_at;
+use crate::events::altered;
+use crate::events::returned_after;
+use crate::events::returned_of;
+pub use c_state::Run;
+pub use events::CReturned;
+pub use events::EventNumbers;
 use interval::Scalar;
-pub use mirror::Run;
 use run::Phase;
 
 // Begins a run: its first question asks for the rows of `start`.
@@ -29,32 +31,33 @@ pub extern "C" fn yadzvego_begin(
     start: &[f64],
     max_step: Scalar,
     area: &mut [f64],
-) -> Reply
-    ensures { λ r. ⌜ handed r (now (area .exit)) ≡ beginExport (record { n = n; m = m; s = s; limit = limit }) (now (start .entry)) «max_step» (now (area .entry)) ⌝ }
+) -> CReturned
+    ensures { λ r. ⌜ afterExport r (now (area .exit)) ≡ beginExport (record { n = n; m = m; s = s; limit = limit })
+        (now (start .entry)) «max_step» (now (area .entry)) ⌝ }
 {
-    reply_of(run::begin(n, m, s, limit, start, max_step, area))
+    returned_of(run::begin(n, m, s, limit, start, max_step, area))
 }
 
 // Answers the open question with rows.
 #[no_mangle]
-pub extern "C" fn yadzvego_reply(run: Run, area: &mut [f64], rows: &[f64]) -> Reply
-    ensures { λ r. ⌜ handed r (now (area .exit)) ≡ replyExport run (now (area .entry)) (now (rows .entry)) ⌝ }
+pub extern "C" fn yadzvego_reply(run: Run, area: &mut [f64], rows: &[f64]) -> CReturned
+    ensures { λ r. ⌜ afterExport r (now (area .exit)) ≡ replyExport run (now (area .entry)) (now (rows .entry)) ⌝ }
 {
     if !numbers_fit(run) {
         return altered(run);
     }
-    reply_after(run, run::reply(state_at(run), area, rows))
+    returned_after(run, run::reply(state_at(run), area, rows))
 }
 
 // Answers the open question with none: the point cannot be evaluated.
 #[no_mangle]
-pub extern "C" fn yadzvego_reply_none(run: Run, area: &mut [f64]) -> Reply
-    ensures { λ r. ⌜ handed r (now (area .exit)) ≡ replyNoneExport run (now (area .entry)) ⌝ }
+pub extern "C" fn yadzvego_reply_none(run: Run, area: &mut [f64]) -> CReturned
+    ensures { λ r. ⌜ afterExport r (now (area .exit)) ≡ replyNoneExport run (now (area .entry)) ⌝ }
 {
     if !numbers_fit(run) {
         return altered(run);
     }
-    reply_after(run, run::reply_none(state_at(run), area))
+    returned_after(run, run::reply_none(state_at(run), area))
 }
 
 fn phase_place(p: Phase) -> usize

@@ -1,6 +1,6 @@
 //! `minimize` with the names and shapes of geop's module of this name, over the calls of the archive.
 
-use crate::calls::{self, AREA, Answer, Reply, Run, begin, point};
+use crate::calls::{self, AREA, Event, Returned, Run, begin, point};
 use crate::geop_error::{GeopError, GeopResult};
 use crate::scalars::Scalar;
 
@@ -104,7 +104,7 @@ fn scalars(ends: &[f64]) -> Vec<Scalar> {
 }
 
 /// Answers the open question with rows that have the run's counts, or with none.
-fn reply(run: Run, area: &mut [f64], evaluation: Option<Evaluation>) -> GeopResult<Reply> {
+fn reply(run: Run, area: &mut [f64], evaluation: Option<Evaluation>) -> GeopResult<Returned> {
     let Some(e) = evaluation else {
         return Ok(calls::reply_none(run, area));
     };
@@ -115,8 +115,8 @@ fn reply(run: Run, area: &mut [f64], evaluation: Option<Evaluation>) -> GeopResu
     Ok(calls::reply(run, area, &rows))
 }
 
-/// Minimizes the sum of squares among the points where the constraints vanish, from `x0`. Every evaluation has as many rows as that
-/// of the start; a refusal of the archive is an error.
+/// Minimizes the sum of squares among the points where the constraints vanish, from `x0`. Every evaluation has as many
+/// rows as that of the start; a refusal of the archive is an error.
 pub async fn minimize(
     _space: &Euclidean,
     evaluate: impl AsyncFn(&Vec<Scalar>) -> Option<Evaluation>,
@@ -131,10 +131,10 @@ pub async fn minimize(
     let mut area = vec![0.0; AREA];
     let mut now = begin(n, m, s, limit, &start, options.max_step, &mut area);
     loop {
-        let evaluation = match now.answer {
-            Answer::Question { number: 0, .. } => at_start.take(),
-            Answer::Question { .. } => evaluate(&scalars(point(now.run, &area))).await,
-            Answer::Finish {
+        let evaluation = match now.event {
+            Event::Question { number: 0, .. } => at_start.take(),
+            Event::Question { .. } => evaluate(&scalars(point(now.run, &area))).await,
+            Event::Finish {
                 stop,
                 iterations,
                 turned_down,
@@ -147,7 +147,7 @@ pub async fn minimize(
                     turned_down,
                 });
             }
-            Answer::Refused(why) => return Err(why),
+            Event::Refused(why) => return Err(why),
         };
         now = reply(now.run, &mut area, evaluation)?;
     }

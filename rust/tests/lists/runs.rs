@@ -1,12 +1,12 @@
-//! The fixed list of runs that crates/run_replay replays: `run n m s limit`, the words of the longest step and of the start, and the
-//! answer to the beginning; then for each reply a line, `r count words` or `n`, and its answer; then `end`. An answer is
-//! `q number kind standing point`, `f stop rejected independent constraints iterations turned standing point` or `x number`.
-//! Numbers are hexadecimal, words have 16 digits.
+//! The fixed list of runs that crates/run_replay replays: `run n m s limit`, the words of the longest step and of the
+//! start, and the answer to the beginning; then for each reply a line, `r count words` or `n`, and its answer; then
+//! `end`. An answer is `q number kind standing point`, `f stop rejected independent constraints iterations turned
+//! standing point` or `x number`. Numbers are hexadecimal, words have 16 digits.
 
 use crate::{file, number};
 use yadzvego::scalars::Scalar;
 use yadzvego::solvers::least_squares::{Rejection, Stop};
-use yadzvego::{Answer, Kind};
+use yadzvego::{Event, Kind};
 
 pub type Rows = Option<Vec<f64>>;
 
@@ -98,9 +98,9 @@ pub fn ending(stop: Stop, iterations: usize, turned_down: usize) -> String {
 }
 
 /// The list's line of an answer.
-pub fn line(answer: Answer, point: &[f64]) -> String {
-    match answer {
-        Answer::Question {
+pub fn line(event: Event, point: &[f64]) -> String {
+    match event {
+        Event::Question {
             number,
             kind,
             standing,
@@ -112,7 +112,7 @@ pub fn line(answer: Answer, point: &[f64]) -> String {
             };
             format!("q {number:X} {kind} {standing:X}{}", words(point))
         }
-        Answer::Finish {
+        Event::Finish {
             stop,
             iterations,
             turned_down,
@@ -121,6 +121,6 @@ pub fn line(answer: Answer, point: &[f64]) -> String {
             let ending = ending(stop, iterations, turned_down);
             format!("f {ending} {standing:X}{}", words(point))
         }
-        Answer::Refused(why) => format!("x {}", why.number()),
+        Event::Refused(why) => format!("x {}", why.number()),
     }
 }

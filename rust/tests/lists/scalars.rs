@@ -1,5 +1,5 @@
-//! The methods of `Scalar` on the fixed list that crates/interval_replay replays: a function's code, two scalars or two whole numbers,
-//! and the number of the refusal with the value.
+//! The methods of `Scalar` on the fixed list that crates/interval_replay replays: a function's code, two scalars or two
+//! whole numbers, and the number of the refusal with the value.
 
 use crate::{file, number};
 use yadzvego::geop_error::GeopResult;

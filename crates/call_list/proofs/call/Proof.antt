@@ -11,7 +11,7 @@ same-length : tie.Need-same-length
 same-length c = search needs
 
 returns : tie.Need-returns
-returns c = called-same _ _ _ _ _ _ (c .before .before .before .before .if1 .taken) (c .before .before .event .ensures)
+returns c = called-same _ _ _ _ _ _ (c .before .before .before .before .if1 .taken) (c .before .before .answer .ensures)
 
 slice-relend-prefix-answer : tie.Need-slice-relend-prefix-answer
 slice-relend-prefix-answer c = search needs
@@ -26,7 +26,8 @@ same-length-2 : tie.Need-same-length-2
 same-length-2 c = search needs
 
 returns-2 : tie.Need-returns-2
-returns-2 c = called-none _ _ _ _ _ _ (c .before .before .before .before .if1 .left) (c .before .before .answer2 .kept .1 .0) (c .before .before .answer2 .ensures)
+returns-2 c = called-none _ _ _ _ _ _ (c .before .before .before .before .if1 .left)
+    (c .before .before .answer2 .kept .1 .0) (c .before .before .answer2 .ensures)
 
 pub call-spec : {M : Type 1} → statement M
 call-spec =

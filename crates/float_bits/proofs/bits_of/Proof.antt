@@ -16,7 +16,8 @@ number (fin s m e) a = tt
 
 no-number : (x : Float) → ne x x ≡ true → 9221120237041090560 ≡ toBits binary64 x
 unfolding toBits
-no-number x a = subst (λ (y : Float). 9221120237041090560 ≡ toBits binary64 y) (sym (differs-from-itself x (subst T (sym a) tt))) refl
+no-number x a = subst (λ (y : Float). 9221120237041090560 ≡ toBits binary64 y)
+    (sym (differs-from-itself x (subst T (sym a) tt))) refl
 
 returns : tie.Need-returns
 returns c = no-number _ (c .if1 .taken)

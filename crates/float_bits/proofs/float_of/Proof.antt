@@ -16,14 +16,16 @@ none (inf s) a = absurd (false≢true a)
 none (fin s m e) a = absurd (false≢true a)
 
 float-from-bits-result : tie.Need-float-from-bits-result
-float-from-bits-result c = subst (λ (z : Bool). T (not z)) (sym (nanBits-above binary64 _ ∙ le-ltb _ _ (c .if1 .taken))) tt
+float-from-bits-result c =
+    subst (λ (z : Bool). T (not z)) (sym (nanBits-above binary64 _ ∙ le-ltb _ _ (c .if1 .taken))) tt
 
 returns : tie.Need-returns
 returns c = search needs
 
 returns-2 : tie.Need-returns-2
 unfolding div ofBits
-returns-2 c = none _ (sym (nanBits-is binary64 (c .before .args .bits)) ∙ nanBits-above binary64 (c .before .args .bits) ∙ lt-ltb _ _ (c .if1 .left))
+returns-2 c = none _ (sym (nanBits-is binary64 (c .before .args .bits)) ∙ nanBits-above binary64 (c .before .args .bits)
+    ∙ lt-ltb _ _ (c .if1 .left))
 
 pub float-of-spec : {M : Type 1} → statement M
 float-of-spec = tie.close (tie.spec float-from-bits-result returns returns-2)

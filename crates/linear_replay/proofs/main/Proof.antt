@@ -1,35 +1,35 @@
--- `main` is safe and ends: it reads at most a million calls, and no more differ than were read.
+-- `main` is safe and ends: it reads at most a million calls.
 use Prim.Native.Nat.{_-_, _≤_}
 use borrow.Author.Needs.{needs}
 use Rattle.linear_replay.proofs.main.Statement.{statement}
 use Rattle.linear_replay.proofs.main.Tie as tie
 
 abbrev Inv-loop : tie.InvT-loop
-Inv-loop calls₀ differ₀ calls differ = (calls ≤ 1000000) × (differ ≤ calls)
+Inv-loop t₀ t3 t4 counter₀ t counter = counter ≤ 1000000
 
 abbrev μ-loop : tie.MeasureT-loop
-μ-loop calls₀ differ₀ calls differ = 1000000 - calls
+μ-loop t₀ t3 t4 counter₀ t counter = 1000000 - counter
+
+no-cases-requires : tie.Need-no-cases-requires Inv-loop μ-loop
+no-cases-requires c κs = search needs
 
 loop-holds : tie.Need-loop-holds Inv-loop μ-loop
 loop-holds c = search needs
 
-next-word-requires : tie.Need-next-word-requires Inv-loop μ-loop
-next-word-requires c κs = search needs
+next-token-requires : tie.Need-next-token-requires Inv-loop μ-loop
+next-token-requires c κs = search needs
 
-is-end-requires : tie.Need-is-end-requires Inv-loop μ-loop
-is-end-requires c κs = search needs
+slice-aggregate-with-next : tie.Need-slice-aggregate-with-next Inv-loop μ-loop
+slice-aggregate-with-next c = search needs
 
-add-calls : tie.Need-add-calls Inv-loop μ-loop
-add-calls c = search needs
+replay-requires : tie.Need-replay-requires Inv-loop μ-loop
+replay-requires c κs = search needs
 
-holds-requires : tie.Need-holds-requires Inv-loop μ-loop
-holds-requires c κs = search needs
+with-next-requires : tie.Need-with-next-requires Inv-loop μ-loop
+with-next-requires c κs = search needs
 
-add-differ : tie.Need-add-differ Inv-loop μ-loop
-add-differ c = search needs
-
-print-difference-requires : tie.Need-print-difference-requires Inv-loop μ-loop
-print-difference-requires c κs = search needs
+add-counter : tie.Need-add-counter Inv-loop μ-loop
+add-counter c = search needs
 
 loop-less : tie.Need-loop-less Inv-loop μ-loop
 loop-less c = search needs
@@ -37,14 +37,11 @@ loop-less c = search needs
 loop-again : tie.Need-loop-again Inv-loop μ-loop
 loop-again c = search needs
 
-loop-less-2 : tie.Need-loop-less-2 Inv-loop μ-loop
-loop-less-2 c = search needs
+slice-aggregate-print-tally : tie.Need-slice-aggregate-print-tally Inv-loop μ-loop
+slice-aggregate-print-tally c = search needs
 
-loop-again-2 : tie.Need-loop-again-2 Inv-loop μ-loop
-loop-again-2 c = search needs
-
-print-summary-requires : tie.Need-print-summary-requires Inv-loop μ-loop
-print-summary-requires c κs = search needs
+print-tally-requires : tie.Need-print-tally-requires Inv-loop μ-loop
+print-tally-requires c κs = search needs
 
 returns : tie.Need-returns Inv-loop μ-loop
 returns c = search needs
@@ -55,16 +52,15 @@ main-spec =
     (tie.spec
     Inv-loop
     μ-loop
+    no-cases-requires
     loop-holds
-    next-word-requires
-    is-end-requires
-    add-calls
-    holds-requires
-    add-differ
-    print-difference-requires
+    next-token-requires
+    slice-aggregate-with-next
+    replay-requires
+    with-next-requires
+    add-counter
     loop-less
     loop-again
-    loop-less-2
-    loop-again-2
-    print-summary-requires
+    slice-aggregate-print-tally
+    print-tally-requires
     returns)

@@ -25,4 +25,5 @@ returns-3 : tie.Need-returns-3
 returns-3 c = rw (c .before .before .e .given .1, c .number-of .ensures)
 
 pub expected-of-spec : {M : Type 1} → statement M
-expected-of-spec = tie.close (tie.spec enum-told enum-told-2 enum-known-e number-of-requires returns returns-2 returns-3)
+expected-of-spec =
+    tie.close (tie.spec enum-told enum-told-2 enum-known-e number-of-requires returns returns-2 returns-3)

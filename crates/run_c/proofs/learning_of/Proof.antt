@@ -25,4 +25,5 @@ returns-3 : tie.Need-returns-3
 returns-3 c = rw (c .before .before .l .given .1, c .number-of .ensures)
 
 pub learning-of-spec : {M : Type 1} → statement M
-learning-of-spec = tie.close (tie.spec enum-told enum-told-2 enum-known-l number-of-requires returns returns-2 returns-3)
+learning-of-spec =
+    tie.close (tie.spec enum-told enum-told-2 enum-known-l number-of-requires returns returns-2 returns-3)

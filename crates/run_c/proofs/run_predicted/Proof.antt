@@ -1,6 +1,6 @@
 -- `run_predicted` meets its contract: the answer is that of the result.
 use mathlib.Core.Path.{_∙_, ap}
-use Rattle.yadzvego.specs.ScalarAnswer.{answerOf}
+use Rattle.yadzvego.specs.ScalarResult.{scalarResultOf}
 use borrow.Author.Needs.{needs}
 use Rattle.run_c.proofs.run_predicted.Statement.{statement}
 use Rattle.run_c.proofs.run_predicted.Tie as tie
@@ -8,11 +8,11 @@ use Rattle.run_c.proofs.run_predicted.Tie as tie
 predicted-requires : tie.Need-predicted-requires
 predicted-requires c κs = search needs
 
-answer-of-requires : tie.Need-answer-of-requires
-answer-of-requires c κs = search needs
+scalar-result-of-requires : tie.Need-scalar-result-of-requires
+scalar-result-of-requires c κs = search needs
 
 returns : tie.Need-returns
-returns c = c .answer-of .ensures ∙ ap answerOf (c .before .predicted .ensures)
+returns c = c .scalar-result-of .ensures ∙ ap scalarResultOf (c .before .predicted .ensures)
 
 pub run-predicted-spec : {M : Type 1} → statement M
-run-predicted-spec = tie.close (tie.spec predicted-requires answer-of-requires returns)
+run-predicted-spec = tie.close (tie.spec predicted-requires scalar-result-of-requires returns)

@@ -1,6 +1,6 @@
 -- `run_squared` meets its contract: the answer is that of the result.
 use mathlib.Core.Path.{_∙_, ap}
-use Rattle.yadzvego.specs.ScalarAnswer.{answerOf}
+use Rattle.yadzvego.specs.ScalarResult.{scalarResultOf}
 use borrow.Author.Needs.{needs}
 use Rattle.run_c.proofs.run_squared.Statement.{statement}
 use Rattle.run_c.proofs.run_squared.Tie as tie
@@ -8,11 +8,11 @@ use Rattle.run_c.proofs.run_squared.Tie as tie
 squared-requires : tie.Need-squared-requires
 squared-requires c κs = search needs
 
-answer-of-requires : tie.Need-answer-of-requires
-answer-of-requires c κs = search needs
+scalar-result-of-requires : tie.Need-scalar-result-of-requires
+scalar-result-of-requires c κs = search needs
 
 returns : tie.Need-returns
-returns c = c .answer-of .ensures ∙ ap answerOf (c .before .squared .ensures)
+returns c = c .scalar-result-of .ensures ∙ ap scalarResultOf (c .before .squared .ensures)
 
 pub run-squared-spec : {M : Type 1} → statement M
-run-squared-spec = tie.close (tie.spec squared-requires answer-of-requires returns)
+run-squared-spec = tie.close (tie.spec squared-requires scalar-result-of-requires returns)

@@ -25,4 +25,5 @@ returns-3 : tie.Need-returns-3
 returns-3 c = rw (c .before .before .e2 .given .1, c .number-of .ensures)
 
 pub stepped-of-spec : {M : Type 1} → statement M
-stepped-of-spec = tie.close (tie.spec enum-known-e enum-told enum-known-e-2 number-of-requires returns returns-2 returns-3)
+stepped-of-spec =
+    tie.close (tie.spec enum-known-e enum-told enum-known-e-2 number-of-requires returns returns-2 returns-3)

@@ -7,7 +7,8 @@ use Rattle.run_replay.proofs.replay_list.Statement.{statement}
 use Rattle.run_replay.proofs.replay_list.Tie as tie
 
 abbrev Inv-loop : tie.InvT-loop
-Inv-loop start₀ rows₀ area₀ t₀ counter₀ start rows area t counter = (counter ≤ 1000000) × ((length start ≡ length start₀) × ((length rows ≡ length rows₀) × (length area ≡ length area₀)))
+Inv-loop start₀ rows₀ area₀ t₀ counter₀ start rows area t counter = (counter ≤ 1000000)
+    × ((length start ≡ length start₀) × ((length rows ≡ length rows₀) × (length area ≡ length area₀)))
 
 abbrev μ-loop : tie.MeasureT-loop
 μ-loop start₀ rows₀ area₀ t₀ counter₀ start rows area t counter = 1000000 - counter

@@ -16,7 +16,8 @@ begin-requires : tie.Need-begin-requires
 begin-requires c κs = search needs
 
 settle-from-requires : tie.Need-settle-from-requires
-settle-from-requires c κs = let s = c .before .before .before .before .before .before .before .before .before .before .before .before .before .before .before .before .before .before in (s .pre .0, s .pre .1)
+settle-from-requires c κs = let s = c .before .before .before .before .before .before .before .before .before .before
+    .before .before .before .before .before .before .before .before in (s .pre .0, s .pre .1)
 
 same-length : tie.Need-same-length
 same-length c = search needs

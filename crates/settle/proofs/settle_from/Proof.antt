@@ -7,7 +7,8 @@ use Rattle.settle.proofs.settle_from.Statement.{statement}
 use Rattle.settle.proofs.settle_from.Tie as tie
 
 abbrev Inv-loop : tie.InvT-loop
-Inv-loop dr start rows₀ area₀ out₀ counter₀ rows area out counter = (counter ≤ 1100001) × ((length rows ≡ length rows₀) × (length area ≡ length area₀))
+Inv-loop dr start rows₀ area₀ out₀ counter₀ rows area out counter =
+    (counter ≤ 1100001) × ((length rows ≡ length rows₀) × (length area ≡ length area₀))
 
 abbrev μ-loop : tie.MeasureT-loop
 μ-loop dr start rows₀ area₀ out₀ counter₀ rows area out counter = 1100001 - counter

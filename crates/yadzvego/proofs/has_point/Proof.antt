@@ -22,11 +22,17 @@ valid-requires c κs = search needs
 
 returns-2 : tie.Need-returns-2
 unfolding hasPoint
-returns-2 c = rw (sym (c .before .before .before .before .numbers-fit .ensures) ∙ not-false _ (c .before .before .before .if1 .left), ap valid (sym (c .before .before .state-at .ensures)) ∙ sym (c .before .valid .ensures) ∙ c .if2 .taken)
+returns-2 c = rw (
+  sym (c .before .before .before .before .numbers-fit .ensures) ∙ not-false _ (c .before .before .before .if1 .left),
+  ap valid (sym (c .before .before .state-at .ensures)) ∙ sym (c .before .valid .ensures) ∙ c .if2 .taken,
+)
 
 returns-3 : tie.Need-returns-3
 unfolding hasPoint
-returns-3 c = rw (sym (c .before .before .before .before .numbers-fit .ensures) ∙ not-false _ (c .before .before .before .if1 .left), ap valid (sym (c .before .before .state-at .ensures)) ∙ sym (c .before .valid .ensures) ∙ c .if2 .left) (c .if2 .left)
+returns-3 c = rw (
+  sym (c .before .before .before .before .numbers-fit .ensures) ∙ not-false _ (c .before .before .before .if1 .left),
+  ap valid (sym (c .before .before .state-at .ensures)) ∙ sym (c .before .valid .ensures) ∙ c .if2 .left,
+) (c .if2 .left)
 
 pub has-point-spec : {M : Type 1} → statement M
 has-point-spec =

@@ -1,6 +1,6 @@
 -- `yadzvego_begin` meets its contract: it is the call beneath, as numbers.
 use mathlib.Core.Path.{ap}
-use Rattle.yadzvego.specs.Exports.{handedBy, beginExport}
+use Rattle.yadzvego.specs.Exports.{afterExportOf, beginExport}
 use borrow.Author.Needs.{needs}
 use Rattle.yadzvego.proofs.yadzvego_begin.Statement.{statement}
 use Rattle.yadzvego.proofs.yadzvego_begin.Tie as tie
@@ -8,15 +8,15 @@ use Rattle.yadzvego.proofs.yadzvego_begin.Tie as tie
 begin-requires : tie.Need-begin-requires
 begin-requires c κs = search needs
 
-reply-of-requires : tie.Need-reply-of-requires
-reply-of-requires c κs = search needs
+returned-of-requires : tie.Need-returned-of-requires
+returned-of-requires c κs = search needs
 
 same-length : tie.Need-same-length
 same-length c = search needs
 
 returns : tie.Need-returns
 unfolding beginExport
-returns c = rw (c .reply-of .ensures) (ap handedBy (c .before .before .before .begin .ensures))
+returns c = rw (c .returned-of .ensures) (ap afterExportOf (c .before .before .before .begin .ensures))
 
 pub yadzvego-begin-spec : {M : Type 1} → statement M
-yadzvego-begin-spec = tie.close (tie.spec begin-requires reply-of-requires same-length returns)
+yadzvego-begin-spec = tie.close (tie.spec begin-requires returned-of-requires same-length returns)

@@ -16,7 +16,11 @@ unfolding pointLength
 returns c = rw (sym (c .before .has-point .ensures) ∙ not-true _ (c .if1 .taken))
 
 mul-result : tie.Need-mul-result
-mul-result c = omega (arith, few-variables (c .before .before .before .args .run) _ (sym (c .before .before .has-point .ensures) ∙ not-false _ (c .before .if1 .left)))
+mul-result c = omega (
+  arith,
+  few-variables (c .before .before .before .args .run) _
+      (sym (c .before .before .has-point .ensures) ∙ not-false _ (c .before .if1 .left)),
+)
 
 returns-2 : tie.Need-returns-2
 unfolding pointLength

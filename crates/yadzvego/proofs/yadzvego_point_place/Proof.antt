@@ -23,7 +23,8 @@ phase-place-requires c κs = search needs
 
 returns-2 : tie.Need-returns-2
 unfolding pointPlace
-returns-2 c = rw (sym (c .before .before .before .has-point .ensures) ∙ not-false _ (c .before .before .if1 .left)) (c .phase-place .ensures ∙ ap (λ (st : State). pointAt (st .phase)) (c .before .state-at .ensures))
+returns-2 c = rw (sym (c .before .before .before .has-point .ensures) ∙ not-false _ (c .before .before .if1 .left))
+    (c .phase-place .ensures ∙ ap (λ (st : State). pointAt (st .phase)) (c .before .state-at .ensures))
 
 pub yadzvego-point-place-spec : {M : Type 1} → statement M
 yadzvego-point-place-spec =

@@ -1,10 +1,11 @@
--- `yadzvego_reply_none` meets its contract: refused where a number of an enum is none of its cases, and else the call beneath.
+-- `yadzvego_reply_none` meets its contract: refused where a number of an enum is none of its cases, and else the call
+-- beneath.
 use denote.Ref.{now}
 use mathlib.Core.Path.{_∙_, sym, ap}
 use borrow.Author.Tests.{not-true, not-false}
 use Rattle.run.specs.Calls.{replyNoneOf}
 use Rattle.run.specs.declared.state.State.{State}
-use Rattle.yadzvego.specs.Exports.{handedAfter, replyNoneExport}
+use Rattle.yadzvego.specs.Exports.{afterExportOver, replyNoneExport}
 use Rattle.yadzvego.proofs.ExportLaws.{called, not-called}
 use borrow.Author.Needs.{needs}
 use Rattle.yadzvego.proofs.yadzvego_reply_none.Statement.{statement}
@@ -18,7 +19,8 @@ altered-requires c κs = search needs
 
 returns : tie.Need-returns
 unfolding replyNoneExport
-returns c = rw (c .altered .ensures) (sym (not-called _ _ _ (sym (c .before .before .numbers-fit .ensures) ∙ not-true _ (c .before .if1 .taken))))
+returns c = rw (c .altered .ensures)
+    (sym (not-called _ _ _ (sym (c .before .before .numbers-fit .ensures) ∙ not-true _ (c .before .if1 .taken))))
 
 state-at-requires : tie.Need-state-at-requires
 state-at-requires c κs = search needs
@@ -26,8 +28,8 @@ state-at-requires c κs = search needs
 reply-none-requires : tie.Need-reply-none-requires
 reply-none-requires c κs = search needs
 
-reply-after-requires : tie.Need-reply-after-requires
-reply-after-requires c κs = search needs
+returned-after-requires : tie.Need-returned-after-requires
+returned-after-requires c κs = search needs
 
 same-length : tie.Need-same-length
 same-length c = search needs
@@ -39,9 +41,9 @@ returns-2 c =
     let read = made .before .before in
     let a = read .before .before .before .before .args in
     let fits = sym (read .before .before .numbers-fit .ensures) ∙ not-false _ (read .before .if1 .left) in
-    rw (c .reply-after .ensures)
-    (ap (handedAfter (a .run)) (made .reply-none .ensures)
-    ∙ ap (λ (st : State). handedAfter (a .run) (replyNoneOf st (now (a .area)))) (read .state-at .ensures)
+    rw (c .returned-after .ensures)
+    (ap (afterExportOver (a .run)) (made .reply-none .ensures)
+    ∙ ap (λ (st : State). afterExportOver (a .run) (replyNoneOf st (now (a .area)))) (read .state-at .ensures)
     ∙ sym (called _ _ _ fits))
 
 pub yadzvego-reply-none-spec : {M : Type 1} → statement M
@@ -53,6 +55,6 @@ yadzvego-reply-none-spec =
     returns
     state-at-requires
     reply-none-requires
-    reply-after-requires
+    returned-after-requires
     same-length
     returns-2)

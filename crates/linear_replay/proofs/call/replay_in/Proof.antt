@@ -1,22 +1,37 @@
 -- `replay_in` is safe: each length was found to be within its slice.
 use mathlib.Core.Path.{sym}
 use native.Mathlib.Omega.{arith}
-use borrow.Author.Needs.{needs}
 use lib.Seq.{length-take-le}
+use borrow.Author.Needs.{needs}
 use Rattle.linear_replay.proofs.call.replay_in.Statement.{statement}
 use Rattle.linear_replay.proofs.call.replay_in.Tie as tie
+
+malformed-requires : tie.Need-malformed-requires
+malformed-requires c κs = search needs
 
 returns : tie.Need-returns
 returns c = search needs
 
+malformed-requires-2 : tie.Need-malformed-requires-2
+malformed-requires-2 c κs = search needs
+
 returns-2 : tie.Need-returns-2
 returns-2 c = search needs
+
+malformed-requires-3 : tie.Need-malformed-requires-3
+malformed-requires-3 c κs = search needs
 
 returns-3 : tie.Need-returns-3
 returns-3 c = search needs
 
+malformed-requires-4 : tie.Need-malformed-requires-4
+malformed-requires-4 c κs = search needs
+
 returns-4 : tie.Need-returns-4
 returns-4 c = search needs
+
+malformed-requires-5 : tie.Need-malformed-requires-5
+malformed-requires-5 c κs = search needs
 
 returns-5 : tie.Need-returns-5
 returns-5 c = search needs
@@ -76,10 +91,15 @@ pub replay-in-spec : {M : Type 1} → statement M
 replay-in-spec =
     tie.close
     (tie.spec
+    malformed-requires
     returns
+    malformed-requires-2
     returns-2
+    malformed-requires-3
     returns-3
+    malformed-requires-4
     returns-4
+    malformed-requires-5
     returns-5
     slice-relend-prefix-replay-cut
     slice-aggregate-replay-cut

@@ -7,7 +7,8 @@ use Rattle.run_replay.proofs.replay.replay_replies.Statement.{statement
 use Rattle.run_replay.proofs.replay.replay_replies.Tie as tie
 
 abbrev Inv-loop : tie.InvT-loop
-Inv-loop numbers rows₀ area₀ p₀ counter₀ rows area p counter = (counter ≤ 100000000) × ((length rows ≡ length rows₀) × (length area ≡ length area₀))
+Inv-loop numbers rows₀ area₀ p₀ counter₀ rows area p counter =
+    (counter ≤ 100000000) × ((length rows ≡ length rows₀) × (length area ≡ length area₀))
 
 abbrev μ-loop : tie.MeasureT-loop
 μ-loop numbers rows₀ area₀ p₀ counter₀ rows area p counter = 100000000 - counter

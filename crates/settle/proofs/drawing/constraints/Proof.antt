@@ -7,7 +7,8 @@ use Rattle.settle.proofs.drawing.constraints.Statement.{statement}
 use Rattle.settle.proofs.drawing.constraints.Tie as tie
 
 abbrev Inv-loop : tie.InvT-loop
-Inv-loop dr x rows₀ n m slopes₀ k₀ rows slopes k = (k ≤ m) × ((m ≤ 12) × ((n ≤ 12) × ((slopes ≤ 12 + k * 12) × (length rows ≡ length rows₀))))
+Inv-loop dr x rows₀ n m slopes₀ k₀ rows slopes k =
+    (k ≤ m) × ((m ≤ 12) × ((n ≤ 12) × ((slopes ≤ 12 + k * 12) × (length rows ≡ length rows₀))))
 
 abbrev μ-loop : tie.MeasureT-loop
 μ-loop dr x rows₀ n m slopes₀ k₀ rows slopes k = m - k

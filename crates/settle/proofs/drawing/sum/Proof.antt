@@ -7,7 +7,8 @@ use Rattle.settle.proofs.drawing.sum.Statement.{statement}
 use Rattle.settle.proofs.drawing.sum.Tie as tie
 
 abbrev Inv-loop : tie.InvT-loop
-Inv-loop n start x rows₀ values slope₀ i₀ rows slope i = (i ≤ n) × ((n ≤ 12) × ((values < 1000) × ((slope ≤ values + n + i * 13) × (length rows ≡ length rows₀))))
+Inv-loop n start x rows₀ values slope₀ i₀ rows slope i =
+    (i ≤ n) × ((n ≤ 12) × ((values < 1000) × ((slope ≤ values + n + i * 13) × (length rows ≡ length rows₀))))
 
 abbrev μ-loop : tie.MeasureT-loop
 μ-loop n start x rows₀ values slope₀ i₀ rows slope i = n - i

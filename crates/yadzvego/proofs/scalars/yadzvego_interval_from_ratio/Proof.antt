@@ -1,0 +1,24 @@
+-- `yadzvego_interval_from_ratio` meets its contract: the answer is that of the result.
+use mathlib.Core.Path.{_∙_, ap}
+use mir.Syntax.{w64}
+use mir.ValLaws.{toZ-ofZ}
+use Rattle.yadzvego.specs.ScalarResult.{scalarResultOf}
+use borrow.Author.Needs.{needs}
+use Rattle.yadzvego.proofs.scalars.yadzvego_interval_from_ratio.Statement.{statement}
+use Rattle.yadzvego.proofs.scalars.yadzvego_interval_from_ratio.Tie as tie
+
+from-ratio-requires : tie.Need-from-ratio-requires
+from-ratio-requires c κs = search needs
+
+scalar-result-of-requires : tie.Need-scalar-result-of-requires
+scalar-result-of-requires c κs = search needs
+
+returns : tie.Need-returns
+returns c =
+    let s = c .before .before in
+    let num = toZ-ofZ w64 (s .args .num) (s .fits .num) in
+    let den = toZ-ofZ w64 (s .args .den) (s .fits .den) in
+    c .scalar-result-of .ensures ∙ ap scalarResultOf (rw (num, den) at (c .before .from-ratio .ensures))
+
+pub yadzvego-interval-from-ratio-spec : {M : Type 1} → statement M
+yadzvego-interval-from-ratio-spec = tie.close (tie.spec from-ratio-requires scalar-result-of-requires returns)
