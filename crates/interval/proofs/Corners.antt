@@ -1,7 +1,8 @@
 -- Whole numbers: what is at most each of the four products of the ends is at most every product of what lies between.
 use mathlib.Core.Path.{_≡_, sym, ap, _∙_, subst}
 use Prim.Native.Nat.{ℕ, suc, _+_, _-_, _*_, _≤_, _<_}
-use native.Mathlib.Nat.{zero-mul, mul-zero, mul-assoc, mul-mul-mul-comm, add-mul, mul-le-mul-right, le-of-mul-le-mul-right}
+use native.Mathlib.Nat.{zero-mul, mul-zero, mul-assoc, mul-mul-mul-comm, add-mul, mul-le-mul-right}
+use native.Mathlib.Nat.{le-of-mul-le-mul-right}
 use native.Mathlib.Omega.{arith}
 use lib.Dec.{T}
 use lib.IntN.{ℤ, pos, negsuc, _*ℤ_, *ℤ-comm}
@@ -36,26 +37,42 @@ leZ-eq a b e = le-of-parts a b (omega (arith, ap P e, ap N e))
 pub mono : (z w : ℤ) (n : ℕ) → T (leZ z w) → T (leZ (z *ℤ pos n) (w *ℤ pos n))
 mono z w n h =
     let k : (P z + N w) * n ≤ (P w + N z) * n = mul-le-mul-right n (parts-of-le z w h) in
-    le-of-parts (z *ℤ pos n) (w *ℤ pos n) (omega (arith, P-scale z n, N-scale z n, P-scale w n, N-scale w n, add-mul (P z) (N w) n, add-mul (P w) (N z) n))
+    le-of-parts (z *ℤ pos n) (w *ℤ pos n)
+    (omega (arith, P-scale z n, N-scale z n, P-scale w n, N-scale w n, add-mul (P z) (N w) n, add-mul (P w) (N z) n))
 
 pub unscale : (z w : ℤ) (n : ℕ) → 0 < n → T (leZ (z *ℤ pos n) (w *ℤ pos n)) → T (leZ z w)
 unscale z w n p h =
     let k = parts-of-le (z *ℤ pos n) (w *ℤ pos n) h in
-    let g : (P z + N w) * n ≤ (P w + N z) * n = omega (arith, P-scale z n, N-scale z n, P-scale w n, N-scale w n, add-mul (P z) (N w) n, add-mul (P w) (N z) n) in
+    let g : (P z + N w) * n ≤ (P w + N z) * n =
+    omega (arith, P-scale z n, N-scale z n, P-scale w n, N-scale w n, add-mul (P z) (N w) n, add-mul (P w) (N z) n) in
     le-of-parts z w (le-of-mul-le-mul-right g p)
 
 pub anti : (z w : ℤ) (n : ℕ) → T (leZ z w) → T (leZ (w *ℤ negsuc n) (z *ℤ negsuc n))
 anti z w n h =
     let k : (P z + N w) * suc n ≤ (P w + N z) * suc n = mul-le-mul-right (suc n) (parts-of-le z w h) in
     le-of-parts (w *ℤ negsuc n) (z *ℤ negsuc n)
-    (omega (arith, P-mul z (negsuc n), N-mul z (negsuc n), P-mul w (negsuc n), N-mul w (negsuc n), add-mul (P z) (N w) (suc n), add-mul (P w) (N z) (suc n), mul-zero (P z), mul-zero (N z), mul-zero (P w), mul-zero (N w)))
+    (omega (
+      arith,
+      P-mul z (negsuc n),
+      N-mul z (negsuc n),
+      P-mul w (negsuc n),
+      N-mul w (negsuc n),
+      add-mul (P z) (N w) (suc n),
+      add-mul (P w) (N z) (suc n),
+      mul-zero (P z),
+      mul-zero (N z),
+      mul-zero (P w),
+      mul-zero (N w),
+    ))
 
 -- a product moves with its second factor by the sign of the first
 pub mono-right : (n : ℕ) (z w : ℤ) → T (leZ z w) → T (leZ (pos n *ℤ z) (pos n *ℤ w))
-mono-right n z w h = subst (λ (t : ℤ). T (leZ t (pos n *ℤ w))) (*ℤ-comm z (pos n)) (subst (λ (t : ℤ). T (leZ (z *ℤ pos n) t)) (*ℤ-comm w (pos n)) (mono z w n h))
+mono-right n z w h = subst (λ (t : ℤ). T (leZ t (pos n *ℤ w))) (*ℤ-comm z (pos n))
+    (subst (λ (t : ℤ). T (leZ (z *ℤ pos n) t)) (*ℤ-comm w (pos n)) (mono z w n h))
 
 pub anti-right : (n : ℕ) (z w : ℤ) → T (leZ z w) → T (leZ (negsuc n *ℤ w) (negsuc n *ℤ z))
-anti-right n z w h = subst (λ (t : ℤ). T (leZ t (negsuc n *ℤ z))) (*ℤ-comm w (negsuc n)) (subst (λ (t : ℤ). T (leZ (w *ℤ negsuc n) t)) (*ℤ-comm z (negsuc n)) (anti z w n h))
+anti-right n z w h = subst (λ (t : ℤ). T (leZ t (negsuc n *ℤ z))) (*ℤ-comm w (negsuc n))
+    (subst (λ (t : ℤ). T (leZ (w *ℤ negsuc n) t)) (*ℤ-comm z (negsuc n)) (anti z w n h))
 
 -- ---- the ends a ≤ x ≤ b and c ≤ y ≤ d
 low-side : (r a c y d : ℤ) → T (leZ c y) → T (leZ y d) → T (leZ r (a *ℤ c)) → T (leZ r (a *ℤ d)) → T (leZ r (a *ℤ y))
@@ -64,8 +81,10 @@ low-side r (negsuc n) c y d h k p q = leZ-trans r (negsuc n *ℤ d) (negsuc n *�
 
 pub corners-low : (r a x b c y d : ℤ) → T (leZ a x) → T (leZ x b) → T (leZ c y) → T (leZ y d)
     → T (leZ r (a *ℤ c)) → T (leZ r (a *ℤ d)) → T (leZ r (b *ℤ c)) → T (leZ r (b *ℤ d)) → T (leZ r (x *ℤ y))
-corners-low r a x b c (pos n) d ax xb cy yd p q u v = leZ-trans r (a *ℤ pos n) (x *ℤ pos n) (low-side r a c (pos n) d cy yd p q) (mono a x n ax)
-corners-low r a x b c (negsuc n) d ax xb cy yd p q u v = leZ-trans r (b *ℤ negsuc n) (x *ℤ negsuc n) (low-side r b c (negsuc n) d cy yd u v) (anti x b n xb)
+corners-low r a x b c (pos n) d ax xb cy yd p q u v =
+    leZ-trans r (a *ℤ pos n) (x *ℤ pos n) (low-side r a c (pos n) d cy yd p q) (mono a x n ax)
+corners-low r a x b c (negsuc n) d ax xb cy yd p q u v =
+    leZ-trans r (b *ℤ negsuc n) (x *ℤ negsuc n) (low-side r b c (negsuc n) d cy yd u v) (anti x b n xb)
 
 -- ---- scales
 pub scale-scale : (z : ℤ) (j k : ℕ) → (z *ℤ pos j) *ℤ pos k ≡ z *ℤ pos (j * k)
@@ -74,9 +93,26 @@ scale-scale z j k = ext ((z *ℤ pos j) *ℤ pos k) (z *ℤ pos (j * k))
     (N-scale (z *ℤ pos j) k ∙ ap (λ (t : ℕ). t * k) (N-scale z j) ∙ mul-assoc (N z) j k ∙ sym (N-scale z (j * k)))
 
 two : (a b c d j k : ℕ) → a * j * (b * k) + c * j * (d * k) ≡ (a * b + c * d) * (j * k)
-two a b c d j k = ap (λ (t : ℕ). t + c * j * (d * k)) (mul-mul-mul-comm a j b k) ∙ ap (λ (t : ℕ). a * b * (j * k) + t) (mul-mul-mul-comm c j d k) ∙ sym (add-mul (a * b) (c * d) (j * k))
+two a b c d j k = ap (λ (t : ℕ). t + c * j * (d * k)) (mul-mul-mul-comm a j b k)
+    ∙ ap (λ (t : ℕ). a * b * (j * k) + t) (mul-mul-mul-comm c j d k) ∙ sym (add-mul (a * b) (c * d) (j * k))
 
 pub scale-mul : (z w : ℤ) (j k : ℕ) → (z *ℤ pos j) *ℤ (w *ℤ pos k) ≡ (z *ℤ w) *ℤ pos (j * k)
 scale-mul z w j k = ext ((z *ℤ pos j) *ℤ (w *ℤ pos k)) ((z *ℤ w) *ℤ pos (j * k))
-    (rw (P-mul (z *ℤ pos j) (w *ℤ pos k), P-scale z j, P-scale w k, N-scale z j, N-scale w k, P-scale (z *ℤ w) (j * k), P-mul z w) (two (P z) (P w) (N z) (N w) j k))
-    (rw (N-mul (z *ℤ pos j) (w *ℤ pos k), P-scale z j, P-scale w k, N-scale z j, N-scale w k, N-scale (z *ℤ w) (j * k), N-mul z w) (two (P z) (N w) (N z) (P w) j k))
+    (rw (
+      P-mul (z *ℤ pos j) (w *ℤ pos k),
+      P-scale z j,
+      P-scale w k,
+      N-scale z j,
+      N-scale w k,
+      P-scale (z *ℤ w) (j * k),
+      P-mul z w,
+    ) (two (P z) (P w) (N z) (N w) j k))
+    (rw (
+      N-mul (z *ℤ pos j) (w *ℤ pos k),
+      P-scale z j,
+      P-scale w k,
+      N-scale z j,
+      N-scale w k,
+      N-scale (z *ℤ w) (j * k),
+      N-mul z w,
+    ) (two (P z) (N w) (N z) (P w) j k))

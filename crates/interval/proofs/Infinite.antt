@@ -31,30 +31,42 @@ unfolding mul
 times-inf s m e t = ap (λ (b : Bool). cond b nan (inf (unlike s t))) (eqb·suc-zero m)
 
 -- ---- a factor of 0
-pub zero-times : (u a : Float) → Zero u → T (finite a) → (rank binary64 (mul binary64 u a) ≡ infBits binary64) × T (not (isNan (mul binary64 u a)))
-zero-times u a w h = subst (λ (u : Float). (rank binary64 (mul binary64 u a) ≡ infBits binary64) × T (not (isNan (mul binary64 u a)))) (sym (w .2)) (go a h)
+pub zero-times : (u a : Float) → Zero u → T (finite a)
+    → (rank binary64 (mul binary64 u a) ≡ infBits binary64) × T (not (isNan (mul binary64 u a)))
+zero-times u a w h =
+    subst (λ (u : Float). (rank binary64 (mul binary64 u a) ≡ infBits binary64) × T (not (isNan (mul binary64 u a))))
+    (sym (w .2)) (go a h)
   where
     flat : (s : Bool) (x c : ℕ) → 0 < c → x ≡ 0 → rank binary64 (round binary64 s x c) ≡ infBits binary64
     flat false x c C z = let k = none-at binary64 x c C z in round-rank binary64 false x c ∙ omega arith
     flat true x c C z = let k = none-at binary64 x c C z in round-rank binary64 true x c ∙ omega arith
 
-    go : (a : Float) → T (finite a) → (rank binary64 (mul binary64 (fin (w .0) zero (w .1)) a) ≡ infBits binary64) × T (not (isNan (mul binary64 (fin (w .0) zero (w .1)) a)))
+    go : (a : Float) → T (finite a) → (rank binary64 (mul binary64 (fin (w .0) zero (w .1)) a) ≡ infBits binary64)
+        × T (not (isNan (mul binary64 (fin (w .0) zero (w .1)) a)))
     go (fin t n d) h =
         let x = 0 * up (w .1) * (n * up d) in
         let c = down (w .1) * down d in
-        unfold mul in (flat (unlike (w .0) t) x c (mul-pos (down-pos (w .1)) (down-pos d)) (ap (λ (z : ℕ). z * (n * up d)) (zero-mul (up (w .1))) ∙ zero-mul (n * up d)), round-number binary64 (unlike (w .0) t) x c)
+        unfold mul in (
+          flat (unlike (w .0) t) x c (mul-pos (down-pos (w .1)) (down-pos d))
+              (ap (λ (z : ℕ). z * (n * up d)) (zero-mul (up (w .1))) ∙ zero-mul (n * up d)),
+          round-number binary64 (unlike (w .0) t) x c,
+        )
 
 -- ---- the ends about 0
-pub under-zero : (m : Float) → T (fits binary64 m) → T (finite (nextDown m)) → rank binary64 m ≤ infBits binary64 → P (unitsOf binary64 (nextDown m)) ≡ 0
+pub under-zero : (m : Float) → T (fits binary64 m) → T (finite (nextDown m)) → rank binary64 m ≤ infBits binary64
+    → P (unitsOf binary64 (nextDown m)) ≡ 0
 under-zero m t h k =
     let a = down-rank m t h in
     units-P binary64 (nextDown m) (down-fits m) h ∙ ap (magnitude binary64) (omega arith) ∙ magnitude-zero binary64
 
 pub zero-P : (u : Float) → T (fits binary64 u) → Zero u → (P (unitsOf binary64 u) ≡ 0) × (N (unitsOf binary64 u) ≡ 0)
-zero-P u t w = subst (λ (u : Float). T (fits binary64 u) → (P (unitsOf binary64 u) ≡ 0) × (N (unitsOf binary64 u) ≡ 0)) (sym (w .2)) (λ (t : T (fits binary64 (fin (w .0) zero (w .1)))). (zero-units (w .0) (w .1) t, zero-units-N (w .0) (w .1) t)) t
+zero-P u t w = subst
+    (λ (u : Float). T (fits binary64 u) → (P (unitsOf binary64 u) ≡ 0) × (N (unitsOf binary64 u) ≡ 0)) (sym (w .2))
+    (λ (t : T (fits binary64 (fin (w .0) zero (w .1)))). (zero-units (w .0) (w .1) t, zero-units-N (w .0) (w .1) t)) t
 
 pub zero-at : (x : Float) → T (fits binary64 x) → Zero x → T (finite x) × (rank binary64 x ≡ infBits binary64)
-zero-at x t z = subst (λ (w : Float). T (fits binary64 w) → T (finite w) × (rank binary64 w ≡ infBits binary64)) (sym (z .2)) (λ (u : T (fits binary64 (fin (z .0) zero (z .1)))). (tt, zero-rank (z .0) (z .1) u)) t
+zero-at x t z = subst (λ (w : Float). T (fits binary64 w) → T (finite w) × (rank binary64 w ≡ infBits binary64))
+    (sym (z .2)) (λ (u : T (fits binary64 (fin (z .0) zero (z .1)))). (tt, zero-rank (z .0) (z .1) u)) t
 
 -- ---- steps
 pub neg-finite : (x : Float) → T (finite x) → T (finite (neg x))
@@ -67,14 +79,16 @@ value-finite (fin s m e) a l h = tt
 pub down-finite : (v : Float) → NonNegative v → T (fits binary64 v) → T (finite (nextDown v))
 unfolding NonNegative nextUp neg
 down-finite v (inl e) t = subst (λ (z : Float). T (finite (nextDown z))) (sym e) (unfold ofBits in unfold toBits in tt)
-down-finite v (inr w) t = subst (λ (z : Float). T (fits binary64 z) → T (finite (nextDown z))) (sym (w .2)) (go (w .0) (w .1)) t
+down-finite v (inr w) t =
+    subst (λ (z : Float). T (fits binary64 z) → T (finite (nextDown z))) (sym (w .2)) (go (w .0) (w .1)) t
   where
     go : (m : ℕ) (e : ℤ) → T (fits binary64 (fin false m e)) → T (finite (nextDown (fin false m e)))
     go zero e t = unfold ofBits in tt
     go (suc m) e t =
         let b = toBits binary64 (fin false (suc m) e) - 1 in
         let u = bits-under binary64 (suc m) e t in
-        neg-finite (neg (ofBits binary64 b)) (neg-finite (ofBits binary64 b) (value-finite (ofBits binary64 b) (magnitude binary64 b) (2 ^ low binary64) (ofBits-val binary64 b (omega arith))))
+        neg-finite (neg (ofBits binary64 b)) (neg-finite (ofBits binary64 b) (value-finite (ofBits binary64 b)
+        (magnitude binary64 b) (2 ^ low binary64) (ofBits-val binary64 b (omega arith))))
 
 pub nonneg-finite : (v : Float) → NonNegative v → T (finite v) ⊎ (v ≡ inf false)
 unfolding NonNegative
@@ -90,11 +104,13 @@ up-any (inf true) t h = inl (unfold neg in unfold ofBits in unfold toBits in tt)
 up-any (fin s zero e) t h = inl (unfold ofBits in tt)
 up-any (fin false (suc m) e) t h =
     let u = bits-under binary64 (suc m) e t in
-    nonneg-finite (ofBits binary64 (toBits binary64 (fin false (suc m) e) + 1)) (pattern-nonneg binary64 (toBits binary64 (fin false (suc m) e) + 1) (omega arith))
+    nonneg-finite (ofBits binary64 (toBits binary64 (fin false (suc m) e) + 1))
+    (pattern-nonneg binary64 (toBits binary64 (fin false (suc m) e) + 1) (omega arith))
 up-any (fin true (suc m) e) t h =
     let b = toBits binary64 (fin false (suc m) e) - 1 in
     let u = bits-under binary64 (suc m) e (positive-fits (suc m) e t) in
-    inl (neg-finite (ofBits binary64 b) (value-finite (ofBits binary64 b) (magnitude binary64 b) (2 ^ low binary64) (ofBits-val binary64 b (omega arith))))
+    inl (neg-finite (ofBits binary64 b)
+    (value-finite (ofBits binary64 b) (magnitude binary64 b) (2 ^ low binary64) (ofBits-val binary64 b (omega arith))))
 
 -- ---- signs
 pub neg-neg : (x : Float) → neg (neg x) ≡ x

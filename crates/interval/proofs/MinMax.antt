@@ -1,4 +1,5 @@
--- Rust's min, max and abs against the plain choices by `lt`: where the first number is no NaN, min and max are those choices, so a fold that starts from an infinity is one of plain choices.
+-- Rust's min, max and abs against the plain choices by `lt`: where the first number is no NaN, min and max are those
+-- choices, so a fold that starts from an infinity is one of plain choices.
 use mathlib.Core.Path.{_≡_, refl, sym, ap, _∙_, subst}
 use mathlib.Core.Logic.{_⊎_, inl, inr}
 use Prim.Native.Nat.{ℕ, zero, suc, _+_, _*_, _<_}
@@ -75,13 +76,15 @@ unfolding isNan
 inf-number s = tt
 
 -- a fold of four from a number, by two choices that agree there
-fold : (f g : Float → Float → Float) → ((a b : Float) → T (not (isNan a)) → f a b ≡ g a b) → ((a b : Float) → T (not (isNan a)) → T (not (isNan (g a b))))
+fold : (f g : Float → Float → Float) → ((a b : Float) → T (not (isNan a)) → f a b ≡ g a b)
+    → ((a b : Float) → T (not (isNan a)) → T (not (isNan (g a b))))
     → (o p q r s : Float) → T (not (isNan o)) → f (f (f (f o p) q) r) s ≡ g (g (g (g o p) q) r) s
 fold f g same kept o p q r s h =
     let n1 = kept o p h in
     let n2 = kept (g o p) q n1 in
     let n3 = kept (g (g o p) q) r n2 in
-    ap (λ (z : Float). f (f (f z q) r) s) (same o p h) ∙ ap (λ (z : Float). f (f z r) s) (same (g o p) q n1) ∙ ap (λ (z : Float). f z s) (same (g (g o p) q) r n2) ∙ same (g (g (g o p) q) r) s n3
+    ap (λ (z : Float). f (f (f z q) r) s) (same o p h) ∙ ap (λ (z : Float). f (f z r) s) (same (g o p) q n1)
+    ∙ ap (λ (z : Float). f z s) (same (g (g o p) q) r n2) ∙ same (g (g (g o p) q) r) s n3
 
 pub least-is : (p q r s : Float) → least p q r s ≡ lesser (lesser (lesser (lesser (inf false) p) q) r) s
 unfolding least
@@ -126,14 +129,18 @@ either-max a b A p q = go (ne a a)
 
 pub either-least : (A : Float → Type 0) (p q r s : Float) → A (inf false) → A p → A q → A r → A s → A (least p q r s)
 unfolding least
-either-least A p q r s o hp hq hr hs = either-min _ s A (either-min _ r A (either-min _ q A (either-min (inf false) p A o hp) hq) hr) hs
+either-least A p q r s o hp hq hr hs =
+    either-min _ s A (either-min _ r A (either-min _ q A (either-min (inf false) p A o hp) hq) hr) hs
 
-pub either-greatest : (A : Float → Type 0) (p q r s : Float) → A (inf true) → A p → A q → A r → A s → A (greatest p q r s)
+pub either-greatest : (A : Float → Type 0) (p q r s : Float) → A (inf true) → A p → A q → A r → A s
+    → A (greatest p q r s)
 unfolding greatest
-either-greatest A p q r s o hp hq hr hs = either-max _ s A (either-max _ r A (either-max _ q A (either-max (inf true) p A o hp) hq) hr) hs
+either-greatest A p q r s o hp hq hr hs =
+    either-max _ s A (either-max _ r A (either-max _ q A (either-max (inf true) p A o hp) hq) hr) hs
 
 -- ---- abs, by the sign
-negative-form : (m : ℕ) (e : ℤ) → (fin false m e ≡ inf true) ⊎ ((n : ℕ) × (d : ℤ) × (fin false m e ≡ fin true (suc n) d)) → ⊥
+negative-form : (m : ℕ) (e : ℤ)
+    → (fin false m e ≡ inf true) ⊎ ((n : ℕ) × (d : ℤ) × (fin false m e ≡ fin true (suc n) d)) → ⊥
 negative-form m e (inl q) = subst (λ (z : Float). T (Plain z)) q tt
   where
     Plain : Float → Bool
@@ -165,18 +172,22 @@ fabs-above nan h = refl
 fabs-above (inf true) h = absurd (true≢false h)
 fabs-above (inf false) h = refl
 fabs-above (fin false m e) h = refl
-fabs-above (fin true zero e) h = absurd (true≢false (sym (or-second (lt (fin true zero e) zero64) (eq (fin true zero e) zero64) (zero-eq true e)) ∙ h))
+fabs-above (fin true zero e) h = absurd
+    (true≢false (sym (or-second (lt (fin true zero e) zero64) (eq (fin true zero e) zero64) (zero-eq true e)) ∙ h))
 fabs-above (fin true (suc m) e) h =
     let a : 0 < suc m * up e * 1 + 0 * down e = omega (arith, mul-pos (zero-lt-suc m) (up-pos e)) in
-    absurd (true≢false (sym (ap (λ (t : Bool). t || eq (fin true (suc m) e) zero64) (is-true (ltb 0 (suc m * up e * 1 + 0 * down e)) (lt→ltb 0 (suc m * up e * 1 + 0 * down e) a))) ∙ h))
+    absurd (true≢false (sym (ap (λ (t : Bool). t || eq (fin true (suc m) e) zero64)
+    (is-true (ltb 0 (suc m * up e * 1 + 0 * down e)) (lt→ltb 0 (suc m * up e * 1 + 0 * down e) a))) ∙ h))
 
 -- the absolute value as the program works it out
-pub abs-is : (x : Scalar) → absOf x ≡ pick (le zero64 (x .lo)) x (pick (le (x .hi) zero64) (negOf x) (record { lo = zero64; hi = fmax (neg (x .lo)) (x .hi) }))
+pub abs-is : (x : Scalar) → absOf x ≡ pick (le zero64 (x .lo)) x
+    (pick (le (x .hi) zero64) (negOf x) (record { lo = zero64; hi = fmax (neg (x .lo)) (x .hi) }))
 unfolding absOf
 abs-is x = go (le zero64 (x .lo)) (le (x .hi) zero64) (fabs-below (x .lo)) (fabs-above (x .hi))
   where
     go : (a b : Bool) → (a ≡ false → fabs (x .lo) ≡ neg (x .lo)) → (b ≡ false → fabs (x .hi) ≡ x .hi)
-        → pick a x (pick b (negOf x) (record { lo = zero64; hi = fmax (fabs (x .lo)) (fabs (x .hi)) })) ≡ pick a x (pick b (negOf x) (record { lo = zero64; hi = fmax (neg (x .lo)) (x .hi) }))
+        → pick a x (pick b (negOf x) (record { lo = zero64; hi = fmax (fabs (x .lo)) (fabs (x .hi)) }))
+        ≡ pick a x (pick b (negOf x) (record { lo = zero64; hi = fmax (neg (x .lo)) (x .hi) }))
     go true b k m = refl
     go false true k m = refl
     go false false k m = λ i. record { lo = zero64; hi = fmax (k refl i) (m refl i) }

@@ -1,4 +1,5 @@
--- One pattern down from x is one pattern up from -x with the sign turned: one more with the sign's weight for a number that is not positive, and one less for a positive one.
+-- One pattern down from x is one pattern up from -x with the sign turned: one more with the sign's weight for a number
+-- that is not positive, and one less for a positive one.
 use mathlib.Core.Path.{_≡_, refl, sym, ap, _∙_, subst}
 use Prim.Native.Nat.{ℕ, _+_, _-_, _%_, _≤_, _<_}
 use native.Mathlib.Omega.{arith}
@@ -30,8 +31,10 @@ unfolding neg toBits
 same-size nan = refl
 same-size (inf true) = refl
 same-size (inf false) = refl
-same-size (fin true m e) = ap (λ (n : ℕ). n % 9223372036854775808) (bits-neg m e) ∙ unsigned (toBits binary64 (fin false m e))
-same-size (fin false m e) = sym (ap (λ (n : ℕ). n % 9223372036854775808) (bits-neg m e) ∙ unsigned (toBits binary64 (fin false m e)))
+same-size (fin true m e) =
+    ap (λ (n : ℕ). n % 9223372036854775808) (bits-neg m e) ∙ unsigned (toBits binary64 (fin false m e))
+same-size (fin false m e) =
+    sym (ap (λ (n : ℕ). n % 9223372036854775808) (bits-neg m e) ∙ unsigned (toBits binary64 (fin false m e)))
 
 pub not-nan-turned : (x : Float) → lt (neg x) (inf false) ≡ true → T (not (isNan x))
 unfolding lt isNan neg
@@ -46,15 +49,19 @@ ends-turned x a = sym (turned x) ∙ ap neg (ends (neg x) a)
 pub record Lowered (x : Float) (s : Bool) : Type 0 where
   pub room : s ≡ true → toBits binary64 x % 9223372036854775808 < 9223372036854775807
   pub some : s ≡ false → 1 ≤ toBits binary64 x
-  pub number : T (not (nanBits binary64 (cond s (toBits binary64 x % 9223372036854775808 + 9223372036854775809) (toBits binary64 x - 1))))
-  pub next : ofBits binary64 (cond s (toBits binary64 x % 9223372036854775808 + 9223372036854775809) (toBits binary64 x - 1)) ≡ nextDown x
+  pub number : T (not (nanBits binary64
+      (cond s (toBits binary64 x % 9223372036854775808 + 9223372036854775809) (toBits binary64 x - 1))))
+  pub next : ofBits binary64
+      (cond s (toBits binary64 x % 9223372036854775808 + 9223372036854775809) (toBits binary64 x - 1)) ≡ nextDown x
 
-away : (x : Float) → T (fits binary64 x) → lt (neg x) (inf false) ≡ true → le (fin false 0 (pos 0)) (neg x) ≡ true → Lowered x true
+away : (x : Float) → T (fits binary64 x) → lt (neg x) (inf false) ≡ true → le (fin false 0 (pos 0)) (neg x) ≡ true
+    → Lowered x true
 away x t a e =
     let r = up-side (neg x) (neg-fits binary64 x t) a e in
     let n = toBits binary64 (neg x) % 9223372036854775808 in
     let near : n + 1 ≤ infBits binary64 = omega (arith, r .0) in
-    let q : toBits binary64 x % 9223372036854775808 + 9223372036854775809 ≡ 9223372036854775808 + (n + 1) = omega (arith, same-size x) in
+    let q : toBits binary64 x % 9223372036854775808 + 9223372036854775809 ≡ 9223372036854775808 + (n + 1) =
+    omega (arith, same-size x) in
     record {
       room = λ f. omega (arith, r .0, same-size x);
       some = λ f. absurd (true≢false f);
@@ -62,7 +69,8 @@ away x t a e =
       next = ap (ofBits binary64) q ∙ ofBits-neg (n + 1) near ∙ ap neg (r .1);
     }
 
-nearer : (x : Float) → T (fits binary64 x) → lt (neg x) (inf false) ≡ true → le (fin false 0 (pos 0)) (neg x) ≡ false → Lowered x false
+nearer : (x : Float) → T (fits binary64 x) → lt (neg x) (inf false) ≡ true → le (fin false 0 (pos 0)) (neg x) ≡ false
+    → Lowered x false
 nearer x t a e =
     let i = step-in (neg x) (neg-fits binary64 x t) (below-zero (neg x) a e) in
     let b : toBits binary64 (neg (neg x)) ≡ toBits binary64 x = ap (toBits binary64) (turned x) in
@@ -74,7 +82,8 @@ nearer x t a e =
       next = ap (ofBits binary64) q ∙ sym (turned _) ∙ ap neg (i .2);
     }
 
-pub lowered : (x : Float) → T (fits binary64 x) → lt (neg x) (inf false) ≡ true → Lowered x (le (fin false 0 (pos 0)) (neg x))
+pub lowered : (x : Float) → T (fits binary64 x) → lt (neg x) (inf false) ≡ true
+    → Lowered x (le (fin false 0 (pos 0)) (neg x))
 lowered x t a = go (le (fin false 0 (pos 0)) (neg x)) refl
   where
     go : (s : Bool) → le (fin false 0 (pos 0)) (neg x) ≡ s → Lowered x s

@@ -17,9 +17,11 @@ use Rattle.interval.specs.Enclosure.{unitsOf}
 use Rattle.interval.specs.Pattern.{infBits, magnitude}
 use Rattle.interval.specs.Step.{nextUp, nextDown}
 use Rattle.interval.proofs.Integers.{P, N}
-use Rattle.interval.proofs.Patterns.{magnitude-zero, bits-under, bits-infinity, bits-val, bits-pos, ofBits-val, no-nan}
+use Rattle.interval.proofs.Patterns.{magnitude-zero, bits-under, bits-infinity, bits-val, bits-pos, ofBits-val}
+use Rattle.interval.proofs.Patterns.{no-nan}
 use Rattle.interval.proofs.Rounding.{magnitude-lt, NonNegative}
-use Rattle.interval.proofs.Rank.{rank, units-P, units-N, rank-in, nonneg-rank, zero-value, rankOf, under-ρ, over-ρ}
+use Rattle.interval.proofs.Rank.{rank, units-P, units-N, rank-in, nonneg-rank, zero-value, rankOf, under-ρ}
+use Rattle.interval.proofs.Rank.{over-ρ}
 
 -- ---- the value of a pattern that is not negative, and its rank
 value-nonneg : (v : Float) (a l : ℕ) → HasValue v false a l → NonNegative v
@@ -39,18 +41,23 @@ pattern-bits f b h =
     toBits-ofBits f b (omega (arith, mul-comm (hid f) (suc (ones f)), suc-mul (ones f) (hid f), pow-pos (prec f - 1)))
     (subst (λ (z : Bool). T (not z)) (nanBits-is f b) (no-nan f b h))
 
-pub pattern-rank : (f : Format) (b : ℕ) → b ≤ infBits f → (rank f (ofBits f b) ≡ infBits f + b) × (rank f (neg (ofBits f b)) ≡ infBits f - b)
+pub pattern-rank : (f : Format) (b : ℕ) → b ≤ infBits f
+    → (rank f (ofBits f b) ≡ infBits f + b) × (rank f (neg (ofBits f b)) ≡ infBits f - b)
 pattern-rank f b h =
-    let w = nonneg-rank f (ofBits f b) (pattern-nonneg f b h) in
-    (w .0 ∙ ap (λ (z : ℕ). infBits f + z) (pattern-bits f b h), w .1 ∙ ap (λ (z : ℕ). infBits f - z) (pattern-bits f b h))
+    let w = nonneg-rank f (ofBits f b) (pattern-nonneg f b h) in (
+      w .0 ∙ ap (λ (z : ℕ). infBits f + z) (pattern-bits f b h),
+      w .1 ∙ ap (λ (z : ℕ). infBits f - z) (pattern-bits f b h),
+    )
 
 pub zero-bits : (f : Format) (e : ℤ) → T (fits f (fin false 0 e)) → toBits f (fin false 0 e) ≡ 0
 zero-bits f e t =
     let b = toBits f (fin false 0 e) in
-    let n : magnitude f b ≡ 0 = zero-value (fin false 0 e) 1 (magnitude f b) (2 ^ low f) (refl, ap (λ (z : ℕ). z * 1) (zero-mul (up e)) ∙ sym (zero-mul (down e))) (bits-val f 0 e t) (zero-lt-suc 0) in
+    let n : magnitude f b ≡ 0 = zero-value (fin false 0 e) 1 (magnitude f b) (2 ^ low f)
+    (refl, ap (λ (z : ℕ). z * 1) (zero-mul (up e)) ∙ sym (zero-mul (down e))) (bits-val f 0 e t) (zero-lt-suc 0) in
     elim (eq-zero-or-pos b) [
       | inl z ↦ z
-      | inr h ↦ absurd (lt-irrefl 0 (subst (λ (k : ℕ). k < 0) (magnitude-zero f) (subst (λ (k : ℕ). magnitude f 0 < k) n (magnitude-lt f 0 b h))))
+      | inr h ↦ absurd (lt-irrefl 0
+          (subst (λ (k : ℕ). k < 0) (magnitude-zero f) (subst (λ (k : ℕ). magnitude f 0 < k) n (magnitude-lt f 0 b h))))
     ]
 
 -- ---- the steps
@@ -93,7 +100,8 @@ rank-up (fin true (suc m) e) t h =
     let w = pattern-rank binary64 (toBits binary64 (fin false (suc m) e) - 1) (omega arith) .1 in
     omega arith
 
-pub rank-neg : (x : Float) → T (fits binary64 x) → T (not (isNan x)) → rank binary64 (neg x) ≡ infBits binary64 + infBits binary64 - rank binary64 x
+pub rank-neg : (x : Float) → T (fits binary64 x) → T (not (isNan x))
+    → rank binary64 (neg x) ≡ infBits binary64 + infBits binary64 - rank binary64 x
 unfolding rank neg isNan
 rank-neg nan t h = absurd h
 rank-neg (inf true) t h = refl
@@ -113,10 +121,12 @@ pub up-fits : (x : Float) → T (fits binary64 (nextUp x))
 unfolding nextUp
 up-fits nan = nan-fits binary64
 up-fits (inf false) = inf-fits binary64 false
-up-fits (inf true) = neg-fits binary64 (ofBits binary64 (toBits binary64 (inf false) - 1)) (ofBits-fits binary64 (toBits binary64 (inf false) - 1))
+up-fits (inf true) = neg-fits binary64 (ofBits binary64 (toBits binary64 (inf false) - 1))
+    (ofBits-fits binary64 (toBits binary64 (inf false) - 1))
 up-fits (fin s zero e) = ofBits-fits binary64 1
 up-fits (fin false (suc m) e) = ofBits-fits binary64 (toBits binary64 (fin false (suc m) e) + 1)
-up-fits (fin true (suc m) e) = neg-fits binary64 (ofBits binary64 (toBits binary64 (fin false (suc m) e) - 1)) (ofBits-fits binary64 (toBits binary64 (fin false (suc m) e) - 1))
+up-fits (fin true (suc m) e) = neg-fits binary64 (ofBits binary64 (toBits binary64 (fin false (suc m) e) - 1))
+    (ofBits-fits binary64 (toBits binary64 (fin false (suc m) e) - 1))
 
 pub down-fits : (x : Float) → T (fits binary64 (nextDown x))
 down-fits x = neg-fits binary64 (nextUp (neg x)) (up-fits (neg x))
@@ -148,7 +158,8 @@ neg-rising (fin s m e) h = tt
 pub up-rank : (x : Float) → T (fits binary64 x) → T (finite (nextUp x)) → rank binary64 (nextUp x) ≡ rank binary64 x + 1
 up-rank x t h = rank-up x t (up-rising x h)
 
-pub down-rank : (x : Float) → T (fits binary64 x) → T (finite (nextDown x)) → rank binary64 (nextDown x) + 1 ≡ rank binary64 x
+pub down-rank : (x : Float) → T (fits binary64 x) → T (finite (nextDown x))
+    → rank binary64 (nextDown x) + 1 ≡ rank binary64 x
 down-rank x t h =
     let y = nextUp (neg x) in
     let g : T (finite y) = finite-neg y h in
@@ -160,18 +171,24 @@ down-rank x t h =
     omega (arith, rank-le x t)
 
 -- ---- a rounded fraction, stepped outward. v has the rank of (p - q) / c rounded, or past it
-pub above-all : (v : Float) (p q c : ℕ) → T (fits binary64 v) → T (finite (nextUp v)) → 0 < c → rankOf binary64 p q c ≤ rank binary64 v
-    → p * 2 ^ low binary64 + N (unitsOf binary64 (nextUp v)) * c ≤ P (unitsOf binary64 (nextUp v)) * c + q * 2 ^ low binary64
+pub above-all : (v : Float) (p q c : ℕ) → T (fits binary64 v) → T (finite (nextUp v)) → 0 < c
+    → rankOf binary64 p q c ≤ rank binary64 v
+    → p * 2 ^ low binary64 + N (unitsOf binary64 (nextUp v)) * c
+    ≤ P (unitsOf binary64 (nextUp v)) * c + q * 2 ^ low binary64
 above-all v p q c t h C k =
     let r = nextUp v in
     let i = rank-in binary64 r (up-fits v) h in
     let e = up-rank v t h in
-    rw (units-P binary64 r (up-fits v) h, units-N binary64 r (up-fits v) h) (over-ρ binary64 p q c (rank binary64 r) C (i .1) (omega arith))
+    rw (units-P binary64 r (up-fits v) h, units-N binary64 r (up-fits v) h)
+    (over-ρ binary64 p q c (rank binary64 r) C (i .1) (omega arith))
 
-pub below-all : (v : Float) (p q c : ℕ) → T (fits binary64 v) → T (finite (nextDown v)) → 0 < c → rank binary64 v ≤ rankOf binary64 p q c
-    → P (unitsOf binary64 (nextDown v)) * c + q * 2 ^ low binary64 ≤ p * 2 ^ low binary64 + N (unitsOf binary64 (nextDown v)) * c
+pub below-all : (v : Float) (p q c : ℕ) → T (fits binary64 v) → T (finite (nextDown v)) → 0 < c
+    → rank binary64 v ≤ rankOf binary64 p q c
+    → P (unitsOf binary64 (nextDown v)) * c + q * 2 ^ low binary64
+    ≤ p * 2 ^ low binary64 + N (unitsOf binary64 (nextDown v)) * c
 below-all v p q c t h C k =
     let r = nextDown v in
     let i = rank-in binary64 r (down-fits v) h in
     let e = down-rank v t h in
-    rw (units-P binary64 r (down-fits v) h, units-N binary64 r (down-fits v) h) (under-ρ binary64 p q c (rank binary64 r) C (i .0) (omega arith))
+    rw (units-P binary64 r (down-fits v) h, units-N binary64 r (down-fits v) h)
+    (under-ρ binary64 p q c (rank binary64 r) C (i .0) (omega arith))

@@ -1,4 +1,5 @@
--- x + 0 is x but for -0. A sum is -0 only where both terms are: two floats are whole numbers of units, so a sum or a difference that is not 0 is at least one unit, and does not round to 0.
+-- x + 0 is x but for -0. A sum is -0 only where both terms are: two floats are whole numbers of units, so a sum or a
+-- difference that is not 0 is at least one unit, and does not round to 0.
 use mathlib.Core.Path.{_≡_, refl, sym, ap, _∙_, subst}
 use mathlib.Core.Logic.{inl, inr}
 use Prim.Native.Nat.{ℕ, zero, suc, _+_, _-_, _*_, _^_, _≤_, _<_}
@@ -19,7 +20,8 @@ use Rattle.interval.proofs.Rank.{neg-round}
 use Rattle.interval.proofs.Outward.{positive-fits, zero-bits}
 use Rattle.interval.proofs.Order.{left, right}
 use Rattle.interval.proofs.Enclosure.Add.{plain-fits}
-use Rattle.interval.proofs.Bounds.{Kept, neg-neg, add-turned, plus-zero, zero-plus-zero, minus-zero-not-kept, some}
+use Rattle.interval.proofs.Bounds.{Kept, neg-neg, add-turned, plus-zero, zero-plus-zero, minus-zero-not-kept}
+use Rattle.interval.proofs.Bounds.{some}
 
 zero-is : (e : ℤ) → T (fits binary64 (fin false zero e)) → fin false zero e ≡ zero64
 unfolding ofBits
@@ -39,11 +41,14 @@ kept-plain (suc m) e t = plus-zero false m e t
 
 -- ---- x + 0
 -- what holds of every float and itself, and of -0 and +0, holds of x and x + 0
-plus-zero-any : (A : Float → Float → Type 0) → ((x : Float) → A x x) → ((e : ℤ) → T (fits binary64 (fin true zero e)) → A (fin true zero e) zero64) → (x : Float) → T (fits binary64 x) → A x (add binary64 x zero64)
+plus-zero-any : (A : Float → Float → Type 0) → ((x : Float) → A x x)
+    → ((e : ℤ) → T (fits binary64 (fin true zero e)) → A (fin true zero e) zero64) → (x : Float) → T (fits binary64 x)
+    → A x (add binary64 x zero64)
 plus-zero-any A r z nan t = subst (A nan) (sym kept-nan) (r nan)
 plus-zero-any A r z (inf s) t = subst (A (inf s)) (sym (kept-inf s)) (r (inf s))
 plus-zero-any A r z (fin true zero e) t = subst (A (fin true zero e)) (sym (zero-plus-zero true e)) (z e t)
-plus-zero-any A r z (fin false zero e) t = subst (A (fin false zero e)) (sym (kept-plain zero e t)) (r (fin false zero e))
+plus-zero-any A r z (fin false zero e) t =
+    subst (A (fin false zero e)) (sym (kept-plain zero e t)) (r (fin false zero e))
 plus-zero-any A r z (fin s (suc m) e) t = subst (A (fin s (suc m) e)) (sym (plus-zero s m e t)) (r (fin s (suc m) e))
 
 pub plus-zero-kept : (x : Float) → T (fits binary64 x) → Kept (add binary64 x zero64)
@@ -65,10 +70,12 @@ unfolding nextUp neg
 turned-plus-zero = plus-zero-any (λ x y. nextUp (neg y) ≡ nextUp (neg x)) (λ x. refl) (λ e t. refl)
 
 -- a sum steps up to the same float with -0 made +0 in the second term
-pub next-sum : (a b : Float) → T (fits binary64 a) → T (fits binary64 b) → nextUp (add binary64 a (add binary64 b zero64)) ≡ nextUp (add binary64 a b)
+pub next-sum : (a b : Float) → T (fits binary64 a) → T (fits binary64 b)
+    → nextUp (add binary64 a (add binary64 b zero64)) ≡ nextUp (add binary64 a b)
 next-sum a b t = plus-zero-any (λ x y. nextUp (add binary64 a y) ≡ nextUp (add binary64 a x)) (λ x. refl) minus-zero b
   where
-    minus-zero : (e : ℤ) → T (fits binary64 (fin true zero e)) → nextUp (add binary64 a zero64) ≡ nextUp (add binary64 a (fin true zero e))
+    minus-zero : (e : ℤ) → T (fits binary64 (fin true zero e))
+        → nextUp (add binary64 a zero64) ≡ nextUp (add binary64 a (fin true zero e))
     minus-zero e u =
         next-plus-zero a t ∙ ap nextUp (sym (neg-neg a)) ∙ sym (turned-plus-zero (neg a) (neg-fits binary64 a t))
         ∙ ap (λ (z : Float). nextUp (neg (add binary64 (neg a) z))) (sym (zero-is e (positive-fits zero e u)))
@@ -85,7 +92,8 @@ nonneg-kept v t (inr w) = subst (λ (z : Float). T (fits binary64 z) → Kept z)
 negative-kept : (v : Float) → T (fits binary64 v) → NonNegative v → 1 ≤ toBits binary64 v → Kept (neg v)
 unfolding NonNegative neg
 negative-kept v t (inl e) b = subst (λ (z : Float). Kept (neg z)) (sym e) (kept-inf true)
-negative-kept v t (inr w) b = subst (λ (z : Float). T (fits binary64 z) → 1 ≤ toBits binary64 z → Kept (neg z)) (sym (w .2)) (go (w .0) (w .1)) t b
+negative-kept v t (inr w) b = subst (λ (z : Float). T (fits binary64 z) → 1 ≤ toBits binary64 z → Kept (neg z))
+    (sym (w .2)) (go (w .0) (w .1)) t b
   where
     go : (m : ℕ) (e : ℤ) → T (fits binary64 (fin false m e)) → 1 ≤ toBits binary64 (fin false m e) → Kept (fin true m e)
     go zero e t b = absurd (lt-irrefl 0 (subst (λ (z : ℕ). 1 ≤ z) (zero-bits binary64 e t) b))
@@ -100,7 +108,8 @@ unfolding at magnitude
 round-some a c C h =
     let one : magnitude binary64 1 * c ≡ c = one-mul c in
     subst Kept (sym (neg-round binary64 a c))
-    (negative-kept (round binary64 false a c) (round-fits binary64 false a c) (round-nonneg binary64 a c) (at-ge binary64 a c 1 C (lit< tt) (le-trans (le-of-eq one) h)))
+    (negative-kept (round binary64 false a c) (round-fits binary64 false a c) (round-nonneg binary64 a c)
+    (at-ge binary64 a c 1 C (lit< tt) (le-trans (le-of-eq one) h)))
 
 -- two whole numbers of units u and v over the denominator c differ by a unit or more
 gap : (a b u v l c : ℕ) → a * l ≡ u * c → b * l ≡ v * c → a < b → 0 < l → c ≤ (b - a) * l
@@ -113,12 +122,14 @@ gap a b u v l c p q h L =
     ]
 
 -- the second term is not -0
-signs-kept : (s : Bool) (a : ℕ) (t : Bool) (b u v c : ℕ) → 0 < c → a * 2 ^ low binary64 ≡ u * c → b * 2 ^ low binary64 ≡ v * c → (t ≡ true → 0 < b) → Kept (sum binary64 s a t b c)
+signs-kept : (s : Bool) (a : ℕ) (t : Bool) (b u v c : ℕ) → 0 < c → a * 2 ^ low binary64 ≡ u * c
+    → b * 2 ^ low binary64 ≡ v * c → (t ≡ true → 0 < b) → Kept (sum binary64 s a t b c)
 unfolding sum
 signs-kept false a false b u v c C p q k = round-plain (a + b) c
 signs-kept true a true b u v c C p q k =
     let l = 2 ^ low binary64 in
-    round-some (a + b) c C (le-trans (gap 0 b 0 v l c (zero-mul l ∙ sym (zero-mul c)) q (k refl) (pow-pos (low binary64))) (mul-le-mul-right l (omega arith)))
+    round-some (a + b) c C (le-trans (gap 0 b 0 v l c (zero-mul l ∙ sym (zero-mul c)) q (k refl)
+    (pow-pos (low binary64))) (mul-le-mul-right l (omega arith)))
 signs-kept false a true b u v c C p q k = go (ltb a b) (ltb→lt a b)
   where
     go : (x : Bool) → (T x → a < b) → Kept (cond x (round binary64 true (b - a) c) (round binary64 false (a - b) c))
@@ -126,7 +137,8 @@ signs-kept false a true b u v c C p q k = go (ltb a b) (ltb→lt a b)
     go false h = round-plain (a - b) c
 signs-kept true a false b u v c C p q k = go (ltb a b) (ltb b a) (ltb→lt b a)
   where
-    go : (x y : Bool) → (T y → b < a) → Kept (cond x (round binary64 false (b - a) c) (round binary64 (true && y) (a - b) c))
+    go : (x y : Bool) → (T y → b < a)
+        → Kept (cond x (round binary64 false (b - a) c) (round binary64 (true && y) (a - b) c))
     go true y h = round-plain (b - a) c
     go false true h = round-some (a - b) c C (gap b a v u (2 ^ low binary64) c q p (h tt) (pow-pos (low binary64)))
     go false false h = round-plain (a - b) c
@@ -143,7 +155,9 @@ sum-kept (inf s) (fin r n d) t u k = kept-inf s
 sum-kept (fin s m e) nan t u k = kept-nan
 sum-kept (fin s m e) (inf r) t u k = kept-inf r
 sum-kept (fin s m e) (fin r n d) t u k =
-    signs-kept s (m * up e * down d) r (n * up d * down e) _ _ (down e * down d) (mul-pos (down-pos e) (down-pos d)) (left m e n d (plain-fits s m e t) (plain-fits r n d u)) (right m e n d (plain-fits s m e t) (plain-fits r n d u)) (above r n k)
+    signs-kept s (m * up e * down d) r (n * up d * down e) _ _ (down e * down d) (mul-pos (down-pos e) (down-pos d))
+    (left m e n d (plain-fits s m e t) (plain-fits r n d u))
+    (right m e n d (plain-fits s m e t) (plain-fits r n d u)) (above r n k)
   where
     above : (r : Bool) (n : ℕ) → Kept (fin r n d) → r ≡ true → 0 < n * up d * down e
     above true zero k h = absurd (minus-zero-not-kept d k)

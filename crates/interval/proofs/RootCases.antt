@@ -34,11 +34,15 @@ root-none x (inl e) = subst (λ (y : Float). nan ≡ nearestRoot y) (sym e) refl
 root-none x (inr w) = subst (λ (y : Float). nan ≡ nearestRoot y) (sym (w .2)) refl
 
 abbrev pub Above : Float → Type 0
-Above x = (0 < toBits binary64 x) × (toBits binary64 x < infBits binary64) × (roundedRoot binary64 (magnitude binary64 (toBits binary64 x) * 2 ^ low binary64) ≡ nearestRoot x)
+Above x = (0 < toBits binary64 x) × (toBits binary64 x < infBits binary64)
+    × (roundedRoot binary64 (magnitude binary64 (toBits binary64 x) * 2 ^ low binary64) ≡ nearestRoot x)
 
 pub root-above : (x : Float) → T (fits binary64 x) → (m : ℕ) × (e : ℤ) × (x ≡ fin false (suc m) e) → Above x
 unfolding nearestRoot
 root-above x t w =
     subst (λ (y : Float). T (fits binary64 y) → Above y) (sym (w .2))
-    (λ (u : T (fits binary64 (fin false (suc (w .0)) (w .1)))).
-    (bits-pos binary64 (w .0) (w .1) u, bits-under binary64 (suc (w .0)) (w .1) u, ap (λ (n : ℕ). roundedRoot binary64 (n * 2 ^ low binary64)) (sym (count binary64 (suc (w .0)) (w .1) u)))) t
+    (λ (u : T (fits binary64 (fin false (suc (w .0)) (w .1)))). (
+      bits-pos binary64 (w .0) (w .1) u,
+      bits-under binary64 (suc (w .0)) (w .1) u,
+      ap (λ (n : ℕ). roundedRoot binary64 (n * 2 ^ low binary64)) (sym (count binary64 (suc (w .0)) (w .1) u)),
+    )) t

@@ -1,7 +1,8 @@
 -- Long division for roots: from s with s * s + r, 27 digits more by one division by 2 s; one correction suffices.
 use mathlib.Core.Path.{_≡_, sym, ap, subst}
 use Prim.Native.Nat.{ℕ, zero, suc, _+_, _-_, _*_, _/_, _%_, _^_, _≤_, _<_}
-use native.Mathlib.Nat.{mul-comm, mul-right-comm, add-mul, mul-add, mul-le-mul, mul-mul-mul-comm, div-add-mod', div-lt-iff-lt-mul, mod-lt, lt-irrefl, le-of-lt, lt-of-not-le, mod-eq-of-lt}
+use native.Mathlib.Nat.{mul-comm, mul-right-comm, add-mul, mul-add, mul-le-mul, mul-mul-mul-comm, div-add-mod'}
+use native.Mathlib.Nat.{div-lt-iff-lt-mul, mod-lt, lt-irrefl, le-of-lt, lt-of-not-le, mod-eq-of-lt}
 use native.Mathlib.Omega.{arith}
 use mathlib.Core.Bool.{Bool, true, not, false≢true}
 use lib.Dec.{T, ltb}
@@ -15,11 +16,21 @@ pub record Facts (s r u v : ℕ) : Type 0 where
   pub few : u ≤ 134217728
   pub square : u * u ≤ 2 ^ 54
 
-expand : (s u : ℕ) → (s * 134217728 + u) * (s * 134217728 + u) ≡ s * s * 18014398509481984 + u * (s * 2) * 134217728 + u * u
+expand : (s u : ℕ)
+    → (s * 134217728 + u) * (s * 134217728 + u) ≡ s * s * 18014398509481984 + u * (s * 2) * 134217728 + u * u
 expand s u =
     let x = s * 134217728 in
-    omega
-    (arith, add-mul x u (x + u), mul-add x x u, mul-add u x u, mul-mul-mul-comm s 134217728 s 134217728, mul-right-comm s 134217728 u, mul-comm u x, mul-comm u (s * 2), mul-right-comm s 2 u)
+    omega (
+      arith,
+      add-mul x u (x + u),
+      mul-add x x u,
+      mul-add u x u,
+      mul-mul-mul-comm s 134217728 s 134217728,
+      mul-right-comm s 134217728 u,
+      mul-comm u x,
+      mul-comm u (s * 2),
+      mul-right-comm s 2 u,
+    )
 
 pub facts : (s r : ℕ) → 2 ^ 26 ≤ s → r ≤ 2 * s → Facts s r (r * 134217728 / (s * 2)) (r * 134217728 % (s * 2))
 facts s r hs hr =
@@ -63,7 +74,8 @@ pred q h =
 
 pub no-nan : (n : ℕ) → n < 2047 * 2 ^ 52 → T (not (nanBits binary64 n))
 no-nan n h =
-    subst (λ (z : Bool). T (not z)) (sym (nanBits-above binary64 n)) (subst (λ (z : ℕ). T (not (ltb (2047 * 2 ^ 52) z))) (sym (mod-eq-of-lt small)) (le→nltb (2047 * 2 ^ 52) n (le-of-lt h)))
+    subst (λ (z : Bool). T (not z)) (sym (nanBits-above binary64 n)) (subst (λ (z : ℕ). T (not (ltb (2047 * 2 ^ 52) z)))
+    (sym (mod-eq-of-lt small)) (le→nltb (2047 * 2 ^ 52) n (le-of-lt h)))
   where
     small : n < 2 ^ 63
     small = omega (arith, h)
@@ -74,14 +86,18 @@ itself nan a = absurd (false≢true a)
 itself (inf s) a = tt
 itself (fin s m e) a = tt
 
-pub ready : (c s : ℕ) → 2 ^ 52 ≤ c → c < 2 ^ 54 → s * s ≤ c → c < (s + 1) * (s + 1) → (2 ^ 26 ≤ s) × ((s < 2 ^ 27) × (c - s * s ≤ 2 * s))
-ready c s a b h k =
-    (least (root-lt 67108864 c (s + 1) (omega (arith, a)) k), (root-lt s c 134217728 h (omega (arith, b)), omega (arith, k, next-sq s)))
+pub ready : (c s : ℕ) → 2 ^ 52 ≤ c → c < 2 ^ 54 → s * s ≤ c → c < (s + 1) * (s + 1)
+    → (2 ^ 26 ≤ s) × ((s < 2 ^ 27) × (c - s * s ≤ 2 * s))
+ready c s a b h k = (
+  least (root-lt 67108864 c (s + 1) (omega (arith, a)) k),
+  (root-lt s c 134217728 h (omega (arith, b)), omega (arith, k, next-sq s)),
+)
   where
     least : 67108864 < s + 1 → 2 ^ 26 ≤ s
     least g = omega arith
 
-pub done : (c s q r : ℕ) → s * s ≤ c → q * q + r ≡ (s * s + (c - s * s)) * 2 ^ 54 → r ≤ 2 * q → (q * q ≤ c * 2 ^ 54) × (c * 2 ^ 54 < (q + 1) * (q + 1))
+pub done : (c s q r : ℕ) → s * s ≤ c → q * q + r ≡ (s * s + (c - s * s)) * 2 ^ 54 → r ≤ 2 * q
+    → (q * q ≤ c * 2 ^ 54) × (c * 2 ^ 54 < (q + 1) * (q + 1))
 done c s q r h e g =
     let n : q * q + r ≡ c * 2 ^ 54 = omega (arith, e, h) in
     (omega (arith, n), omega (arith, n, g, next-sq q))

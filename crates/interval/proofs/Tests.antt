@@ -21,7 +21,8 @@ zero-of a = ap (λ (z : ℕ). z * 1) (zero-mul a)
 pub zero-eq : (s : Bool) (e : ℤ) → eq (fin s zero e) (fin false 0 (pos 0)) ≡ true
 unfolding eq
 zero-eq s e =
-    ap (λ (z : ℕ). level s z false (0 * down e)) (zero-of (up e)) ∙ ap (λ (z : ℕ). level s 0 false z) (zero-mul (down e)) ∙ sign s
+    ap (λ (z : ℕ). level s z false (0 * down e)) (zero-of (up e))
+    ∙ ap (λ (z : ℕ). level s 0 false z) (zero-mul (down e)) ∙ sign s
   where
     sign : (s : Bool) → (true && (Bool·beq s false || true)) ≡ true
     sign true = refl
@@ -30,29 +31,35 @@ zero-eq s e =
 pub eq-zero : (s : Bool) (e : ℤ) → eq (fin false 0 (pos 0)) (fin s zero e) ≡ true
 unfolding eq
 eq-zero s e =
-    ap (λ (z : ℕ). level false (0 * down e) s z) (zero-of (up e)) ∙ ap (λ (z : ℕ). level false z s 0) (zero-mul (down e)) ∙ sign s
+    ap (λ (z : ℕ). level false (0 * down e) s z) (zero-of (up e))
+    ∙ ap (λ (z : ℕ). level false z s 0) (zero-mul (down e)) ∙ sign s
   where
     sign : (s : Bool) → (true && (Bool·beq false s || true)) ≡ true
     sign true = refl
     sign false = refl
 
 above-zero : (m : ℕ) (e : ℤ) → T (ltb (0 * down e) (m * up e * 1)) → 0 < m * up e
-above-zero m e h = lt-of-le-of-lt (le-of-eq (sym (zero-mul (down e)))) (subst (λ (z : ℕ). 0 * down e < z) (mul-one (m * up e)) (ltb→lt (0 * down e) (m * up e * 1) h))
+above-zero m e h = lt-of-le-of-lt (le-of-eq (sym (zero-mul (down e))))
+    (subst (λ (z : ℕ). 0 * down e < z) (mul-one (m * up e)) (ltb→lt (0 * down e) (m * up e * 1) h))
 
-pub positive-finite : (x : Float) → T (finite x) → lt (fin false 0 (pos 0)) x ≡ true → (m : ℕ) × (e : ℤ) × (x ≡ fin false (suc m) e)
+pub positive-finite : (x : Float) → T (finite x) → lt (fin false 0 (pos 0)) x ≡ true
+    → (m : ℕ) × (e : ℤ) × (x ≡ fin false (suc m) e)
 unfolding lt
 positive-finite (fin true m e) f c = absurd (false≢true c)
-positive-finite (fin false zero e) f c = absurd (lt-irrefl 0 (subst (λ (z : ℕ). 0 < z) (zero-mul (up e)) (above-zero 0 e (subst T (sym c) tt))))
+positive-finite (fin false zero e) f c =
+    absurd (lt-irrefl 0 (subst (λ (z : ℕ). 0 < z) (zero-mul (up e)) (above-zero 0 e (subst T (sym c) tt))))
 positive-finite (fin false (suc m) e) f c = (m, e, refl)
 
-pub positive : (x : Float) → ne x x ≡ false → eq x (inf false) ≡ false → lt (fin false 0 (pos 0)) x ≡ true → (m : ℕ) × (e : ℤ) × (x ≡ fin false (suc m) e)
+pub positive : (x : Float) → ne x x ≡ false → eq x (inf false) ≡ false → lt (fin false 0 (pos 0)) x ≡ true
+    → (m : ℕ) × (e : ℤ) × (x ≡ fin false (suc m) e)
 unfolding ne eq lt
 positive nan a b c = absurd (true≢false a)
 positive (inf true) a b c = absurd (false≢true c)
 positive (inf false) a b c = absurd (true≢false b)
 positive (fin s m e) a b c = positive-finite (fin s m e) tt c
 
-pub negative : (x : Float) → ne x x ≡ false → eq x (fin false 0 (pos 0)) ≡ false → lt (fin false 0 (pos 0)) x ≡ false → (x ≡ inf true) ⊎ ((m : ℕ) × (e : ℤ) × (x ≡ fin true (suc m) e))
+pub negative : (x : Float) → ne x x ≡ false → eq x (fin false 0 (pos 0)) ≡ false → lt (fin false 0 (pos 0)) x ≡ false
+    → (x ≡ inf true) ⊎ ((m : ℕ) × (e : ℤ) × (x ≡ fin true (suc m) e))
 unfolding ne eq lt
 negative nan a b c = absurd (true≢false a)
 negative (inf true) a b c = inl refl
@@ -60,8 +67,10 @@ negative (inf false) a b c = absurd (true≢false c)
 negative (fin s zero e) a b c = absurd (true≢false (sym (zero-eq s e) ∙ b))
 negative (fin true (suc m) e) a b c = inr (m, e, refl)
 negative (fin false (suc m) e) a b c =
-    let h : suc m * up e * 1 ≤ 0 * down e = nltb→le (0 * down e) (suc m * up e * 1) (subst (λ (z : Bool). T (not z)) (sym c) tt) in
-    absurd (lt-irrefl 0 (lt-of-lt-of-le' (mul-pos (zero-lt-suc m) (up-pos e)) (subst (λ (z : ℕ). z ≤ 0 * down e) (mul-one (suc m * up e)) h) (zero-mul (down e))))
+    let h : suc m * up e * 1 ≤ 0 * down e =
+    nltb→le (0 * down e) (suc m * up e * 1) (subst (λ (z : Bool). T (not z)) (sym c) tt) in
+    absurd (lt-irrefl 0 (lt-of-lt-of-le' (mul-pos (zero-lt-suc m) (up-pos e))
+    (subst (λ (z : ℕ). z ≤ 0 * down e) (mul-one (suc m * up e)) h) (zero-mul (down e))))
   where
     lt-of-lt-of-le' : {a b : ℕ} → 0 < a → a ≤ b → b ≡ 0 → 0 < 0
     lt-of-lt-of-le' p q r = omega arith
@@ -99,29 +108,36 @@ zero-test (inf s) a = absurd (false≢true a)
 zero-test (fin s zero e) a = (s, e, refl)
 zero-test (fin s (suc m) e) a =
     let A = suc m * up e * 1 in
-    let h : A ≡ 0 * down e = eqb→eq A (0 * down e) (and-l (eqb A (0 * down e)) (Bool·beq s false || eqb A 0) (subst T (sym a) tt)) in
-    absurd (lt-irrefl 0 (subst (λ (z : ℕ). 0 < z) (sym (mul-one (suc m * up e)) ∙ h ∙ zero-mul (down e)) (mul-pos (zero-lt-suc m) (up-pos e))))
+    let h : A ≡ 0 * down e =
+    eqb→eq A (0 * down e) (and-l (eqb A (0 * down e)) (Bool·beq s false || eqb A 0) (subst T (sym a) tt)) in
+    absurd (lt-irrefl 0 (subst (λ (z : ℕ). 0 < z) (sym (mul-one (suc m * up e)) ∙ h ∙ zero-mul (down e))
+    (mul-pos (zero-lt-suc m) (up-pos e))))
 
 pub at-zero : (x : Float) → eq x (fin false 0 (pos 0)) ≡ true → ofBits binary64 1 ≡ nextUp x
 unfolding nextUp
 at-zero x a = let w = zero-test x a in subst (λ (y : Float). ofBits binary64 1 ≡ nextUp y) (sym (w .2)) refl
 
 -- ---- a step away from zero, and a step towards it
-pub step-out : (x : Float) → T (fits binary64 x) → (m : ℕ) × (e : ℤ) × (x ≡ fin false (suc m) e) → (toBits binary64 x < infBits binary64) × (ofBits binary64 (toBits binary64 x + 1) ≡ nextUp x)
+pub step-out : (x : Float) → T (fits binary64 x) → (m : ℕ) × (e : ℤ) × (x ≡ fin false (suc m) e)
+    → (toBits binary64 x < infBits binary64) × (ofBits binary64 (toBits binary64 x + 1) ≡ nextUp x)
 unfolding nextUp
 step-out x t w = go (w .0) (w .1) x (w .2) t
   where
-    go : (m : ℕ) (e : ℤ) (x : Float) → x ≡ fin false (suc m) e → T (fits binary64 x) → (toBits binary64 x < infBits binary64) × (ofBits binary64 (toBits binary64 x + 1) ≡ nextUp x)
+    go : (m : ℕ) (e : ℤ) (x : Float) → x ≡ fin false (suc m) e → T (fits binary64 x)
+        → (toBits binary64 x < infBits binary64) × (ofBits binary64 (toBits binary64 x + 1) ≡ nextUp x)
     go m e x q t =
-        subst (λ (y : Float). T (fits binary64 y) → (toBits binary64 y < infBits binary64) × (ofBits binary64 (toBits binary64 y + 1) ≡ nextUp y)) (sym q)
+        subst (λ (y : Float). T (fits binary64 y)
+        → (toBits binary64 y < infBits binary64) × (ofBits binary64 (toBits binary64 y + 1) ≡ nextUp y)) (sym q)
         (λ (t : T (fits binary64 (fin false (suc m) e))). (bits-under binary64 (suc m) e t, refl)) t
 
 abbrev pub In : Float → Type 0
-In x = (1 ≤ toBits binary64 (neg x)) × (toBits binary64 (neg x) ≤ infBits binary64) × (neg (ofBits binary64 (toBits binary64 (neg x) - 1)) ≡ nextUp x)
+In x = (1 ≤ toBits binary64 (neg x)) × (toBits binary64 (neg x) ≤ infBits binary64)
+    × (neg (ofBits binary64 (toBits binary64 (neg x) - 1)) ≡ nextUp x)
 
 pub step-in : (x : Float) → T (fits binary64 x) → (x ≡ inf true) ⊎ ((m : ℕ) × (e : ℤ) × (x ≡ fin true (suc m) e)) → In x
 unfolding nextUp neg
-step-in x t (inl q) = subst In (sym q) (subst (λ (b : ℕ). 1 ≤ b) (sym (bits-infinity binary64)) (lit≤ tt), le-of-eq (bits-infinity binary64), refl)
+step-in x t (inl q) = subst In (sym q)
+    (subst (λ (b : ℕ). 1 ≤ b) (sym (bits-infinity binary64)) (lit≤ tt), le-of-eq (bits-infinity binary64), refl)
 step-in x t (inr w) =
     subst (λ (y : Float). T (fits binary64 y) → In y) (sym (w .2))
     (λ (t : T (fits binary64 (fin true (suc (w .0)) (w .1)))).

@@ -1,4 +1,5 @@
--- The places of an n by n matrix in a flat list, row by row: row r and column k are the place r * n + k, and no other row and column are.
+-- The places of an n by n matrix in a flat list, row by row: row r and column k are the place r * n + k, and no other
+-- row and column are.
 use Prim.Native.Nat.{ℕ, zero, suc, _+_, _*_, _/_, _%_, _≤_, _<_}
 use mathlib.Core.Path.{_≡_, sym, ap, _∙_}
 use native.Mathlib.Nat.{not-suc-le-zero, mul-le-mul, mod-lt, div-lt-iff-lt-mul}

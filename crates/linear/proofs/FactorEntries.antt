@@ -11,7 +11,8 @@ use Rattle.interval.specs.declared.Scalar.{Scalar}
 use Rattle.interval.specs.Result.{Res}
 use Rattle.interval.specs.Scalar.{zeroS}
 use Rattle.linear.specs.Dot.{minusTo}
-use Rattle.linear.specs.Cholesky.{Pivot, under, rowTo, pivotAt, isLeftOut, isRefused, diagonal, markAt, factorAt, refusedTo}
+use Rattle.linear.specs.Cholesky.{Pivot, under, rowTo, pivotAt, isLeftOut, isRefused, diagonal, markAt, factorAt}
+use Rattle.linear.specs.Cholesky.{refusedTo}
 
 tested : {P : Type 0} (b : Bool) → (b ≡ true → P) → (b ≡ false → P) → P
 tested true h g = h refl
@@ -61,10 +62,12 @@ module _ (a : ℕ → ℕ → Scalar) where
 
     factor-above : (k : ℕ) → i < k → factorAt a i k ≡ rowTo a i i k
     unfolding factorAt
-    factor-above k h = rw (e, le-ltb k i (omega arith), ne-eqb i k (λ q. omega arith)) (sym (row-beyond i i k (omega arith)))
+    factor-above k h =
+        rw (e, le-ltb k i (omega arith), ne-eqb i k (λ q. omega arith)) (sym (row-beyond i i k (omega arith)))
 
     pub factor-off : (k : ℕ) → k ≢ i → factorAt a i k ≡ rowTo a i i k
-    factor-off k h = tested (ltb k i) (λ b. factor-below k (ltb-true k i b)) (λ b. factor-above k (lt-of-le-ne (ltb-false k i b) (λ q. h (sym q))))
+    factor-off k h = tested (ltb k i) (λ b. factor-below k (ltb-true k i b))
+        (λ b. factor-above k (lt-of-le-ne (ltb-false k i b) (λ q. h (sym q))))
 
   pub none-refused : (i : ℕ) → ((r : ℕ) → r < i → isRefused (pivotAt a r) ≡ false) → refusedTo a i ≡ false
   unfolding refusedTo

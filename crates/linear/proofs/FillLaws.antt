@@ -1,4 +1,5 @@
--- What a loop that fills places of a list leaves: one place more, and what the places ahead hold. A store at a place that is cut off at the list's end changes nothing, as beyond it.
+-- What a loop that fills places of a list leaves: one place more, and what the places ahead hold. A store at a place
+-- that is cut off at the list's end changes nothing, as beyond it.
 use Prim.Native.Nat.{ℕ, zero, suc, _+_, _*_, _<_, _≤_}
 use mathlib.Core.Logic.{⊎-elim, _≢_}
 use mathlib.Core.Path.{_≡_, refl, sym, ap, _∙_}
@@ -20,7 +21,8 @@ use Rattle.linear.proofs.Walks.{Cut}
 
 module _ (xs : List Float) (base : ℕ) (f : ℕ → Scalar) where
   -- one turn of a loop that stores f 0, f 1, ..
-  pub fill-turn : {s : List Float} {v : Scalar} (i : ℕ) → s ≡ fillTo xs base f i → v ≡ f i → put s (base + i) v ≡ fillTo xs base f (i + 1)
+  pub fill-turn : {s : List Float} {v : Scalar} (i : ℕ) → s ≡ fillTo xs base f i → v ≡ f i
+      → put s (base + i) v ≡ fillTo xs base f (i + 1)
   unfolding fillTo
   fill-turn i es ev = rw (es, ev, add-one)
 
@@ -28,14 +30,17 @@ module _ (xs : List Float) (base : ℕ) (f : ℕ → Scalar) where
   pub at-fill-other : (k i : ℕ) → ((j : ℕ) → j < k → i ≢ base + j) → at (fillTo xs base f k) i ≡ at xs i
   unfolding fillTo
   at-fill-other zero i h = refl
-  at-fill-other (suc k) i h = at-put-other (fillTo xs base f k) (base + k) i (f k) (h k (lt-suc-self k)) ∙ at-fill-other k i (λ j l. h j (omega arith))
+  at-fill-other (suc k) i h = at-put-other (fillTo xs base f k) (base + k) i (f k) (h k (lt-suc-self k))
+      ∙ at-fill-other k i (λ j l. h j (omega arith))
 
   -- one that is still to be filled
   pub at-fill-ahead : (k j : ℕ) → k ≤ j → at (fillTo xs base f k) (base + j) ≡ at xs (base + j)
   at-fill-ahead k j h = at-fill-other k (base + j) (λ i l e. omega arith)
 
 -- one place more of a run less a multiple of another
-pub scaled-more : (v₀ v w : List Float) (v0 w0 p : ℕ) (a : Scalar) {x y h : Scalar} {t : List Float} → v ≡ minusScaled v₀ v0 a w w0 p → x ≡ at v (v0 + p) → y ≡ at w (w0 + p) → h ≡ chooseOf (subOf x (mulOf a y)) → t ≡ put v (v0 + p) h
+pub scaled-more : (v₀ v w : List Float) (v0 w0 p : ℕ) (a : Scalar) {x y h : Scalar} {t : List Float}
+    → v ≡ minusScaled v₀ v0 a w w0 p → x ≡ at v (v0 + p) → y ≡ at w (w0 + p) → h ≡ chooseOf (subOf x (mulOf a y))
+    → t ≡ put v (v0 + p) h
     → t ≡ minusScaled v₀ v0 a w w0 (p + 1)
 unfolding minusScaled
 scaled-more v₀ v w v0 w0 p a ev ex ey eh et =

@@ -13,7 +13,8 @@ use Rattle.interval.specs.declared.Scalar.{Scalar}
 use Rattle.interval.specs.Scalar.{degenerate, pick}
 use Rattle.linear.specs.Flat.{inside, at, put}
 
-pub at-inside : (xs : List Float) (i : ℕ) → inside xs i ≡ true → at xs i ≡ record { lo = getD xs (2 * i) nan; hi = getD xs (2 * i + 1) nan }
+pub at-inside : (xs : List Float) (i : ℕ) → inside xs i ≡ true
+    → at xs i ≡ record { lo = getD xs (2 * i) nan; hi = getD xs (2 * i + 1) nan }
 unfolding at
 at-inside xs i e = rw e
 
@@ -21,7 +22,8 @@ pub at-outside : (xs : List Float) (i : ℕ) → inside xs i ≡ false → at xs
 unfolding at
 at-outside xs i e = rw e
 
-pub put-inside : (xs : List Float) (i : ℕ) (v : Scalar) → inside xs i ≡ true → put xs i v ≡ set (set xs (2 * i) (v .lo)) (2 * i + 1) (v .hi)
+pub put-inside : (xs : List Float) (i : ℕ) (v : Scalar) → inside xs i ≡ true
+    → put xs i v ≡ set (set xs (2 * i) (v .lo)) (2 * i + 1) (v .hi)
 unfolding put
 put-inside xs i v e = rw e
 
@@ -47,9 +49,18 @@ at-put-same xs i v h =
     let h₀ : 2 * i < length xs = omega arith in
     let h₁ : 2 * i + 1 < length (set xs (2 * i) (v .lo)) = simp length-set h in
     let n : 2 * i ≢ 2 * i + 1 = λ q. omega arith in
-    rw (e, length-set, length-set, e, getD-set-other _ _ _ _ _ n, getD-set-same xs (2 * i) (v .lo) nan h₀, getD-set-same _ _ _ _ h₁)
+    rw (
+      e,
+      length-set,
+      length-set,
+      e,
+      getD-set-other _ _ _ _ _ n,
+      getD-set-same xs (2 * i) (v .lo) nan h₀,
+      getD-set-same _ _ _ _ h₁,
+    )
 
-set-other : (xs : List Float) (i j : ℕ) (v : Scalar) → j ≢ i → at (set (set xs (2 * i) (v .lo)) (2 * i + 1) (v .hi)) j ≡ at xs j
+set-other : (xs : List Float) (i j : ℕ) (v : Scalar) → j ≢ i
+    → at (set (set xs (2 * i) (v .lo)) (2 * i + 1) (v .hi)) j ≡ at xs j
 unfolding at
 set-other xs i j v h =
     let n₀ : 2 * j ≢ 2 * i = λ q. h (omega arith) in

@@ -32,7 +32,8 @@ module _ {A : Type 0} (f : A → ℕ → Res A) (z : A) where
       rw m at (stays (n - (i + 1)) (i + 1) (turn i e ∙ r))
 
 -- what gives a value
-pub bind-value : {A B : Type 0} (x : Res A) (f : A → Res B) {y : B} → bind x f ≡ ok y → (a : A) × (x ≡ ok a) × (f a ≡ ok y)
+pub bind-value : {A B : Type 0} (x : Res A) (f : A → Res B) {y : B} → bind x f ≡ ok y
+    → (a : A) × (x ≡ ok a) × (f a ≡ ok y)
 unfolding bind
 bind-value (ok a) f e = (a, refl, e)
 bind-value (refused k) f e = absurd (refused-ok e)

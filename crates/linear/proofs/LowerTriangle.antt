@@ -1,4 +1,5 @@
--- A factor is that of the lower triangle alone: matrices that agree there have the same factor, marks and refusal. An entry is given by the entries in the columns before it, so the rows agree column by column.
+-- A factor is that of the lower triangle alone: matrices that agree there have the same factor, marks and refusal. An
+-- entry is given by the entries in the columns before it, so the rows agree column by column.
 use Prim.Native.Nat.{ℕ, zero, suc, _+_, _*_, _/_, _%_, _≤_, _<_}
 use mathlib.Core.Path.{_≡_, refl, sym, _∙_}
 use mathlib.Core.List.{List}

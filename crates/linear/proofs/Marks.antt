@@ -25,5 +25,7 @@ module _ (f : ℕ → Bool) where
       (λ l. List·getD-append (marksTo f n) _ false i (omega (arith, length-marksTo n)) ∙ getD-marksTo n i l)
       (eq-or-lt-of-le (le-of-suc-le-suc h))
 
-  pub is-marksTo : (n : ℕ) (xs : List Bool) → length xs ≡ n → ((i : ℕ) → i < n → getD xs i false ≡ f i) → xs ≡ marksTo f n
-  is-marksTo n xs p h = ext-getD false xs (marksTo f n) (p ∙ sym (length-marksTo n)) (λ i l. h i (omega arith) ∙ sym (getD-marksTo n i (omega arith)))
+  pub is-marksTo : (n : ℕ) (xs : List Bool) → length xs ≡ n → ((i : ℕ) → i < n → getD xs i false ≡ f i)
+      → xs ≡ marksTo f n
+  is-marksTo n xs p h = ext-getD false xs (marksTo f n) (p ∙ sym (length-marksTo n))
+      (λ i l. h i (omega arith) ∙ sym (getD-marksTo n i (omega arith)))

@@ -1,8 +1,11 @@
--- A norm holds the root of the exact sum of squares, each end by itself. The greatest end g is sharp, so each value over g, their squares' sum, its root and g times that root hold the exact ones; where 1 / g overflows, only upper ends become infinite.
+-- A norm holds the root of the exact sum of squares, each end by itself. The greatest end g is sharp, so each value
+-- over g, their squares' sum, its root and g times that root hold the exact ones; where 1 / g overflows, only upper
+-- ends become infinite.
 use mathlib.Core.Path.{_≡_, refl, sym, ap, _∙_, subst}
 use mathlib.Core.Logic.{inl, inr}
 use Prim.Native.Nat.{ℕ, zero, suc, _+_, _*_, _^_, _<_, zero-le}
-use native.Mathlib.Nat.{le-trans, mul-pos, zero-lt-suc, lt-suc-self, le-suc, mul-comm, mul-assoc, mul-mul-mul-comm, add-mul, zero-mul}
+use native.Mathlib.Nat.{le-trans, mul-pos, zero-lt-suc, lt-suc-self, le-suc, mul-comm, mul-assoc, mul-mul-mul-comm}
+use native.Mathlib.Nat.{add-mul, zero-mul}
 use native.Mathlib.Omega.{arith}
 use mathlib.Core.Bool.{Bool, true, false, _&&_}
 use lib.Dec.{T, lt→ltb, le→leb}
@@ -17,7 +20,8 @@ use Rattle.interval.specs.Float.{greater}
 use Rattle.interval.specs.OneSided.{Within, WithinRoot}
 use Rattle.interval.specs.Result.{ok, refused}
 use Rattle.interval.specs.Root.{nearestRoot}
-use Rattle.interval.specs.Scalar.{zero64, zeroS, pick, degenerate, inverse, holdsZero, addOf, subOf, mulOf, divOf, absOf, maxOf, sqrtOf, clamped, outward, definitelyLess, definitelyGreater}
+use Rattle.interval.specs.Scalar.{zero64, zeroS, pick, degenerate, inverse, holdsZero, addOf, subOf, mulOf, divOf}
+use Rattle.interval.specs.Scalar.{absOf, maxOf, sqrtOf, clamped, outward, definitelyLess, definitelyGreater}
 use Rattle.interval.specs.Step.{nextUp}
 use Rattle.interval.proofs.Bounded.Roots.{sqrt-given}
 use Rattle.interval.proofs.Corners.{leZ-eq, mono, scale-mul}
@@ -79,15 +83,24 @@ pub record Scale (x : Scalar) : Type 0 where
   pub hi-is : unitsOf binary64 (x .hi) ≡ pos (suc size)
 
 pub scale-of : (x : Scalar) → Sharp x → definitelyGreater x zeroS ≡ true → Scale x
-scale-of x s e = subst Scale (sym (s .is)) (by (unitsOf binary64 (s .end)) refl (parts-of-lt (unitsOf binary64 zero64) (unitsOf binary64 (s .end)) (lt-units zero64 (s .end) (zero-fits .0) tt (s .is-float) (s .is-finite) (subst T (sym (ap (λ (z : Scalar). definitelyGreater z zeroS) (sym (s .is)) ∙ e)) tt))))
+scale-of x s e = subst Scale (sym (s .is)) (by (unitsOf binary64 (s .end)) refl (parts-of-lt (unitsOf binary64 zero64)
+    (unitsOf binary64 (s .end)) (lt-units zero64 (s .end) (zero-fits .0) tt (s .is-float) (s .is-finite)
+    (subst T (sym (ap (λ (z : Scalar). definitelyGreater z zeroS) (sym (s .is)) ∙ e)) tt))))
   where
     v : Float
     v = s .end
 
-    by : (u : ℤ) → unitsOf binary64 v ≡ u → P (unitsOf binary64 zero64) + N u < P u + N (unitsOf binary64 zero64) → Scale (degenerate v)
+    by : (u : ℤ) → unitsOf binary64 v ≡ u → P (unitsOf binary64 zero64) + N u < P u + N (unitsOf binary64 zero64)
+        → Scale (degenerate v)
     by (pos zero) e h = absurd (omega (arith, zero-none))
     by (negsuc m) e h = absurd (omega (arith, zero-none))
-    by (pos (suc m)) e h = record { size = m; is-float = (s .is-float, s .is-float); is-finite = record { lo-finite = s .is-finite; hi-finite = s .is-finite }; lo-is = e; hi-is = e }
+    by (pos (suc m)) e h = record {
+      size = m;
+      is-float = (s .is-float, s .is-float);
+      is-finite = record { lo-finite = s .is-finite; hi-finite = s .is-finite };
+      lo-is = e;
+      hi-is = e;
+    }
 
 module _ (g : Scalar) (s : Scale g) where
   scale-within : Within g (pos (suc (s .size))) (2 ^ low binary64)
@@ -102,11 +115,19 @@ module _ (g : Scalar) (s : Scale g) where
   not-zero z = omega (arith, zero-P (g .lo) (s .is-float .0) z, ap P (s .lo-is))
 
   pub divides : holdsZero g ≡ false
-  divides = go (le (g .lo) zero64) (λ h. le-units (g .lo) zero64 (s .is-float .0) (s .is-finite .lo-finite) (zero-fits .0) tt h)
+  divides = go (le (g .lo) zero64)
+      (λ h. le-units (g .lo) zero64 (s .is-float .0) (s .is-finite .lo-finite) (zero-fits .0) tt h)
     where
-      go : (b : Bool) → (T b → T (leZ (unitsOf binary64 (g .lo)) (unitsOf binary64 zero64))) → (b && le zero64 (g .hi)) ≡ false
+      go : (b : Bool) → (T b → T (leZ (unitsOf binary64 (g .lo)) (unitsOf binary64 zero64)))
+          → (b && le zero64 (g .hi)) ≡ false
       go false k = refl
-      go true k = absurd (omega (arith, parts-of-le (unitsOf binary64 (g .lo)) (unitsOf binary64 zero64) (k tt), zero-none, ap P (s .lo-is), ap N (s .lo-is)))
+      go true k = absurd (omega (
+        arith,
+        parts-of-le (unitsOf binary64 (g .lo)) (unitsOf binary64 zero64) (k tt),
+        zero-none,
+        ap P (s .lo-is),
+        ap N (s .lo-is),
+      ))
 
   -- ---- each value over g, and the sum of the squares
   pub sum-fits : (f : ℕ → Scalar) (n : ℕ) (d : Scalar) → scaledSquares f g n ≡ ok d → Fits d
@@ -117,21 +138,29 @@ module _ (g : Scalar) (s : Scale g) where
       let q = bind-value (divOf (f n) g) _ (a .2) in
       subst Fits (ok-inj (q .2)) (outward-fits _ _)
 
-  pub scaled-within : (f : ℕ → Scalar) (n : ℕ) (d : Scalar) → ((i : ℕ) → i < n → Fits (f i)) → scaledSquares f g n ≡ ok d → (p : ℕ → ℤ) (c : ℕ) → 0 < c → ((i : ℕ) → i < n → Within (f i) (p i) c)
+  pub scaled-within : (f : ℕ → Scalar) (n : ℕ) (d : Scalar) → ((i : ℕ) → i < n → Fits (f i))
+      → scaledSquares f g n ≡ ok d → (p : ℕ → ℤ) (c : ℕ) → 0 < c → ((i : ℕ) → i < n → Within (f i) (p i) c)
       → Within d (squaresTo (λ i. p i *ℤ pos (2 ^ low binary64)) n) (c * suc (s .size) * (c * suc (s .size)))
   unfolding scaledSquares bind squaresTo
-  scaled-within f zero d t e p c C a = subst (λ (z : Scalar). Within z (pos 0) (c * suc (s .size) * (c * suc (s .size)))) (ok-inj e) (zero-within (c * suc (s .size) * (c * suc (s .size))))
+  scaled-within f zero d t e p c C a =
+      subst (λ (z : Scalar). Within z (pos 0) (c * suc (s .size) * (c * suc (s .size)))) (ok-inj e)
+      (zero-within (c * suc (s .size) * (c * suc (s .size))))
   scaled-within f (suc n) d t e p c C a =
       let h : n < suc n = lt-suc-self n in
       let l = 2 ^ low binary64 in
       let k = c * suc (s .size) in
       let x = bind-value (scaledSquares f g n) _ e in
       let q = bind-value (divOf (f n) g) _ (x .2) in
-      let w = div-within (f n) g (q .0) (p n) (pos (suc (s .size))) c l C (pow-pos (low binary64)) (t n h) (s .is-float) (q .1) (a n h) scale-within in
-      let y = square-within (q .0) (p n *ℤ pos l) k (mul-pos C (zero-lt-suc (s .size))) (quotient-fits (f n) g (q .0) (q .1)) w in
-      let z = scaled-within f n (x .0) (λ i j. t i (le-trans j (le-suc n))) (x .1) p c C (λ i j. a i (le-trans j (le-suc n))) in
-      subst (λ (r : Scalar). Within r (squaresTo (λ i. p i *ℤ pos l) n +ℤ (p n *ℤ pos l) *ℤ (p n *ℤ pos l)) (k * k)) (ok-inj (q .2))
-      (add-within (x .0) (mulOf (q .0) (q .0)) (squaresTo (λ i. p i *ℤ pos l) n) ((p n *ℤ pos l) *ℤ (p n *ℤ pos l)) (k * k) (sum-fits f n (x .0) (x .1)) (outward-fits _ _) z y)
+      let w = div-within (f n) g (q .0) (p n) (pos (suc (s .size))) c l C (pow-pos (low binary64)) (t n h) (s .is-float)
+      (q .1) (a n h) scale-within in
+      let y = square-within (q .0) (p n *ℤ pos l) k (mul-pos C (zero-lt-suc (s .size)))
+      (quotient-fits (f n) g (q .0) (q .1)) w in
+      let z =
+      scaled-within f n (x .0) (λ i j. t i (le-trans j (le-suc n))) (x .1) p c C (λ i j. a i (le-trans j (le-suc n))) in
+      subst (λ (r : Scalar). Within r (squaresTo (λ i. p i *ℤ pos l) n +ℤ (p n *ℤ pos l) *ℤ (p n *ℤ pos l)) (k * k))
+      (ok-inj (q .2))
+      (add-within (x .0) (mulOf (q .0) (q .0)) (squaresTo (λ i. p i *ℤ pos l) n) ((p n *ℤ pos l) *ℤ (p n *ℤ pos l))
+      (k * k) (sum-fits f n (x .0) (x .1)) (outward-fits _ _) z y)
 
   scaled-given : (f : ℕ → Scalar) (n : ℕ) → (d : Scalar) × (scaledSquares f g n ≡ ok d)
   unfolding scaledSquares bind
@@ -148,13 +177,17 @@ module _ (g : Scalar) (s : Scale g) where
 scaled-sum : (p : ℕ → ℤ) (l n : ℕ) → squaresTo (λ i. p i *ℤ pos l) n ≡ pos (natAbs (squaresTo p n) * (l * l))
 unfolding squaresTo
 scaled-sum p l zero = ap pos (sym (zero-mul (l * l)))
-scaled-sum p l (suc n) = sums (l * l) (scaled-sum p l n) (scale-mul (p n) (p n) l l) (squares-size p n) (square-size (p n))
+scaled-sum p l (suc n) =
+    sums (l * l) (scaled-sum p l n) (scale-mul (p n) (p n) l l) (squares-size p n) (square-size (p n))
   where
-    sums : {x y z w : ℤ} {a b : ℕ} (m : ℕ) → x ≡ pos (natAbs z * m) → y ≡ w *ℤ pos m → z ≡ pos a → w ≡ pos b → x +ℤ y ≡ pos (natAbs (z +ℤ w) * m)
+    sums : {x y z w : ℤ} {a b : ℕ} (m : ℕ) → x ≡ pos (natAbs z * m) → y ≡ w *ℤ pos m → z ≡ pos a → w ≡ pos b
+        → x +ℤ y ≡ pos (natAbs (z +ℤ w) * m)
     sums {a = a} {b = b} m ex ey ez ew = rw (ex, ey, ez, ew) (ap pos (sym (add-mul a b m)))
 
 -- g times the root of a sum over g, without the scale
-unscaled : (g r : Scalar) (k : Scale g) (s K : ℕ) → 0 < K → Fits r → WithinRoot r (s * (2 ^ low binary64 * 2 ^ low binary64)) (K * suc (k .size) * (K * suc (k .size))) → WithinRoot (mulOf g r) s (K * K)
+unscaled : (g r : Scalar) (k : Scale g) (s K : ℕ) → 0 < K
+    → Fits r → WithinRoot r (s * (2 ^ low binary64 * 2 ^ low binary64)) (K * suc (k .size) * (K * suc (k .size)))
+    → WithinRoot (mulOf g r) s (K * K)
 unscaled g r k s K C t w =
     let l = 2 ^ low binary64 in
     let u = suc (k .size) in
@@ -164,31 +197,38 @@ unscaled g r k s K C t w =
     root-cancel (mulOf g r) (u * u * (l * l)) s (K * K) (mul-pos (mul-pos U U) (mul-pos L L))
     (subst (λ (z : ℕ). WithinRoot (mulOf g r) z (u * u * (l * l) * (K * K))) (numer u s (l * l))
     (subst (WithinRoot (mulOf g r) (u * u * (s * (l * l)))) (denom K u (l * l))
-    (times-root g r u l (s * (l * l)) c L (mul-pos (mul-pos C U) (mul-pos C U)) (k .is-float) t (record { left = λ z y. absurd (not-zero g k z); right = λ z y. inl (k .is-finite .lo-finite) }) (scale-within g k) w)))
+    (times-root g r u l (s * (l * l)) c L (mul-pos (mul-pos C U) (mul-pos C U))
+    (k .is-float) t (record { left = λ z y. absurd (not-zero g k z); right = λ z y. inl (k .is-finite .lo-finite) })
+    (scale-within g k) w)))
   where
     numer : (u s m : ℕ) → u * u * (s * m) ≡ u * u * m * s
     numer u s m = ap (λ (z : ℕ). u * u * z) (mul-comm s m) ∙ sym (mul-assoc (u * u) m s)
 
     denom : (K u m : ℕ) → m * (K * u * (K * u)) ≡ u * u * m * (K * K)
-    denom K u m = ap (λ (z : ℕ). m * z) (mul-mul-mul-comm K u K u ∙ mul-comm (K * K) (u * u)) ∙ sym (mul-assoc m (u * u) (K * K)) ∙ ap (λ (z : ℕ). z * (K * K)) (mul-comm m (u * u))
+    denom K u m = ap (λ (z : ℕ). m * z) (mul-mul-mul-comm K u K u ∙ mul-comm (K * K) (u * u))
+        ∙ sym (mul-assoc m (u * u) (K * K)) ∙ ap (λ (z : ℕ). z * (K * K)) (mul-comm m (u * u))
 
 -- which of the two ways the norm goes
 pub data Way (f : ℕ → Scalar) (n : ℕ) : Type 0 where
   plain : normOf f n ≡ sqrtOf (dotTo f f n) → Way f n
-  scaled : definitelyGreater (largestTo f n) zeroS ≡ true → Scale (largestTo f n) → normOf f n ≡ scaledRoot (largestTo f n) (scaledSquares f (largestTo f n) n) → Way f n
+  scaled : definitelyGreater (largestTo f n) zeroS ≡ true → Scale (largestTo f n)
+      → normOf f n ≡ scaledRoot (largestTo f n) (scaledSquares f (largestTo f n) n) → Way f n
 
 pub way : (f : ℕ → Scalar) (n : ℕ) → Rows f n → Way f n
 unfolding normOf
 way f n r = go (definitelyGreater (largestTo f n) zeroS) refl
   where
     go : (b : Bool) → definitelyGreater (largestTo f n) zeroS ≡ b → Way f n
-    go true e = scaled e (scale-of (largestTo f n) (largest-sharp f n r) e) (ap (λ (b : Bool). pick b (scaledRoot (largestTo f n) (scaledSquares f (largestTo f n) n)) (sqrtOf (dotTo f f n))) e)
-    go false e = plain (ap (λ (b : Bool). pick b (scaledRoot (largestTo f n) (scaledSquares f (largestTo f n) n)) (sqrtOf (dotTo f f n))) e)
+    go true e = scaled e (scale-of (largestTo f n) (largest-sharp f n r) e) (ap (λ (b : Bool).
+        pick b (scaledRoot (largestTo f n) (scaledSquares f (largestTo f n) n)) (sqrtOf (dotTo f f n))) e)
+    go false e = plain (ap (λ (b : Bool).
+        pick b (scaledRoot (largestTo f n) (scaledSquares f (largestTo f n) n)) (sqrtOf (dotTo f f n))) e)
 
 -- the sum over the scale and its root, where the norm has a value
 pub data Value (f : ℕ → Scalar) (n : ℕ) (x : Scalar) : Type 0 where
   plain-root : sqrtOf (dotTo f f n) ≡ ok x → Value f n x
-  scaled-root : Scale (largestTo f n) → (d t : Scalar) → scaledSquares f (largestTo f n) n ≡ ok d → sqrtOf d ≡ ok t → mulOf (largestTo f n) t ≡ x → Value f n x
+  scaled-root : Scale (largestTo f n) → (d t : Scalar) → scaledSquares f (largestTo f n) n ≡ ok d → sqrtOf d ≡ ok t
+      → mulOf (largestTo f n) t ≡ x → Value f n x
 
 pub norm-value : (f : ℕ → Scalar) (n : ℕ) → Rows f n → (x : Scalar) → normOf f n ≡ ok x → Value f n x
 norm-value f n r x e = go (way f n r)
@@ -227,15 +267,20 @@ module _ (f : ℕ → Scalar) (n : ℕ) (r : Rows f n) (p : ℕ → ℤ) (k : �
   plain-within = subst (λ (z : ℤ). Within (dotTo f f n) z (2 ^ k * 2 ^ k)) (squares-size p n) (dot-within f n r p k a)
 
   pub sum-not-negative : lt (dotTo f f n .hi) zero64 ≡ false
-  sum-not-negative = not-negative (dotTo f f n) (natAbs (squaresTo p n)) (2 ^ k * 2 ^ k) (mul-pos (pow-pos k) (pow-pos k)) (dot-fits f f n) plain-within
+  sum-not-negative = not-negative (dotTo f f n) (natAbs (squaresTo p n)) (2 ^ k * 2 ^ k)
+      (mul-pos (pow-pos k) (pow-pos k)) (dot-fits f f n) plain-within
 
-  pub over-within : (g : Scalar) (s : Scale g) (d : Scalar) → scaledSquares f g n ≡ ok d → Within d (pos (natAbs (squaresTo p n) * (2 ^ low binary64 * 2 ^ low binary64))) (2 ^ k * suc (s .size) * (2 ^ k * suc (s .size)))
+  pub over-within : (g : Scalar) (s : Scale g) (d : Scalar) → scaledSquares f g n ≡ ok d
+      → Within d (pos (natAbs (squaresTo p n) * (2 ^ low binary64 * 2 ^ low binary64)))
+      (2 ^ k * suc (s .size) * (2 ^ k * suc (s .size)))
   over-within g s d e =
-      subst (λ (z : ℤ). Within d z (2 ^ k * suc (s .size) * (2 ^ k * suc (s .size)))) (scaled-sum p (2 ^ low binary64) n)
+      subst (λ (z : ℤ). Within d z (2 ^ k * suc (s .size) * (2 ^ k * suc (s .size))))
+      (scaled-sum p (2 ^ low binary64) n)
       (scaled-within g s f n d (λ i h. r i h .0) e p (2 ^ k) (pow-pos k)
       (λ i h. holds-within (f i) (p i) (2 ^ k) (r i h .1) (a i h .inside)))
 
-  pub scaled-not-negative : (g : Scalar) (s : Scale g) (d : Scalar) → scaledSquares f g n ≡ ok d → lt (d .hi) zero64 ≡ false
+  pub scaled-not-negative : (g : Scalar) (s : Scale g) (d : Scalar) → scaledSquares f g n ≡ ok d
+      → lt (d .hi) zero64 ≡ false
   scaled-not-negative g s d e =
       let C : 0 < 2 ^ k * suc (s .size) = mul-pos (pow-pos k) (zero-lt-suc (s .size)) in
       not-negative d _ _ (mul-pos C C) (sum-fits g s f n d e) (over-within g s d e)
@@ -244,11 +289,13 @@ module _ (f : ℕ → Scalar) (n : ℕ) (r : Rows f n) (p : ℕ → ℤ) (k : �
   norm-within x e = go (norm-value f n r x e)
     where
       go : Value f n x → WithinRoot x (natAbs (squaresTo p n)) (2 ^ k * 2 ^ k)
-      go (plain-root q) = sqrt-within (dotTo f f n) x (natAbs (squaresTo p n)) (2 ^ k * 2 ^ k) (dot-fits f f n) q plain-within
+      go (plain-root q) =
+          sqrt-within (dotTo f f n) x (natAbs (squaresTo p n)) (2 ^ k * 2 ^ k) (dot-fits f f n) q plain-within
       go (scaled-root s d t y z m) =
           let g = largestTo f n in
           subst (λ (z : Scalar). WithinRoot z (natAbs (squaresTo p n)) (2 ^ k * 2 ^ k)) m
-          (unscaled g t s (natAbs (squaresTo p n)) (2 ^ k) (pow-pos k) (sqrt-fits d t z) (sqrt-within d t _ _ (sum-fits g s f n d y) z (over-within g s d y)))
+          (unscaled g t s (natAbs (squaresTo p n)) (2 ^ k) (pow-pos k) (sqrt-fits d t z)
+          (sqrt-within d t _ _ (sum-fits g s f n d y) z (over-within g s d y)))
 
   pub norm-chosen : (x : Scalar) × (normOf f n ≡ ok x)
   norm-chosen = go (way f n r)
@@ -257,11 +304,15 @@ module _ (f : ℕ → Scalar) (n : ℕ) (r : Rows f n) (p : ℕ → ℤ) (k : �
       go (plain q) = (rootOf (dotTo f f n), q ∙ sqrt-given (dotTo f f n) sum-not-negative)
       go (scaled h s q) =
           let g = largestTo f n in
-          let d = scaled-given g s f n in
-          (mulOf g (rootOf (d .0)), q ∙ (unfold scaledRoot in bind-ok (λ d. bind (sqrtOf d) (λ t. ok (mulOf g t))) (d .1) ∙ bind-ok (λ t. ok (mulOf g t)) (sqrt-given (d .0) (scaled-not-negative g s (d .0) (d .1)))))
+          let d = scaled-given g s f n in (
+            mulOf g (rootOf (d .0)),
+            q ∙ (unfold scaledRoot in bind-ok (λ d. bind (sqrtOf d) (λ t. ok (mulOf g t))) (d .1)
+                ∙ bind-ok (λ t. ok (mulOf g t)) (sqrt-given (d .0) (scaled-not-negative g s (d .0) (d .1)))),
+          )
 
 -- ordered ends have a choice, the lower end: so the norm is never refused
-pub lower-ends : (f : ℕ → Scalar) (n : ℕ) → Rows f n → Ordered f n → Chosen f n (λ i. unitsOf binary64 (f i .lo)) (low binary64)
+pub lower-ends : (f : ℕ → Scalar) (n : ℕ) → Rows f n → Ordered f n
+    → Chosen f n (λ i. unitsOf binary64 (f i .lo)) (low binary64)
 lower-ends f n r o i h = record {
   is-finite = r i h .1;
   inside = record {
@@ -275,20 +326,27 @@ pub norm-given : (f : ℕ → Scalar) (n : ℕ) → Rows f n → Ordered f n →
 norm-given f n r o = norm-chosen f n r (λ i. unitsOf binary64 (f i .lo)) (low binary64) (lower-ends f n r o)
 
 -- ---- a definite answer about two norms, of n and of m scalars
-module _ (f g : ℕ → Scalar) (n m : ℕ) (rf : Rows f n) (rg : Rows g m) (x y : Scalar) (ex : normOf f n ≡ ok x) (ey : normOf g m ≡ ok y) where
+module _ (f g : ℕ → Scalar) (n m : ℕ) (rf : Rows f n) (rg : Rows g m) (x y : Scalar) (ex : normOf f n ≡ ok x)
+    (ey : normOf g m ≡ ok y) where
   exact-less : (p q : ℕ → ℤ) → natAbs (squaresTo q m) < natAbs (squaresTo p n) → T (ltZ (squaresTo q m) (squaresTo p n))
-  exact-less p q h = rw (squares-size q m, squares-size p n) (lt→ltb (natAbs (squaresTo q m)) (natAbs (squaresTo p n)) h)
+  exact-less p q h =
+      rw (squares-size q m, squares-size p n) (lt→ltb (natAbs (squaresTo q m)) (natAbs (squaresTo p n)) h)
 
-  pub norm-less : T (definitelyLess y x) → (p q : ℕ → ℤ) (k : ℕ) → Chosen f n p k → Chosen g m q k → T (ltZ (squaresTo q m) (squaresTo p n))
+  pub norm-less : T (definitelyLess y x) → (p q : ℕ → ℤ) (k : ℕ) → Chosen f n p k → Chosen g m q k
+      → T (ltZ (squaresTo q m) (squaresTo p n))
   norm-less h p q k a b =
-      exact-less p q (less-roots x y _ _ (2 ^ k * 2 ^ k) (mul-pos (pow-pos k) (pow-pos k)) (norm-fits f n rf x ex) (norm-fits g m rg y ey) (norm-within f n rf p k a x ex) (norm-within g m rg q k b y ey) h)
+      exact-less p q (less-roots x y _ _ (2 ^ k * 2 ^ k) (mul-pos (pow-pos k) (pow-pos k)) (norm-fits f n rf x ex)
+      (norm-fits g m rg y ey) (norm-within f n rf p k a x ex) (norm-within g m rg q k b y ey) h)
 
   -- the fall from one to the other
-  pub norm-fell : T (definitelyGreater (subOf x y) zeroS) → (p q : ℕ → ℤ) (k : ℕ) → Chosen f n p k → Chosen g m q k → T (ltZ (squaresTo q m) (squaresTo p n))
+  pub norm-fell : T (definitelyGreater (subOf x y) zeroS) → (p q : ℕ → ℤ) (k : ℕ) → Chosen f n p k → Chosen g m q k
+      → T (ltZ (squaresTo q m) (squaresTo p n))
   norm-fell h p q k a b =
-      exact-less p q (fell-roots x y _ _ (2 ^ k * 2 ^ k) (mul-pos (pow-pos k) (pow-pos k)) (norm-fits f n rf x ex) (norm-fits g m rg y ey) (norm-within f n rf p k a x ex) (norm-within g m rg q k b y ey) h)
+      exact-less p q (fell-roots x y _ _ (2 ^ k * 2 ^ k) (mul-pos (pow-pos k) (pow-pos k)) (norm-fits f n rf x ex)
+      (norm-fits g m rg y ey) (norm-within f n rf p k a x ex) (norm-within g m rg q k b y ey) h)
 
 -- ---- of none: [-2 ^ -1074, 2 ^ -1074]
-pub norm-empty : (f : ℕ → Scalar) → normOf f 0 ≡ ok (record { lo = ofBits binary64 0x8000_0000_0000_0001; hi = ofBits binary64 1 })
+pub norm-empty : (f : ℕ → Scalar)
+    → normOf f 0 ≡ ok (record { lo = ofBits binary64 0x8000_0000_0000_0001; hi = ofBits binary64 1 })
 unfolding normOf largestTo plusTo sqrtOf clamped nearestRoot nextUp neg lt ofBits
 norm-empty f = refl

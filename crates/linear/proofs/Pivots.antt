@@ -7,12 +7,14 @@ use lib.Ieee.{lt}
 use Rattle.interval.specs.declared.Scalar.{Scalar}
 use Rattle.interval.specs.Root.{nearestRoot}
 use Rattle.interval.specs.Result.{Res, ok, refused}
-use Rattle.interval.specs.Scalar.{zero64, one64, zeroS, degenerate, outward, pick, mulOf, divOf, inverse, holdsZero, clamped, sqrtOf, definitelyGreater}
+use Rattle.interval.specs.Scalar.{zero64, one64, zeroS, degenerate, outward, pick, mulOf, divOf, inverse, holdsZero}
+use Rattle.interval.specs.Scalar.{clamped, sqrtOf, definitelyGreater}
 use Rattle.linear.specs.Cholesky.{Pivot, root, leftOut, usable, rootPivot, pivotOf}
 
 -- ---- a root that is kept
 
-kept-usable : (u : Bool) (v r : Scalar) → usable (divOf (degenerate one64) v) ≡ u → _≡_ {A = Res Pivot} (ok (pick u (root v) leftOut)) (ok (root r)) → usable (divOf (degenerate one64) r) ≡ true
+kept-usable : (u : Bool) (v r : Scalar) → usable (divOf (degenerate one64) v) ≡ u
+    → _≡_ {A = Res Pivot} (ok (pick u (root v) leftOut)) (ok (root r)) → usable (divOf (degenerate one64) r) ≡ true
 kept-usable true v r h e = let q : v ≡ r = cc in rw (← q) h
 kept-usable false v r h e = let z : _≡_ {A = ℕ} 0 1 = cc in absurd (omega arith)
 
@@ -21,7 +23,8 @@ unfolding rootPivot
 root-usable (ok v) r e = kept-usable (usable (divOf (degenerate one64) v)) v r refl e
 root-usable (refused k) r e = let z : _≡_ {A = ℕ} 0 1 = cc in absurd (omega arith)
 
-picked-usable : (b : Bool) (q : Res Scalar) (r : Scalar) → pick b (rootPivot q) (ok leftOut) ≡ ok (root r) → usable (divOf (degenerate one64) r) ≡ true
+picked-usable : (b : Bool) (q : Res Scalar) (r : Scalar) → pick b (rootPivot q) (ok leftOut) ≡ ok (root r)
+    → usable (divOf (degenerate one64) r) ≡ true
 picked-usable true q r e = root-usable q r e
 picked-usable false q r e = let z : _≡_ {A = ℕ} 0 1 = cc in absurd (omega arith)
 

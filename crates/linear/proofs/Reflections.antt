@@ -1,5 +1,5 @@
--- One reflection, law by law as the code takes it: the normal, a column reflected, and the marks beside it. Each takes what the calls gave, one equation a call,
--- since the scalars' operations are written out wherever they stand.
+-- One reflection, law by law as the code takes it: the normal, a column reflected, and the marks beside it. Each takes
+-- what the calls gave, one equation a call, since the scalars' operations are written out wherever they stand.
 use Prim.Native.Nat.{ℕ, zero, suc, _+_, _*_, _≤_, _<_}
 use mathlib.Core.Bool.{Bool}
 use mathlib.Core.List.{List}
@@ -33,12 +33,15 @@ rows-positive k (suc m) h = omega arith
 
 -- ---- the steps
 
-pub normal-is : (xs : List Float) (size : Scalar) {x a s v : Scalar} {xs′ : List Float} → x ≡ at xs 0 → a ≡ alphaOf x size → s ≡ subOf x a → v ≡ chooseOf s → xs′ ≡ put xs 0 v → xs′ ≡ normalOf xs size
+pub normal-is : (xs : List Float) (size : Scalar) {x a s v : Scalar} {xs′ : List Float} → x ≡ at xs 0
+    → a ≡ alphaOf x size → s ≡ subOf x a → v ≡ chooseOf s → xs′ ≡ put xs 0 v → xs′ ≡ normalOf xs size
 unfolding normalOf
 normal-is xs size ex ea es ev e = rw (e, ev, es, ea, ex)
 
-module _ (v : List Float) (vv : Scalar) (n base : ℕ) (cols : List Float) {s p : Scalar} (es : s ≡ dotTo (at v) (along cols base 1) n) (ep : p ≡ mulOf s (degenerate two64)) where
-  pub reflect-ok : {f : Scalar} {c : List Float} → ok f ≡ divOf p vv → c ≡ minusScaled cols base f v 0 n → ok c ≡ reflectStep v vv n base cols
+module _ (v : List Float) (vv : Scalar) (n base : ℕ) (cols : List Float) {s p : Scalar}
+    (es : s ≡ dotTo (at v) (along cols base 1) n) (ep : p ≡ mulOf s (degenerate two64)) where
+  pub reflect-ok : {f : Scalar} {c : List Float} → ok f ≡ divOf p vv → c ≡ minusScaled cols base f v 0 n
+      → ok c ≡ reflectStep v vv n base cols
   unfolding reflectStep
   reflect-ok ef e = rw e (sym (bind-ok _ (sym (rw (ep, es) at ef))))
 
@@ -46,6 +49,7 @@ module _ (v : List Float) (vv : Scalar) (n base : ℕ) (cols : List Float) {s p 
   unfolding reflectStep
   reflect-refused e = sym (bind-refused _ (sym (rw (ep, es) at e)))
 
-pub with-marks : (r : Done) (cols : List Float) (left : List Bool) (s : Res (List Float)) → doneOf r cols ≡ s → doneOf r (factorOf cols left) ≡ withMarks left s
+pub with-marks : (r : Done) (cols : List Float) (left : List Bool) (s : Res (List Float)) → doneOf r cols ≡ s
+    → doneOf r (factorOf cols left) ≡ withMarks left s
 with-marks d.Finished cols left s e = rw (← e)
 with-marks (d.Refused k) cols left s e = rw (← e)

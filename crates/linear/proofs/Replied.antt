@@ -1,4 +1,5 @@
--- A reply says how a call ended and what the slice holds. So where the reply is that of a result, the end with the slice is that result.
+-- A reply says how a call ended and what the slice holds. So where the reply is that of a result, the end with the
+-- slice is that result.
 use mathlib.Core.Path.{_≡_, ap}
 use Prim.Native.Nat.{ℕ}
 use native.Mathlib.Omega.{arith}
@@ -11,12 +12,16 @@ use Rattle.linear.specs.declared.answers.Done.the-variants as d
 
 pub done-is : {A : Type 0} (r : Done) (x clear : A) (s : Res A) → replied r x ≡ replyOf clear s → doneOf r x ≡ s
 done-is d.Finished x clear (ok y) e = ap (λ z. ok (z .out)) e
-done-is d.Finished x clear (refused k) e = let h = ap (λ z. z .ended) e in let z : _≡_ {A = ℕ} 0 1 = cc in absurd (omega arith)
-done-is (d.Refused q) x clear (ok y) e = let h = ap (λ z. z .ended) e in let z : _≡_ {A = ℕ} 0 1 = cc in absurd (omega arith)
-done-is (d.Refused q) x clear (refused k) e = let h = ap (λ z. z .ended) e in let z : numberOf q ≡ k = cc in ap refused z
+done-is d.Finished x clear (refused k) e =
+    let h = ap (λ z. z .ended) e in let z : _≡_ {A = ℕ} 0 1 = cc in absurd (omega arith)
+done-is (d.Refused q) x clear (ok y) e =
+    let h = ap (λ z. z .ended) e in let z : _≡_ {A = ℕ} 0 1 = cc in absurd (omega arith)
+done-is (d.Refused q) x clear (refused k) e =
+    let h = ap (λ z. z .ended) e in let z : numberOf q ≡ k = cc in ap refused z
 
 -- what is worked out from a state whether or not it is a result
-pub done-then : {A B : Type 0} (r : Done) (f : A → B) (x : A) {s : Res A} → doneOf r x ≡ s → doneOf r (f x) ≡ bind s (λ y. ok (f y))
+pub done-then : {A B : Type 0} (r : Done) (f : A → B) (x : A) {s : Res A} → doneOf r x ≡ s
+    → doneOf r (f x) ≡ bind s (λ y. ok (f y))
 unfolding bind
 done-then d.Finished f x e = rw (← e)
 done-then (d.Refused k) f x e = rw (← e)

@@ -72,25 +72,31 @@ module _ (f g : ℕ → Scalar) where
   pub points-start : (k : ℕ) → pointsFrom f g 0 (k - 0) ≡ pointsFrom f g 0 k
   points-start k = let e : k - 0 ≡ k = omega arith in ap (pointsFrom f g 0) e
 
-  one-more : (t k : ℕ) → t < k → pointsFrom f g t (k - t) ≡ pick (isSharp (f t) && isSharp (g t)) (pointsFrom f g (t + 1) (k - (t + 1))) t
+  one-more : (t k : ℕ) → t < k
+      → pointsFrom f g t (k - t) ≡ pick (isSharp (f t) && isSharp (g t)) (pointsFrom f g (t + 1) (k - (t + 1))) t
   unfolding pointsFrom
   one-more t k h =
       let e : k - t ≡ suc (k - (t + 1)) = omega arith in
-      ap (pointsFrom f g t) e ∙ ap (λ (n : ℕ). pick (isSharp (f t) && isSharp (g t)) (pointsFrom f g n (k - (t + 1))) t) (sym (add-one t))
+      ap (pointsFrom f g t) e
+      ∙ ap (λ (n : ℕ). pick (isSharp (f t) && isSharp (g t)) (pointsFrom f g n (k - (t + 1))) t) (sym (add-one t))
 
   pub points-all : (t k : ℕ) → t ≤ k → k ≤ t → t ≡ pointsFrom f g t (k - t)
   unfolding pointsFrom
   points-all t k h l = let e : k - t ≡ 0 = omega arith in sym (ap (pointsFrom f g t) e)
 
-  module _ (t k : ℕ) {x y : Scalar} {b : Bool} (h : t < k) (ex : x ≡ f t) (ey : y ≡ g t) (eb : b ≡ (isSharp x && isSharp y)) where
+  module _ (t k : ℕ) {x y : Scalar} {b : Bool} (h : t < k) (ex : x ≡ f t) (ey : y ≡ g t)
+      (eb : b ≡ (isSharp x && isSharp y)) where
     tested : (isSharp (f t) && isSharp (g t)) ≡ b
-    tested = sym (eb ∙ ap (λ (z : Scalar). isSharp z && isSharp y) ex ∙ ap (λ (z : Scalar). isSharp (f t) && isSharp z) ey)
+    tested =
+        sym (eb ∙ ap (λ (z : Scalar). isSharp z && isSharp y) ex ∙ ap (λ (z : Scalar). isSharp (f t) && isSharp z) ey)
 
     pub points-on : not b ≡ false → pointsFrom f g t (k - t) ≡ pointsFrom f g (t + 1) (k - (t + 1))
-    points-on e = one-more t k h ∙ ap (λ (b : Bool). pick b (pointsFrom f g (t + 1) (k - (t + 1))) t) (tested ∙ holds b e)
+    points-on e =
+        one-more t k h ∙ ap (λ (b : Bool). pick b (pointsFrom f g (t + 1) (k - (t + 1))) t) (tested ∙ holds b e)
 
     pub points-end : not b ≡ true → t ≡ pointsFrom f g t (k - t)
-    points-end e = sym (one-more t k h ∙ ap (λ (b : Bool). pick b (pointsFrom f g (t + 1) (k - (t + 1))) t) (tested ∙ fails b e))
+    points-end e =
+        sym (one-more t k h ∙ ap (λ (b : Bool). pick b (pointsFrom f g (t + 1) (k - (t + 1))) t) (tested ∙ fails b e))
 
 -- a run with step 1
 pub along-row : (xs : List Float) (base k : ℕ) → along xs base 1 k ≡ at xs (base + k)

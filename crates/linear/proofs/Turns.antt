@@ -1,4 +1,5 @@
--- A loop of calls that may refuse is a fold: from how a call ended, one turn more, or the refusal that settles the loop.
+-- A loop of calls that may refuse is a fold: from how a call ended, one turn more, or the refusal that settles the
+-- loop.
 use Prim.Native.Nat.{ℕ, _+_, _<_}
 use mathlib.Core.Path.{_≡_, sym, _∙_}
 use Rattle.interval.specs.Result.{Res, ok}
@@ -10,8 +11,10 @@ use Rattle.linear.specs.declared.answers.Done.the-variants.{Finished, Re
 use Rattle.linear.proofs.Folds.{turn, ends}
 
 module _ {A : Type 0} (f : A → ℕ → Res A) (z : A) where
-  pub went-on : {d : Done} {i : ℕ} {s t : A} → foldR f z i ≡ ok s → doneOf d t ≡ f s i → d ≡ Finished → foldR f z (i + 1) ≡ ok t
+  pub went-on : {d : Done} {i : ℕ} {s t : A} → foldR f z i ≡ ok s → doneOf d t ≡ f s i → d ≡ Finished
+      → foldR f z (i + 1) ≡ ok t
   went-on {i = i} e h q = turn f z i e ∙ sym (rw q at h)
 
-  pub broke-off : {d : Done} {k : LinearError} {n i : ℕ} {s : A} (t : A) → i < n → foldR f z i ≡ ok s → doneOf d t ≡ f s i → d ≡ Refused k → doneOf (Refused k) t ≡ foldR f z n
+  pub broke-off : {d : Done} {k : LinearError} {n i : ℕ} {s : A} (t : A) → i < n → foldR f z i ≡ ok s
+      → doneOf d t ≡ f s i → d ≡ Refused k → doneOf (Refused k) t ≡ foldR f z n
   broke-off t l e h q = sym (ends f z l e (sym (rw q at h)))

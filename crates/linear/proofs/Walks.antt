@@ -1,4 +1,5 @@
--- A walk along a run of scalars with its place cut off at the list's end: the place is the run's, or both are outside the list.
+-- A walk along a run of scalars with its place cut off at the list's end: the place is the run's, or both are outside
+-- the list.
 use Prim.Native.Nat.{ℕ, _+_, _-_, _*_, _/_, _≤_, _<_, min}
 use mathlib.Core.Logic.{⊎-elim}
 use mathlib.Core.Path.{_≡_, sym, ap, _∙_}
@@ -33,11 +34,13 @@ module _ (size base step : ℕ) where
   pub cut-none : Cut size base (base + 0 * step)
   cut-none = omega arith
 
-  pub cut-more : {i r : ℕ} (t : ℕ) → Cut size i (base + t * step) → r ≡ min (i + step) size → Cut size r (base + (t + 1) * step)
+  pub cut-more : {i r : ℕ} (t : ℕ) → Cut size i (base + t * step) → r ≡ min (i + step) size
+      → Cut size r (base + (t + 1) * step)
   cut-more t e q = let m : (t + 1) * step ≡ t * step + step = rw (add-one, suc-mul) in omega arith
 
 -- the same of a run with step 1, along a list that keeps its size
-pub cut-next : (base t : ℕ) {size n i r : ℕ} → Cut size i (base + t) → r ≡ min (i + 1) n → n ≡ size → Cut size r (base + (t + 1))
+pub cut-next : (base t : ℕ) {size n i r : ℕ} → Cut size i (base + t) → r ≡ min (i + 1) n → n ≡ size
+    → Cut size r (base + (t + 1))
 cut-next base t e q h = omega arith
 
 pub cut-size : {size n i p : ℕ} → Cut size i p → n ≡ size → Cut n i p

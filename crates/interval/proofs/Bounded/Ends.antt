@@ -28,26 +28,33 @@ small-weaken v j k g h =
     small v k (h .is-float) (h .is-finite) (le-trans (w .0) (pow-mono g)) (le-trans (w .1) (pow-mono g))
 
 pub bounded-weaken : (x : Scalar) (j k : ℕ) → j ≤ k → Bounded x j → Bounded x k
-bounded-weaken x j k g h = record { lo-small = small-weaken (x .lo) j k g (h .lo-small); hi-small = small-weaken (x .hi) j k g (h .hi-small) }
+bounded-weaken x j k g h =
+    record { lo-small = small-weaken (x .lo) j k g (h .lo-small); hi-small = small-weaken (x .hi) j k g (h .hi-small) }
 
 pub zero-small : (k : ℕ) → Small zero64 k
-zero-small k = small zero64 k zero-fits tt (le-trans (le-of-eq (zero-units false _ zero-fits)) zero-le) (le-trans (le-of-eq (zero-units-N false _ zero-fits)) zero-le)
+zero-small k = small zero64 k zero-fits tt (le-trans (le-of-eq (zero-units false _ zero-fits)) zero-le)
+    (le-trans (le-of-eq (zero-units-N false _ zero-fits)) zero-le)
 
 pub zero-bounded : (k : ℕ) → Bounded zeroS k
 zero-bounded k = record { lo-small = zero-small k; hi-small = zero-small k }
 
 pub neg-bounded : (x : Scalar) (k : ℕ) → Bounded x k → Bounded (negOf x) k
-neg-bounded x k h = record { lo-small = neg-small (x .hi) k (h .hi-small); hi-small = neg-small (x .lo) k (h .lo-small) }
+neg-bounded x k h =
+    record { lo-small = neg-small (x .hi) k (h .hi-small); hi-small = neg-small (x .lo) k (h .lo-small) }
 
 pub abs-bounded : (x : Scalar) (k : ℕ) → Bounded x k → Bounded (absOf x) k
 abs-bounded x k h = subst (λ (r : Scalar). Bounded r k) (sym (abs-is x)) (go (le zero64 (x .lo)) (le (x .hi) zero64))
   where
-    go : (a b : Bool) → Bounded (pick a x (pick b (negOf x) (record { lo = zero64; hi = fmax (neg (x .lo)) (x .hi) }))) k
+    go : (a b : Bool)
+        → Bounded (pick a x (pick b (negOf x) (record { lo = zero64; hi = fmax (neg (x .lo)) (x .hi) }))) k
     go true b = h
     go false true = neg-bounded x k h
     go false false =
         let n = neg-small (x .lo) k (h .lo-small) in
-        record { lo-small = zero-small k; hi-small = either-max (neg (x .lo)) (x .hi) (λ (z : Float). Small z k) n (h .hi-small) }
+        record {
+          lo-small = zero-small k;
+          hi-small = either-max (neg (x .lo)) (x .hi) (λ (z : Float). Small z k) n (h .hi-small);
+        }
 
 pub max-bounded : (x y : Scalar) (k : ℕ) → Bounded x k → Bounded y k → Bounded (maxOf x y) k
 max-bounded x y k h g =

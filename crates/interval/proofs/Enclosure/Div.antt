@@ -28,7 +28,9 @@ ratio-holds r p j (negsuc n) k f h = within-holds r (p *ℤ negℤ (pos k)) (j *
 
 -- what is held over 0 is 0, and every interval holds 0 over 0
 over-none : (x : Scalar) (p : ℤ) → HoldsQ x p 0 → p ≡ pos 0
-over-none x p h = is-none p (eq-of-mul-eq-mul-right (2 ^ low binary64) (pow-pos (low binary64)) (P p) (N p) (same _ _ _ _ (P p) (N p) (2 ^ low binary64) (scaled-le (unitsOf binary64 (x .lo)) p 0 (2 ^ low binary64) (h .from-lo)) (scaled-le p (unitsOf binary64 (x .hi)) (2 ^ low binary64) 0 (h .to-hi))))
+over-none x p h = is-none p (eq-of-mul-eq-mul-right (2 ^ low binary64) (pow-pos (low binary64)) (P p) (N p) (same _
+    _ _ _ (P p) (N p) (2 ^ low binary64) (scaled-le (unitsOf binary64 (x .lo)) p 0 (2 ^ low binary64) (h .from-lo))
+    (scaled-le p (unitsOf binary64 (x .hi)) (2 ^ low binary64) 0 (h .to-hi))))
   where
     same : (a b c d p n l : ℕ) → a * 0 + n * l ≤ p * l + b * 0 → p * l + d * 0 ≤ c * 0 + n * l → p * l ≡ n * l
     same a b c d p n l g h = omega (arith, mul-zero a, mul-zero b, mul-zero c, mul-zero d)
@@ -54,9 +56,14 @@ none-ratio r (pos zero) k = tt
 none-ratio r (pos (suc n)) k = nothing r (pos 0 *ℤ pos k) (0 * suc n) (zero-*ℤ (pos k)) (zero-mul (suc n))
 none-ratio r (negsuc n) k = nothing r (pos 0 *ℤ negℤ (pos k)) (0 * suc n) (zero-*ℤ (negℤ (pos k))) (zero-mul (suc n))
 
-pub div-holds : (x y : Scalar) → Fits x → Fits y → Finite x → Finite y → holdsZero y ≡ false → Finite (mulOf x (inverse y)) → (p q : ℤ) (j k : ℕ) → HoldsQ x p j → HoldsQ y q k → HoldsRatio (mulOf x (inverse y)) p j q k
-div-holds x y tx ty fx fy z fr p q zero k a b = subst (λ (p : ℤ). HoldsRatio (mulOf x (inverse y)) p 0 q k) (sym (over-none x p a)) (none-ratio (mulOf x (inverse y)) q k)
-div-holds x y tx ty fx fy z fr p q (suc j) zero a b = subst (λ (q : ℤ). HoldsRatio (mulOf x (inverse y)) p (suc j) q 0) (sym (over-none y q b)) tt
+pub div-holds : (x y : Scalar) → Fits x → Fits y → Finite x
+    → Finite y → holdsZero y ≡ false → Finite (mulOf x (inverse y)) → (p q : ℤ) (j k : ℕ) → HoldsQ x p j → HoldsQ y q k
+    → HoldsRatio (mulOf x (inverse y)) p j q k
+div-holds x y tx ty fx fy z fr p q zero k a b = subst (λ (p : ℤ). HoldsRatio (mulOf x (inverse y)) p 0 q k)
+    (sym (over-none x p a)) (none-ratio (mulOf x (inverse y)) q k)
+div-holds x y tx ty fx fy z fr p q (suc j) zero a b =
+    subst (λ (q : ℤ). HoldsRatio (mulOf x (inverse y)) p (suc j) q 0) (sym (over-none y q b)) tt
 div-holds x y tx ty fx fy z fr p q (suc j) (suc k) a b =
     ratio-holds (mulOf x (inverse y)) p (suc j) q (suc k) fr
-    (div-within x y (mulOf x (inverse y)) p q (suc j) (suc k) (zero-lt-suc j) (zero-lt-suc k) tx ty (not-refused x y z) (holds-within x p (suc j) fx a) (holds-within y q (suc k) fy b))
+    (div-within x y (mulOf x (inverse y)) p q (suc j) (suc k) (zero-lt-suc j) (zero-lt-suc k) tx ty (not-refused x y z)
+    (holds-within x p (suc j) fx a) (holds-within y q (suc k) fy b))

@@ -7,4 +7,5 @@ use Rattle.interval.proofs.OneSided.Ends.{holds-within, within-holds}
 use Rattle.interval.proofs.OneSided.Max.{max-within}
 
 pub max-encloses : (x y : Scalar) → Fits x → Fits y → Encloses maxℤ x y (maxOf x y)
-max-encloses x y tx ty fx fy fr p q k a b = within-holds (maxOf x y) (maxℤ p q) (2 ^ k) fr (max-within x y p q (2 ^ k) tx ty (holds-within x p (2 ^ k) fx a) (holds-within y q (2 ^ k) fy b))
+max-encloses x y tx ty fx fy fr p q k a b = within-holds (maxOf x y) (maxℤ p q) (2 ^ k) fr
+    (max-within x y p q (2 ^ k) tx ty (holds-within x p (2 ^ k) fx a) (holds-within y q (2 ^ k) fy b))

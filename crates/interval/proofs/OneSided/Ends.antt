@@ -1,4 +1,5 @@
--- Ends by themselves. A finite interval holds what lies within it; a bound stays one where the end moves outward by its rank; a stepped number is finite or the infinity outward.
+-- Ends by themselves. A finite interval holds what lies within it; a bound stays one where the end moves outward by its
+-- rank; a stepped number is finite or the infinity outward.
 use mathlib.Core.Path.{_≡_, refl, sym, ap, _∙_, subst}
 use mathlib.Core.Logic.{_⊎_, inl, inr}
 use Prim.Native.Nat.{ℕ, _+_, _*_, _^_, _≤_}
@@ -40,7 +41,8 @@ pub holds-within : (x : Scalar) (p : ℤ) (c : ℕ) → Finite x → HoldsQ x p 
 holds-within x p c f h = record { low-end = inr (f .lo-finite, h .from-lo); high-end = inr (f .hi-finite, h .to-hi) }
 
 pub within-holds : (x : Scalar) (p : ℤ) (c : ℕ) → Finite x → Within x p c → HoldsQ x p c
-within-holds x p c f h = record { from-lo = says (x .lo) (f .lo-finite) (h .low-end); to-hi = says (x .hi) (f .hi-finite) (h .high-end) }
+within-holds x p c f h =
+    record { from-lo = says (x .lo) (f .lo-finite) (h .low-end); to-hi = says (x .hi) (f .hi-finite) (h .high-end) }
 
 -- ---- [0, 0]
 pub zero-fits : Fits zeroS
@@ -52,7 +54,10 @@ zero-finite = record { lo-finite = tt; hi-finite = tt }
 
 pub zero-within : (c : ℕ) → Within zeroS (pos 0) c
 unfolding unitsOf
-zero-within c = record { low-end = inr (tt, le-scaled (pos 0) (pos 0) c (2 ^ low binary64) (none c (2 ^ low binary64))); high-end = inr (tt, le-scaled (pos 0) (pos 0) (2 ^ low binary64) c (none (2 ^ low binary64) c)) }
+zero-within c = record {
+  low-end = inr (tt, le-scaled (pos 0) (pos 0) c (2 ^ low binary64) (none c (2 ^ low binary64)));
+  high-end = inr (tt, le-scaled (pos 0) (pos 0) (2 ^ low binary64) c (none (2 ^ low binary64) c));
+}
   where
     none : (a b : ℕ) → 0 * a + 0 * b ≤ 0 * b + 0 * a
     none a b = omega (arith, zero-mul a, zero-mul b)
@@ -60,7 +65,11 @@ zero-within c = record { low-end = inr (tt, le-scaled (pos 0) (pos 0) c (2 ^ low
 -- ---- a bound of p / c bounds what lies beyond it, and an end moved outward stays a bound
 pub low-more : (x : Float) (p r : ℤ) (c : ℕ) → T (leZ p r) → LowerBound x p c → LowerBound x r c
 low-more x p r c h (inl e) = inl e
-low-more x p r c h (inr g) = inr (g .0, leZ-trans (unitsOf binary64 x *ℤ pos c) (p *ℤ pos (2 ^ low binary64)) (r *ℤ pos (2 ^ low binary64)) (g .1) (mono p r (2 ^ low binary64) h))
+low-more x p r c h (inr g) = inr (
+  g .0,
+  leZ-trans (unitsOf binary64 x *ℤ pos c) (p *ℤ pos (2 ^ low binary64)) (r *ℤ pos (2 ^ low binary64)) (g .1)
+      (mono p r (2 ^ low binary64) h),
+)
 
 pub minus-rank : rank binary64 (inf true) ≡ 0
 unfolding rank
@@ -70,29 +79,41 @@ plus-rank : rank binary64 (inf false) ≡ infBits binary64 + infBits binary64
 unfolding rank
 plus-rank = refl
 
-pub lower : (w v : Float) (p : ℤ) (c : ℕ) → Number w → T (fits binary64 v) → rank binary64 w ≤ rank binary64 v → LowerBound v p c → LowerBound w p c
+pub lower : (w v : Float) (p : ℤ) (c : ℕ) → Number w → T (fits binary64 v) → rank binary64 w ≤ rank binary64 v
+    → LowerBound v p c → LowerBound w p c
 unfolding isNan
 lower nan v p c g t k a = absurd (g .1)
 lower (inf true) v p c g t k a = inl refl
 lower (inf false) v p c g t k (inl e) = absurd (omega (arith, plus-rank, minus-rank, ap (rank binary64) e))
 lower (inf false) v p c g t k (inr h) = absurd (omega (arith, plus-rank, rank-in binary64 v t (h .0)))
-lower (fin s m e) v p c g t k (inl q) = absurd (omega (arith, rank-in binary64 (fin s m e) (g .0) tt, minus-rank, ap (rank binary64) q))
+lower (fin s m e) v p c g t k (inl q) =
+    absurd (omega (arith, rank-in binary64 (fin s m e) (g .0) tt, minus-rank, ap (rank binary64) q))
 lower (fin s m e) v p c g t k (inr h) =
     let w = fin s m e in
     let u = unitsOf binary64 in
-    inr (tt, leZ-trans (u w *ℤ pos c) (u v *ℤ pos c) (p *ℤ pos (2 ^ low binary64)) (mono (u w) (u v) c (rank-units w v (g .0) tt t (h .0) k)) (h .1))
+    inr (
+      tt,
+      leZ-trans (u w *ℤ pos c) (u v *ℤ pos c) (p *ℤ pos (2 ^ low binary64))
+          (mono (u w) (u v) c (rank-units w v (g .0) tt t (h .0) k)) (h .1),
+    )
 
-pub higher : (w v : Float) (p : ℤ) (c : ℕ) → Number w → T (fits binary64 v) → rank binary64 v ≤ rank binary64 w → UpperBound v p c → UpperBound w p c
+pub higher : (w v : Float) (p : ℤ) (c : ℕ) → Number w → T (fits binary64 v) → rank binary64 v ≤ rank binary64 w
+    → UpperBound v p c → UpperBound w p c
 unfolding isNan
 higher nan v p c g t k a = absurd (g .1)
 higher (inf false) v p c g t k a = inl refl
 higher (inf true) v p c g t k (inl e) = absurd (omega (arith, plus-rank, minus-rank, ap (rank binary64) e))
 higher (inf true) v p c g t k (inr h) = absurd (omega (arith, minus-rank, rank-in binary64 v t (h .0)))
-higher (fin s m e) v p c g t k (inl q) = absurd (omega (arith, rank-in binary64 (fin s m e) (g .0) tt, plus-rank, ap (rank binary64) q))
+higher (fin s m e) v p c g t k (inl q) =
+    absurd (omega (arith, rank-in binary64 (fin s m e) (g .0) tt, plus-rank, ap (rank binary64) q))
 higher (fin s m e) v p c g t k (inr h) =
     let w = fin s m e in
     let u = unitsOf binary64 in
-    inr (tt, leZ-trans (p *ℤ pos (2 ^ low binary64)) (u v *ℤ pos c) (u w *ℤ pos c) (h .1) (mono (u v) (u w) c (rank-units v w t (h .0) (g .0) tt k)))
+    inr (
+      tt,
+      leZ-trans (p *ℤ pos (2 ^ low binary64)) (u v *ℤ pos c) (u w *ℤ pos c) (h .1)
+          (mono (u v) (u w) c (rank-units v w t (h .0) (g .0) tt k)),
+    )
 
 pub outward-fits : (l h : Float) → Fits (outward l h)
 outward-fits l h = (down-fits l, up-fits h)
@@ -104,10 +125,12 @@ neg-number nan h = h
 neg-number (inf s) h = tt
 neg-number (fin s m e) h = tt
 
-pub step-up : {B : Type 0} (v : Float) → Number v → (T (finite (nextUp v)) → B) → (nextUp v ≡ inf false) ⊎ (T (finite (nextUp v)) × B)
+pub step-up : {B : Type 0} (v : Float) → Number v → (T (finite (nextUp v)) → B)
+    → (nextUp v ≡ inf false) ⊎ (T (finite (nextUp v)) × B)
 step-up v g k = elim (up-any v (g .0) (g .1)) [ inl h ↦ inr (h, k h) | inr e ↦ inl e ]
 
-pub step-down : {B : Type 0} (v : Float) → Number v → (T (finite (nextDown v)) → B) → (nextDown v ≡ inf true) ⊎ (T (finite (nextDown v)) × B)
+pub step-down : {B : Type 0} (v : Float) → Number v → (T (finite (nextDown v)) → B)
+    → (nextDown v ≡ inf true) ⊎ (T (finite (nextDown v)) × B)
 step-down v g k = elim (up-any (neg v) (neg-fits binary64 v (g .0)) (neg-number v (g .1))) [
   | inl h ↦ let d = neg-finite (nextUp (neg v)) h in inr (d, k d)
   | inr e ↦ inl (ap neg e ∙ neg-inf)

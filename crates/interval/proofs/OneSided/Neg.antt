@@ -25,14 +25,17 @@ pub neg-ends-fit : (x : Scalar) → Fits x → Fits (negOf x)
 neg-ends-fit x t = (neg-fits binary64 (x .hi) (t .1), neg-fits binary64 (x .lo) (t .0))
 
 pub neg-within : (x : Scalar) (p : ℤ) (c : ℕ) → Within x p c → Within (negOf x) (negℤ p) c
-neg-within x p c h = record { low-end = neg-low (x .hi) p c (h .high-end); high-end = neg-high (x .lo) p c (h .low-end) }
+neg-within x p c h =
+    record { low-end = neg-low (x .hi) p c (h .high-end); high-end = neg-high (x .lo) p c (h .low-end) }
 
 -- ---- back again
 pub un-low : (x : Float) (p : ℤ) (c : ℕ) → UpperBound (neg x) (negℤ p) c → LowerBound x p c
-un-low x p c h = subst (λ (z : Float). LowerBound z p c) (neg-neg x) (subst (λ (q : ℤ). LowerBound (neg (neg x)) q c) (negℤ-negℤ p) (neg-low (neg x) (negℤ p) c h))
+un-low x p c h = subst (λ (z : Float). LowerBound z p c) (neg-neg x)
+    (subst (λ (q : ℤ). LowerBound (neg (neg x)) q c) (negℤ-negℤ p) (neg-low (neg x) (negℤ p) c h))
 
 pub un-high : (x : Float) (p : ℤ) (c : ℕ) → LowerBound (neg x) (negℤ p) c → UpperBound x p c
-un-high x p c h = subst (λ (z : Float). UpperBound z p c) (neg-neg x) (subst (λ (q : ℤ). UpperBound (neg (neg x)) q c) (negℤ-negℤ p) (neg-high (neg x) (negℤ p) c h))
+un-high x p c h = subst (λ (z : Float). UpperBound z p c) (neg-neg x)
+    (subst (λ (q : ℤ). UpperBound (neg (neg x)) q c) (negℤ-negℤ p) (neg-high (neg x) (negℤ p) c h))
 
 pub un-within : (x : Scalar) (p : ℤ) (c : ℕ) → Within (negOf x) (negℤ p) c → Within x p c
 un-within x p c h = record { low-end = un-low (x .lo) p c (h .high-end); high-end = un-high (x .hi) p c (h .low-end) }

@@ -1,4 +1,5 @@
--- The root, end by end: of a lower end -inf or below 0 it is 0, stepped down; of an upper end +inf it is +inf; of others it is rounded once and stepped outward.
+-- The root, end by end: of a lower end -inf or below 0 it is 0, stepped down; of an upper end +inf it is +inf; of
+-- others it is rounded once and stepped outward.
 use mathlib.Core.Path.{_≡_, refl, sym, ap, _∙_, subst}
 use mathlib.Core.Logic.{inl, inr}
 use Prim.Native.Nat.{ℕ, zero, suc, _+_, _*_, _/_, _^_}
@@ -44,7 +45,12 @@ unfolding nearestRoot isNan rank
 root-number (fin s zero e) t f h = tt
 root-number (fin false (suc m) e) t f h = near-number (suc m * up e * 2 ^ low binary64 / down e * 2 ^ low binary64)
 root-number (fin true (suc m) e) t f h =
-    absurd (omega (arith, bits-pos binary64 m e (positive-fits (suc m) e t), zero-rank false (pos 0) (zero-fits .0), nlt-rank (fin true (suc m) e) zero64 t (zero-fits .0) tt tt h))
+    absurd (omega (
+      arith,
+      bits-pos binary64 m e (positive-fits (suc m) e t),
+      zero-rank false (pos 0) (zero-fits .0),
+      nlt-rank (fin true (suc m) e) zero64 t (zero-fits .0) tt tt h,
+    ))
 
 -- ---- the lower end
 minus-root : nearestRoot (clamped (inf true)) ≡ zero64
@@ -63,32 +69,43 @@ low-number x t f = go (lt x zero64) (root-number x t f)
     go true k = zero-number
     go false k = (root-fits x t, k tt)
 
-pub root-low : (x : Float) (s c : ℕ) → T (fits binary64 x) → LowerBound x (pos s) c → LowerRoot (nextDown (nearestRoot (clamped x))) s c
-root-low x s c t (inl e) = subst (λ (v : Float). LowerRoot (nextDown v) s c) (sym (ap (λ (z : Float). nearestRoot (clamped z)) e ∙ minus-root)) (inr (zero-down .0, inl (neg-part (unitsOf binary64 (nextDown zero64)) (zero-down .1))))
-root-low x s c t (inr g) = step-down (nearestRoot (clamped x)) (low-number x t (g .0)) (λ h. under-root x s c t (g .0) h (g .1))
+pub root-low : (x : Float) (s c : ℕ) → T (fits binary64 x) → LowerBound x (pos s) c
+    → LowerRoot (nextDown (nearestRoot (clamped x))) s c
+root-low x s c t (inl e) =
+    subst (λ (v : Float). LowerRoot (nextDown v) s c) (sym (ap (λ (z : Float). nearestRoot (clamped z)) e ∙ minus-root))
+    (inr (zero-down .0, inl (neg-part (unitsOf binary64 (nextDown zero64)) (zero-down .1))))
+root-low x s c t (inr g) =
+    step-down (nearestRoot (clamped x)) (low-number x t (g .0)) (λ h. under-root x s c t (g .0) h (g .1))
 
 -- ---- the upper end
 plus-root : nearestRoot (inf false) ≡ inf false
 unfolding nearestRoot
 plus-root = refl
 
-pub root-high : (x : Float) (s c : ℕ) → T (fits binary64 x) → T (not (lt x zero64)) → UpperBound x (pos s) c → UpperRoot (nextUp (nearestRoot x)) s c
+pub root-high : (x : Float) (s c : ℕ) → T (fits binary64 x) → T (not (lt x zero64)) → UpperBound x (pos s) c
+    → UpperRoot (nextUp (nearestRoot x)) s c
 root-high x s c t n (inl e) = inl (ap nextUp (ap nearestRoot e ∙ plus-root) ∙ stays-up)
-root-high x s c t n (inr g) = step-up (nearestRoot x) (root-fits x t, root-number x t (g .0) n) (λ h. over-root x s c t (g .0) h (g .1))
+root-high x s c t n (inr g) =
+    step-up (nearestRoot x) (root-fits x t, root-number x t (g .0) n) (λ h. over-root x s c t (g .0) h (g .1))
 
 -- what is not refused
-value : (x r : Scalar) → sqrtOf x ≡ ok r → T (not (lt (x .hi) zero64)) × (outward (nearestRoot (clamped (x .lo))) (nearestRoot (x .hi)) ≡ r)
+value : (x r : Scalar) → sqrtOf x ≡ ok r
+    → T (not (lt (x .hi) zero64)) × (outward (nearestRoot (clamped (x .lo))) (nearestRoot (x .hi)) ≡ r)
 unfolding sqrtOf
 value x r e = go (lt (x .hi) zero64) e
   where
-    go : (b : Bool) → pick b (refused 5) (ok (outward (nearestRoot (clamped (x .lo))) (nearestRoot (x .hi)))) ≡ ok r → T (not b) × (outward (nearestRoot (clamped (x .lo))) (nearestRoot (x .hi)) ≡ r)
+    go : (b : Bool) → pick b (refused 5) (ok (outward (nearestRoot (clamped (x .lo))) (nearestRoot (x .hi)))) ≡ ok r
+        → T (not b) × (outward (nearestRoot (clamped (x .lo))) (nearestRoot (x .hi)) ≡ r)
     go true e = absurd (let w : _≡_ {A = ℕ} 0 1 = cc in omega arith)
     go false e = (tt, cc)
 
 pub sqrt-within : (x r : Scalar) (s c : ℕ) → Fits x → sqrtOf x ≡ ok r → Within x (pos s) c → WithinRoot r s c
 sqrt-within x r s c t e a =
     let w = value x r e in
-    subst (λ (z : Scalar). WithinRoot z s c) (w .1) (record { low-end = root-low (x .lo) s c (t .0) (a .low-end); high-end = root-high (x .hi) s c (t .1) (w .0) (a .high-end) })
+    subst (λ (z : Scalar). WithinRoot z s c) (w .1) (record {
+      low-end = root-low (x .lo) s c (t .0) (a .low-end);
+      high-end = root-high (x .hi) s c (t .1) (w .0) (a .high-end);
+    })
 
 pub sqrt-fits : (x r : Scalar) → sqrtOf x ≡ ok r → Fits r
 sqrt-fits x r e = subst Fits (value x r e .1) (outward-fits _ _)

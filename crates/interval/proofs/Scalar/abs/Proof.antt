@@ -13,8 +13,10 @@ use Rattle.interval.proofs.Given.{yes}
 use Rattle.interval.proofs.MinMax.{abs-is}
 use Rattle.interval.proofs.Enclosure.Abs.{abs-holds}
 
-gives : (x r : Scalar) → T (fits binary64 (x .lo)) → T (fits binary64 (x .hi)) → r ≡ absOf x → Gives (absOf x) (EnclosesSize x) r
-gives x r l h e = record { value = e; encloses = subst (EnclosesSize x) (sym e) (λ f p k. abs-holds x (l, h) f p (2 ^ k)) }
+gives : (x r : Scalar) → T (fits binary64 (x .lo)) → T (fits binary64 (x .hi)) → r ≡ absOf x
+    → Gives (absOf x) (EnclosesSize x) r
+gives x r l h e =
+    record { value = e; encloses = subst (EnclosesSize x) (sym e) (λ f p k. abs-holds x (l, h) f p (2 ^ k)) }
 
 returns : tie.Need-returns
 unfolding ofBits
@@ -28,7 +30,8 @@ unfolding ofBits
 returns-2 c =
     let s = c .before .before .before .before .before .before in
     let g = s .good .0 .1 .1 in
-    gives (s .args .self) _ (yes (g .0 .1)) (yes (g .1 .0 .1)) (rw (abs-is, c .before .before .before .before .if1 .left, c .before .before .if2 .taken))
+    gives (s .args .self) _ (yes (g .0 .1)) (yes (g .1 .0 .1))
+    (rw (abs-is, c .before .before .before .before .if1 .left, c .before .before .if2 .taken))
 
 max-of-requires : tie.Need-max-of-requires
 max-of-requires c κs = search needs
@@ -38,7 +41,8 @@ unfolding ofBits
 returns-3 c =
     let s = c .before .before .before .before .before .before in
     let g = s .good .0 .1 .1 in
-    gives (s .args .self) _ (yes (g .0 .1)) (yes (g .1 .0 .1)) (rw (abs-is, c .before .before .before .before .if1 .left, c .before .before .if2 .left, c .max-of .ensures))
+    gives (s .args .self) _ (yes (g .0 .1)) (yes (g .1 .0 .1))
+    (rw (abs-is, c .before .before .before .before .if1 .left, c .before .before .if2 .left, c .max-of .ensures))
 
 pub abs-spec : {M : Type 1} → statement M
 abs-spec = tie.close (tie.spec returns returns-2 max-of-requires returns-3)

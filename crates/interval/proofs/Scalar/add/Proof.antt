@@ -23,7 +23,11 @@ returns c =
     let e : record { lo = c .before .before .before .next-down .result; hi = c .next-up .result } ≡ addOf x y = cc in
     let g = s .good .0 .1 .1 in
     let h = s .good .1 .0 .1 .1 in
-    record { value = e; encloses = subst (Encloses _+ℤ_ x y) (sym e) (add-holds x y (yes (g .0 .1), yes (g .1 .0 .1)) (yes (h .0 .1), yes (h .1 .0 .1))) }
+    record {
+      value = e;
+      encloses = subst (Encloses _+ℤ_ x y) (sym e)
+          (add-holds x y (yes (g .0 .1), yes (g .1 .0 .1)) (yes (h .0 .1), yes (h .1 .0 .1)));
+    }
 
 pub add-spec : {M : Type 1} → statement M
 add-spec = tie.close (tie.spec next-down-requires next-up-requires returns)

@@ -15,7 +15,8 @@ degenerate-requires : tie.Need-degenerate-requires
 degenerate-requires c κs = search needs
 
 returns : tie.Need-returns
-returns c = c .degenerate .ensures ∙ ap degenerate (c .before .nearest-i64-to-f64 .ensures ∙ ap (ofInt binary64) (toZ-ofZ w64 (c .before .before .args .v) (c .before .before .fits .v)))
+returns c = c .degenerate .ensures ∙ ap degenerate (c .before .nearest-i64-to-f64 .ensures
+    ∙ ap (ofInt binary64) (toZ-ofZ w64 (c .before .before .args .v) (c .before .before .fits .v)))
 
 pub from-i64-spec : {M : Type 1} → statement M
 from-i64-spec = tie.close (tie.spec nearest-i64-to-f64-requires degenerate-requires returns)

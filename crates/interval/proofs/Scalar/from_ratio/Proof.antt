@@ -1,4 +1,5 @@
--- `from_ratio` meets its contract: a zero denominator is refused, and else the quotient of the nearest floats is stepped outward.
+-- `from_ratio` meets its contract: a zero denominator is refused, and else the quotient of the nearest floats is
+-- stepped outward.
 use mathlib.Core.Path.{_≡_, refl, sym, ap, _∙_}
 use Prim.Native.Nat.{zero, suc}
 use native.Mathlib.Omega.{arith}
@@ -44,11 +45,17 @@ next-up-requires c κs = search needs
 returns-2 : tie.Need-returns-2
 returns-2 c =
     let s = c .before .before .before .before .before in
-    let e : c .before .before .before .nearest-i64-to-f64 .result ≡ ofInt binary64 (s .args .num) = c .before .before .before .nearest-i64-to-f64 .ensures ∙ ap (ofInt binary64) (toZ-ofZ w64 (s .args .num) (s .fits .num)) in
-    let g : c .before .before .nearest-i64-to-f642 .result ≡ ofInt binary64 (s .args .den) = c .before .before .nearest-i64-to-f642 .ensures ∙ ap (ofInt binary64) (toZ-ofZ w64 (s .args .den) (s .fits .den)) in
-    let l : c .before .next-down .result ≡ nextDown (ratio (s .args .num) (s .args .den)) = c .before .next-down .ensures ∙ (λ i. nextDown (div binary64 (e i) (g i))) in
-    let h : c .next-up .result ≡ nextUp (ratio (s .args .num) (s .args .den)) = c .next-up .ensures ∙ (λ i. nextUp (div binary64 (e i) (g i))) in
-    (λ i. ok (record { lo = l i; hi = h i })) ∙ sym (some (s .args .num) (s .args .den) (c .before .before .before .before .if1 .left))
+    let e : c .before .before .before .nearest-i64-to-f64 .result ≡ ofInt binary64 (s .args .num) =
+    c .before .before .before .nearest-i64-to-f64 .ensures
+    ∙ ap (ofInt binary64) (toZ-ofZ w64 (s .args .num) (s .fits .num)) in
+    let g : c .before .before .nearest-i64-to-f642 .result ≡ ofInt binary64 (s .args .den) =
+    c .before .before .nearest-i64-to-f642 .ensures ∙ ap (ofInt binary64) (toZ-ofZ w64 (s .args .den) (s .fits .den)) in
+    let l : c .before .next-down .result ≡ nextDown (ratio (s .args .num) (s .args .den)) =
+    c .before .next-down .ensures ∙ (λ i. nextDown (div binary64 (e i) (g i))) in
+    let h : c .next-up .result ≡ nextUp (ratio (s .args .num) (s .args .den)) =
+    c .next-up .ensures ∙ (λ i. nextUp (div binary64 (e i) (g i))) in
+    (λ i. ok (record { lo = l i; hi = h i }))
+    ∙ sym (some (s .args .num) (s .args .den) (c .before .before .before .before .if1 .left))
 
 pub from-ratio-spec : {M : Type 1} → statement M
 from-ratio-spec =

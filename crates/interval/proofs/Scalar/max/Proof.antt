@@ -31,7 +31,11 @@ returns c =
     let e : c .union-of .result ≡ maxOf x y = cc in
     let g = s .good .0 .1 .1 in
     let h = s .good .1 .0 .1 .1 in
-    record { value = e; encloses = subst (Encloses maxℤ x y) (sym e) (max-encloses x y (yes (g .0 .1), yes (g .1 .0 .1)) (yes (h .0 .1), yes (h .1 .0 .1))) }
+    record {
+      value = e;
+      encloses = subst (Encloses maxℤ x y) (sym e)
+          (max-encloses x y (yes (g .0 .1), yes (g .1 .0 .1)) (yes (h .0 .1), yes (h .1 .0 .1)));
+    }
 
 pub max-spec : {M : Type 1} → statement M
 max-spec =

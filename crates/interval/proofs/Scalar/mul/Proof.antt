@@ -17,7 +17,11 @@ returns c =
     let y = s .args .other in
     let g = s .good .0 .1 .1 in
     let h = s .good .1 .0 .1 .1 in
-    record { value = c .spread-of .ensures; encloses = subst (EnclosesProduct x y) (sym (c .spread-of .ensures)) (mul-holds x y (yes (g .0 .1), yes (g .1 .0 .1)) (yes (h .0 .1), yes (h .1 .0 .1))) }
+    record {
+      value = c .spread-of .ensures;
+      encloses = subst (EnclosesProduct x y) (sym (c .spread-of .ensures))
+          (mul-holds x y (yes (g .0 .1), yes (g .1 .0 .1)) (yes (h .0 .1), yes (h .1 .0 .1)));
+    }
 
 pub mul-spec : {M : Type 1} → statement M
 mul-spec = tie.close (tie.spec spread-of-requires returns)

@@ -36,8 +36,12 @@ unfolding sqrtOf ofBits
 returns-2 c =
     let x = c .before .before .before .before .before .before .before .args .self in
     let g = c .before .before .before .before .before .before .before .good .0 .1 .1 in
-    let m : record { lo = c .before .before .next-down .result; hi = c .next-up .result } ≡ outward (nearestRoot (clamped (x .lo))) (nearestRoot (x .hi)) = cc in
-    record { value = simp (c .before .before .before .before .before .if1 .left) (ap ok m); encloses = λ r e. subst (EnclosesRoot x) (sym m ∙ ok-inj e) (sqrt-holds x (yes (g .0 .1), yes (g .1 .0 .1))) }
+    let m : record { lo = c .before .before .next-down .result; hi = c .next-up .result }
+    ≡ outward (nearestRoot (clamped (x .lo))) (nearestRoot (x .hi)) = cc in
+    record {
+      value = simp (c .before .before .before .before .before .if1 .left) (ap ok m);
+      encloses = λ r e. subst (EnclosesRoot x) (sym m ∙ ok-inj e) (sqrt-holds x (yes (g .0 .1), yes (g .1 .0 .1)));
+    }
 
 pub sqrt-spec : {M : Type 1} → statement M
 sqrt-spec =

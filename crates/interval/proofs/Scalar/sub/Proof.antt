@@ -23,7 +23,11 @@ returns c =
     let e : record { lo = c .before .before .before .next-down .result; hi = c .next-up .result } ≡ subOf x y = cc in
     let g = s .good .0 .1 .1 in
     let h = s .good .1 .0 .1 .1 in
-    record { value = e; encloses = subst (Encloses _-ℤ_ x y) (sym e) (sub-holds x y (yes (g .0 .1), yes (g .1 .0 .1)) (yes (h .0 .1), yes (h .1 .0 .1))) }
+    record {
+      value = e;
+      encloses = subst (Encloses _-ℤ_ x y) (sym e)
+          (sub-holds x y (yes (g .0 .1), yes (g .1 .0 .1)) (yes (h .0 .1), yes (h .1 .0 .1)));
+    }
 
 pub sub-spec : {M : Type 1} → statement M
 sub-spec = tie.close (tie.spec next-down-requires next-up-requires returns)

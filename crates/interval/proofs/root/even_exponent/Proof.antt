@@ -14,7 +14,8 @@ sub-t4 : tie.Need-sub-t4
 sub-t4 c = search needs
 
 returns-2 : tie.Need-returns-2
-returns-2 c = even-step (c .before .before .before .before .args .s .c) (c .before .before .before .before .args .s .e) (c .before .before .if1 .left)
+returns-2 c = even-step (c .before .before .before .before .args .s .c) (c .before .before .before .before .args .s .e)
+    (c .before .before .if1 .left)
 
 pub even-exponent-spec : {M : Type 1} → statement M
 even-exponent-spec = tie.close (tie.spec returns mul-t2 sub-t4 returns-2)

@@ -1,4 +1,5 @@
--- `extend_root` meets its contract: with t = 2 s u + v the square of s * 2^27 + u leaves v * 2^27 - u * u, and where that is negative one less is the root.
+-- `extend_root` meets its contract: with t = 2 s u + v the square of s * 2^27 + u leaves v * 2^27 - u * u, and where
+-- that is negative one less is the root.
 use Prim.Native.Nat.{_+_, _-_, _*_, _/_, _%_}
 use native.Mathlib.Omega.{arith}
 use borrow.Author.Needs.{needs}
@@ -6,7 +7,8 @@ use Rattle.interval.proofs.RootExtend.{Facts, facts, some, pred}
 use Rattle.interval.proofs.root.extend_root.Statement.{statement}
 use Rattle.interval.proofs.root.extend_root.Tie as tie
 
-the : (c : tie.Start) → Facts (c .args .s) (c .args .r) (c .args .r * 134217728 / (c .args .s * 2)) (c .args .r * 134217728 % (c .args .s * 2))
+the : (c : tie.Start) → Facts (c .args .s) (c .args .r) (c .args .r * 134217728 / (c .args .s * 2))
+    (c .args .r * 134217728 % (c .args .s * 2))
 the c = facts (c .args .s) (c .args .r) (c .pre .0) (c .pre .1 .1)
 
 mul-t : tie.Need-mul-t
@@ -49,13 +51,32 @@ sub-t15 : tie.Need-sub-t15
 sub-t15 c = search needs
 
 sub-t16 : tie.Need-sub-t16
-sub-t16 c = omega (arith, the (c .before) .square, the (c .before) .few, c .before .pre, c .if1 .left, some (c .before .args .r * 134217728 / (c .before .args .s * 2)) (c .before .args .r * 134217728 % (c .before .args .s * 2) * 134217728) (c .if1 .left))
+sub-t16 c = omega (
+  arith,
+  the (c .before) .square,
+  the (c .before) .few,
+  c .before .pre,
+  c .if1 .left,
+  some (c .before .args .r * 134217728 / (c .before .args .s * 2))
+      (c .before .args .r * 134217728 % (c .before .args .s * 2) * 134217728) (c .if1 .left),
+)
 
 returns-2 : tie.Need-returns-2
 returns-2 c =
     let q = c .before .args .s * 134217728 + (c .before .args .r * 134217728 / (c .before .args .s * 2)) in
-    let h = some (c .before .args .r * 134217728 / (c .before .args .s * 2)) (c .before .args .r * 134217728 % (c .before .args .s * 2) * 134217728) (c .if1 .left) in
-    (omega (arith, the (c .before) .whole, the (c .before) .square, c .before .pre, c .if1 .left, pred q (omega (arith, h)), h), omega (arith, c .if1 .left, c .before .pre))
+    let h = some (c .before .args .r * 134217728 / (c .before .args .s * 2))
+    (c .before .args .r * 134217728 % (c .before .args .s * 2) * 134217728) (c .if1 .left) in (
+      omega (
+        arith,
+        the (c .before) .whole,
+        the (c .before) .square,
+        c .before .pre,
+        c .if1 .left,
+        pred q (omega (arith, h)),
+        h,
+      ),
+      omega (arith, c .if1 .left, c .before .pre),
+    )
 
 pub extend-root-spec : {M : Type 1} → statement M
 extend-root-spec =

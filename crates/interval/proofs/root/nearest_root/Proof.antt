@@ -20,7 +20,8 @@ above : (c : tie.Then3) → Above (c .before .before .before .args .x)
 unfolding ofBits div
 above c =
     let s = c .before .before .before in
-    root-above (s .args .x) (subst T (sym (s .good .0 .1)) tt) (positive (s .args .x) (c .before .before .if1 .left) (c .before .if2 .left) (c .if3 .taken))
+    root-above (s .args .x) (subst T (sym (s .good .0 .1)) tt)
+    (positive (s .args .x) (c .before .before .if1 .left) (c .before .if2 .left) (c .if3 .taken))
 
 float-to-bits-root-bits : tie.Need-float-to-bits-root-bits
 float-to-bits-root-bits c = no-nan-of (c .before .before .before .args .x) (c .before .before .if1 .left)
@@ -40,7 +41,9 @@ returns-4 c = root-zero (c .before .before .before .before .args .x) (c .if4 .ta
 
 returns-5 : tie.Need-returns-5
 unfolding ofBits div
-returns-5 c = root-none (c .before .before .before .before .args .x) (negative (c .before .before .before .before .args .x) (c .before .before .before .if1 .left) (c .if4 .left) (c .before .if3 .left))
+returns-5 c =
+    root-none (c .before .before .before .before .args .x) (negative (c .before .before .before .before .args .x)
+    (c .before .before .before .if1 .left) (c .if4 .left) (c .before .if3 .left))
 
 pub nearest-root-spec : {M : Type 1} → statement M
 nearest-root-spec =

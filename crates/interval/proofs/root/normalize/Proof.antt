@@ -19,13 +19,19 @@ mul-c : tie.Need-mul-c Inv-loop μ-loop
 mul-c c = search needs
 
 sub-e : tie.Need-sub-e Inv-loop μ-loop
-sub-e c = up-more (c .before .before .args .s .c) (c .before .before .args .s .e) (c .before .loop .c) (c .before .loop .e) (c .before .loop .inv) (c .loop-test .taken)
+sub-e c = up-more (c .before .before .args .s .c) (c .before .before .args .s .e) (c .before .loop .c)
+    (c .before .loop .e) (c .before .loop .inv) (c .loop-test .taken)
 
 loop-less : tie.Need-loop-less Inv-loop μ-loop
-loop-less c = omega (arith, up-more (c .before .before .args .s .c) (c .before .before .args .s .e) (c .before .loop .c) (c .before .loop .e) (c .before .loop .inv) (c .loop-test .taken))
+loop-less c = omega (
+  arith,
+  up-more (c .before .before .args .s .c) (c .before .before .args .s .e) (c .before .loop .c) (c .before .loop .e)
+      (c .before .loop .inv) (c .loop-test .taken),
+)
 
 loop-again : tie.Need-loop-again Inv-loop μ-loop
-loop-again c = up-turn (c .before .before .args .s .c) (c .before .before .args .s .e) (c .before .loop .c) (c .before .loop .e) (c .before .loop .inv) (c .loop-test .taken)
+loop-again c = up-turn (c .before .before .args .s .c) (c .before .before .args .s .e) (c .before .loop .c)
+    (c .before .loop .e) (c .before .loop .inv) (c .loop-test .taken)
 
 returns : tie.Need-returns Inv-loop μ-loop
 returns c =

@@ -1,4 +1,5 @@
--- `next_down` meets its contract: above minus infinity the chosen pattern is the float before; minus infinity and NaN stay.
+-- `next_down` meets its contract: above minus infinity the chosen pattern is the float before; minus infinity and NaN
+-- stay.
 use mathlib.Core.Path.{sym, ap, _∙_, subst}
 use mathlib.Core.Bool.{not}
 use Prim.Native.Nat.{ℕ}
@@ -24,7 +25,8 @@ pattern-below-requires c κs = (below c .room, below c .some)
 
 float-from-bits-result : tie.Need-float-from-bits-result
 unfolding ofBits
-float-from-bits-result c = subst (λ (n : ℕ). T (not (nanBits binary64 n))) (sym (c .pattern-below .ensures)) (below (c .before) .number)
+float-from-bits-result c =
+    subst (λ (n : ℕ). T (not (nanBits binary64 n))) (sym (c .pattern-below .ensures)) (below (c .before) .number)
 
 returns : tie.Need-returns
 unfolding ofBits

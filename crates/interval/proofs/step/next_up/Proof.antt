@@ -24,7 +24,8 @@ pattern-above-requires c κs = above c .some
 
 float-from-bits-result : tie.Need-float-from-bits-result
 unfolding ofBits
-float-from-bits-result c = subst (λ (n : ℕ). T (not (nanBits binary64 n))) (sym (c .pattern-above .ensures)) (above (c .before) .number)
+float-from-bits-result c =
+    subst (λ (n : ℕ). T (not (nanBits binary64 n))) (sym (c .pattern-above .ensures)) (above (c .before) .number)
 
 returns : tie.Need-returns
 unfolding ofBits

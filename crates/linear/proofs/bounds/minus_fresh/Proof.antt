@@ -9,15 +9,21 @@ product-fresh-requires : tie.Need-product-fresh-requires
 product-fresh-requires c κs = search needs
 
 step-up-requires : tie.Need-step-up-requires
-step-up-requires c κs = let k = c .before .before .before in difference-below (k .args .z) (mulOf (k .args .x) (k .args .y)) (k .pre) (c .before .before .product-fresh .ensures) .1
+step-up-requires c κs = let k = c .before .before .before in
+    difference-below (k .args .z) (mulOf (k .args .x) (k .args .y)) (k .pre)
+    (c .before .before .product-fresh .ensures) .1
 
 step-up-requires-2 : tie.Need-step-up-requires-2
-step-up-requires-2 c κs = let k = c .before .before .before .before .before .before in difference-above (k .args .z) (mulOf (k .args .x) (k .args .y)) (k .pre) (c .before .before .before .before .before .product-fresh .ensures) .1
+step-up-requires-2 c κs = let k = c .before .before .before .before .before .before in
+    difference-above (k .args .z) (mulOf (k .args .x) (k .args .y)) (k .pre)
+    (c .before .before .before .before .before .product-fresh .ensures) .1
 
 returns : tie.Need-returns
 returns c =
     let k = c .before .before .before .before .before .before .before in
-    difference-bounds (k .args .z) (mulOf (k .args .x) (k .args .y)) (k .pre) (c .before .before .before .before .before .before .product-fresh .ensures) (c .before .before .before .step-up .ensures) (c .step-up2 .ensures)
+    difference-bounds (k .args .z) (mulOf (k .args .x) (k .args .y))
+    (k .pre) (c .before .before .before .before .before .before .product-fresh .ensures)
+    (c .before .before .before .step-up .ensures) (c .step-up2 .ensures)
 
 pub minus-fresh-spec : {M : Type 1} → statement M
 minus-fresh-spec =

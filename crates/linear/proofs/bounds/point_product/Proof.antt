@@ -42,7 +42,8 @@ returns c =
     let h = k .good .1 .0 .1 .1 in
     let x = eq-same (a .x .lo) (a .x .hi) (yes (g .0 .1)) (yes (g .1 .0 .1)) (k .pre .0) in
     let y = eq-same (a .y .lo) (a .y .hi) (yes (h .0 .1)) (yes (h .1 .0 .1)) (k .pre .1) in
-    let l = ended (c .before .before .step-up .ensures) (c .before .before .before .greater-of .ensures) (point-below (a .x) (a .y) x y) in
+    let l = ended (c .before .before .step-up .ensures) (c .before .before .before .greater-of .ensures)
+    (point-below (a .x) (a .y) x y) in
     let u = ended (c .step-up2 .ensures) (c .before .greater-of2 .ensures) (point-above (a .x) (a .y) x y) in
     λ i. record { below = l i; above = u i }
 

@@ -9,18 +9,29 @@ greatest-of-requires : tie.Need-greatest-of-requires
 greatest-of-requires c κs = search needs
 
 step-up-requires : tie.Need-step-up-requires
-step-up-requires c κs = let k = c .before .before .before .before .before .before .before in product-below (k .args .x) (k .args .y) (c .greatest-of .ensures) refl .1
+step-up-requires c κs = let k = c .before .before .before .before .before .before .before in
+    product-below (k .args .x) (k .args .y) (c .greatest-of .ensures) refl .1
 
 greatest-of-requires-2 : tie.Need-greatest-of-requires-2
 greatest-of-requires-2 c κs = search needs
 
 step-up-requires-2 : tie.Need-step-up-requires-2
-step-up-requires-2 c κs = let k = c .before .before .before .before .before .before .before .before .before .before .before .before .before .before .before .before .before in product-above (k .args .x) (k .args .y) (c .before .before .before .before .before .before .before .before .before .before .greatest-of .ensures) (c .greatest-of2 .ensures) .1
+step-up-requires-2 c κs =
+    let k = c .before .before .before .before .before .before .before .before .before .before .before .before .before
+    .before .before .before .before in
+    product-above (k .args .x) (k .args .y)
+    (c .before .before .before .before .before .before .before .before .before .before .greatest-of .ensures)
+    (c .greatest-of2 .ensures) .1
 
 returns : tie.Need-returns
 returns c =
-    let k = c .before .before .before .before .before .before .before .before .before .before .before .before .before .before .before .before .before .before in
-    product-bounds (k .args .x) (k .args .y) (c .before .before .before .before .before .before .before .before .before .before .before .greatest-of .ensures) (c .before .greatest-of2 .ensures) (c .before .before .before .before .before .before .before .before .before .before .step-up .ensures) (c .step-up2 .ensures)
+    let k = c .before .before .before .before .before .before .before .before .before .before .before .before .before
+    .before .before .before .before .before in
+    product-bounds (k .args .x) (k .args .y)
+    (c .before .before .before .before .before .before .before .before .before .before .before .greatest-of .ensures)
+    (c .before .greatest-of2 .ensures)
+    (c .before .before .before .before .before .before .before .before .before .before .step-up .ensures)
+    (c .step-up2 .ensures)
 
 pub product-spec : {M : Type 1} → statement M
 product-spec =

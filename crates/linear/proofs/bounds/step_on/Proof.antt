@@ -12,7 +12,8 @@ use Rattle.interval.proofs.Bounds.{Kept, Step, step, most64}
 use Rattle.linear.proofs.bounds.step_on.Statement.{statement}
 use Rattle.linear.proofs.bounds.step_on.Tie as tie
 
-found : (x : Float) {d : ℕ} → T (fits binary64 x) → T (not (isNan x)) → Kept x → d ≡ cond (le x most64) 1 0 → Step x (toBits binary64 x) d
+found : (x : Float) {d : ℕ} → T (fits binary64 x) → T (not (isNan x)) → Kept x → d ≡ cond (le x most64) 1 0
+    → Step x (toBits binary64 x) d
 found x t h k e = rw e (step x t h k)
 
 at-entry : (c : tie.Start) → Step (c .args .x) (toBits binary64 (c .args .x)) (cond (le (c .args .x) most64) 1 0)
@@ -32,15 +33,18 @@ one-if-requires c κs = search needs
 
 add-result : tie.Need-add-result
 unfolding ofBits
-add-result c = let k = c .before in omega (arith, found (k .args .x) (yes (k .good .0 .1)) (k .pre .0) (k .pre .1) (c .one-if .ensures) .room)
+add-result c = let k = c .before in
+    omega (arith, found (k .args .x) (yes (k .good .0 .1)) (k .pre .0) (k .pre .1) (c .one-if .ensures) .room)
 
 float-from-bits-result : tie.Need-float-from-bits-result
 unfolding ofBits
-float-from-bits-result c = let k = c .before in found (k .args .x) (yes (k .good .0 .1)) (k .pre .0) (k .pre .1) (c .one-if .ensures) .number
+float-from-bits-result c =
+    let k = c .before in found (k .args .x) (yes (k .good .0 .1)) (k .pre .0) (k .pre .1) (c .one-if .ensures) .number
 
 returns : tie.Need-returns
 unfolding ofBits
-returns c = let k = c .before in found (k .args .x) (yes (k .good .0 .1)) (k .pre .0) (k .pre .1) (c .one-if .ensures) .next
+returns c =
+    let k = c .before in found (k .args .x) (yes (k .good .0 .1)) (k .pre .0) (k .pre .1) (c .one-if .ensures) .next
 
 pub step-on-spec : {M : Type 1} → statement M
 step-on-spec =

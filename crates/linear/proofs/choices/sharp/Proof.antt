@@ -21,7 +21,8 @@ mul-if3 c = search needs
 
 returns-3 : tie.Need-returns-3
 unfolding sharpReply
-returns-3 c = rw (le-leb _ _ (c .before .before .if1 .left), eq-eqb _ _ (c .before .if2 .left), ne-eqb _ _ (c .if3 .taken))
+returns-3 c =
+    rw (le-leb _ _ (c .before .before .if1 .left), eq-eqb _ _ (c .before .if2 .left), ne-eqb _ _ (c .if3 .taken))
 
 sharp-into-requires : tie.Need-sharp-into-requires
 sharp-into-requires c κs = search needs
@@ -33,7 +34,12 @@ returns-4 : tie.Need-returns-4
 unfolding sharpReply
 returns-4 c =
     let k = c .before .before .before .before in
-    rw (le-leb _ _ (k .before .before .if1 .left), eq-eqb _ _ (k .before .if2 .left), eq-eqb _ _ (k .if3 .left), ← c .before .before .sharp-into .ensures)
+    rw (
+      le-leb _ _ (k .before .before .if1 .left),
+      eq-eqb _ _ (k .before .if2 .left),
+      eq-eqb _ _ (k .if3 .left),
+      ← c .before .before .sharp-into .ensures,
+    )
 
 pub sharp-spec : {M : Type 1} → statement M
 sharp-spec =

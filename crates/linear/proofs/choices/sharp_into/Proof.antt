@@ -42,8 +42,13 @@ unfolding sharpOf
 loop-again c =
     let l = c .before .before .before .before .before .before .before in
     let a = l .before .before .before .args in
-    let e = rw (l .loop .inv .2, c .before .before .before .choose .ensures, c .before .before .before .before .at .ensures) at (c .before .before .put .ensures) in
-    (search needs, search needs, e ∙ listTo-more (λ j. chooseOf (at (a .v .now) j)) (l .loop .i) (a .out .now) (omega arith))
+    let e =
+    rw (l .loop .inv .2, c .before .before .before .choose .ensures, c .before .before .before .before .at .ensures) at
+    (c .before .before .put .ensures) in (
+      search needs,
+      search needs,
+      e ∙ listTo-more (λ j. chooseOf (at (a .v .now) j)) (l .loop .i) (a .out .now) (omega arith),
+    )
 
 same-length : tie.Need-same-length Inv-loop μ-loop
 same-length c = search needs

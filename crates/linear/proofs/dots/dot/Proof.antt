@@ -23,14 +23,19 @@ mul-if3 c = search needs
 
 returns-3 : tie.Need-returns-3
 unfolding dotReply
-returns-3 c = rw (le-leb _ _ (c .before .before .if1 .left), eq-eqb _ _ (c .before .if2 .left), ne-eqb _ _ (c .if3 .taken))
+returns-3 c =
+    rw (le-leb _ _ (c .before .before .if1 .left), eq-eqb _ _ (c .before .if2 .left), ne-eqb _ _ (c .if3 .taken))
 
 dot-of-requires : tie.Need-dot-of-requires
 dot-of-requires c κs = search needs
 
 returns-4 : tie.Need-returns-4
 unfolding dotReply
-returns-4 c = rw (le-leb _ _ (c .before .before .before .if1 .left), eq-eqb _ _ (c .before .before .if2 .left), eq-eqb _ _ (c .before .if3 .left)) (ap ok (c .dot-of .ensures))
+returns-4 c = rw (
+  le-leb _ _ (c .before .before .before .if1 .left),
+  eq-eqb _ _ (c .before .before .if2 .left),
+  eq-eqb _ _ (c .before .if3 .left),
+) (ap ok (c .dot-of .ensures))
 
 pub dot-spec : {M : Type 1} → statement M
 dot-spec =

@@ -1,4 +1,5 @@
--- `plus_cut` meets its contract: the sum is that of the products so far, and each place is its run's, or outside the slice.
+-- `plus_cut` meets its contract: the sum is that of the products so far, and each place is its run's, or outside the
+-- slice.
 use mathlib.Core.Path.{_≡_, _∙_}
 use Prim.Native.Nat.{_+_, _*_, _≤_, _-_}
 use native.Mathlib.Nat.{le-antisymm}
@@ -12,7 +13,8 @@ use Rattle.linear.proofs.dots.plus_cut.Statement.{statement}
 use Rattle.linear.proofs.dots.plus_cut.Tie as tie
 
 abbrev Inv-loop : tie.InvT-loop
-Inv-loop a a0 sa b b0 sb k sum₀ i₀ j₀ t₀ sum i j t = (t ≤ k) × (sum ≡ plusTo (along a a0 sa) (along b b0 sb) sum₀ t) × Cut (length a) i (a0 + t * sa) × Cut (length b) j (b0 + t * sb)
+Inv-loop a a0 sa b b0 sb k sum₀ i₀ j₀ t₀ sum i j t = (t ≤ k) × (sum ≡ plusTo (along a a0 sa) (along b b0 sb) sum₀ t)
+    × Cut (length a) i (a0 + t * sa) × Cut (length b) j (b0 + t * sb)
 
 abbrev μ-loop : tie.MeasureT-loop
 μ-loop a a0 sa b b0 sb k sum₀ i₀ j₀ t₀ sum i j t = k - t
@@ -51,8 +53,14 @@ loop-again c =
     let p = c .before .before in
     let q = p .before .before .before in
     let l = q .before .before .loop in
-    let a = q .before .before .before .before .before .args in
-    (search needs, plusTo-more _ _ _ (l .counter) (l .inv .1) (q .at .ensures ∙ at-cut (a .a .now) (l .inv .2)) (p .before .before .at2 .ensures ∙ at-cut (a .b .now) (l .inv .3)) (p .before .mul .ensures .value) (p .add .ensures .value), cut-more _ _ _ (l .counter) (l .inv .2) (c .before .ahead .ensures), cut-more _ _ _ (l .counter) (l .inv .3) (c .ahead2 .ensures))
+    let a = q .before .before .before .before .before .args in (
+      search needs,
+      plusTo-more _ _ _ (l .counter) (l .inv .1) (q .at .ensures ∙ at-cut (a .a .now) (l .inv .2))
+          (p .before .before .at2 .ensures ∙ at-cut (a .b .now) (l .inv .3)) (p .before .mul .ensures .value)
+          (p .add .ensures .value),
+      cut-more _ _ _ (l .counter) (l .inv .2) (c .before .ahead .ensures),
+      cut-more _ _ _ (l .counter) (l .inv .3) (c .ahead2 .ensures),
+    )
 
 returns : tie.Need-returns Inv-loop μ-loop
 returns c = rw (le-antisymm (c .before .loop .inv .0) (c .loop-test .left)) at (c .before .loop .inv .1)

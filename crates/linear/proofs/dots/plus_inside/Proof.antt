@@ -1,4 +1,5 @@
--- `plus_inside` meets its contract: from where the points end the bounds are those of the sum so far, and proper, and each place is inside.
+-- `plus_inside` meets its contract: from where the points end the bounds are those of the sum so far, and proper, and
+-- each place is inside.
 use mathlib.Core.Path.{refl, _∙_}
 use Prim.Native.Nat.{_≤_, _-_}
 use native.Mathlib.Nat.{le-antisymm}
@@ -14,7 +15,9 @@ use Rattle.linear.proofs.dots.plus_inside.Statement.{statement}
 use Rattle.linear.proofs.dots.plus_inside.Tie as tie
 
 abbrev Inv-loop : tie.InvT-loop
-Inv-loop a a0 sa b b0 sb k sum₀ done t₀ sum t = (t ≤ k) × ((z : Scalar) → Bounding (plusTo (along a a0 sa) (along b b0 sb) z done) sum₀ → Bounding (plusTo (along a a0 sa) (along b b0 sb) z t) sum)
+Inv-loop a a0 sa b b0 sb k sum₀ done t₀ sum t =
+    (t ≤ k) × ((z : Scalar) → Bounding (plusTo (along a a0 sa) (along b b0 sb) z done) sum₀
+    → Bounding (plusTo (along a a0 sa) (along b b0 sb) z t) sum)
 
 abbrev μ-loop : tie.MeasureT-loop
 μ-loop a a0 sa b b0 sb k sum₀ done t₀ sum t = k - t
@@ -23,31 +26,49 @@ bounds-of-requires : tie.Need-bounds-of-requires Inv-loop μ-loop
 bounds-of-requires c κs = search needs
 
 plus-points-inside-requires : tie.Need-plus-points-inside-requires Inv-loop μ-loop
-plus-points-inside-requires c κs = let k = c .before .before .before in (k .pre .0, k .pre .1, proper-bounds (k .args .z) (c .bounds-of .ensures) (k .pre .2) .proper)
+plus-points-inside-requires c κs = let k = c .before .before .before in
+    (k .pre .0, k .pre .1, proper-bounds (k .args .z) (c .bounds-of .ensures) (k .pre .2) .proper)
 
 loop-holds : tie.Need-loop-holds Inv-loop μ-loop
 loop-holds c = (points-within _ _ _ (c .before .plus-points-inside .ensures .0), λ z h. h)
 
 mul-at-inside : tie.Need-mul-at-inside Inv-loop μ-loop
-mul-at-inside c = omega (arith, c .before .before .before .before .before .before .before .pre .0 (c .before .loop .t) (c .loop-test .taken))
+mul-at-inside c = omega (
+  arith,
+  c .before .before .before .before .before .before .before .pre .0 (c .before .loop .t) (c .loop-test .taken),
+)
 
 add-at-inside : tie.Need-add-at-inside Inv-loop μ-loop
-add-at-inside c = omega (arith, c .before .before .before .before .before .before .before .pre .0 (c .before .loop .t) (c .loop-test .taken))
+add-at-inside c = omega (
+  arith,
+  c .before .before .before .before .before .before .before .pre .0 (c .before .loop .t) (c .loop-test .taken),
+)
 
 at-inside-requires : tie.Need-at-inside-requires Inv-loop μ-loop
-at-inside-requires c κs = c .before .before .before .before .before .before .before .pre .0 (c .before .loop .t) (c .loop-test .taken)
+at-inside-requires c κs =
+    c .before .before .before .before .before .before .before .pre .0 (c .before .loop .t) (c .loop-test .taken)
 
 mul-at-inside-2 : tie.Need-mul-at-inside-2 Inv-loop μ-loop
-mul-at-inside-2 c = omega (arith, c .before .before .before .before .before .before .before .before .pre .1 (c .before .before .loop .t) (c .before .loop-test .taken))
+mul-at-inside-2 c = omega (
+  arith,
+  c .before .before .before .before .before .before .before .before .pre .1 (c .before .before .loop .t)
+      (c .before .loop-test .taken),
+)
 
 add-at-inside-2 : tie.Need-add-at-inside-2 Inv-loop μ-loop
-add-at-inside-2 c = omega (arith, c .before .before .before .before .before .before .before .before .pre .1 (c .before .before .loop .t) (c .before .loop-test .taken))
+add-at-inside-2 c = omega (
+  arith,
+  c .before .before .before .before .before .before .before .before .pre .1 (c .before .before .loop .t)
+      (c .before .loop-test .taken),
+)
 
 at-inside-requires-2 : tie.Need-at-inside-requires-2 Inv-loop μ-loop
-at-inside-requires-2 c κs = c .before .before .before .before .before .before .before .before .pre .1 (c .before .before .loop .t) (c .before .loop-test .taken)
+at-inside-requires-2 c κs = c .before .before .before .before .before .before .before .before .pre .1
+    (c .before .before .loop .t) (c .before .loop-test .taken)
 
 plus-product-requires : tie.Need-plus-product-requires Inv-loop μ-loop
-plus-product-requires c κs = c .before .before .before .loop .inv .1 _ (c .before .before .before .before .before .plus-points-inside .ensures .1) .proper
+plus-product-requires c κs = c .before .before .before .loop .inv .1 _
+    (c .before .before .before .before .before .plus-points-inside .ensures .1) .proper
 
 add-t : tie.Need-add-t Inv-loop μ-loop
 add-t c = search needs
@@ -58,8 +79,12 @@ loop-less c = search needs
 loop-again : tie.Need-loop-again Inv-loop μ-loop
 unfolding along
 loop-again c =
-    let l = c .before .before .before .before .loop in
-    (search needs, λ z h. bounding (plusTo-more _ _ z (l .t) (bounds-back (l .inv .1 z h .value)) (c .before .before .at-inside .ensures) (c .before .at-inside2 .ensures) refl refl) (c .plus-product .ensures))
+    let l = c .before .before .before .before .loop in (
+      search needs,
+      λ z h. bounding (plusTo-more _ _ z (l .t) (bounds-back (l .inv .1 z h .value))
+          (c .before .before .at-inside .ensures) (c .before .at-inside2 .ensures) refl refl)
+          (c .plus-product .ensures),
+    )
 
 scalar-of-requires : tie.Need-scalar-of-requires Inv-loop μ-loop
 scalar-of-requires c κs = search needs
@@ -68,7 +93,10 @@ returns : tie.Need-returns Inv-loop μ-loop
 returns c =
     let l = c .before .before .loop in
     let b = l .inv .1 _ (c .before .before .before .before .plus-points-inside .ensures .1) in
-    rw (le-antisymm (l .inv .0) (c .before .loop-test .left), bounds-back (c .before .before .before .before .before .bounds-of .ensures)) at (c .scalar-of .ensures ∙ bounds-back (b .value))
+    rw (
+      le-antisymm (l .inv .0) (c .before .loop-test .left),
+      bounds-back (c .before .before .before .before .before .bounds-of .ensures),
+    ) at (c .scalar-of .ensures ∙ bounds-back (b .value))
 
 pub plus-inside-spec : {M : Type 1} → statement M
 plus-inside-spec =

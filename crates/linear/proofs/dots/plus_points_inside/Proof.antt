@@ -1,4 +1,5 @@
--- `plus_points_inside` meets its contract: the bounds are those of the sum so far, and proper, all pairs so far are points, and each place is inside.
+-- `plus_points_inside` meets its contract: the bounds are those of the sum so far, and proper, all pairs so far are
+-- points, and each place is inside.
 use mathlib.Core.Path.{_≡_, refl, sym, _∙_, subst}
 use Prim.Native.Nat.{ℕ, _≤_, _-_}
 use native.Mathlib.Nat.{le-antisymm}
@@ -14,7 +15,8 @@ use Rattle.linear.proofs.dots.plus_points_inside.Tie as tie
 
 abbrev Inv-loop : tie.InvT-loop
 Inv-loop a a0 sa b b0 sb k sum₀ t₀ sum t =
-    (t ≤ k) × (pointsFrom (along a a0 sa) (along b b0 sb) t (k - t) ≡ pointsFrom (along a a0 sa) (along b b0 sb) 0 k) × Bounding (plusTo (along a a0 sa) (along b b0 sb) (scalarOf sum₀) t) sum
+    (t ≤ k) × (pointsFrom (along a a0 sa) (along b b0 sb) t (k - t) ≡ pointsFrom (along a a0 sa) (along b b0 sb) 0 k)
+    × Bounding (plusTo (along a a0 sa) (along b b0 sb) (scalarOf sum₀) t) sum
 
 abbrev μ-loop : tie.MeasureT-loop
 μ-loop a a0 sa b b0 sb k sum₀ t₀ sum t = k - t
@@ -33,13 +35,20 @@ at-inside-requires : tie.Need-at-inside-requires Inv-loop μ-loop
 at-inside-requires c κs = c .before .before .before .before .pre .0 (c .before .loop .t) (c .loop-test .taken)
 
 mul-at-inside-2 : tie.Need-mul-at-inside-2 Inv-loop μ-loop
-mul-at-inside-2 c = omega (arith, c .before .before .before .before .before .pre .1 (c .before .before .loop .t) (c .before .loop-test .taken))
+mul-at-inside-2 c = omega (
+  arith,
+  c .before .before .before .before .before .pre .1 (c .before .before .loop .t) (c .before .loop-test .taken),
+)
 
 add-at-inside-2 : tie.Need-add-at-inside-2 Inv-loop μ-loop
-add-at-inside-2 c = omega (arith, c .before .before .before .before .before .pre .1 (c .before .before .loop .t) (c .before .loop-test .taken))
+add-at-inside-2 c = omega (
+  arith,
+  c .before .before .before .before .before .pre .1 (c .before .before .loop .t) (c .before .loop-test .taken),
+)
 
 at-inside-requires-2 : tie.Need-at-inside-requires-2 Inv-loop μ-loop
-at-inside-requires-2 c κs = c .before .before .before .before .before .pre .1 (c .before .before .loop .t) (c .before .loop-test .taken)
+at-inside-requires-2 c κs =
+    c .before .before .before .before .before .pre .1 (c .before .before .loop .t) (c .before .loop-test .taken)
 
 are-points-requires : tie.Need-are-points-requires Inv-loop μ-loop
 are-points-requires c κs = search needs
@@ -48,7 +57,9 @@ returns : tie.Need-returns Inv-loop μ-loop
 unfolding along
 returns c =
     let l = c .before .before .before .before .before .loop in
-    let e = points-end _ _ (l .t) _ (c .before .before .before .before .loop-test .taken) (c .before .before .before .at-inside .ensures) (c .before .before .at-inside2 .ensures) (c .before .are-points .ensures) (c .if1 .taken) in
+    let e = points-end _ _ (l .t) _ (c .before .before .before .before .loop-test .taken)
+    (c .before .before .before .at-inside .ensures) (c .before .before .at-inside2 .ensures)
+    (c .before .are-points .ensures) (c .if1 .taken) in
     (e ∙ l .inv .1, l .inv .2)
 
 plus-points-requires : tie.Need-plus-points-requires Inv-loop μ-loop
@@ -69,15 +80,22 @@ loop-again c =
     let l = c .before .before .before .before .before .before .loop in
     let x = c .before .before .before .before .at-inside .ensures in
     let y = c .before .before .before .at-inside2 .ensures in
-    let e = points-on _ _ (l .t) _ (c .before .before .before .before .before .loop-test .taken) x y (c .before .before .are-points .ensures) (c .before .if1 .left) in
-    (search needs, sym e ∙ l .inv .1, bounding (plusTo-more _ _ _ (l .t) (bounds-back (l .inv .2 .value)) x y refl refl) (c .plus-points .ensures))
+    let e = points-on _ _ (l .t) _ (c .before .before .before .before .before .loop-test .taken) x y
+    (c .before .before .are-points .ensures) (c .before .if1 .left) in (
+      search needs,
+      sym e ∙ l .inv .1,
+      bounding (plusTo-more _ _ _ (l .t) (bounds-back (l .inv .2 .value)) x y refl refl) (c .plus-points .ensures),
+    )
 
 returns-2 : tie.Need-returns-2 Inv-loop μ-loop
 returns-2 c =
     let l = c .before .loop in
     let a = c .before .before .before .before .args in
-    let e : l .t ≡ a .k = le-antisymm (l .inv .0) (c .loop-test .left) in
-    (sym e ∙ points-all _ _ (l .t) (a .k) (l .inv .0) (c .loop-test .left) ∙ l .inv .1, subst (λ (n : ℕ). Bounding (plusTo (along (a .a .now) (a .a0) (a .sa)) (along (a .b .now) (a .b0) (a .sb)) (scalarOf (a .z)) n) (l .sum)) e (l .inv .2))
+    let e : l .t ≡ a .k = le-antisymm (l .inv .0) (c .loop-test .left) in (
+      sym e ∙ points-all _ _ (l .t) (a .k) (l .inv .0) (c .loop-test .left) ∙ l .inv .1,
+      subst (λ (n : ℕ). Bounding (plusTo (along (a .a .now) (a .a0) (a .sa)) (along (a .b .now) (a .b0) (a .sb))
+          (scalarOf (a .z)) n) (l .sum)) e (l .inv .2),
+    )
 
 pub plus-points-inside-spec : {M : Type 1} → statement M
 plus-points-inside-spec =

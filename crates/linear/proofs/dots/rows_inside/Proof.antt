@@ -1,4 +1,5 @@
--- `rows_inside` meets its contract: the bounds are those of the difference so far, and proper, and each place is inside.
+-- `rows_inside` meets its contract: the bounds are those of the difference so far, and proper, and each place is
+-- inside.
 use mathlib.Core.Path.{_≡_, refl, ap, _∙_}
 use Prim.Native.Nat.{ℕ, _+_, _*_, _≤_, _-_}
 use native.Mathlib.Nat.{le-antisymm}
@@ -23,19 +24,27 @@ bounds-of-requires c κs = search needs
 
 loop-holds : tie.Need-loop-holds Inv-loop μ-loop
 unfolding minusTo
-loop-holds c = (search needs, proper-bounds (c .before .before .args .z) (c .bounds-of .ensures) (c .before .before .pre .2))
+loop-holds c =
+    (search needs, proper-bounds (c .before .before .args .z) (c .bounds-of .ensures) (c .before .before .pre .2))
 
 add-at-inside : tie.Need-add-at-inside Inv-loop μ-loop
 add-at-inside c = omega (arith, c .before .before .before .before .pre .0 (c .before .loop .t) (c .loop-test .taken))
 
 at-inside-requires : tie.Need-at-inside-requires Inv-loop μ-loop
-at-inside-requires c κs = omega (arith, c .before .before .before .before .pre .0 (c .before .loop .t) (c .loop-test .taken))
+at-inside-requires c κs =
+    omega (arith, c .before .before .before .before .pre .0 (c .before .loop .t) (c .loop-test .taken))
 
 add-at-inside-2 : tie.Need-add-at-inside-2 Inv-loop μ-loop
-add-at-inside-2 c = omega (arith, c .before .before .before .before .before .pre .1 (c .before .before .loop .t) (c .before .loop-test .taken))
+add-at-inside-2 c = omega (
+  arith,
+  c .before .before .before .before .before .pre .1 (c .before .before .loop .t) (c .before .loop-test .taken),
+)
 
 at-inside-requires-2 : tie.Need-at-inside-requires-2 Inv-loop μ-loop
-at-inside-requires-2 c κs = omega (arith, c .before .before .before .before .before .pre .1 (c .before .before .loop .t) (c .before .loop-test .taken))
+at-inside-requires-2 c κs = omega (
+  arith,
+  c .before .before .before .before .before .pre .1 (c .before .before .loop .t) (c .before .loop-test .taken),
+)
 
 minus-fresh-requires : tie.Need-minus-fresh-requires Inv-loop μ-loop
 minus-fresh-requires c κs = c .before .before .before .loop .inv .1 .proper
@@ -53,8 +62,10 @@ loop-again c =
     let a = c .before .before .before .before .before .before .before .args in
     let one : l .t ≡ l .t * 1 = omega arith in
     let x = c .before .before .at-inside .ensures ∙ ap (λ (p : ℕ). at (a .l .now) (a .i0 + p)) one in
-    let y = c .before .at-inside2 .ensures ∙ ap (λ (p : ℕ). at (a .l .now) (a .j0 + p)) one in
-    (search needs, bounding (minusTo-more _ _ _ (l .t) (bounds-back (l .inv .1 .value)) x y refl refl) (c .minus-fresh .ensures))
+    let y = c .before .at-inside2 .ensures ∙ ap (λ (p : ℕ). at (a .l .now) (a .j0 + p)) one in (
+      search needs,
+      bounding (minusTo-more _ _ _ (l .t) (bounds-back (l .inv .1 .value)) x y refl refl) (c .minus-fresh .ensures),
+    )
 
 scalar-of-requires : tie.Need-scalar-of-requires Inv-loop μ-loop
 scalar-of-requires c κs = search needs
@@ -62,7 +73,9 @@ scalar-of-requires c κs = search needs
 returns : tie.Need-returns Inv-loop μ-loop
 returns c =
     let l = c .before .before .loop in
-    rw (le-antisymm (l .inv .0) (c .before .loop-test .left), bounds-back (c .before .before .before .bounds-of .ensures)) at (c .scalar-of .ensures ∙ bounds-back (l .inv .1 .value))
+    rw
+    (le-antisymm (l .inv .0) (c .before .loop-test .left), bounds-back (c .before .before .before .bounds-of .ensures))
+    at (c .scalar-of .ensures ∙ bounds-back (l .inv .1 .value))
 
 pub rows-inside-spec : {M : Type 1} → statement M
 rows-inside-spec =

@@ -29,11 +29,17 @@ mul-if3-2 c = search needs
 
 returns-3 : tie.Need-returns-3
 unfolding choleskyReply
-returns-3 c = rw (le-leb _ _ (c .before .before .if1 .left), eq-eqb _ _ (c .before .if2 .left), ne-eqb _ _ (c .if3 .taken))
+returns-3 c =
+    rw (le-leb _ _ (c .before .before .if1 .left), eq-eqb _ _ (c .before .if2 .left), ne-eqb _ _ (c .if3 .taken))
 
 returns-4 : tie.Need-returns-4
 unfolding choleskyReply
-returns-4 c = rw (le-leb _ _ (c .before .before .before .if1 .left), eq-eqb _ _ (c .before .before .if2 .left), eq-eqb _ _ (c .before .if3 .left), ne-eqb _ _ (c .if4 .taken))
+returns-4 c = rw (
+  le-leb _ _ (c .before .before .before .if1 .left),
+  eq-eqb _ _ (c .before .before .if2 .left),
+  eq-eqb _ _ (c .before .if3 .left),
+  ne-eqb _ _ (c .if4 .taken),
+)
 
 factor-sized-requires : tie.Need-factor-sized-requires
 factor-sized-requires c κs = search needs
@@ -48,7 +54,12 @@ returns-5 : tie.Need-returns-5
 unfolding choleskyReply
 returns-5 c =
     let k = c .before .before .before .before .before .before .before in
-    rw (le-leb _ _ (k .before .before .before .if1 .left), eq-eqb _ _ (k .before .before .if2 .left), eq-eqb _ _ (k .before .if3 .left), eq-eqb _ _ (k .if4 .left)) (c .before .before .before .before .factor-sized .ensures)
+    rw (
+      le-leb _ _ (k .before .before .before .if1 .left),
+      eq-eqb _ _ (k .before .before .if2 .left),
+      eq-eqb _ _ (k .before .if3 .left),
+      eq-eqb _ _ (k .if4 .left),
+    ) (c .before .before .before .before .factor-sized .ensures)
 
 pub cholesky-spec : {M : Type 1} → statement M
 cholesky-spec =

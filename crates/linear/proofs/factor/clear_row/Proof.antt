@@ -42,7 +42,14 @@ loop-less c = search needs
 
 loop-again : tie.Need-loop-again Inv-loop μ-loop
 unfolding clearRow ofBits
-loop-again c = (search needs, search needs, c .before .before .put .ensures ∙ rw (add-one (c .before .before .before .before .before .loop .k), ← c .before .before .before .before .before .loop .inv .2))
+loop-again c = (
+  search needs,
+  search needs,
+  c .before .before .put .ensures ∙ rw (
+    add-one (c .before .before .before .before .before .loop .k),
+    ← c .before .before .before .before .before .loop .inv .2,
+  ),
+)
 
 same-length : tie.Need-same-length Inv-loop μ-loop
 same-length c = search needs

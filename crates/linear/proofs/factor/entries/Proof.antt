@@ -36,7 +36,8 @@ same-length c = search needs
 returns : tie.Need-returns Inv-loop μ-loop
 returns c =
     let k = c .before .before .before .before .before in
-    broke-off _ _ _ (k .before .before .loop-test .taken) (k .before .before .before .loop .inv .2) (k .entry .ensures) (c .before .e .given .1)
+    broke-off _ _ _ (k .before .before .loop-test .taken) (k .before .before .before .loop .inv .2) (k .entry .ensures)
+    (c .before .e .given .1)
 
 add-j : tie.Need-add-j Inv-loop μ-loop
 add-j c = search needs
@@ -46,8 +47,11 @@ loop-less c = search needs
 
 loop-again : tie.Need-loop-again Inv-loop μ-loop
 loop-again c =
-    let k = c .before .before .before .before in
-    (search needs, search needs, went-on _ _ (k .before .before .before .loop .inv .2) (k .entry .ensures) (c .enum-told .given .1))
+    let k = c .before .before .before .before in (
+      search needs,
+      search needs,
+      went-on _ _ (k .before .before .before .loop .inv .2) (k .entry .ensures) (c .enum-told .given .1),
+    )
 
 same-length-2 : tie.Need-same-length-2 Inv-loop μ-loop
 same-length-2 c = search needs

@@ -34,8 +34,10 @@ at-requires c κs = search needs
 
 rows-minus-requires : tie.Need-rows-minus-requires
 rows-minus-requires c κs =
-    let p = c .before .before .before .before .before .before .before .pre in
-    (row-inside (p .0) (omega (arith, p)) (p .1 .1 .1 .1), row-inside (omega (arith, p)) (omega (arith, p)) (p .1 .1 .1 .1))
+    let p = c .before .before .before .before .before .before .before .pre in (
+      row-inside (p .0) (omega (arith, p)) (p .1 .1 .1 .1),
+      row-inside (omega (arith, p)) (omega (arith, p)) (p .1 .1 .1 .1),
+    )
 
 add-store : tie.Need-add-store
 add-store c = omega (arith, row (c .before .before .before .before .before .before .before .before .before))
@@ -60,7 +62,13 @@ unfolding entryStep
 returns-2 c =
     let q = c .before .before .before in
     let k = q .before .before .before .before in
-    rw (k .before .before .before .if1 .left, ← k .before .at .ensures, ← k .rows-minus .ensures, ← q .before .at2 .ensures, ← q .div .ensures .value) (c .before .before .store .ensures)
+    rw (
+      k .before .before .before .if1 .left,
+      ← k .before .at .ensures,
+      ← k .rows-minus .ensures,
+      ← q .before .at2 .ensures,
+      ← q .div .ensures .value,
+    ) (c .before .before .store .ensures)
 
 pub entry-spec : {M : Type 1} → statement M
 entry-spec =

@@ -14,7 +14,8 @@ use Rattle.linear.proofs.factor.factor_rows.Tie as tie
 
 abbrev Inv-loop : tie.InvT-loop
 Inv-loop n a l₀ left-out₀ i₀ l left-out i =
-    (i ≤ n) × (length l ≡ length l₀) × (length left-out ≡ length left-out₀) × (foldR (rowStep n a) (factorOf l₀ left-out₀) i ≡ ok (factorOf l left-out))
+    (i ≤ n) × (length l ≡ length l₀) × (length left-out ≡ length left-out₀)
+    × (foldR (rowStep n a) (factorOf l₀ left-out₀) i ≡ ok (factorOf l left-out))
 
 abbrev μ-loop : tie.MeasureT-loop
 μ-loop n a l₀ left-out₀ i₀ l left-out i = n - i
@@ -41,7 +42,8 @@ same-length-2 c = search needs
 returns : tie.Need-returns Inv-loop μ-loop
 returns c =
     let k = c .before .before .before .before .before .before .before in
-    broke-off _ _ _ (k .before .before .before .loop-test .taken) (k .before .before .before .before .loop .inv .3) (k .factor-row .ensures) (c .before .e .given .1)
+    broke-off _ _ _ (k .before .before .before .loop-test .taken) (k .before .before .before .before .loop .inv .3)
+    (k .factor-row .ensures) (c .before .e .given .1)
 
 add-i : tie.Need-add-i Inv-loop μ-loop
 add-i c = search needs
@@ -51,8 +53,12 @@ loop-less c = search needs
 
 loop-again : tie.Need-loop-again Inv-loop μ-loop
 loop-again c =
-    let k = c .before .before .before .before .before .before in
-    (search needs, search needs, search needs, went-on _ _ (k .before .before .before .before .loop .inv .3) (k .factor-row .ensures) (c .enum-told .given .1))
+    let k = c .before .before .before .before .before .before in (
+      search needs,
+      search needs,
+      search needs,
+      went-on _ _ (k .before .before .before .before .loop .inv .3) (k .factor-row .ensures) (c .enum-told .given .1),
+    )
 
 same-length-3 : tie.Need-same-length-3 Inv-loop μ-loop
 same-length-3 c = search needs

@@ -1,4 +1,5 @@
--- `factor_sized` meets its contract: the rows from clear slices are the factor's entries (CholeskyRows), and a refusal clears both slices again.
+-- `factor_sized` meets its contract: the rows from clear slices are the factor's entries (CholeskyRows), and a refusal
+-- clears both slices again.
 use mathlib.Core.Path.{_≡_, _∙_}
 use Prim.Native.Nat.{_*_}
 use native.Mathlib.Omega.{arith}
@@ -43,7 +44,8 @@ returns c =
     let s = k .before .before .before .before .before in
     let l = rw (s .pre .1 .0) at (k .clear .ensures) in
     let left = rw (s .pre .1 .1) at (u .unmark .ensures) in
-    let e = rw (c .enum-told .given .1, l, left) at (f .factor-rows .ensures) ∙ rows-are-entries (s .args .n) (s .args .a .now) in
+    let e = rw (c .enum-told .given .1, l, left) at (f .factor-rows .ensures)
+    ∙ rows-are-entries (s .args .n) (s .args .a .now) in
     rw (← e)
 
 same-length-3 : tie.Need-same-length-3
@@ -54,16 +56,24 @@ same-length-4 c = search needs
 
 returns-2 : tie.Need-returns-2
 returns-2 c =
-    let f = c .before .before .before .before .before .before .before .before .before .before .before .before .before .before .before in
+    let f = c .before .before .before .before .before .before .before .before .before .before .before .before .before
+    .before .before in
     let u = f .before .before .before .before .before in
     let k = u .before .before .before .before in
     let s = k .before .before .before .before .before in
     let l = rw (s .pre .1 .0) at (k .clear .ensures) in
     let left = rw (s .pre .1 .1) at (u .unmark .ensures) in
-    let e = rw (c .before .before .before .before .before .before .before .before .before .e .given .1, l, left) at (f .factor-rows .ensures) ∙ rows-are-entries (s .args .n) (s .args .a .now) in
-    let size : length (f .factor-rows .last .1 .1 .0) ≡ 2 * (s .args .n * s .args .n) = omega (arith, f .factor-rows .kept, k .clear .kept) in
-    let marks : length (f .factor-rows .last .1 .1 .1 .0) ≡ s .args .n = omega (arith, f .factor-rows .kept, u .unmark .kept) in
-    rw (← e, rw size at (c .before .before .before .before .before .before .clear2 .ensures), rw marks at (c .before .before .unmark2 .ensures))
+    let e = rw (c .before .before .before .before .before .before .before .before .before .e .given .1, l, left) at
+    (f .factor-rows .ensures) ∙ rows-are-entries (s .args .n) (s .args .a .now) in
+    let size : length (f .factor-rows .last .1 .1 .0) ≡ 2 * (s .args .n * s .args .n) =
+    omega (arith, f .factor-rows .kept, k .clear .kept) in
+    let marks : length (f .factor-rows .last .1 .1 .1 .0) ≡ s .args .n =
+    omega (arith, f .factor-rows .kept, u .unmark .kept) in
+    rw (
+      ← e,
+      rw size at (c .before .before .before .before .before .before .clear2 .ensures),
+      rw marks at (c .before .before .unmark2 .ensures),
+    )
 
 pub factor-sized-spec : {M : Type 1} → statement M
 factor-sized-spec =

@@ -16,7 +16,11 @@ root-pivot-requires c κs = search needs
 
 returns : tie.Need-returns
 unfolding pivotOf ofBits
-returns c = rw (← c .before .before .before .definitely-greater .ensures, c .before .before .if1 .taken, ← c .before .sqrt .ensures .value) (c .root-pivot .ensures)
+returns c = rw (
+  ← c .before .before .before .definitely-greater .ensures,
+  c .before .before .if1 .taken,
+  ← c .before .sqrt .ensures .value,
+) (c .root-pivot .ensures)
 
 returns-2 : tie.Need-returns-2
 unfolding pivotOf ofBits

@@ -40,7 +40,11 @@ returns : tie.Need-returns
 unfolding pivotStep
 returns c =
     let k = c .before .before .before .before .before in
-    rw (← k .before .before .before .before .at .ensures, ← k .before .before .before .rows-minus .ensures, ← k .pivot-of .ensures) (c .before .before .before .before .settle-pivot .ensures)
+    rw (
+      ← k .before .before .before .before .at .ensures,
+      ← k .before .before .before .rows-minus .ensures,
+      ← k .pivot-of .ensures,
+    ) (c .before .before .before .before .settle-pivot .ensures)
 
 pub pivot-row-spec : {M : Type 1} → statement M
 pivot-row-spec =

@@ -19,11 +19,21 @@ enum-known-q-2 c = search needs
 
 returns : tie.Need-returns
 unfolding rootPivot ofBits
-returns c = rw (c .before .before .before .before .q .given .1, ← c .before .before .div .ensures .value, ← c .before .is-usable .ensures, c .if1 .taken)
+returns c = rw (
+  c .before .before .before .before .q .given .1,
+  ← c .before .before .div .ensures .value,
+  ← c .before .is-usable .ensures,
+  c .if1 .taken,
+)
 
 returns-2 : tie.Need-returns-2
 unfolding rootPivot ofBits
-returns-2 c = rw (c .before .before .before .before .q .given .1, ← c .before .before .div .ensures .value, ← c .before .is-usable .ensures, c .if1 .left)
+returns-2 c = rw (
+  c .before .before .before .before .q .given .1,
+  ← c .before .before .div .ensures .value,
+  ← c .before .is-usable .ensures,
+  c .if1 .left,
+)
 
 returns-3 : tie.Need-returns-3
 unfolding rootPivot

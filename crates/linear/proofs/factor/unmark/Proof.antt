@@ -11,7 +11,8 @@ use Rattle.linear.proofs.factor.unmark.Statement.{statement}
 use Rattle.linear.proofs.factor.unmark.Tie as tie
 
 abbrev Inv-loop : tie.InvT-loop
-Inv-loop xs₀ i₀ i-end xs i = (i ≤ length xs₀) × (i-end ≡ length xs₀) × (length xs ≡ length xs₀) × (xs ≡ replicate i false ++ drop i xs₀)
+Inv-loop xs₀ i₀ i-end xs i =
+    (i ≤ length xs₀) × (i-end ≡ length xs₀) × (length xs ≡ length xs₀) × (xs ≡ replicate i false ++ drop i xs₀)
 
 abbrev μ-loop : tie.MeasureT-loop
 μ-loop xs₀ i₀ i-end xs i = i-end - i
@@ -29,7 +30,12 @@ loop-less : tie.Need-loop-less Inv-loop μ-loop
 loop-less c = search needs
 
 loop-again : tie.Need-loop-again Inv-loop μ-loop
-loop-again c = (search needs, search needs, search needs, rw (c .before .loop .inv .3) (fill-more (c .before .loop .i) false (c .before .before .args .xs .now) (omega arith)))
+loop-again c = (
+  search needs,
+  search needs,
+  search needs,
+  rw (c .before .loop .inv .3) (fill-more (c .before .loop .i) false (c .before .before .args .xs .now) (omega arith)),
+)
 
 same-length : tie.Need-same-length Inv-loop μ-loop
 same-length c = search needs

@@ -29,7 +29,8 @@ shared-slice-read-t13 : tie.Need-shared-slice-read-t13
 shared-slice-read-t13 c = search needs
 
 returns : tie.Need-returns
-returns c = let a = c .before .before .before .before .args in sym (at-inside (a .xs .now) (a .i) (lt-ltb (2 * a .i + 1) (length (a .xs .now)) (omega arith)))
+returns c = let a = c .before .before .before .before .args in
+    sym (at-inside (a .xs .now) (a .i) (lt-ltb (2 * a .i + 1) (length (a .xs .now)) (omega arith)))
 
 degenerate-requires : tie.Need-degenerate-requires
 degenerate-requires c κs = search needs
@@ -38,7 +39,8 @@ returns-2 : tie.Need-returns-2
 unfolding ofBits div
 returns-2 c =
     let a = c .before .before .before .args in
-    c .degenerate .ensures ∙ sym (at-outside (a .xs .now) (a .i) (le-ltb (2 * a .i + 1) (length (a .xs .now)) (omega arith)))
+    c .degenerate .ensures
+    ∙ sym (at-outside (a .xs .now) (a .i) (le-ltb (2 * a .i + 1) (length (a .xs .now)) (omega arith)))
 
 pub at-spec : {M : Type 1} → statement M
 at-spec =

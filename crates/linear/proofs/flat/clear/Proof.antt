@@ -12,7 +12,8 @@ use Rattle.linear.proofs.flat.clear.Tie as tie
 use Rattle.linear.proofs.Lists.{fill-more, fill-all}
 
 abbrev Inv-loop : tie.InvT-loop
-Inv-loop xs₀ i₀ i-end xs i = (i ≤ length xs₀) × (i-end ≡ length xs₀) × (length xs ≡ length xs₀) × (xs ≡ zeros i ++ drop i xs₀)
+Inv-loop xs₀ i₀ i-end xs i =
+    (i ≤ length xs₀) × (i-end ≡ length xs₀) × (length xs ≡ length xs₀) × (xs ≡ zeros i ++ drop i xs₀)
 
 abbrev μ-loop : tie.MeasureT-loop
 μ-loop xs₀ i₀ i-end xs i = i-end - i
@@ -34,8 +35,12 @@ loop-less c = search needs
 
 loop-again : tie.Need-loop-again Inv-loop μ-loop
 unfolding ofBits
-loop-again c =
-    (search needs, search needs, search needs, rw (c .before .loop .inv .3) (fill-more (c .before .loop .i) _ (c .before .before .args .xs .now) (omega arith)))
+loop-again c = (
+  search needs,
+  search needs,
+  search needs,
+  rw (c .before .loop .inv .3) (fill-more (c .before .loop .i) _ (c .before .before .args .xs .now) (omega arith)),
+)
 
 same-length : tie.Need-same-length Inv-loop μ-loop
 same-length c = search needs

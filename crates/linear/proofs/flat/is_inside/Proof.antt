@@ -32,7 +32,8 @@ sub-result : tie.Need-sub-result
 sub-result c = search needs
 
 returns-4 : tie.Need-returns-4
-returns-4 c = let a = c .before .before .before .before .args in λ e. inside-reach (a .base) (a .step) (a .k) (a .len) (ltb-true _ _ e)
+returns-4 c = let a = c .before .before .before .before .args in
+    λ e. inside-reach (a .base) (a .step) (a .k) (a .len) (ltb-true _ _ e)
 
 returns-5 : tie.Need-returns-5
 returns-5 c = λ e. absurd (false≢true e)

@@ -14,7 +14,8 @@ use Rattle.linear.proofs.householder.columns.Statement.{statement}
 use Rattle.linear.proofs.householder.columns.Tie as tie
 
 abbrev Inv-loop : tie.InvT-loop
-Inv-loop m r rows rhs cols₀ n p₀ cols p = (p ≤ n) × (length cols ≡ length cols₀) × (cols ≡ listTo (columnEntry m r rows rhs) p ++ drop (2 * p) cols₀)
+Inv-loop m r rows rhs cols₀ n p₀ cols p =
+    (p ≤ n) × (length cols ≡ length cols₀) × (cols ≡ listTo (columnEntry m r rows rhs) p ++ drop (2 * p) cols₀)
 
 abbrev μ-loop : tie.MeasureT-loop
 μ-loop m r rows rhs cols₀ n p₀ cols p = n - p
@@ -29,13 +30,17 @@ loop-holds : tie.Need-loop-holds Inv-loop μ-loop
 loop-holds c = (search needs, search needs, sym (listTo-none _ _))
 
 column-entry-requires : tie.Need-column-entry-requires Inv-loop μ-loop
-column-entry-requires c κs = let s = c .before .before .before .before .before .before in (rows-positive (s .args .r + 1) (s .args .m) (c .before .loop-test .taken), (s .pre .0, (s .pre .1 .0, omega (arith, columns-small (s .pre .1 .0) (s .pre .0)))))
+column-entry-requires c κs = let s = c .before .before .before .before .before .before in (
+  rows-positive (s .args .r + 1) (s .args .m) (c .before .loop-test .taken),
+  (s .pre .0, (s .pre .1 .0, omega (arith, columns-small (s .pre .1 .0) (s .pre .0)))),
+)
 
 put-requires : tie.Need-put-requires Inv-loop μ-loop
 put-requires c κs = search needs
 
 add-p : tie.Need-add-p Inv-loop μ-loop
-add-p c = let s = c .before .before .before .before .before .before .before .before .before .before in omega (arith, columns-small (s .pre .1 .0) (s .pre .0))
+add-p c = let s = c .before .before .before .before .before .before .before .before .before .before in
+    omega (arith, columns-small (s .pre .1 .0) (s .pre .0))
 
 loop-less : tie.Need-loop-less Inv-loop μ-loop
 loop-less c = search needs
@@ -44,8 +49,13 @@ loop-again : tie.Need-loop-again Inv-loop μ-loop
 loop-again c =
     let l = c .before .before .before .before .before .before in
     let a = c .before .before .before .before .before .before .before .before .before .before .args in
-    let e = rw (l .loop .inv .2, c .before .before .before .column-entry .ensures) at (c .before .before .put .ensures) in
-    (search needs, search needs, e ∙ listTo-more (columnEntry (a .m) (a .r) (a .rows .now) (a .rhs .now)) (l .loop .p) (a .cols .now) (omega arith))
+    let e =
+    rw (l .loop .inv .2, c .before .before .before .column-entry .ensures) at (c .before .before .put .ensures) in (
+      search needs,
+      search needs,
+      e ∙ listTo-more (columnEntry (a .m) (a .r) (a .rows .now) (a .rhs .now)) (l .loop .p) (a .cols .now)
+          (omega arith),
+    )
 
 same-length : tie.Need-same-length Inv-loop μ-loop
 same-length c = search needs
@@ -56,7 +66,8 @@ returns c =
     let s = c .before .before .before .before .before in
     let a = s .args in
     let e = rw (le-antisymm (c .before .loop .inv .0) (c .loop-test .left)) at (c .before .loop .inv .2) in
-    e ∙ listTo-all (columnEntry (a .m) (a .r) (a .rows .now) (a .rhs .now)) ((a .r + 1) * a .m) (a .cols .now) (s .pre .1 .1)
+    e ∙ listTo-all (columnEntry (a .m) (a .r) (a .rows .now) (a .rhs .now)) ((a .r + 1) * a .m) (a .cols .now)
+    (s .pre .1 .1)
 
 pub columns-spec : {M : Type 1} → statement M
 columns-spec =

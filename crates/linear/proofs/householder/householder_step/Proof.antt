@@ -18,8 +18,23 @@ enum-known-length c = search needs
 
 reflect-with-requires : tie.Need-reflect-with-requires
 reflect-with-requires c κs =
-    let p = c .before .before .before .before .before .before .before .before .before .before .before .before .before .before .before .before .pre in
-    (p .0, (p .1 .0, (p .1 .1 .0, (p .1 .1 .1 .0, (p .1 .1 .1 .1 .0, c .before .before .before .before .before .before .before .before .before .before .tail .ensures)))))
+    let p = c .before .before .before .before .before .before .before .before .before .before .before .before .before
+    .before .before .before .pre in (
+      p .0,
+      (
+        p .1 .0,
+        (
+          p .1 .1 .0,
+          (
+            p .1 .1 .1 .0,
+            (
+              p .1 .1 .1 .1 .0,
+              c .before .before .before .before .before .before .before .before .before .before .tail .ensures,
+            ),
+          ),
+        ),
+      ),
+    )
 
 enum-known-e : tie.Need-enum-known-e
 enum-known-e c = search needs
@@ -35,7 +50,13 @@ same-length-3 c = search needs
 
 returns : tie.Need-returns
 unfolding householderStep
-returns c = rw (← c .before .before .before .before .before .before .before .before .before .before .before .before .before .before .before .before .before .tail .ensures, ← c .before .before .before .before .before .before .before .before .before .before .before .before .before .norm-of .ensures, c .before .before .before .before .before .before .before .before .before .before .before .length .given .1) (c .before .before .before .before .before .before .reflect-with .ensures)
+returns c = rw (
+  ← c .before .before .before .before .before .before .before .before .before .before .before .before .before .before
+      .before .before .before .tail .ensures,
+  ← c .before .before .before .before .before .before .before .before .before .before .before .before .before
+      .norm-of .ensures,
+  c .before .before .before .before .before .before .before .before .before .before .before .length .given .1,
+) (c .before .before .before .before .before .before .reflect-with .ensures)
 
 same-length-4 : tie.Need-same-length-4
 same-length-4 c = search needs
@@ -45,7 +66,11 @@ same-length-5 c = search needs
 
 returns-2 : tie.Need-returns-2
 unfolding householderStep reflectWith
-returns-2 c = rw (← c .before .before .before .before .before .before .before .tail .ensures, ← c .before .before .before .norm-of .ensures, c .before .e .given .1)
+returns-2 c = rw (
+  ← c .before .before .before .before .before .before .before .tail .ensures,
+  ← c .before .before .before .norm-of .ensures,
+  c .before .e .given .1,
+)
 
 pub householder-step-spec : {M : Type 1} → statement M
 householder-step-spec =

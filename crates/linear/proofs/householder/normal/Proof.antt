@@ -23,7 +23,9 @@ same-length : tie.Need-same-length
 same-length c = search needs
 
 returns : tie.Need-returns
-returns c = normal-is _ _ (c .before .before .before .before .before .before .before .at .ensures) (c .before .before .before .before .before .alpha .ensures) (c .before .before .before .before .sub .ensures .value) (c .before .before .before .choose .ensures) (c .before .before .put .ensures)
+returns c = normal-is _ _ (c .before .before .before .before .before .before .before .at .ensures)
+    (c .before .before .before .before .before .alpha .ensures) (c .before .before .before .before .sub .ensures .value)
+    (c .before .before .before .choose .ensures) (c .before .before .put .ensures)
 
 pub normal-spec : {M : Type 1} → statement M
 normal-spec =

@@ -30,7 +30,8 @@ same-length c = search needs
 returns : tie.Need-returns
 unfolding ofBits
 returns c =
-    let q = rw (c .before .before .before .before .before .q .given .1) at (c .before .before .before .before .before .before .before .div .ensures .value) in
+    let q = rw (c .before .before .before .before .before .q .given .1) at
+    (c .before .before .before .before .before .before .before .div .ensures .value) in
     reflect-ok _ _ _ _ _ (rw along-start at (c .before .before .before .before .before .before .before .before .before
     .row-dot .ensures)) (c .before .before .before .before .before .before .before .before .mul .ensures .value) q (c
     .before .before .minus-scaled .ensures)

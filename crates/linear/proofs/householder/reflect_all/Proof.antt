@@ -20,7 +20,8 @@ abbrev μ-loop : tie.MeasureT-loop
 μ-loop m j v vv cols₀ k n t₀ cols t = k - t
 
 -- the column's start
-start : (k : tie.In-loop Inv-loop μ-loop) → (k .before .before .before .before .args .j + k .before .loop .t) * k .before .before .before .before .args .m ≤ 576
+start : (k : tie.In-loop Inv-loop μ-loop) → (k .before .before .before .before .args .j + k .before .loop .t)
+    * k .before .before .before .before .args .m ≤ 576
 start k = product-small (omega arith) (omega arith)
 
 sub-n : tie.Need-sub-n Inv-loop μ-loop

@@ -31,11 +31,21 @@ same-length c = search needs
 
 returns : tie.Need-returns
 unfolding reflectBy ofBits
-returns c = rw (← c .before .before .before .before .before .before .before .dot-of .ensures, ← c .before .before .before .before .before .before .choose .ensures, ← c .before .before .before .before .before .definitely-greater .ensures, c .before .before .before .before .if1 .taken) (c .before .before .reflect-all .ensures)
+returns c = rw (
+  ← c .before .before .before .before .before .before .before .dot-of .ensures,
+  ← c .before .before .before .before .before .before .choose .ensures,
+  ← c .before .before .before .before .before .definitely-greater .ensures,
+  c .before .before .before .before .if1 .taken,
+) (c .before .before .reflect-all .ensures)
 
 returns-2 : tie.Need-returns-2
 unfolding reflectBy ofBits
-returns-2 c = rw (← c .before .before .before .dot-of .ensures, ← c .before .before .choose .ensures, ← c .before .definitely-greater .ensures, c .if1 .left)
+returns-2 c = rw (
+  ← c .before .before .before .dot-of .ensures,
+  ← c .before .before .choose .ensures,
+  ← c .before .definitely-greater .ensures,
+  c .if1 .left,
+)
 
 pub reflect-by-spec : {M : Type 1} → statement M
 reflect-by-spec =

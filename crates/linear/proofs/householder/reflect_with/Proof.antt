@@ -24,8 +24,16 @@ same-length-2 c = search needs
 returns : tie.Need-returns
 unfolding reflectWith ofBits
 returns c =
-    rw (← c .before .before .before .before .before .before .before .before .before .before .definitely-greater .ensures, c .before .before .before .before .before .before .before .before .before .if1 .taken, ← c .before .before .before .before .before .before .before .before .before .before .before .before .before .before .pre .1 .1 .1 .1 .1, ← c .before .before .before .before .before .before .before .normal .ensures)
-    (with-marks (c .before .before .reflect-by .result) (c .before .before .reflect-by .last .1 .1 .1 .1 .0) (c .before .before .before .before .before .before .before .before .before .before .before .before .before .before .args .left-out .now) _ (c .before .before .reflect-by .ensures))
+    rw (
+      ← c .before .before .before .before .before .before .before .before .before .before .definitely-greater .ensures,
+      c .before .before .before .before .before .before .before .before .before .if1 .taken,
+      ← c .before .before .before .before .before .before .before .before .before .before .before .before .before
+          .before .pre .1 .1 .1 .1 .1,
+      ← c .before .before .before .before .before .before .before .normal .ensures,
+    )
+    (with-marks (c .before .before .reflect-by .result) (c .before .before .reflect-by .last .1 .1 .1 .1 .0)
+    (c .before .before .before .before .before .before .before .before .before .before .before .before .before .before
+    .args .left-out .now) _ (c .before .before .reflect-by .ensures))
 
 slice-write-left-out : tie.Need-slice-write-left-out
 slice-write-left-out c = search needs

@@ -16,7 +16,8 @@ use Rattle.linear.proofs.householder.reflections.Tie as tie
 
 abbrev Inv-loop : tie.InvT-loop
 Inv-loop m r k cols₀ left-out₀ v₀ j₀ cols left-out v j =
-    (j ≤ k) × (length cols ≡ length cols₀) × (length left-out ≡ length left-out₀) × (length v ≡ length v₀) × (foldR (householderStep m r) (factorOf cols₀ left-out₀) j ≡ ok (factorOf cols left-out))
+    (j ≤ k) × (length cols ≡ length cols₀) × (length left-out ≡ length left-out₀) × (length v ≡ length v₀)
+    × (foldR (householderStep m r) (factorOf cols₀ left-out₀) j ≡ ok (factorOf cols left-out))
 
 abbrev μ-loop : tie.MeasureT-loop
 μ-loop m r k cols₀ left-out₀ v₀ j₀ cols left-out v j = k - j
@@ -61,7 +62,8 @@ returns : tie.Need-returns Inv-loop μ-loop
 returns c =
     let h = c .before .before .before .before .before .before .before .before .before in
     let e = rw (c .before .e .given .1) at (h .householder-step .ensures) in
-    sym (ends _ _ (h .before .before .before .before .loop-test .taken) (h .before .before .before .before .before .loop .inv .4) (sym e))
+    sym (ends _ _ (h .before .before .before .before .loop-test .taken)
+    (h .before .before .before .before .before .loop .inv .4) (sym e))
 
 add-j : tie.Need-add-j Inv-loop μ-loop
 add-j c = search needs
@@ -74,8 +76,14 @@ loop-again c =
     let h = c .before .before .before .before .before .before .before .before in
     let e = rw (c .enum-told .given .1) at (h .householder-step .ensures) in
     let l = h .before .before .before .before .before .loop in
-    let n = 2 * (h .before .before .before .before .before .before .before .before .before .args .m - l .j) in
-    (search needs, search needs, search needs, length-front (l .v) (h .householder-step .last .1 .1 .1 .1 .1 .0) n (h .householder-step .kept .1 .1 .1 .1 .1 .0) ∙ l .inv .3, turn _ _ (l .j) (l .inv .4) ∙ sym e)
+    let n = 2 * (h .before .before .before .before .before .before .before .before .before .args .m - l .j) in (
+      search needs,
+      search needs,
+      search needs,
+      length-front (l .v) (h .householder-step .last .1 .1 .1 .1 .1 .0) n (h .householder-step .kept .1 .1 .1 .1 .1 .0)
+          ∙ l .inv .3,
+      turn _ _ (l .j) (l .inv .4) ∙ sym e,
+    )
 
 same-length-4 : tie.Need-same-length-4 Inv-loop μ-loop
 same-length-4 c = search needs

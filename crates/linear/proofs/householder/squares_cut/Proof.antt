@@ -24,7 +24,8 @@ slice-relend-prefix-squares-in : tie.Need-slice-relend-prefix-squares-in
 slice-relend-prefix-squares-in c = omega (arith, room (c .before .before .before .before .before .before .before))
 
 slice-aggregate-squares-in : tie.Need-slice-aggregate-squares-in
-slice-aggregate-squares-in c = sym (length-take-le _ _ (omega (arith, room (c .before .before .before .before .before .before .before .before))))
+slice-aggregate-squares-in c =
+    sym (length-take-le _ _ (omega (arith, room (c .before .before .before .before .before .before .before .before))))
 
 slice-relend-prefix-squares-in-2 : tie.Need-slice-relend-prefix-squares-in-2
 slice-relend-prefix-squares-in-2 c = search needs
@@ -34,8 +35,20 @@ slice-aggregate-squares-in-2 c = sym (length-take-le _ _ (omega arith))
 
 squares-in-requires : tie.Need-squares-in-requires
 squares-in-requires c κs =
-    let p = c .before .before .before .before .before .before .before .before .before .before .pre in
-    (p .0, (p .1 .0, (p .1 .1 .0, (length-take-le _ _ (omega (arith, room (c .before .before .before .before .before .before .before .before .before .before))), (length-take-le _ _ (omega arith), p .1 .1 .1 .1 .1)))))
+    let p = c .before .before .before .before .before .before .before .before .before .before .pre in (
+      p .0,
+      (
+        p .1 .0,
+        (
+          p .1 .1 .0,
+          (
+            length-take-le _ _ (omega
+                (arith, room (c .before .before .before .before .before .before .before .before .before .before))),
+            (length-take-le _ _ (omega arith), p .1 .1 .1 .1 .1),
+          ),
+        ),
+      ),
+    )
 
 same-length : tie.Need-same-length
 same-length c = search needs

@@ -1,4 +1,5 @@
--- `squares_in` meets its contract: both folds start at what the calls before them wrote, and a refusal leaves the output clear.
+-- `squares_in` meets its contract: both folds start at what the calls before them wrote, and a refusal leaves the
+-- output clear.
 use mathlib.Core.Bool.{false}
 use mathlib.Core.Path.{_≡_}
 use Prim.Native.Nat.{_*_, min}
@@ -14,17 +15,26 @@ use Rattle.linear.proofs.householder.squares_in.Statement.{statement}
 use Rattle.linear.proofs.householder.squares_in.Tie as tie
 
 -- the output, cleared
-blank : (k : tie.After-clear) → k .clear .last .0 ≡ zeros (2 * k .before .before .before .before .before .before .before .before .args .r)
+blank : (k : tie.After-clear)
+    → k .clear .last .0 ≡ zeros (2 * k .before .before .before .before .before .before .before .before .args .r)
 blank k = rw (k .before .before .before .before .before .before .before .before .pre .1 .1 .0) at (k .clear .ensures)
 
 -- the reflections, from the columns and no marks
 reflected : (k : tie.After-reflections)
-    → let a = k .before .before .before .before .before .before .before .before .before .before .before .before .before .before .before .before .before .before .before .before .before .before .before .args in
+    → let a = k .before .before .before .before .before .before .before .before .before .before .before .before .before
+    .before .before .before .before .before .before .before .before .before .before .args in
     let l = k .reflections .last .1 .1 .1 in
-    doneOf (k .reflections .result) (factorOf (l .0) (l .1 .0)) ≡ foldR (householderStep (a .m) (a .r)) (factorOf (columnsOf (a .m) (a .r) (a .rows .now) (a .rhs .now)) (replicate (a .r) false)) (min (a .r) (a .m))
+    doneOf (k .reflections .result) (factorOf (l .0) (l .1 .0)) ≡ foldR (householderStep (a .m) (a .r))
+    (factorOf (columnsOf (a .m) (a .r) (a .rows .now) (a .rhs .now)) (replicate (a .r) false)) (min (a .r) (a .m))
 reflected k =
-    let marks = rw (k .before .before .before .before .before .before .before .before .before .before .before .before .before .before .before .before .before .before .before .before .before .before .before .pre .1 .1 .1 .1 .0) at (k .before .before .before .before .before .before .before .before .before .before .before .unmark .ensures) in
-    rw (k .before .before .before .before .before .before .before .columns .ensures, marks, k .before .before .before .before .fewer .ensures) at (k .reflections .ensures)
+    let marks = rw (k .before .before .before .before .before .before .before .before .before .before .before .before
+    .before .before .before .before .before .before .before .before .before .before .before .pre .1 .1 .1 .1 .0) at
+    (k .before .before .before .before .before .before .before .before .before .before .before .unmark .ensures) in
+    rw (
+      k .before .before .before .before .before .before .before .columns .ensures,
+      marks,
+      k .before .before .before .before .fewer .ensures,
+    ) at (k .reflections .ensures)
 
 clear-requires : tie.Need-clear-requires
 clear-requires c κs = search needs
@@ -47,9 +57,26 @@ enum-told c = search needs
 values-requires : tie.Need-values-requires
 values-requires c κs =
     let k = c .before .before .before .before .before .before .before .before .before .before .before in
-    let p = k .before .before .before .before .before .before .before .before .before .before .before .before .before .before .before .before .before .before .before .before .before .before .before .pre in
-    let e = k .before .before .before .before .fewer .ensures in
-    (omega (arith, e), (omega (arith, e), (p .0, (p .1 .0, omega (arith, p, k .reflections .kept, k .before .before .before .before .before .before .before .before .before .before .before .unmark .kept)))))
+    let p = k .before .before .before .before .before .before .before .before .before .before .before .before .before
+    .before .before .before .before .before .before .before .before .before .before .pre in
+    let e = k .before .before .before .before .fewer .ensures in (
+      omega (arith, e),
+      (
+        omega (arith, e),
+        (
+          p .0,
+          (
+            p .1 .0,
+            omega (
+              arith,
+              p,
+              k .reflections .kept,
+              k .before .before .before .before .before .before .before .before .before .before .before .unmark .kept,
+            ),
+          ),
+        ),
+      ),
+    )
 
 cleared-requires : tie.Need-cleared-requires
 cleared-requires c κs = search needs
@@ -58,7 +85,14 @@ enum-known-e : tie.Need-enum-known-e
 enum-known-e c = search needs
 
 same-length : tie.Need-same-length
-same-length c = omega (arith, c .before .before .cleared .kept, c .before .before .before .before .before .before .values .kept, c .before .before .before .before .before .before .before .before .before .before .before .before .before .before .before .before .before .before .before .before .before .before .before .before .before .before .before .before .before .before .before .before .before .clear .kept)
+same-length c = omega (
+  arith,
+  c .before .before .cleared .kept,
+  c .before .before .before .before .before .before .values .kept,
+  c .before .before .before .before .before .before .before .before .before .before .before .before .before .before
+      .before .before .before .before .before .before .before .before .before .before .before .before .before .before
+      .before .before .before .before .before .clear .kept,
+)
 
 same-length-2 : tie.Need-same-length-2
 same-length-2 c = search needs
@@ -72,11 +106,26 @@ same-length-4 c = search needs
 returns : tie.Need-returns
 unfolding leastSquaresOf bind
 returns c =
-    let k = c .before .before .before .before .before .before .before .before .before .before .before .before .before .before .before .before .before .before in
-    let f = rw (c .before .before .before .before .before .before .before .before .before .before .enum-told .given .1) at (reflected k) in
+    let k = c .before .before .before .before .before .before .before .before .before .before .before .before .before
+    .before .before .before .before .before in
+    let f = rw (c .before .before .before .before .before .before .before .before .before .before .enum-told .given .1)
+    at (reflected k) in
     let v = c .before .before .before .before .before .before .values in
-    let e = rw (blank (k .before .before .before .before .before .before .before .before .before .before .before .before .before .before .before), k .before .before .before .before .fewer .ensures) at (v .ensures) in
-    let size : length (v .last .1 .1 .1 .1 .1 .0) ≡ 2 * k .before .before .before .before .before .before .before .before .before .before .before .before .before .before .before .before .before .before .before .before .before .before .before .args .r = omega (arith, k .before .before .before .before .before .before .before .before .before .before .before .before .before .before .before .before .before .before .before .before .before .before .before .pre, v .kept, k .before .before .before .before .before .before .before .before .before .before .before .before .before .before .before .clear .kept) in
+    let e = rw (
+      blank (k .before .before .before .before .before .before .before .before .before .before .before .before .before
+          .before .before),
+      k .before .before .before .before .fewer .ensures,
+    ) at (v .ensures) in
+    let size : length (v .last .1 .1 .1 .1 .1 .0)
+    ≡ 2 * k .before .before .before .before .before .before .before .before .before .before .before .before .before
+    .before .before .before .before .before .before .before .before .before .before .args .r = omega (
+      arith,
+      k .before .before .before .before .before .before .before .before .before .before .before .before .before .before
+          .before .before .before .before .before .before .before .before .before .pre,
+      v .kept,
+      k .before .before .before .before .before .before .before .before .before .before .before .before .before .before
+          .before .clear .kept,
+    ) in
     rw (← f, ← e) (rw size at (c .before .before .cleared .ensures))
 
 same-length-5 : tie.Need-same-length-5
@@ -96,7 +145,11 @@ unfolding leastSquaresOf bind
 returns-2 c =
     let k = c .before .before .before .before .before .before .before .before .before in
     let f = rw (c .before .e .given .1) at (reflected k) in
-    rw (← f, blank (k .before .before .before .before .before .before .before .before .before .before .before .before .before .before .before))
+    rw (
+      ← f,
+      blank (k .before .before .before .before .before .before .before .before .before .before .before .before .before
+          .before .before),
+    )
 
 pub squares-in-spec : {M : Type 1} → statement M
 squares-in-spec =

@@ -15,7 +15,8 @@ use Rattle.linear.proofs.householder.tail.Statement.{statement}
 use Rattle.linear.proofs.householder.tail.Tie as tie
 
 abbrev Inv-loop : tie.InvT-loop
-Inv-loop m cols j x₀ base n k₀ x k = (k ≤ n) × (length x ≡ length x₀) × (x ≡ listTo (along cols base 1) k ++ drop (2 * k) x₀)
+Inv-loop m cols j x₀ base n k₀ x k =
+    (k ≤ n) × (length x ≡ length x₀) × (x ≡ listTo (along cols base 1) k ++ drop (2 * k) x₀)
 
 abbrev μ-loop : tie.MeasureT-loop
 μ-loop m cols j x₀ base n k₀ x k = n - k
@@ -55,8 +56,15 @@ loop-again : tie.Need-loop-again Inv-loop μ-loop
 loop-again c =
     let l = c .before .before .before .before .before .before in
     let a = c .before .before .before .before .before .before .before .before .before .args in
-    let e = rw (l .loop .inv .2, c .before .before .before .at .ensures, ← along-row (a .cols .now) (a .j * a .m + a .j) (l .loop .k)) at (c .before .before .put .ensures) in
-    (search needs, search needs, e ∙ listTo-more (along (a .cols .now) (a .j * a .m + a .j) 1) (l .loop .k) (a .x .now) (omega arith))
+    let e = rw (
+      l .loop .inv .2,
+      c .before .before .before .at .ensures,
+      ← along-row (a .cols .now) (a .j * a .m + a .j) (l .loop .k),
+    ) at (c .before .before .put .ensures) in (
+      search needs,
+      search needs,
+      e ∙ listTo-more (along (a .cols .now) (a .j * a .m + a .j) 1) (l .loop .k) (a .x .now) (omega arith),
+    )
 
 same-length : tie.Need-same-length Inv-loop μ-loop
 same-length c = search needs

@@ -45,7 +45,12 @@ definitely-not-equal-requires c κs = search needs
 
 returns-2 : tie.Need-returns-2
 unfolding valueStep ofBits
-returns-2 c = rw (c .before .before .if1 .left, ← c .before .before .before .before .at .ensures, ← c .before .definitely-not-equal .ensures, c .if2 .taken)
+returns-2 c = rw (
+  c .before .before .if1 .left,
+  ← c .before .before .before .before .at .ensures,
+  ← c .before .definitely-not-equal .ensures,
+  c .if2 .taken,
+)
 
 mul-at-2 : tie.Need-mul-at-2
 mul-at-2 c = omega (arith, last (c .before .before .before .before .before .before .before .before))
@@ -93,7 +98,16 @@ returns-3 : tie.Need-returns-3
 unfolding valueStep ofBits
 returns-3 c =
     let k = c .before .before .before .before .before .before .before .before in
-    rw (k .before .before .before .if1 .left, ← k .before .before .before .before .before .at .ensures, ← k .before .before .definitely-not-equal .ensures, k .before .if2 .left, ← k .at2 .ensures, ← c .before .before .before .before .before .before .minus-dot .ensures, ← c .before .before .before .before .div .ensures .value, ← c .before .before .before .chosen-of .ensures)
+    rw (
+      k .before .before .before .if1 .left,
+      ← k .before .before .before .before .before .at .ensures,
+      ← k .before .before .definitely-not-equal .ensures,
+      k .before .if2 .left,
+      ← k .at2 .ensures,
+      ← c .before .before .before .before .before .before .minus-dot .ensures,
+      ← c .before .before .before .before .div .ensures .value,
+      ← c .before .before .before .chosen-of .ensures,
+    )
     (c .before .before .store .ensures)
 
 pub value-row-spec : {M : Type 1} → statement M

@@ -13,7 +13,8 @@ use Rattle.linear.proofs.householder.values.Statement.{statement}
 use Rattle.linear.proofs.householder.values.Tie as tie
 
 abbrev Inv-loop : tie.InvT-loop
-Inv-loop m r k cols left-out y₀ t₀ y t = (t ≤ k) × (length y ≡ length y₀) × (foldR (valueStep m r k (factorOf cols left-out)) y₀ t ≡ ok y)
+Inv-loop m r k cols left-out y₀ t₀ y t =
+    (t ≤ k) × (length y ≡ length y₀) × (foldR (valueStep m r k (factorOf cols left-out)) y₀ t ≡ ok y)
 
 abbrev μ-loop : tie.MeasureT-loop
 μ-loop m r k cols left-out y₀ t₀ y t = k - t

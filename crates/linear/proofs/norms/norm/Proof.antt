@@ -25,7 +25,8 @@ answer-requires c κs = search needs
 
 returns-3 : tie.Need-returns-3
 unfolding normReply
-returns-3 c = rw (le-leb _ _ (c .before .before .before .if1 .left), eq-eqb _ _ (c .before .before .if2 .left)) (c .answer .ensures ∙ c .before .norm-of .ensures)
+returns-3 c = rw (le-leb _ _ (c .before .before .before .if1 .left), eq-eqb _ _ (c .before .before .if2 .left))
+    (c .answer .ensures ∙ c .before .norm-of .ensures)
 
 pub norm-spec : {M : Type 1} → statement M
 norm-spec =

@@ -29,7 +29,8 @@ returns : tie.Need-returns
 unfolding scaledRoot bind
 returns c =
     let k = c .before .before .before .before in
-    rw (k .before .before .squares .given .1, ← k .sqrt .ensures .value, c .before .before .r .given .1) (ap ok (c .mul .ensures .value))
+    rw (k .before .before .squares .given .1, ← k .sqrt .ensures .value, c .before .before .r .given .1)
+    (ap ok (c .mul .ensures .value))
 
 returns-2 : tie.Need-returns-2
 unfolding scaledRoot bind

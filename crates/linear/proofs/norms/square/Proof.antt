@@ -52,7 +52,8 @@ unfolding ofBits neg tiny
 returns c =
     let k = c .before .before .before .before in
     let g = k .good .0 .1 .1 in
-    square-fixed (k .args .q) (is-tiny true (k .args .q .lo) (yes (g .0 .1)) (c .if2 .taken)) (is-tiny false (k .args .q .hi) (yes (g .1 .0 .1)) (c .before .before .if1 .taken))
+    square-fixed (k .args .q) (is-tiny true (k .args .q .lo) (yes (g .0 .1)) (c .if2 .taken))
+    (is-tiny false (k .args .q .hi) (yes (g .1 .0 .1)) (c .before .before .if1 .taken))
 
 mul-requires : tie.Need-mul-requires
 mul-requires c κs = search needs

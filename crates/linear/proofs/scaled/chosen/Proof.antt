@@ -21,7 +21,8 @@ unfolding ofBits
 returns-2 c =
     let k = c .before .before .before in
     let g = k .good .0 .1 .1 in
-    chosen-middle (k .args .b) (k .pre) (yes (g .0 .1)) (yes (g .1 .0 .1)) (c .before .lesser-of .ensures) (c .if1 .left)
+    chosen-middle (k .args .b) (k .pre) (yes (g .0 .1)) (yes (g .1 .0 .1)) (c .before .lesser-of .ensures)
+    (c .if1 .left)
 
 pub chosen-spec : {M : Type 1} → statement M
 chosen-spec = tie.close (tie.spec lesser-of-requires returns returns-2)

@@ -25,7 +25,8 @@ degenerate-requires c κs = search needs
 returns : tie.Need-returns
 returns c =
     let a = c .before .before .before .before .before .before .args in
-    c .degenerate .ensures ∙ c .before .chosen .ensures ∙ difference-chosen (a .z) (mulOf (a .x) (a .y)) (c .before .before .before .before .before .bounds-of .ensures) (c .before .before .minus-product .ensures)
+    c .degenerate .ensures ∙ c .before .chosen .ensures ∙ difference-chosen (a .z) (mulOf (a .x) (a .y))
+    (c .before .before .before .before .before .bounds-of .ensures) (c .before .before .minus-product .ensures)
 
 mul-requires : tie.Need-mul-requires
 mul-requires c κs = search needs

@@ -19,7 +19,8 @@ counted : {k t : ℕ} → t < k → t + 1 ≤ k
 counted h = omega arith
 
 abbrev Inv-loop : tie.InvT-loop
-Inv-loop v₀ v0 a w w0 k i₀ j₀ t₀ v i j t = (t ≤ k) × (length v ≡ length v₀) × (v ≡ minusScaled v₀ v0 a w w0 t) × Cut (length v₀) i (v0 + t) × Cut (length w) j (w0 + t)
+Inv-loop v₀ v0 a w w0 k i₀ j₀ t₀ v i j t = (t ≤ k) × (length v ≡ length v₀) × (v ≡ minusScaled v₀ v0 a w w0 t)
+    × Cut (length v₀) i (v0 + t) × Cut (length w) j (w0 + t)
 
 abbrev μ-loop : tie.MeasureT-loop
 μ-loop v₀ v0 a w w0 k i₀ j₀ t₀ v i j t = k - t
@@ -53,17 +54,38 @@ ahead-requires-2 : tie.Need-ahead-requires-2 Inv-loop μ-loop
 ahead-requires-2 c κs = search needs
 
 add-counter : tie.Need-add-counter Inv-loop μ-loop
-add-counter c = omega (arith, c .before .before .before .before .before .before .before .before .before .before .before .before .loop-test .taken, c .before .before .before .before .before .before .before .before .before .before .before .before .before .before .before .before .fits)
+add-counter c = omega (
+  arith,
+  c .before .before .before .before .before .before .before .before .before .before .before .before .loop-test .taken,
+  c .before .before .before .before .before .before .before .before .before .before .before .before .before .before
+      .before .before .fits,
+)
 
 loop-less : tie.Need-loop-less Inv-loop μ-loop
-loop-less c = fewer (c .before .before .before .before .before .before .before .before .before .before .before .before .loop-test .taken)
+loop-less c = fewer (c .before .before .before .before .before .before .before .before .before .before .before .before
+    .loop-test .taken)
 
 loop-again : tie.Need-loop-again Inv-loop μ-loop
 loop-again c =
-    let l = c .before .before .before .before .before .before .before .before .before .before .before .before .before .loop in
-    let a = c .before .before .before .before .before .before .before .before .before .before .before .before .before .before .before .before .args in
-    let here = cut-size (l .inv .3) (l .inv .1) in
-    (counted (c .before .before .before .before .before .before .before .before .before .before .before .before .loop-test .taken), search needs, scaled-more _ _ _ _ _ (l .counter) _ (l .inv .2) (c .before .before .before .before .before .before .before .before .before .before .at .ensures ∙ at-cut (l .v) here) (c .before .before .before .before .before .before .before .before .before .at2 .ensures ∙ at-cut (a .w .now) (l .inv .4)) (rw (c .before .before .before .before .before .choose .ensures, c .before .before .before .before .before .before .before .sub .ensures .value, c .before .before .before .before .before .before .before .before .mul .ensures .value)) (c .before .before .before .before .put .ensures ∙ put-cut (l .v) _ here), cut-next (a .v0) (l .counter) (l .inv .3) (c .before .ahead .ensures) (search needs), cut-next (a .w0) (l .counter) (l .inv .4) (c .ahead2 .ensures) refl)
+    let l =
+    c .before .before .before .before .before .before .before .before .before .before .before .before .before .loop in
+    let a = c .before .before .before .before .before .before .before .before .before .before .before .before .before
+    .before .before .before .args in
+    let here = cut-size (l .inv .3) (l .inv .1) in (
+      counted (c .before .before .before .before .before .before .before .before .before .before .before .before
+          .loop-test .taken),
+      search needs,
+      scaled-more _ _ _ _ _ (l .counter) _ (l .inv .2)
+          (c .before .before .before .before .before .before .before .before .before .before .at .ensures
+          ∙ at-cut (l .v) here) (c .before .before .before .before .before .before .before .before .before .at2 .ensures
+          ∙ at-cut (a .w .now) (l .inv .4)) (rw (
+            c .before .before .before .before .before .choose .ensures,
+            c .before .before .before .before .before .before .before .sub .ensures .value,
+            c .before .before .before .before .before .before .before .before .mul .ensures .value,
+          )) (c .before .before .before .before .put .ensures ∙ put-cut (l .v) _ here),
+      cut-next (a .v0) (l .counter) (l .inv .3) (c .before .ahead .ensures) (search needs),
+      cut-next (a .w0) (l .counter) (l .inv .4) (c .ahead2 .ensures) refl,
+    )
 
 same-length : tie.Need-same-length Inv-loop μ-loop
 same-length c = search needs

@@ -23,28 +23,47 @@ mul-if3-2 c = omega (arith, product-small (c .before .if1 .left) (c .if2 .left))
 
 returns-3 : tie.Need-returns-3
 unfolding minusSolvedReply
-returns-3 c = rw (le-leb _ _ (c .before .before .if1 .left), le-leb _ _ (c .before .if2 .left), ne-eqb _ _ (c .if3 .taken))
+returns-3 c =
+    rw (le-leb _ _ (c .before .before .if1 .left), le-leb _ _ (c .before .if2 .left), ne-eqb _ _ (c .if3 .taken))
 
 mul-if4 : tie.Need-mul-if4
 mul-if4 c = search needs
 
 returns-4 : tie.Need-returns-4
 unfolding minusSolvedReply
-returns-4 c = rw (le-leb _ _ (c .before .before .before .if1 .left), le-leb _ _ (c .before .before .if2 .left), eq-eqb _ _ (c .before .if3 .left), ne-eqb _ _ (c .if4 .taken))
+returns-4 c = rw (
+  le-leb _ _ (c .before .before .before .if1 .left),
+  le-leb _ _ (c .before .before .if2 .left),
+  eq-eqb _ _ (c .before .if3 .left),
+  ne-eqb _ _ (c .if4 .taken),
+)
 
 mul-if5 : tie.Need-mul-if5
 mul-if5 c = search needs
 
 returns-5 : tie.Need-returns-5
 unfolding minusSolvedReply
-returns-5 c = rw (le-leb _ _ (c .before .before .before .before .if1 .left), le-leb _ _ (c .before .before .before .if2 .left), eq-eqb _ _ (c .before .before .if3 .left), eq-eqb _ _ (c .before .if4 .left), ne-eqb _ _ (c .if5 .taken))
+returns-5 c = rw (
+  le-leb _ _ (c .before .before .before .before .if1 .left),
+  le-leb _ _ (c .before .before .before .if2 .left),
+  eq-eqb _ _ (c .before .before .if3 .left),
+  eq-eqb _ _ (c .before .if4 .left),
+  ne-eqb _ _ (c .if5 .taken),
+)
 
 mul-if6 : tie.Need-mul-if6
 mul-if6 c = search needs
 
 returns-6 : tie.Need-returns-6
 unfolding minusSolvedReply
-returns-6 c = rw (le-leb _ _ (c .before .before .before .before .before .if1 .left), le-leb _ _ (c .before .before .before .before .if2 .left), eq-eqb _ _ (c .before .before .before .if3 .left), eq-eqb _ _ (c .before .before .if4 .left), eq-eqb _ _ (c .before .if5 .left), ne-eqb _ _ (c .if6 .taken))
+returns-6 c = rw (
+  le-leb _ _ (c .before .before .before .before .before .if1 .left),
+  le-leb _ _ (c .before .before .before .before .if2 .left),
+  eq-eqb _ _ (c .before .before .before .if3 .left),
+  eq-eqb _ _ (c .before .before .if4 .left),
+  eq-eqb _ _ (c .before .if5 .left),
+  ne-eqb _ _ (c .if6 .taken),
+)
 
 solved-sized-requires : tie.Need-solved-sized-requires
 solved-sized-requires c κs = search needs
@@ -56,7 +75,14 @@ returns-7 : tie.Need-returns-7
 unfolding minusSolvedReply
 returns-7 c =
     let k = c .before .before .before .before in
-    rw (le-leb _ _ (k .before .before .before .before .before .if1 .left), le-leb _ _ (k .before .before .before .before .if2 .left), eq-eqb _ _ (k .before .before .before .if3 .left), eq-eqb _ _ (k .before .before .if4 .left), eq-eqb _ _ (k .before .if5 .left), eq-eqb _ _ (k .if6 .left)) (c .before .before .solved-sized .ensures)
+    rw (
+      le-leb _ _ (k .before .before .before .before .before .if1 .left),
+      le-leb _ _ (k .before .before .before .before .if2 .left),
+      eq-eqb _ _ (k .before .before .before .if3 .left),
+      eq-eqb _ _ (k .before .before .if4 .left),
+      eq-eqb _ _ (k .before .if5 .left),
+      eq-eqb _ _ (k .if6 .left),
+    ) (c .before .before .solved-sized .ensures)
 
 pub minus-solved-spec : {M : Type 1} → statement M
 minus-solved-spec =

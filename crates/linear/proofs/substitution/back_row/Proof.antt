@@ -68,7 +68,13 @@ unfolding backStep
 returns-2 c =
     let q = c .before .before .before in
     let k = q .before .before .before in
-    rw (k .before .before .before .if1 .left, ← k .before .at .ensures, ← k .minus-dot .ensures, ← q .before .at2 .ensures, ← q .div .ensures .value) (c .before .before .store .ensures)
+    rw (
+      k .before .before .before .if1 .left,
+      ← k .before .at .ensures,
+      ← k .minus-dot .ensures,
+      ← q .before .at2 .ensures,
+      ← q .div .ensures .value,
+    ) (c .before .before .store .ensures)
 
 pub back-row-spec : {M : Type 1} → statement M
 back-row-spec =

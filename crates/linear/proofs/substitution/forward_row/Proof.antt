@@ -47,7 +47,14 @@ unfolding forwardStep
 returns-2 c =
     let q = c .before .before .before in
     let k = q .before .before .before in
-    rw (k .before .before .before .if1 .left, ← k .before .at .ensures, ← along-start, ← k .minus-dot .ensures, ← q .before .at2 .ensures, ← q .div .ensures .value) (c .before .before .store .ensures)
+    rw (
+      k .before .before .before .if1 .left,
+      ← k .before .at .ensures,
+      ← along-start,
+      ← k .minus-dot .ensures,
+      ← q .before .at2 .ensures,
+      ← q .div .ensures .value,
+    ) (c .before .before .store .ensures)
 
 pub forward-row-spec : {M : Type 1} → statement M
 forward-row-spec =

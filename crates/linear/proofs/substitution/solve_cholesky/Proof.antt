@@ -23,14 +23,20 @@ returns-2 c = rw (le-leb _ _ (c .before .if1 .left), ne-eqb _ _ (c .if2 .taken))
 
 returns-3 : tie.Need-returns-3
 unfolding solveReply
-returns-3 c = rw (le-leb _ _ (c .before .before .if1 .left), eq-eqb _ _ (c .before .if2 .left), ne-eqb _ _ (c .if3 .taken))
+returns-3 c =
+    rw (le-leb _ _ (c .before .before .if1 .left), eq-eqb _ _ (c .before .if2 .left), ne-eqb _ _ (c .if3 .taken))
 
 mul-if4 : tie.Need-mul-if4
 mul-if4 c = search needs
 
 returns-4 : tie.Need-returns-4
 unfolding solveReply
-returns-4 c = rw (le-leb _ _ (c .before .before .before .if1 .left), eq-eqb _ _ (c .before .before .if2 .left), eq-eqb _ _ (c .before .if3 .left), ne-eqb _ _ (c .if4 .taken))
+returns-4 c = rw (
+  le-leb _ _ (c .before .before .before .if1 .left),
+  eq-eqb _ _ (c .before .before .if2 .left),
+  eq-eqb _ _ (c .before .if3 .left),
+  ne-eqb _ _ (c .if4 .taken),
+)
 
 mul-if5 : tie.Need-mul-if5
 mul-if5 c = search needs
@@ -38,7 +44,13 @@ mul-if5 c = search needs
 returns-5 : tie.Need-returns-5
 unfolding solveReply
 returns-5 c =
-    rw (le-leb _ _ (c .before .before .before .before .if1 .left), eq-eqb _ _ (c .before .before .before .if2 .left), eq-eqb _ _ (c .before .before .if3 .left), eq-eqb _ _ (c .before .if4 .left), ne-eqb _ _ (c .if5 .taken))
+    rw (
+      le-leb _ _ (c .before .before .before .before .if1 .left),
+      eq-eqb _ _ (c .before .before .before .if2 .left),
+      eq-eqb _ _ (c .before .before .if3 .left),
+      eq-eqb _ _ (c .before .if4 .left),
+      ne-eqb _ _ (c .if5 .taken),
+    )
 
 solve-sized-requires : tie.Need-solve-sized-requires
 solve-sized-requires c κs = search needs
@@ -50,7 +62,13 @@ returns-6 : tie.Need-returns-6
 unfolding solveReply
 returns-6 c =
     let k = c .before .before .before .before in
-    rw (le-leb _ _ (k .before .before .before .before .if1 .left), eq-eqb _ _ (k .before .before .before .if2 .left), eq-eqb _ _ (k .before .before .if3 .left), eq-eqb _ _ (k .before .if4 .left), eq-eqb _ _ (k .if5 .left))
+    rw (
+      le-leb _ _ (k .before .before .before .before .if1 .left),
+      eq-eqb _ _ (k .before .before .before .if2 .left),
+      eq-eqb _ _ (k .before .before .if3 .left),
+      eq-eqb _ _ (k .before .if4 .left),
+      eq-eqb _ _ (k .if5 .left),
+    )
     (c .before .before .solve-sized .ensures)
 
 pub solve-cholesky-spec : {M : Type 1} → statement M

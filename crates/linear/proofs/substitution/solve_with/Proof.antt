@@ -12,7 +12,8 @@ slice-relend-prefix-solve-in : tie.Need-slice-relend-prefix-solve-in
 slice-relend-prefix-solve-in c = search needs
 
 slice-aggregate-solve-in : tie.Need-slice-aggregate-solve-in
-slice-aggregate-solve-in c = sym (length-take-le _ _ (c .before .before .before .before .before .before .before .pre .1 .1 .1))
+slice-aggregate-solve-in c =
+    sym (length-take-le _ _ (c .before .before .before .before .before .before .before .pre .1 .1 .1))
 
 solve-in-requires : tie.Need-solve-in-requires
 solve-in-requires c κs =
