@@ -1,4 +1,5 @@
--- Bounds on the magnitude of the ends of an interval, as powers of two in units of 2 ^ -1074: 2 ^ 400 is 2 ^ 1474 units.
+-- Bounds on the magnitude of the ends of an interval, as powers of two in units of 2 ^ -1074, so that 2 ^ 400 is
+-- 2 ^ 1474 units.
 use Prim.Native.Nat.{ℕ, _^_}
 use mathlib.Core.Path.{_≡_}
 use mathlib.Core.Bool.{Bool, true, false}

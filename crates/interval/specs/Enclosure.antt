@@ -1,6 +1,8 @@
--- Enclosure (document 01, "Interval ends"): what an interval holds, over whole numbers. A finite float is a whole number of units, 2 ^ -1074 each.
--- A choice inside an interval is a whole number over a power of two, p / 2 ^ k. Where operands and result are finite, each operation holds the exact result
--- for every choice inside its operands: quotients are cross-multiplied, roots squared and taken of choices that are not below 0.
+-- Enclosure (document 01, "Interval ends"): what an interval holds, over whole numbers. A finite float is a whole
+-- number of units, 2 ^ -1074 each.
+-- A choice inside an interval is a whole number over a power of two, p / 2 ^ k. Where operands and result are finite,
+-- each operation holds the exact result for every choice inside its operands: quotients are cross-multiplied, roots
+-- squared and taken of choices that are not below 0.
 use Prim.Native.Nat.{ℕ, zero, suc, _+_, _-_, _*_, _/_, _^_, _≤_}
 use mathlib.Core.Path.{_≡_}
 use mathlib.Core.Bool.{Bool, true, false, cond}
@@ -63,7 +65,8 @@ abbrev pub maxℤ : ℤ → ℤ → ℤ
 maxℤ p q = cond (leZ p q) q p
 
 abbrev pub EnclosesProduct : Scalar → Scalar → Scalar → Type 0
-EnclosesProduct x y r = Finite x → Finite y → Finite r → (p q : ℤ) (j k : ℕ) → Holds x p j → Holds y q k → Holds r (p *ℤ q) (j + k)
+EnclosesProduct x y r =
+    Finite x → Finite y → Finite r → (p q : ℤ) (j k : ℕ) → Holds x p j → Holds y q k → Holds r (p *ℤ q) (j + k)
 
 abbrev pub EnclosesNegation : Scalar → Scalar → Type 0
 EnclosesNegation x r = Finite x → (p : ℤ) (k : ℕ) → Holds x p k → Holds r (negℤ p) k
@@ -79,13 +82,19 @@ HoldsRatio x p j (negsuc n) k = HoldsQ x (p *ℤ negℤ (pos k)) (j * suc n)
 
 -- a divisor that is not refused holds no 0
 abbrev pub EnclosesQuotient : Scalar → Scalar → Scalar → Type 0
-EnclosesQuotient x y r = Finite x → Finite y → Finite r → (p q : ℤ) (j k : ℕ) → Holds x p j → Holds y q k → HoldsRatio r p (2 ^ j) q (2 ^ k)
+EnclosesQuotient x y r =
+    Finite x → Finite y → Finite r → (p q : ℤ) (j k : ℕ) → Holds x p j → Holds y q k → HoldsRatio r p (2 ^ j) q (2 ^ k)
 
--- the root of p / 2 ^ k lies in x: the lower end is at most 0 or its square at most p / 2 ^ k, the upper end is not below 0 and its square is at least p / 2 ^ k
+-- the root of p / 2 ^ k lies in x: the lower end is at most 0 or its square at most p / 2 ^ k, the upper end is not
+-- below 0 and its square is at least p / 2 ^ k
 pub record HoldsRoot (x : Scalar) (p k : ℕ) : Type 0 where
-  pub from-lo : T (leZ (unitsOf binary64 (x .lo)) (pos 0)) ⊎ T (leZ ((unitsOf binary64 (x .lo) *ℤ unitsOf binary64 (x .lo)) *ℤ pos (2 ^ k)) (pos (p * (2 ^ low binary64 * 2 ^ low binary64))))
+  pub from-lo :
+      let lo = unitsOf binary64 (x .lo) in
+      T (leZ lo (pos 0)) ⊎ T (leZ ((lo *ℤ lo) *ℤ pos (2 ^ k)) (pos (p * (2 ^ low binary64 * 2 ^ low binary64))))
   pub not-below : T (leZ (pos 0) (unitsOf binary64 (x .hi)))
-  pub to-hi : T (leZ (pos (p * (2 ^ low binary64 * 2 ^ low binary64))) ((unitsOf binary64 (x .hi) *ℤ unitsOf binary64 (x .hi)) *ℤ pos (2 ^ k)))
+  pub to-hi :
+      let hi = unitsOf binary64 (x .hi) in
+      T (leZ (pos (p * (2 ^ low binary64 * 2 ^ low binary64))) ((hi *ℤ hi) *ℤ pos (2 ^ k)))
 
 abbrev pub EnclosesRoot : Scalar → Scalar → Type 0
 EnclosesRoot x r = Finite x → Finite r → (p k : ℕ) → Holds x (pos p) k → HoldsRoot r p k

@@ -1,5 +1,7 @@
--- The float nearest to a square root, said by the floats beside it. A float r is nearest to the root of x where x lies strictly between the squares of the midpoints of r and of the floats next below and next above it. So no tie arises.
--- In units of 2 ^ -1074, with d, u and v for the float below r, for r, and for the float above it: (d + u) ^ 2 < 4 * (x * 2 ^ 1074) < (u + v) ^ 2.
+-- The float nearest to a square root, said by the floats beside it. A float r is nearest to the root of x where x lies
+-- strictly between the squares of the midpoints of r and of the floats next below and next above it. So no tie arises.
+-- In units of 2 ^ -1074, with d, u and v for the float below r, for r, and for the float above it:
+-- (d + u) ^ 2 < 4 * (x * 2 ^ 1074) < (u + v) ^ 2.
 use Prim.Native.Nat.{_^_}
 use mathlib.Core.Logic.{_⊎_}
 use lib.Dec.{T}

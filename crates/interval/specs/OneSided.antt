@@ -1,4 +1,5 @@
--- Enclosure (document 01, "Interval ends") of each end by itself, whatever the other end is: a finite lower end is a lower bound, a finite upper end an upper bound.
+-- Enclosure (document 01, "Interval ends") of each end by itself, whatever the other end is: a finite lower end is a
+-- lower bound, a finite upper end an upper bound.
 -- An infinite end bounds nothing on its own side, and a NaN is no end.
 use Prim.Native.Nat.{ℕ, zero, suc, _*_, _^_}
 use mathlib.Core.Path.{_≡_}
@@ -41,11 +42,15 @@ WithinRatio x p j (negsuc n) k = Within x (p *ℤ negℤ (pos k)) (j * suc n)
 
 -- x is -inf, or finite and at most the root of s / c: at most 0, or its square at most s / c
 abbrev pub LowerRoot : Float → ℕ → ℕ → Type 0
-LowerRoot x s c = LowerEnd x (λ (u : ℤ). T (leZ u (pos 0)) ⊎ T (leZ ((u *ℤ u) *ℤ pos c) (pos (s * (2 ^ low binary64 * 2 ^ low binary64)))))
+LowerRoot x s c =
+    LowerEnd x
+    (λ (u : ℤ). T (leZ u (pos 0)) ⊎ T (leZ ((u *ℤ u) *ℤ pos c) (pos (s * (2 ^ low binary64 * 2 ^ low binary64)))))
 
 -- x is +inf, or finite and at least the root of s / c: not below 0, and its square at least s / c
 abbrev pub UpperRoot : Float → ℕ → ℕ → Type 0
-UpperRoot x s c = UpperEnd x (λ (u : ℤ). T (leZ (pos 0) u) × T (leZ (pos (s * (2 ^ low binary64 * 2 ^ low binary64))) ((u *ℤ u) *ℤ pos c)))
+UpperRoot x s c =
+    UpperEnd x
+    (λ (u : ℤ). T (leZ (pos 0) u) × T (leZ (pos (s * (2 ^ low binary64 * 2 ^ low binary64))) ((u *ℤ u) *ℤ pos c)))
 
 -- the root of s / c lies in x
 pub record WithinRoot (x : Scalar) (s c : ℕ) : Type 0 where

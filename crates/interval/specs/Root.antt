@@ -1,6 +1,7 @@
--- The float nearest to a square root (IEEE 754's squareRoot, Rust's f64::sqrt). A float is a number of units, 2 ^ -1074 each; the root of n units is the root of
--- n * 2 ^ 1074 in units. Its whole part s is found exactly. Every float of that size, and every midpoint of two, is a whole number of units:
--- so rounding s, or s + 1/2 where s is not the whole root, rounds the root itself. The theorem `NearestRoot` says so without reference to s.
+-- The float nearest to a square root (IEEE 754's squareRoot, Rust's f64::sqrt). A float is a number of units, 2 ^ -1074
+-- each; the root of n units is the root of n * 2 ^ 1074 in units. Its whole part s is found exactly. Every float of
+-- that size, and every midpoint of two, is a whole number of units: so rounding s, or s + 1/2 where s is not the whole
+-- root, rounds the root itself. The theorem `NearestRoot` says so without reference to s.
 use Prim.Native.Nat.{ℕ, zero, suc, _+_, _*_, _/_, _^_, _≤_, _<_}
 use mathlib.Core.Bool.{true, false, cond}
 use lib.Dec.{leb, ltb}

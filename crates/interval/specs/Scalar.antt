@@ -1,4 +1,5 @@
--- The operations on scalars, each by the body of the Rust (scalars/mod.rs), over IEEE 754's operations of lib.Ieee. Document 01: a scalar is two f64, lo then hi.
+-- The operations on scalars, each by the body of the Rust (scalars/mod.rs), over IEEE 754's operations of lib.Ieee.
+-- Document 01: a scalar is two f64, lo then hi.
 use Prim.Native.Nat.{zero, suc}
 use mathlib.Core.Bool.{Bool, true, false, not, cond, _&&_, _||_}
 use lib.IntN.{ℤ, pos, negsuc}
@@ -58,7 +59,9 @@ abbrev pub spread : Float → Float → Float → Float → Scalar
 spread p q r s = outward (least p q r s) (greatest p q r s)
 
 abbrev pub mulOf : Scalar → Scalar → Scalar
-mulOf x y = spread (mul binary64 (x .lo) (y .lo)) (mul binary64 (x .lo) (y .hi)) (mul binary64 (x .hi) (y .lo)) (mul binary64 (x .hi) (y .hi))
+mulOf x y =
+    spread (mul binary64 (x .lo) (y .lo)) (mul binary64 (x .lo) (y .hi))
+    (mul binary64 (x .hi) (y .lo)) (mul binary64 (x .hi) (y .hi))
 
 abbrev pub negOf : Scalar → Scalar
 negOf x = record { lo = neg (x .hi); hi = neg (x .lo) }
@@ -79,7 +82,10 @@ divOf x y = pick (holdsZero y) (refused 6) (ok (mulOf x (inverse y)))
 -- ---- absolute value and root
 
 unfoldable pub absOf : Scalar → Scalar
-absOf x = pick (le zero64 (x .lo)) x (pick (le (x .hi) zero64) (negOf x) (record { lo = zero64; hi = fmax (fabs (x .lo)) (fabs (x .hi)) }))
+absOf x =
+    pick (le zero64 (x .lo)) x
+    (pick (le (x .hi) zero64) (negOf x)
+    (record { lo = zero64; hi = fmax (fabs (x .lo)) (fabs (x .hi)) }))
 
 -- a lower end below 0 counts as 0
 unfoldable pub clamped : Float → Float

@@ -1,4 +1,5 @@
--- The float next above and next below (document 01, "Interval ends"), by one bit pattern. From either zero they go to the smallest subnormal.
+-- The float next above and next below (document 01, "Interval ends"), by one bit pattern. From either zero they go to
+-- the smallest subnormal.
 use Prim.Native.Nat.{zero, suc, _+_, _-_}
 use mathlib.Core.Bool.{true, false}
 use lib.Ieee.{Float, nan, inf, fin, binary64, neg, toBits, ofBits}

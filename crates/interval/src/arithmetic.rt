@@ -1,7 +1,12 @@
 // Arithmetic, absolute value and root.
+//
+// A result is rounded to the nearest float, which may lie on either side of the exact one. So each end is stepped
+// outward by one float: the exact result is then inside, and no rounding mode has to be set. Where a result needs no
+// rounding, as a negation or an absolute value, nothing is stepped.
 ghost use mathlib.Core.Path.{_≡_};
 ghost use lib.IntN.{_+ℤ_, _-ℤ_};
-ghost use Rattle.interval.specs.Enclosure.{Gives, GivesResult, Encloses, EnclosesProduct, EnclosesNegation, EnclosesQuotient, EnclosesSize, EnclosesRoot};
+ghost use Rattle.interval.specs.Enclosure.{Gives, GivesResult, Encloses, EnclosesProduct, EnclosesNegation};
+ghost use Rattle.interval.specs.Enclosure.{EnclosesQuotient, EnclosesSize, EnclosesRoot};
 ghost use Rattle.interval.specs.Result.{resultOf};
 ghost use Rattle.interval.specs.Scalar.{addOf, subOf, mulOf, negOf, divOf, absOf, sqrtOf, spread, holdsZero};
 ghost use Rattle.interval.specs.Scalar.{inverseOf, clamped};
@@ -15,7 +20,8 @@ use crate::root::nearest_root;
 use crate::step::next_down;
 use crate::step::next_up;
 
-// The least and the greatest of four products, stepped outward.
+// The least and the greatest of four products, stepped outward. A product of two intervals is least and greatest where
+// both factors are ends, and which ends depends on the signs, so all four products are compared.
 fn spread_of(p: f64, q: f64, r: f64, s: f64) -> Scalar
     ensures { λ x. ⌜ x ≡ spread p q r s ⌝ }
 {
@@ -25,7 +31,8 @@ fn spread_of(p: f64, q: f64, r: f64, s: f64) -> Scalar
     }
 }
 
-// A lower end below zero counts as zero.
+// A lower end below zero counts as zero: an interval around a number that is not negative may reach below zero by
+// rounding alone, and a root of what is left encloses that number's root.
 fn clamped_at_zero(x: f64) -> f64
     ensures { λ r. ⌜ r ≡ clamped x ⌝ }
 {
@@ -93,7 +100,8 @@ impl Scalar {
         })
     }
 
-    // The product with the divisor's inverse. Refused where the divisor could be zero.
+    // The product with the divisor's inverse, as in the Rust: a quotient of the ends would round otherwise. Refused
+    // where the divisor could be zero, since the quotient could then be any number.
     pub fn div(self, other: Scalar) -> ScalarResult
         ensures { λ r. ⌜ GivesResult (divOf self other) (EnclosesQuotient self other) r ⌝ }
     {
@@ -121,7 +129,7 @@ impl Scalar {
         }
     }
 
-    // Refused where the interval is definitely negative.
+    // Refused where the interval is definitely negative. The lower end is stepped down last, so it may lie below zero.
     pub fn sqrt(self) -> ScalarResult
         ensures { λ r. ⌜ GivesResult (sqrtOf self) (EnclosesRoot self) r ⌝ }
     {

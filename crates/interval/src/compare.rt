@@ -1,6 +1,9 @@
-// Three-valued comparisons, and finiteness.
+// Three-valued comparisons, and finiteness. Intervals that overlap decide nothing about the numbers inside: what is
+// definite holds for every choice of the two, what could be holds for some, and neither is the other's negation where
+// an end is NaN.
 ghost use mathlib.Core.Path.{_≡_};
-ghost use Rattle.interval.specs.Scalar.{couldBeEqual, definitelyNotEqual, couldBeGreater, definitelyGreater, couldBeLess, definitelyLess, isZero, isFinite};
+ghost use Rattle.interval.specs.Scalar.{couldBeEqual, definitelyNotEqual, couldBeGreater, definitelyGreater};
+ghost use Rattle.interval.specs.Scalar.{couldBeLess, definitelyLess, isZero, isFinite};
 use crate::Scalar;
 use crate::float::is_finite_f64;
 

@@ -29,7 +29,7 @@ impl Scalar {
         Scalar::degenerate(std::num::nearest_i64_to_f64(v))
     }
 
-    // The quotient of the nearest floats, stepped outward.
+    // The quotient of the nearest floats, stepped outward, so it encloses num / den where both are floats.
     pub fn from_ratio(num: i64, den: i64) -> ScalarResult
         ensures { λ r. ⌜ resultOf r ≡ fromRatio num den ⌝ }
     {

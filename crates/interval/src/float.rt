@@ -35,7 +35,8 @@ pub fn max_of(a: f64, b: f64) -> f64
     greater_of(a, b)
 }
 
-// The four, folded from infinity: the start is a number, so each step takes a number.
+// The four, folded from infinity: the start is a number, so each step takes a number, and a NaN among the four, as
+// 0 times infinity gives it, is passed over.
 pub fn least_of(p: f64, q: f64, r: f64, s: f64) -> f64
     ensures { λ x. ⌜ x ≡ least p q r s ⌝ }
 {

@@ -1,9 +1,9 @@
-// The kernel's number: an interval [lo, hi] of f64 with every operation rounded outward, so that a
-// value encloses every real it could be, and comparisons are three-valued. It is the module
-// `scalars` of geop-core-math, as far as the solver calls it, in the same order and by the same names.
+// The kernel's number: an interval [lo, hi] of f64 with every operation rounded outward, so that a value encloses every
+// real it could be, and comparisons are three-valued. It is the module `scalars` of geop-core-math, as far as the
+// solver calls it, in the same order and by the same names.
 //
-// Every function is total and equals a definition of `specs/` for all floats, NaN, infinities, both
-// zeros and inverted ends included. The operations also promise enclosure (`specs/Enclosure.antt`).
+// Every function is total and equals a definition of `specs/` for all floats, NaN, infinities, both zeros and inverted
+// ends included. The operations also promise enclosure (`specs/Enclosure.antt`).
 mod arithmetic;
 mod compare;
 mod construct;

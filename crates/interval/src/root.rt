@@ -1,7 +1,8 @@
-// The float nearest to a square root, worked out from the bits: the significand is brought to 53 or
-// 54 digits with an even exponent, and 54 digits of its root are found exactly. The first 27 come
-// from an f64 estimate, of which nothing is assumed, corrected in whole numbers; one division gives
-// the other 27. The last digit decides the rounding.
+// The float nearest to a square root, worked out from the bits, since the language has no root of an f64. The
+// significand is brought to 53 or 54 digits with an even exponent, and 54 digits of its root are found exactly: one
+// more than a float has, so the last decides the rounding, and a root never lies halfway between two floats. The first
+// 27 digits come from an f64 estimate, of which nothing is assumed, corrected in whole numbers; one division gives the
+// other 27. So the loops take a step or two, and a proof needs no bound on the estimate's error.
 ghost use mathlib.Core.Path.{_≡_};
 ghost use Prim.Native.Nat.{_+_, _*_, _^_, _<_, _≤_};
 ghost use lib.Ieee.{binary64, ofBits, low};
@@ -153,7 +154,8 @@ fn even_exponent(s: Scaled) -> Scaled
 // The pattern of the root of the number that the pattern b stands for.
 fn root_bits(b: u64) -> u64
     requires { ⌜ (0 < b) × (b < infBits binary64) ⌝ }
-    ensures { λ r. ⌜ (r < infBits binary64) × (ofBits binary64 r ≡ roundedRoot binary64 (magnitude binary64 b * 2 ^ low binary64)) ⌝ }
+    ensures { λ r. ⌜ (r < infBits binary64)
+        × (ofBits binary64 r ≡ roundedRoot binary64 (magnitude binary64 b * 2 ^ low binary64)) ⌝ }
 {
     let s = even_exponent(normalize(decompose(b)));
     let q = root_digits(s.c);

@@ -33,14 +33,15 @@ impl Scalar {
         Scalar::degenerate(self.hi)
     }
 
-    // The midpoint, where any value within would do.
+    // The midpoint, where any value within would do: a step of the solver is such a choice, and a sharp one does not
+    // widen what is worked out from it.
     pub fn sharpen(self) -> Scalar
         ensures { λ r. ⌜ r ≡ sharpen self ⌝ }
     {
         self.midpoint()
     }
 
-    // The smallest interval with both in it: a NaN end is passed over.
+    // The smallest interval with both in it; a NaN end is passed over.
     fn union_of(self, other: Scalar) -> Scalar
         ensures { λ r. ⌜ r ≡ union self other ⌝ }
     {
@@ -50,7 +51,7 @@ impl Scalar {
         }
     }
 
-    // The greater lower end and the greater upper end, joined: sorted where they are inverted.
+    // The greater lower end and the greater upper end, joined, which sorts them where an argument's ends are inverted.
     pub fn max(self, other: Scalar) -> Scalar
         ensures { λ r. ⌜ Gives (maxOf self other) (Encloses maxℤ self other) r ⌝ }
     {

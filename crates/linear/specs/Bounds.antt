@@ -1,4 +1,5 @@
--- An interval by two upper bounds: `below`, that of its numbers with their signs turned, and `above`. So below is -lo and above is hi, and both are rounded up.
+-- An interval by two upper bounds: `below`, that of its numbers with their signs turned, and `above`. So below is -lo
+-- and above is hi, and both are rounded up.
 use mathlib.Core.Path.{_≡_}
 use mathlib.Core.Bool.{Bool, true, _&&_}
 use lib.Dec.{T}

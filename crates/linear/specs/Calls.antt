@@ -1,4 +1,5 @@
--- The public calls: the checks of counts, then of lengths, then the work (document 01's refusals 1 and 2, with nothing written).
+-- The public calls: the checks of counts, then of lengths, then the work (document 01's refusals 1 and 2, with nothing
+-- written).
 use Prim.Native.Nat.{ℕ, _*_}
 use mathlib.Core.Bool.{Bool, false}
 use mathlib.Core.List.{List}
@@ -22,13 +23,24 @@ abbrev pub limit : ℕ
 limit = 24
 
 unfoldable pub dotReply : ℕ → List Float → List Float → Res Scalar
-dotReply n a b = checkedValue (leb n limit) 1 (checkedValue (eqb (length a) (2 * n)) 2 (checkedValue (eqb (length b) (2 * n)) 2 (ok (dotTo (at a) (at b) n))))
+dotReply n a b =
+    checkedValue (leb n limit) 1
+    (checkedValue (eqb (length a) (2 * n)) 2
+    (checkedValue (eqb (length b) (2 * n)) 2
+    (ok (dotTo (at a) (at b) n))))
 
 unfoldable pub normReply : ℕ → List Float → Res Scalar
-normReply n v = checkedValue (leb n limit) 1 (checkedValue (eqb (length v) (2 * n)) 2 (normOf (at v) n))
+normReply n v =
+    checkedValue (leb n limit) 1
+    (checkedValue (eqb (length v) (2 * n)) 2
+    (normOf (at v) n))
 
 unfoldable pub sharpReply : ℕ → List Float → List Float → Reply (List Float)
-sharpReply n v out = checked (leb n limit) 1 out (checked (eqb (length v) (2 * n)) 2 out (checked (eqb (length out) (2 * n)) 2 out (replyOf (zeros (2 * n)) (ok (sharpOf v n)))))
+sharpReply n v out =
+    checked (leb n limit) 1 out
+    (checked (eqb (length v) (2 * n)) 2 out
+    (checked (eqb (length out) (2 * n)) 2 out
+    (replyOf (zeros (2 * n)) (ok (sharpOf v n)))))
 
 abbrev pub blank : ℕ → Factor
 blank n = record { l = zeros (2 * (n * n)); left-out = replicate n false }
@@ -36,19 +48,28 @@ blank n = record { l = zeros (2 * (n * n)); left-out = replicate n false }
 unfoldable pub choleskyReply : ℕ → List Float → Factor → Reply Factor
 choleskyReply n a f =
     checked (leb n limit) 1 f
-    (checked (eqb (length a) (2 * (n * n))) 2 f (checked (eqb (length (f .l)) (2 * (n * n))) 2 f (checked (eqb (length (f .left-out)) n) 2 f (replyOf (blank n) (choleskyOf n a)))))
+    (checked (eqb (length a) (2 * (n * n))) 2 f
+    (checked (eqb (length (f .l)) (2 * (n * n))) 2 f
+    (checked (eqb (length (f .left-out)) n) 2 f
+    (replyOf (blank n) (choleskyOf n a)))))
 
 unfoldable pub solveReply : ℕ → List Float → List Bool → List Float → List Float → Reply (List Float)
 solveReply n l left b x =
     checked (leb n limit) 1 x
     (checked (eqb (length l) (2 * (n * n))) 2 x
-    (checked (eqb (length left) n) 2 x (checked (eqb (length b) (2 * n)) 2 x (checked (eqb (length x) (2 * n)) 2 x (replyOf (zeros (2 * n)) (solveOf n l left b))))))
+    (checked (eqb (length left) n) 2 x
+    (checked (eqb (length b) (2 * n)) 2 x
+    (checked (eqb (length x) (2 * n)) 2 x
+    (replyOf (zeros (2 * n)) (solveOf n l left b))))))
 
 unfoldable pub leastSquaresReply : ℕ → ℕ → List Float → List Float → List Float → Reply (List Float)
 leastSquaresReply m r rows rhs y =
     checked (leb m limit) 1 y
     (checked (leb r limit) 1 y
-    (checked (eqb (length rows) (2 * (m * r))) 2 y (checked (eqb (length rhs) (2 * m)) 2 y (checked (eqb (length y) (2 * r)) 2 y (replyOf (zeros (2 * r)) (leastSquaresOf m r rows rhs))))))
+    (checked (eqb (length rows) (2 * (m * r))) 2 y
+    (checked (eqb (length rhs) (2 * m)) 2 y
+    (checked (eqb (length y) (2 * r)) 2 y
+    (replyOf (zeros (2 * r)) (leastSquaresOf m r rows rhs))))))
 
 unfoldable pub minusSolvedReply : ℕ → ℕ → List Float → List Float → List Float → List Float → Reply (List Float)
 minusSolvedReply m n jc rhs from out =
@@ -56,7 +77,9 @@ minusSolvedReply m n jc rhs from out =
     (checked (leb n limit) 1 out
     (checked (eqb (length jc) (2 * (m * n))) 2 out
     (checked (eqb (length rhs) (2 * m)) 2 out
-    (checked (eqb (length from) (2 * n)) 2 out (checked (eqb (length out) (2 * n)) 2 out (replyOf (zeros (2 * n)) (minusSolvedOf m n jc rhs from)))))))
+    (checked (eqb (length from) (2 * n)) 2 out
+    (checked (eqb (length out) (2 * n)) 2 out
+    (replyOf (zeros (2 * n)) (minusSolvedOf m n jc rhs from)))))))
 
 -- g is scratch: it is clear afterwards, beside the factor
 unfoldable pub gramFactorReply : ℕ → ℕ → List Float → List Float → Factor → Reply (List Float × Factor)
@@ -68,7 +91,8 @@ gramFactorReply m n jc g f =
     (checked (eqb (length jc) (2 * (m * n))) 2 lent
     (checked (eqb (length g) (2 * (m * m))) 2 lent
     (checked (eqb (length (f .l)) (2 * (m * m))) 2 lent
-    (checked (eqb (length (f .left-out)) m) 2 lent (replyOf (clear, blank m) (beside clear (gramFactorOf m n jc))))))))
+    (checked (eqb (length (f .left-out)) m) 2 lent
+    (replyOf (clear, blank m) (beside clear (gramFactorOf m n jc))))))))
 
 unfoldable pub minusFactoredReply : ℕ → ℕ → List Float → Factor → List Float → List Float → List Float
     → Reply (List Float)
@@ -80,4 +104,5 @@ minusFactoredReply m n jc f rhs from out =
     (checked (eqb (length (f .left-out)) m) 2 out
     (checked (eqb (length rhs) (2 * m)) 2 out
     (checked (eqb (length from) (2 * n)) 2 out
-    (checked (eqb (length out) (2 * n)) 2 out (replyOf (zeros (2 * n)) (minusFactoredOf m n jc f rhs from)))))))))
+    (checked (eqb (length out) (2 * n)) 2 out
+    (replyOf (zeros (2 * n)) (minusFactoredOf m n jc f rhs from)))))))))

@@ -1,5 +1,6 @@
--- `cholesky`: the factor L of a symmetric matrix, L Lᵀ = a, with pivots left out, by entries and marks. Only the lower triangle of a is read. Nothing here speaks of the order of work:
--- an entry is given by the entries in the columns before it.
+-- `cholesky`: the factor L of a symmetric matrix, L Lᵀ = a, with pivots left out, by entries and marks. Only the lower
+-- triangle of a is read. Nothing here speaks of the order of work: an entry is given by the entries in the columns
+-- before it.
 use Prim.Native.Nat.{ℕ, zero, suc, _+_, _*_, _/_, _%_}
 use mathlib.Core.Bool.{Bool, true, false, _||_}
 use mathlib.Core.List.{List, [], _∷_, _++_}
@@ -7,7 +8,8 @@ use lib.Dec.{eqb, ltb}
 use lib.Ieee.{Float}
 use Rattle.interval.specs.declared.Scalar.{Scalar}
 use Rattle.interval.specs.Result.{Res, ok, refused}
-use Rattle.interval.specs.Scalar.{one64, zeroS, degenerate, pick, mulOf, divOf, inverse, sqrtOf, definitelyGreater, isFinite}
+use Rattle.interval.specs.Scalar.{one64, zeroS, degenerate, pick, mulOf, divOf, inverse, sqrtOf}
+use Rattle.interval.specs.Scalar.{definitelyGreater, isFinite}
 use Rattle.linear.specs.Flat.{at, listTo}
 use Rattle.linear.specs.Dot.{minusTo}
 
@@ -42,7 +44,8 @@ under (refused k) s = zeroS
 unfoldable pub rowTo : (ℕ → ℕ → Scalar) → ℕ → ℕ → ℕ → Scalar
 rowTo a zero i k = zeroS
 rowTo a (suc j) i k =
-    pick (eqb k j) (under (pivotOf (minusTo (rowTo a j j) (rowTo a j j) (a j j) j)) (minusTo (rowTo a j i) (rowTo a j j) (a i j) j)) (rowTo a j i k)
+    let pivot = pivotOf (minusTo (rowTo a j j) (rowTo a j j) (a j j) j) in
+    pick (eqb k j) (under pivot (minusTo (rowTo a j i) (rowTo a j j) (a i j) j)) (rowTo a j i k)
 
 abbrev pub pivotAt : (ℕ → ℕ → Scalar) → ℕ → Res Pivot
 pivotAt a i = pivotOf (minusTo (rowTo a i i) (rowTo a i i) (a i i) i)
@@ -66,7 +69,10 @@ unfoldable pub markAt : (ℕ → ℕ → Scalar) → ℕ → Bool
 markAt a i = isLeftOut (pivotAt a i)
 
 unfoldable pub factorAt : (ℕ → ℕ → Scalar) → ℕ → ℕ → Scalar
-factorAt a i j = pick (markAt a i) zeroS (pick (ltb j i) (rowTo a i i j) (pick (eqb i j) (diagonal (pivotAt a i)) zeroS))
+factorAt a i j =
+    pick (markAt a i) zeroS
+    (pick (ltb j i) (rowTo a i i j)
+    (pick (eqb i j) (diagonal (pivotAt a i)) zeroS))
 
 -- some pivot before row n is refused
 unfoldable pub refusedTo : (ℕ → ℕ → Scalar) → ℕ → Bool
@@ -90,7 +96,12 @@ unfoldable pub marksTo : (ℕ → Bool) → ℕ → List Bool
 marksTo f zero = []
 marksTo f (suc n) = marksTo f n ++ (f n ∷ [])
 
--- 5 is the only number: a root is refused where an end is inverted, and a division by a root whose reciprocal is finite never is
+-- 5 is the only number: a root is refused where an end is inverted, and a division by a root whose reciprocal is finite
+-- never is
 unfoldable pub choleskyOf : ℕ → List Float → Res Factor
 choleskyOf n a =
-    pick (refusedTo (entry n a) n) (refused 5) (ok (record { l = listTo (λ p. factorAt (entry n a) (p / n) (p % n)) (n * n); left-out = marksTo (markAt (entry n a)) n }))
+    pick (refusedTo (entry n a) n) (refused 5)
+    (ok (record {
+      l = listTo (λ p. factorAt (entry n a) (p / n) (p % n)) (n * n);
+      left-out = marksTo (markAt (entry n a)) n;
+    }))

@@ -1,4 +1,5 @@
--- The factor worked out row by row, as the Rust does: what each step of the program promises. That these steps give the entries and marks of `choleskyOf` is a theorem (proofs/CholeskyRows).
+-- The factor worked out row by row, as the Rust does: what each step of the program promises. That these steps give the
+-- entries and marks of `choleskyOf` is a theorem (proofs/CholeskyRows).
 use Prim.Native.Nat.{ℕ, zero, suc, _+_, _*_}
 use mathlib.Core.Bool.{Bool, true, false}
 use mathlib.Core.List.{List}
@@ -24,7 +25,8 @@ pivotResult (p.Refused e) = refused (scalar.numberOf e)
 -- the entry of row i and column j below the diagonal
 unfoldable pub entryStep : ℕ → List Float → List Bool → ℕ → List Float → ℕ → Res (List Float)
 entryStep n a left i l j =
-    pick (getD left j false) (ok l) (storeR l (i * n + j) (divOf (minusTo (along l (i * n) 1) (along l (j * n) 1) (at a (i * n + j)) j) (at l (j * n + j))))
+    let s = minusTo (along l (i * n) 1) (along l (j * n) 1) (at a (i * n + j)) j in
+    pick (getD left j false) (ok l) (storeR l (i * n + j) (divOf s (at l (j * n + j))))
 
 -- the first k entries of row i set to +0
 unfoldable pub clearRow : ℕ → ℕ → List Float → ℕ → List Float
@@ -37,7 +39,8 @@ settle n left i l (ok leftOut) = ok (record { l = clearRow n i l n; left-out = s
 settle n left i l (refused k) = refused k
 
 unfoldable pub pivotStep : ℕ → List Float → List Bool → ℕ → List Float → Res Factor
-pivotStep n a left i l = settle n left i l (pivotOf (minusTo (along l (i * n) 1) (along l (i * n) 1) (at a (i * n + i)) i))
+pivotStep n a left i l =
+    settle n left i l (pivotOf (minusTo (along l (i * n) 1) (along l (i * n) 1) (at a (i * n + i)) i))
 
 unfoldable pub rowStep : ℕ → List Float → Factor → ℕ → Res Factor
 unfolding bind foldR

@@ -1,4 +1,5 @@
--- Scalars in a flat list of numbers: the i-th has its lower end at 2 i and its upper end at 2 i + 1. Reading outside the list gives NaN, and writing there changes nothing.
+-- Scalars in a flat list of numbers: the i-th has its lower end at 2 i and its upper end at 2 i + 1. Reading outside
+-- the list gives NaN, and writing there changes nothing.
 use Prim.Native.Nat.{ℕ, zero, suc, _+_, _*_, _<_}
 use mathlib.Core.Bool.{Bool}
 use mathlib.Core.List.{List, [], _∷_, _++_}

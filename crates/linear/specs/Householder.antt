@@ -1,4 +1,5 @@
--- `least_squares`: the y with |rows y - rhs| least, by Householder reflections, each value chosen. The rows stand by columns in one list, column t at t * m, the right-hand side last.
+-- `least_squares`: the y with |rows y - rhs| least, by Householder reflections, each value chosen. The rows stand by
+-- columns in one list, column t at t * m, the right-hand side last.
 use Prim.Native.Nat.{ℕ, _+_, _*_, _-_, _/_, _%_, min}
 use mathlib.Core.Bool.{Bool, true, false, not, _||_}
 use mathlib.Core.List.{List}
@@ -7,7 +8,8 @@ use lib.Ieee.{Float}
 use lib.ListN.{getD, set, replicate}
 use Rattle.interval.specs.declared.Scalar.{Scalar}
 use Rattle.interval.specs.Result.{Res, ok, refused}
-use Rattle.interval.specs.Scalar.{zeroS, two64, degenerate, pick, negOf, subOf, mulOf, divOf, definitelyGreater, definitelyLess, definitelyNotEqual}
+use Rattle.interval.specs.Scalar.{zeroS, two64, degenerate, pick, negOf, subOf, mulOf, divOf, definitelyGreater}
+use Rattle.interval.specs.Scalar.{definitelyLess, definitelyNotEqual}
 use Rattle.linear.specs.Flat.{at, put, zeros, along, listTo}
 use Rattle.linear.specs.Results.{bind, foldR}
 use Rattle.linear.specs.Dot.{dotTo, minusTo}
@@ -39,7 +41,9 @@ normalOf x length = put x 0 (chooseOf (subOf (at x 0) (alphaOf (at x 0) length))
 -- one column reflected: n of its rows, from base on
 unfoldable pub reflectStep : List Float → Scalar → ℕ → ℕ → List Float → Res (List Float)
 unfolding bind
-reflectStep v vv n base cols = bind (divOf (mulOf (dotTo (at v) (along cols base 1) n) (degenerate two64)) vv) (λ f. ok (minusScaled cols base f v 0 n))
+reflectStep v vv n base cols =
+    bind (divOf (mulOf (dotTo (at v) (along cols base 1) n) (degenerate two64)) vv)
+    (λ f. ok (minusScaled cols base f v 0 n))
 
 -- the columns from column j on reflected, the right-hand side among them
 unfoldable pub reflectTo : ℕ → ℕ → List Float → Scalar → List Float → ℕ → Res (List Float)
@@ -59,7 +63,9 @@ withMarks left (refused k) = refused k
 -- column j, of which nothing is left: left out
 unfoldable pub reflectWith : ℕ → ℕ → ℕ → Factor → Res Scalar → Res Factor
 reflectWith m r j f (ok length) =
-    pick (definitelyGreater length zeroS) (withMarks (f .left-out) (reflectBy m r j (normalOf (tailOf m (f .l) j) length) (f .l))) (ok (factorOf (f .l) (set (f .left-out) j true)))
+    pick (definitelyGreater length zeroS)
+    (withMarks (f .left-out) (reflectBy m r j (normalOf (tailOf m (f .l) j) length) (f .l)))
+    (ok (factorOf (f .l) (set (f .left-out) j true)))
 reflectWith m r j f (refused k) = refused k
 
 unfoldable pub householderStep : ℕ → ℕ → Factor → ℕ → Res Factor
@@ -74,11 +80,12 @@ unfoldable pub valueStep : ℕ → ℕ → ℕ → Factor → List Float → ℕ
 valueStep m r k f y t =
     let j = k - 1 - t in
     let d = at (f .l) (j * m + j) in
-    pick (getD (f .left-out) j false || not (definitelyNotEqual d zeroS)) (ok y)
-    (storeR y j (chosen (divOf (minusTo (along (f .l) ((j + 1) * m + j) m) (along y (j + 1) 1) (at (f .l) (r * m + j)) (r - 1 - j)) d)))
+    let s = minusTo (along (f .l) ((j + 1) * m + j) m) (along y (j + 1) 1) (at (f .l) (r * m + j)) (r - 1 - j) in
+    pick (getD (f .left-out) j false || not (definitelyNotEqual d zeroS)) (ok y) (storeR y j (chosen (divOf s d)))
 
 unfoldable pub leastSquaresOf : ℕ → ℕ → List Float → List Float → Res (List Float)
 unfolding bind foldR
 leastSquaresOf m r rows rhs =
     let k = min r m in
-    bind (foldR (householderStep m r) (factorOf (columnsOf m r rows rhs) (replicate r false)) k) (λ f. foldR (valueStep m r k f) (zeros (2 * r)) k)
+    bind (foldR (householderStep m r) (factorOf (columnsOf m r rows rhs) (replicate r false)) k)
+    (λ f. foldR (valueStep m r k f) (zeros (2 * r)) k)

@@ -1,4 +1,5 @@
--- `norm`: the root of the sum of squares, scaled by the greatest upper end of an absolute value. Of a list with no positive size, an empty one among them, it is the plain root.
+-- `norm`: the root of the sum of squares, scaled by the greatest upper end of an absolute value. Of a list with no
+-- positive size, an empty one among them, it is the plain root.
 use Prim.Native.Nat.{ℕ, zero, suc}
 use Rattle.interval.specs.declared.Scalar.{Scalar}
 use Rattle.interval.specs.Result.{Res, ok}
@@ -27,4 +28,6 @@ unfolding bind
 scaledRoot g squares = bind squares (λ s. bind (sqrtOf s) (λ r. ok (mulOf g r)))
 
 unfoldable pub normOf : (ℕ → Scalar) → ℕ → Res Scalar
-normOf f n = let g = largestTo f n in pick (definitelyGreater g zeroS) (scaledRoot g (scaledSquares f g n)) (sqrtOf (dotTo f f n))
+normOf f n =
+    let g = largestTo f n in
+    pick (definitelyGreater g zeroS) (scaledRoot g (scaledSquares f g n)) (sqrtOf (dotTo f f n))

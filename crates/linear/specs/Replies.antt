@@ -1,4 +1,5 @@
--- What a call that writes a slice leaves: how it ended, and what the slice holds then. A check that fails refuses with nothing written; a refusal by the scalars leaves the output clear.
+-- What a call that writes a slice leaves: how it ended, and what the slice holds then. A check that fails refuses with
+-- nothing written; a refusal by the scalars leaves the output clear.
 use Prim.Native.Nat.{ℕ}
 use mathlib.Core.Bool.{Bool, true, false}
 use Rattle.interval.specs.Result.{Res, ok, refused}

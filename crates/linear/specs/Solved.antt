@@ -1,4 +1,5 @@
--- `minus_solved`: from - Jᵀ k with J Jᵀ k = rhs, each value chosen; J has m rows and n columns. Rows of J that say nothing the others do not are left out.
+-- `minus_solved`: from - Jᵀ k with J Jᵀ k = rhs, each value chosen; J has m rows and n columns. Rows of J that say
+-- nothing the others do not are left out.
 use Prim.Native.Nat.{ℕ, _+_, _*_, _/_, _%_, _≤_, _<_}
 use mathlib.Core.Path.{_≡_}
 use mathlib.Core.List.{List}
