@@ -1,11 +1,13 @@
 -- An interval by two upper bounds: `below`, that of its numbers with their signs turned, and `above`. So below is -lo
 -- and above is hi, and both are rounded up.
+use Prim.Native.Nat.{ℕ}
 use mathlib.Core.Path.{_≡_}
 use mathlib.Core.Bool.{Bool, true, _&&_}
 use lib.Dec.{T}
 use lib.Ieee.{inf, binary64, add, neg, lt}
 use Rattle.interval.specs.declared.Scalar.{Scalar}
 use Rattle.interval.specs.Scalar.{zero64}
+use Rattle.linear.specs.Flat.{Inside}
 use Rattle.linear.specs.declared.bounds.Bounds.{Bounds}
 
 abbrev pub boundsOf : Scalar → Bounds
@@ -26,3 +28,17 @@ unsigned b = record { below = add binary64 (b .below) zero64; above = add binary
 pub record Bounding (x : Scalar) (r : Bounds) : Type 0 where
   pub value : r ≡ boundsOf x
   pub proper : T (isProper r)
+
+-- k products of two runs can be added to z by bounds, with no test of a place: every place is inside, and z is proper
+pub record Plain (a0 sa a b0 sb b k : ℕ) (z : Bounds) : Type 0 where
+  pub first : Inside a0 sa k a
+  pub second : Inside b0 sb k b
+  pub start : T (isProper z)
+
+-- the same of two sums, of two runs of one list with a row of another
+pub record PlainTwo (a0 a1 sa a b0 b k : ℕ) (y z : Bounds) : Type 0 where
+  pub first : Inside a0 sa k a
+  pub second : Inside a1 sa k a
+  pub row : Inside b0 1 k b
+  pub first-start : T (isProper y)
+  pub second-start : T (isProper z)

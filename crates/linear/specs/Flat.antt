@@ -30,6 +30,17 @@ along xs base step j = at xs (base + j * step)
 abbrev pub Inside : ℕ → ℕ → ℕ → ℕ → Type 0
 Inside base step k len = (t : ℕ) → t < k → 2 * (base + t * step) + 1 < len
 
+-- k scalars of each of two runs are inside lists of a and of b numbers
+pub record BothInside (a0 sa a b0 sb b k : ℕ) : Type 0 where
+  pub first : Inside a0 sa k a
+  pub second : Inside b0 sb k b
+
+-- k scalars of two runs of a list of a numbers, and of a row of a list of b
+pub record ThreeInside (a0 a1 sa a b0 b k : ℕ) : Type 0 where
+  pub first : Inside a0 sa k a
+  pub second : Inside a1 sa k a
+  pub row : Inside b0 1 k b
+
 -- xs with f 0 to f (k - 1) stored from the place base on
 unfoldable pub fillTo : List Float → ℕ → (ℕ → Scalar) → ℕ → List Float
 fillTo xs base f zero = xs

@@ -1,3 +1,4 @@
+pub mod Lengths
 pub mod Flat
 pub mod Results
 pub mod Answers

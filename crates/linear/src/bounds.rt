@@ -1,4 +1,5 @@
-// An interval by two upper bounds, so that both of its ends are worked out alike.
+// An interval by two upper bounds: that of its numbers with their signs turned, -lo, and hi. To step the lower end down
+// is to step -lo up, so both ends are worked out alike, side by side, and by no test of a sign.
 ghost use mathlib.Core.Path.{_≡_};
 ghost use mathlib.Core.Bool.{not, cond};
 ghost use lib.Dec.{T};
@@ -29,7 +30,8 @@ fn one_if(holds: bool) -> u64
     0
 }
 
-// The next float up from a number that is not -0: one pattern less for a negative number, one more for another, and infinity stays.
+// The next float up from a number that is not -0: one pattern less for a negative number, one more for another, and
+// infinity stays.
 fn step_on(x: f64) -> f64
     requires { ⌜ T (not (isNan x)) × (add binary64 x zero64 ≡ x) ⌝ }
     ensures { λ r. ⌜ r ≡ nextUp x ⌝ }
@@ -38,7 +40,7 @@ fn step_on(x: f64) -> f64
     f64::from_bits(b - 2 * (b / 9223372036854775808) + one_if(x <= MOST))
 }
 
-// The next float up from a number.
+// The next float up from a number: a +0 added makes +0 of -0 and changes no other.
 fn step_up(x: f64) -> f64
     requires { ⌜ T (not (isNan x)) ⌝ }
     ensures { λ r. ⌜ r ≡ nextUp x ⌝ }
@@ -78,7 +80,8 @@ pub fn scalar_of(b: Bounds) -> Scalar
     }
 }
 
-// Whether both bounds are numbers above minus infinity.
+// Whether both bounds are numbers above minus infinity. Then a product's bounds, which are so too, can be added with no
+// infinities of two signs meeting, and a sum needs no test for NaN.
 pub fn is_proper(b: Bounds) -> bool
     ensures { λ r. ⌜ r ≡ isProper b ⌝ }
 {
@@ -109,7 +112,8 @@ pub fn minus_product(z: Bounds, x: Scalar, y: Scalar) -> Bounds
     }
 }
 
-// The bounds of x y for points x and y, with -0 made +0: one product in place of four.
+// The bounds of x y for points x and y, with -0 made +0: one product in place of four. A sum with them is never -0, so
+// step_on will do.
 fn point_product(x: Scalar, y: Scalar) -> Bounds
     requires { ⌜ T (isSharp x) × T (isSharp y) ⌝ }
     ensures { λ r. ⌜ r ≡ unsigned (boundsOf (mulOf x y)) ⌝ }

@@ -1,4 +1,7 @@
-// A value chosen from its enclosure: zero where zero is among it, else the middle.
+// A value chosen from its enclosure: zero where zero is among it, else the middle. Any value within would serve, since
+// what is chosen is a step, or the model that a step is worked out from, and whether a step is taken is decided by
+// enclosures. What could be zero is taken for rounding around an exact zero: made a small number it would couple
+// variables that do not depend on each other, and one that little else holds would follow such a coupling far.
 ghost use mathlib.Core.Path.{_≡_};
 ghost use Prim.Native.Nat.{_*_};
 ghost use lib.ListN.{length};
@@ -30,7 +33,7 @@ fn sharp_into(v: &[f64], out: &mut [f64], n: usize)
     }
 }
 
-// Each of v chosen, into out.
+// Each of v chosen, into out: sharp values do not widen what is worked out from them.
 pub fn sharp(n: usize, v: &[f64], out: &mut [f64]) -> Done
     ensures { λ r. ⌜ replied r (now (out .exit)) ≡ sharpReply n (now (v .entry)) (now (out .entry)) ⌝ }
 {

@@ -8,14 +8,13 @@
 ghost use mathlib.Core.Bool.{true, _&&_};
 ghost use mathlib.Core.Path.{_≡_};
 ghost use Prim.Native.Nat.{_≤_};
-ghost use lib.Dec.{T};
 ghost use lib.ListN.{length};
 ghost use Rattle.interval.specs.Scalar.{isSharp};
 ghost use Rattle.linear.specs.Answers.{resultOf};
-ghost use Rattle.linear.specs.Bounds.{boundsOf, scalarOf, isProper, Bounding};
+ghost use Rattle.linear.specs.Bounds.{boundsOf, scalarOf, Bounding, Plain, PlainTwo};
 ghost use Rattle.linear.specs.Calls.{dotReply};
 ghost use Rattle.linear.specs.Dot.{plusTo, dotTo, minusTo, pointsFrom};
-ghost use Rattle.linear.specs.Flat.{at, along, Inside};
+ghost use Rattle.linear.specs.Flat.{at, along, BothInside, ThreeInside};
 use crate::answers::Answer;
 use crate::answers::LinearError;
 use crate::bounds::Bounds;
@@ -38,6 +37,7 @@ struct Begun {
     done: usize,
 }
 
+// Whether both are points, so that their product is one and not four.
 pub fn are_points(x: Scalar, y: Scalar) -> bool
     ensures { λ r. ⌜ r ≡ (isSharp x && isSharp y) ⌝ }
 {
@@ -55,7 +55,7 @@ fn is_plain(
     z: Scalar,
     k: usize,
 ) -> bool
-    ensures { λ r. ⌜ (r ≡ true → Inside a0 sa k a × Inside b0 sb k b × T (isProper (boundsOf z))) ⌝ }
+    ensures { λ r. ⌜ (r ≡ true → Plain a0 sa a b0 sb b k (boundsOf z)) ⌝ }
 {
     if both_inside(a0, sa, a, b0, sb, b, k) {
         return is_proper(bounds_of(z));
@@ -74,8 +74,10 @@ fn plus_points_inside(
     z: Bounds,
     k: usize,
 ) -> Begun
-    requires { ⌜ Inside a0 sa k (length (now a)) × Inside b0 sb k (length (now b)) × T (isProper z) ⌝ }
-    ensures { λ r. ⌜ (r .done ≡ pointsFrom (along (now (a .entry)) a0 sa) (along (now (b .entry)) b0 sb) 0 k) × Bounding (plusTo (along (now (a .entry)) a0 sa) (along (now (b .entry)) b0 sb) (scalarOf z) (r .done)) (r .sum) ⌝ }
+    requires { ⌜ Plain a0 sa (length (now a)) b0 sb (length (now b)) k z ⌝ }
+    ensures { λ r. ⌜ (r .done ≡ pointsFrom (along (now (a .entry)) a0 sa) (along (now (b .entry)) b0 sb) 0 k)
+        × Bounding (plusTo (along (now (a .entry)) a0 sa) (along (now (b .entry)) b0 sb) (scalarOf z) (r .done))
+        (r .sum) ⌝ }
 {
     let mut sum = z;
     for t in 0..k {
@@ -100,7 +102,7 @@ fn plus_inside(
     z: Scalar,
     k: usize,
 ) -> Scalar
-    requires { ⌜ Inside a0 sa k (length (now a)) × Inside b0 sb k (length (now b)) × T (isProper (boundsOf z)) ⌝ }
+    requires { ⌜ Plain a0 sa (length (now a)) b0 sb (length (now b)) k (boundsOf z) ⌝ }
     ensures { λ r. ⌜ r ≡ plusTo (along (now (a .entry)) a0 sa) (along (now (b .entry)) b0 sb) z k ⌝ }
 {
     let begun = plus_points_inside(a, a0, sa, b, b0, sb, bounds_of(z), k);
@@ -175,7 +177,7 @@ pub fn minus_dot(
 
 // rows_minus where the bounds of z are proper.
 fn rows_inside(l: &[f64], i0: usize, j0: usize, z: Scalar, k: usize) -> Scalar
-    requires { ⌜ Inside i0 1 k (length (now l)) × Inside j0 1 k (length (now l)) × T (isProper (boundsOf z)) ⌝ }
+    requires { ⌜ Plain i0 1 (length (now l)) j0 1 (length (now l)) k (boundsOf z) ⌝ }
     ensures { λ r. ⌜ r ≡ minusTo (along (now (l .entry)) i0 1) (along (now (l .entry)) j0 1) z k ⌝ }
 {
     let mut sum = bounds_of(z);
@@ -187,7 +189,7 @@ fn rows_inside(l: &[f64], i0: usize, j0: usize, z: Scalar, k: usize) -> Scalar
 
 // z less k products of two rows of one slice, the first of which was just stored; all places are inside.
 pub fn rows_minus(l: &[f64], i0: usize, j0: usize, z: Scalar, k: usize) -> Scalar
-    requires { ⌜ Inside i0 1 k (length (now l)) × Inside j0 1 k (length (now l)) ⌝ }
+    requires { ⌜ BothInside i0 1 (length (now l)) j0 1 (length (now l)) k ⌝ }
     ensures { λ r. ⌜ r ≡ minusTo (along (now (l .entry)) i0 1) (along (now (l .entry)) j0 1) z k ⌝ }
 {
     if is_proper(bounds_of(z)) {
@@ -198,7 +200,7 @@ pub fn rows_minus(l: &[f64], i0: usize, j0: usize, z: Scalar, k: usize) -> Scala
 
 // The terms of row_dot up to the first whose factors are not both points.
 fn row_points_inside(a: &[f64], a0: usize, b: &[f64], b0: usize, k: usize) -> Begun
-    requires { ⌜ Inside a0 1 k (length (now a)) × Inside b0 1 k (length (now b)) ⌝ }
+    requires { ⌜ BothInside a0 1 (length (now a)) b0 1 (length (now b)) k ⌝ }
     ensures { λ r. ⌜ (r .done ≤ k)
         × Bounding (dotTo (along (now (a .entry)) a0 1) (along (now (b .entry)) b0 1) (r .done)) (r .sum) ⌝ }
 {
@@ -216,7 +218,7 @@ fn row_points_inside(a: &[f64], a0: usize, b: &[f64], b0: usize, k: usize) -> Be
 
 // row_dot where every place is inside.
 fn row_inside(a: &[f64], a0: usize, b: &[f64], b0: usize, k: usize) -> Scalar
-    requires { ⌜ Inside a0 1 k (length (now a)) × Inside b0 1 k (length (now b)) ⌝ }
+    requires { ⌜ BothInside a0 1 (length (now a)) b0 1 (length (now b)) k ⌝ }
     ensures { λ r. ⌜ r ≡ dotTo (along (now (a .entry)) a0 1) (along (now (b .entry)) b0 1) k ⌝ }
 {
     let begun = row_points_inside(a, a0, b, b0, k);
@@ -275,8 +277,7 @@ fn two_points_inside(
     z: Bounds,
     k: usize,
 ) -> BegunTwo
-    requires { ⌜ Inside a0 sa k (length (now a)) × Inside a1 sa k (length (now a)) × Inside b0 1 k (length (now b))
-        × T (isProper y) × T (isProper z) ⌝ }
+    requires { ⌜ PlainTwo a0 a1 sa (length (now a)) b0 (length (now b)) k y z ⌝ }
     ensures { λ r. ⌜ (r .done ≤ k)
         × Bounding (plusTo (along (now (a .entry)) a0 sa) (along (now (b .entry)) b0 1) (scalarOf y) (r .done))
         (r .first)
@@ -319,8 +320,7 @@ fn two_inside(
     z: Bounds,
     k: usize,
 ) -> Two
-    requires { ⌜ Inside a0 sa k (length (now a)) × Inside a1 sa k (length (now a)) × Inside b0 1 k (length (now b))
-        × T (isProper y) × T (isProper z) ⌝ }
+    requires { ⌜ PlainTwo a0 a1 sa (length (now a)) b0 (length (now b)) k y z ⌝ }
     ensures { λ r. ⌜ (r .first ≡ plusTo (along (now (a .entry)) a0 sa) (along (now (b .entry)) b0 1) (scalarOf y) k)
         × (r .second ≡ plusTo (along (now (a .entry)) a1 sa) (along (now (b .entry)) b0 1) (scalarOf z) k) ⌝ }
 {
@@ -341,7 +341,7 @@ fn two_inside(
 
 // Whether k places of two rows of a and of one of b are inside.
 fn are_rows_inside(a0: usize, a1: usize, a: usize, b0: usize, b: usize, k: usize) -> bool
-    ensures { λ r. ⌜ (r ≡ true → Inside a0 1 k a × Inside a1 1 k a × Inside b0 1 k b) ⌝ }
+    ensures { λ r. ⌜ (r ≡ true → ThreeInside a0 a1 1 a b0 b k) ⌝ }
 {
     if is_row_inside(a0, k, a) && is_row_inside(a1, k, a) {
         return is_row_inside(b0, k, b);
@@ -368,7 +368,7 @@ pub fn two_rows(a: &[f64], a0: usize, a1: usize, b: &[f64], b0: usize, k: usize)
 
 // Whether k places of two runs of a, sa apart, and of a row of b are found to be inside.
 fn are_runs_inside(a0: usize, a1: usize, sa: usize, a: usize, b0: usize, b: usize, k: usize) -> bool
-    ensures { λ r. ⌜ (r ≡ true → Inside a0 sa k a × Inside a1 sa k a × Inside b0 1 k b) ⌝ }
+    ensures { λ r. ⌜ (r ≡ true → ThreeInside a0 a1 sa a b0 b k) ⌝ }
 {
     if both_inside(a0, sa, a, a1, sa, a, k) {
         return is_row_inside(b0, k, b);

@@ -1,4 +1,6 @@
-// The factor of a symmetric matrix, row by row.
+// The factor of a symmetric matrix, row by row. A row is left out where its pivot could be zero or less: as far as the
+// intervals tell, it says nothing that the rows before it do not. So is one whose pivot is positive by so little that
+// its reciprocal is not finite, since a solve through it would overflow.
 ghost use mathlib.Core.Path.{_≡_};
 ghost use mathlib.Core.Bool.{false};
 ghost use Prim.Native.Nat.{_*_, _<_, _≤_};
@@ -8,6 +10,7 @@ ghost use Rattle.linear.specs.Answers.{doneOf};
 ghost use Rattle.linear.specs.Calls.{choleskyReply, blank};
 ghost use Rattle.linear.specs.Cholesky.{usable, rootPivot, pivotOf, choleskyOf, factorOf};
 ghost use Rattle.linear.specs.CholeskyRows.{pivotResult, entryStep, clearRow, settle, pivotStep, rowStep};
+ghost use Rattle.linear.specs.Lengths.{FactorLengths};
 ghost use Rattle.linear.specs.Replies.{replied, replyOf};
 ghost use Rattle.linear.specs.Results.{foldR};
 use crate::answers::Done;
@@ -28,6 +31,7 @@ pub enum Pivoted {
     Refused(GeopError),
 }
 
+// Whether a quotient is there and finite.
 fn is_usable(q: ScalarResult) -> bool
     ensures { λ r. ⌜ r ≡ usable (scalar.resultOf q) ⌝ }
 {
@@ -37,6 +41,7 @@ fn is_usable(q: ScalarResult) -> bool
     }
 }
 
+// The pivot by its root.
 fn root_pivot(q: ScalarResult) -> Pivoted
     ensures { λ r. ⌜ pivotResult r ≡ rootPivot (scalar.resultOf q) ⌝ }
 {
@@ -52,6 +57,7 @@ fn root_pivot(q: ScalarResult) -> Pivoted
     }
 }
 
+// The pivot by what the rows before it leave of the diagonal.
 fn pivot_of(s: Scalar) -> Pivoted
     ensures { λ r. ⌜ pivotResult r ≡ pivotOf s ⌝ }
 {
@@ -63,8 +69,9 @@ fn pivot_of(s: Scalar) -> Pivoted
 
 // The entry of row i and column j, below the diagonal.
 fn entry(n: usize, a: &[f64], l: &mut [f64], left_out: &[bool], i: usize, j: usize) -> Done
-    requires { ⌜ (i < n) × ((j < i) × ((n ≤ 24) × ((length (now «left_out») ≡ n) × (length (now l) ≡ 2 * (n * n))))) ⌝ }
-    ensures { λ r. ⌜ doneOf r (now (l .exit)) ≡ entryStep n (now (a .entry)) (now («left_out» .entry)) i (now (l .entry)) j ⌝ }
+    requires { ⌜ (i < n) × (j < i) × FactorLengths n (length (now l)) (length (now «left_out»)) ⌝ }
+    ensures { λ r. ⌜ doneOf r (now (l .exit))
+        ≡ entryStep n (now (a .entry)) (now («left_out» .entry)) i (now (l .entry)) j ⌝ }
 {
     if left_out[j] {
         return Done::Finished;
@@ -77,8 +84,9 @@ fn entry(n: usize, a: &[f64], l: &mut [f64], left_out: &[bool], i: usize, j: usi
 
 // The entries of row i below the diagonal.
 fn entries(n: usize, a: &[f64], l: &mut [f64], left_out: &[bool], i: usize) -> Done
-    requires { ⌜ (i < n) × ((n ≤ 24) × ((length (now «left_out») ≡ n) × (length (now l) ≡ 2 * (n * n)))) ⌝ }
-    ensures { λ r. ⌜ doneOf r (now (l .exit)) ≡ foldR (entryStep n (now (a .entry)) (now («left_out» .entry)) i) (now (l .entry)) i ⌝ }
+    requires { ⌜ (i < n) × FactorLengths n (length (now l)) (length (now «left_out»)) ⌝ }
+    ensures { λ r. ⌜ doneOf r (now (l .exit))
+        ≡ foldR (entryStep n (now (a .entry)) (now («left_out» .entry)) i) (now (l .entry)) i ⌝ }
 {
     for j in 0..i {
         match entry(n, a, l, left_out, i, j) {
@@ -91,6 +99,7 @@ fn entries(n: usize, a: &[f64], l: &mut [f64], left_out: &[bool], i: usize) -> D
     Done::Finished
 }
 
+// Row i made zero, so that the terms of a row that is left out are zero.
 fn clear_row(n: usize, l: &mut [f64], i: usize)
     requires { ⌜ (i < n) × (n ≤ 24) ⌝ }
     ensures { λ _. ⌜ now (l .exit) ≡ clearRow n i (now (l .entry)) n ⌝ }
@@ -102,8 +111,9 @@ fn clear_row(n: usize, l: &mut [f64], i: usize)
 
 // Stores a pivot, or leaves its row out.
 fn settle_pivot(n: usize, l: &mut [f64], left_out: &mut [bool], i: usize, p: Pivoted) -> Done
-    requires { ⌜ (i < n) × ((n ≤ 24) × (length (now «left_out») ≡ n)) ⌝ }
-    ensures { λ r. ⌜ doneOf r (factorOf (now (l .exit)) (now («left_out» .exit))) ≡ settle n (now («left_out» .entry)) i (now (l .entry)) (pivotResult p) ⌝ }
+    requires { ⌜ (i < n) × FactorLengths n (length (now l)) (length (now «left_out»)) ⌝ }
+    ensures { λ r. ⌜ doneOf r (factorOf (now (l .exit)) (now («left_out» .exit)))
+        ≡ settle n (now («left_out» .entry)) i (now (l .entry)) (pivotResult p) ⌝ }
 {
     match p {
         Pivoted::Root(r) => {
@@ -119,9 +129,11 @@ fn settle_pivot(n: usize, l: &mut [f64], left_out: &mut [bool], i: usize, p: Piv
     }
 }
 
+// The pivot of row i, whose entries below the diagonal are stored.
 fn pivot_row(n: usize, a: &[f64], l: &mut [f64], left_out: &mut [bool], i: usize) -> Done
-    requires { ⌜ (i < n) × ((n ≤ 24) × ((length (now «left_out») ≡ n) × (length (now l) ≡ 2 * (n * n)))) ⌝ }
-    ensures { λ r. ⌜ doneOf r (factorOf (now (l .exit)) (now («left_out» .exit))) ≡ pivotStep n (now (a .entry)) (now («left_out» .entry)) i (now (l .entry)) ⌝ }
+    requires { ⌜ (i < n) × FactorLengths n (length (now l)) (length (now «left_out»)) ⌝ }
+    ensures { λ r. ⌜ doneOf r (factorOf (now (l .exit)) (now («left_out» .exit)))
+        ≡ pivotStep n (now (a .entry)) (now («left_out» .entry)) i (now (l .entry)) ⌝ }
 {
     let row = i * n;
     let s = rows_minus(l, row, row, at(a, row + i), i);
@@ -130,8 +142,9 @@ fn pivot_row(n: usize, a: &[f64], l: &mut [f64], left_out: &mut [bool], i: usize
 
 // Row i of the factor.
 fn factor_row(n: usize, a: &[f64], l: &mut [f64], left_out: &mut [bool], i: usize) -> Done
-    requires { ⌜ (i < n) × ((n ≤ 24) × ((length (now «left_out») ≡ n) × (length (now l) ≡ 2 * (n * n)))) ⌝ }
-    ensures { λ r. ⌜ doneOf r (factorOf (now (l .exit)) (now («left_out» .exit))) ≡ rowStep n (now (a .entry)) (factorOf (now (l .entry)) (now («left_out» .entry))) i ⌝ }
+    requires { ⌜ (i < n) × FactorLengths n (length (now l)) (length (now «left_out»)) ⌝ }
+    ensures { λ r. ⌜ doneOf r (factorOf (now (l .exit)) (now («left_out» .exit)))
+        ≡ rowStep n (now (a .entry)) (factorOf (now (l .entry)) (now («left_out» .entry))) i ⌝ }
 {
     match entries(n, a, l, left_out, i) {
         Done::Finished => pivot_row(n, a, l, left_out, i),
@@ -139,9 +152,11 @@ fn factor_row(n: usize, a: &[f64], l: &mut [f64], left_out: &mut [bool], i: usiz
     }
 }
 
+// All rows, until a root is refused.
 fn factor_rows(n: usize, a: &[f64], l: &mut [f64], left_out: &mut [bool]) -> Done
-    requires { ⌜ (n ≤ 24) × ((length (now «left_out») ≡ n) × (length (now l) ≡ 2 * (n * n))) ⌝ }
-    ensures { λ r. ⌜ doneOf r (factorOf (now (l .exit)) (now («left_out» .exit))) ≡ foldR (rowStep n (now (a .entry))) (factorOf (now (l .entry)) (now («left_out» .entry))) n ⌝ }
+    requires { ⌜ FactorLengths n (length (now l)) (length (now «left_out»)) ⌝ }
+    ensures { λ r. ⌜ doneOf r (factorOf (now (l .exit)) (now («left_out» .exit)))
+        ≡ foldR (rowStep n (now (a .entry))) (factorOf (now (l .entry)) (now («left_out» .entry))) n ⌝ }
 {
     for i in 0..n {
         match factor_row(n, a, l, left_out, i) {
@@ -154,6 +169,7 @@ fn factor_rows(n: usize, a: &[f64], l: &mut [f64], left_out: &mut [bool]) -> Don
     Done::Finished
 }
 
+// Clears every mark.
 pub fn unmark(xs: &mut [bool])
     ensures { λ _. ⌜ now (xs .exit) ≡ replicate (length (now (xs .entry))) false ⌝ }
 {
@@ -164,8 +180,9 @@ pub fn unmark(xs: &mut [bool])
 
 // The factor from clear slices, and clear slices where it is refused; the lengths are checked.
 pub fn factor_sized(n: usize, a: &[f64], l: &mut [f64], left_out: &mut [bool]) -> Done
-    requires { ⌜ (n ≤ 24) × ((length (now l) ≡ 2 * (n * n)) × (length (now «left_out») ≡ n)) ⌝ }
-    ensures { λ r. ⌜ replied r (factorOf (now (l .exit)) (now («left_out» .exit))) ≡ replyOf (blank n) (choleskyOf n (now (a .entry))) ⌝ }
+    requires { ⌜ FactorLengths n (length (now l)) (length (now «left_out»)) ⌝ }
+    ensures { λ r. ⌜ replied r (factorOf (now (l .exit)) (now («left_out» .exit)))
+        ≡ replyOf (blank n) (choleskyOf n (now (a .entry))) ⌝ }
 {
     clear(l);
     unmark(left_out);
@@ -181,7 +198,8 @@ pub fn factor_sized(n: usize, a: &[f64], l: &mut [f64], left_out: &mut [bool]) -
 
 // L with L Lᵀ = a, of which the lower triangle is read; a pivot that is not definitely positive is left out.
 pub fn cholesky(n: usize, a: &[f64], l: &mut [f64], left_out: &mut [bool]) -> Done
-    ensures { λ r. ⌜ replied r (factorOf (now (l .exit)) (now («left_out» .exit))) ≡ choleskyReply n (now (a .entry)) (factorOf (now (l .entry)) (now («left_out» .entry))) ⌝ }
+    ensures { λ r. ⌜ replied r (factorOf (now (l .exit)) (now («left_out» .exit)))
+        ≡ choleskyReply n (now (a .entry)) (factorOf (now (l .entry)) (now («left_out» .entry))) ⌝ }
 {
     if n > 24 {
         return Done::Refused(LinearError::TooMany);

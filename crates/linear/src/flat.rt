@@ -1,9 +1,11 @@
-// Scalars in a flat slice.
+// Scalars in a flat slice: the i-th has its lower end at 2 i and its upper end at 2 i + 1. Outside the slice `at` reads
+// NaN and `put` changes nothing, so that neither asks anything of its caller. Where a whole run of places was found to
+// be inside beforehand, `at_inside` and `put_inside` read and write with no test of their own.
 ghost use mathlib.Core.Path.{_≡_};
 ghost use mathlib.Core.Bool.{true};
 ghost use Prim.Native.Nat.{_+_, _*_, _<_, min};
 ghost use lib.ListN.{length};
-ghost use Rattle.linear.specs.Flat.{at, put, zeros, along, Inside};
+ghost use Rattle.linear.specs.Flat.{at, put, zeros, along, Inside, BothInside};
 use interval::Scalar;
 
 // The i-th scalar; NaN outside the slice.
@@ -32,7 +34,8 @@ pub fn at_inside(xs: &[f64], i: usize) -> Scalar
     }
 }
 
-// Whether k scalars from base on, step apart, are found to be inside len numbers; never of a step or a count above 65535.
+// Whether k scalars from base on, step apart, are found to be inside len numbers. A step or a count above 65535 is
+// never found inside, so that their product does not overflow.
 fn is_inside(base: usize, step: usize, k: usize, len: usize) -> bool
     ensures { λ r. ⌜ (r ≡ true → Inside base step k len) ⌝ }
 {
@@ -55,7 +58,7 @@ fn is_inside(base: usize, step: usize, k: usize, len: usize) -> bool
 
 // The same of two runs.
 pub fn both_inside(a0: usize, sa: usize, a: usize, b0: usize, sb: usize, b: usize, k: usize) -> bool
-    ensures { λ r. ⌜ (r ≡ true → Inside a0 sa k a × Inside b0 sb k b) ⌝ }
+    ensures { λ r. ⌜ (r ≡ true → BothInside a0 sa a b0 sb b k) ⌝ }
 {
     if is_inside(a0, sa, k, a) {
         return is_inside(b0, sb, k, b);
@@ -87,7 +90,8 @@ pub fn ahead(i: usize, step: usize, len: usize) -> usize
     i + step
 }
 
-// base + j * step, or len where that is beyond it.
+// base + j * step, or len where that is beyond it: a place at len is outside, as those behind it are, and nothing
+// overflows.
 fn place(base: usize, step: usize, j: usize, len: usize) -> usize
     ensures { λ r. ⌜ r ≡ min (base + j * step) len ⌝ }
 {

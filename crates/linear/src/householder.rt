@@ -1,4 +1,6 @@
-// Least squares by Householder reflections.
+// Least squares by Householder reflections: each takes a column onto its diagonal, and is applied to the columns from
+// it on and to the right-hand side. Every number is chosen, since these are the model's own. A column with nothing left
+// of it after the reflections before is left out, as a pivot that could be zero is: its value is zero.
 ghost use mathlib.Core.Path.{_≡_};
 ghost use Prim.Native.Nat.{_+_, _*_, _-_, _<_, _≤_, min};
 ghost use lib.ListN.{length};
@@ -7,7 +9,10 @@ ghost use Rattle.linear.specs.Answers.{doneOf};
 ghost use Rattle.linear.specs.Calls.{leastSquaresReply};
 ghost use Rattle.linear.specs.Cholesky.{factorOf};
 ghost use Rattle.linear.specs.Flat.{zeros};
-ghost use Rattle.linear.specs.Householder.{columnEntry, columnsOf, tailOf, alphaOf, normalOf, reflectStep, reflectTo, reflectBy, reflectWith, householderStep, chosen, valueStep, leastSquaresOf};
+ghost use Rattle.linear.specs.Householder.{columnEntry, columnsOf, tailOf, alphaOf, normalOf, reflectStep};
+ghost use Rattle.linear.specs.Householder.{reflectTo, reflectBy, reflectWith, householderStep, chosen, valueStep};
+ghost use Rattle.linear.specs.Householder.{leastSquaresOf};
+ghost use Rattle.linear.specs.Lengths.{Counts, OutputLengths, Column, MarkedColumns};
 ghost use Rattle.linear.specs.Replies.{replied, replyOf};
 ghost use Rattle.linear.specs.Results.{foldR};
 use crate::answers::Done;
@@ -29,7 +34,7 @@ use interval::ScalarResult;
 
 // The p-th scalar of the columns.
 fn column_entry(m: usize, r: usize, rows: &[f64], rhs: &[f64], p: usize) -> Scalar
-    requires { ⌜ (0 < m) × ((m ≤ 24) × ((r ≤ 24) × (p < 600))) ⌝ }
+    requires { ⌜ Counts m r × (0 < m) × (p < 600) ⌝ }
     ensures { λ x. ⌜ x ≡ columnEntry m r (now (rows .entry)) (now (rhs .entry)) p ⌝ }
 {
     let t = p / m;
@@ -42,7 +47,7 @@ fn column_entry(m: usize, r: usize, rows: &[f64], rhs: &[f64], p: usize) -> Scal
 
 // The rows by columns, the right-hand side the last.
 fn columns(m: usize, r: usize, rows: &[f64], rhs: &[f64], cols: &mut [f64])
-    requires { ⌜ (m ≤ 24) × ((r ≤ 24) × (length (now cols) ≡ 2 * ((r + 1) * m))) ⌝ }
+    requires { ⌜ Counts m r × (length (now cols) ≡ 2 * ((r + 1) * m)) ⌝ }
     ensures { λ _. ⌜ now (cols .exit) ≡ columnsOf m r (now (rows .entry)) (now (rhs .entry)) ⌝ }
 {
     let n = (r + 1) * m;
@@ -63,6 +68,8 @@ fn tail(m: usize, cols: &[f64], j: usize, x: &mut [f64])
     }
 }
 
+// Where the reflection takes the column: its length, with the sign that x0 does not have. So x0 - alpha adds two sizes,
+// and no digits cancel.
 fn alpha(x0: Scalar, length: Scalar) -> Scalar
     ensures { λ r. ⌜ r ≡ alphaOf x0 length ⌝ }
 {
@@ -112,8 +119,9 @@ fn reflect_all(m: usize, j: usize, v: &[f64], vv: Scalar, cols: &mut [f64], k: u
     Done::Finished
 }
 
+// The columns from j on reflected by the normal v, unless v could be zero.
 fn reflect_by(m: usize, r: usize, j: usize, v: &[f64], cols: &mut [f64]) -> Done
-    requires { ⌜ (j < m) × ((m ≤ 24) × ((j < r) × (r ≤ 24))) ⌝ }
+    requires { ⌜ Column m r j ⌝ }
     ensures { λ d. ⌜ doneOf d (now (cols .exit)) ≡ reflectBy m r j (now (v .entry)) (now (cols .entry)) ⌝ }
 {
     let vv = choose(dot_of(v, v, m - j));
@@ -133,8 +141,9 @@ fn reflect_with(
     v: &mut [f64],
     len: Scalar,
 ) -> Done
-    requires { ⌜ (j < m) × ((m ≤ 24) × ((j < r) × ((r ≤ 24) × ((length (now «left_out») ≡ r) × (now v ≡ tailOf m (now cols) j))))) ⌝ }
-    ensures { λ d. ⌜ doneOf d (factorOf (now (cols .exit)) (now («left_out» .exit))) ≡ reflectWith m r j (factorOf (now (cols .entry)) (now («left_out» .entry))) (scalar.ok len) ⌝ }
+    requires { ⌜ Column m r j × (length (now «left_out») ≡ r) × (now v ≡ tailOf m (now cols) j) ⌝ }
+    ensures { λ d. ⌜ doneOf d (factorOf (now (cols .exit)) (now («left_out» .exit)))
+        ≡ reflectWith m r j (factorOf (now (cols .entry)) (now («left_out» .entry))) (scalar.ok len) ⌝ }
 {
     if len.definitely_greater(Scalar::ZERO) {
         normal(v, len);
@@ -153,8 +162,9 @@ fn householder_step(
     left_out: &mut [bool],
     v: &mut [f64],
 ) -> Done
-    requires { ⌜ (j < m) × ((m ≤ 24) × ((j < r) × ((r ≤ 24) × ((length (now «left_out») ≡ r) × (length (now v) ≡ 2 * (m - j)))))) ⌝ }
-    ensures { λ d. ⌜ doneOf d (factorOf (now (cols .exit)) (now («left_out» .exit))) ≡ householderStep m r (factorOf (now (cols .entry)) (now («left_out» .entry))) j ⌝ }
+    requires { ⌜ Column m r j × (length (now «left_out») ≡ r) × (length (now v) ≡ 2 * (m - j)) ⌝ }
+    ensures { λ d. ⌜ doneOf d (factorOf (now (cols .exit)) (now («left_out» .exit)))
+        ≡ householderStep m r (factorOf (now (cols .entry)) (now («left_out» .entry))) j ⌝ }
 {
     tail(m, cols, j, v);
     match norm_of(v, m - j) {
@@ -172,8 +182,9 @@ fn reflections(
     left_out: &mut [bool],
     v: &mut [f64],
 ) -> Done
-    requires { ⌜ (k ≤ m) × ((k ≤ r) × ((m ≤ 24) × ((r ≤ 24) × ((length (now «left_out») ≡ r) × (2 * m ≤ length (now v)))))) ⌝ }
-    ensures { λ d. ⌜ doneOf d (factorOf (now (cols .exit)) (now («left_out» .exit))) ≡ foldR (householderStep m r) (factorOf (now (cols .entry)) (now («left_out» .entry))) k ⌝ }
+    requires { ⌜ MarkedColumns m r k (length (now «left_out»)) × (2 * m ≤ length (now v)) ⌝ }
+    ensures { λ d. ⌜ doneOf d (factorOf (now (cols .exit)) (now («left_out» .exit)))
+        ≡ foldR (householderStep m r) (factorOf (now (cols .entry)) (now («left_out» .entry))) k ⌝ }
 {
     for j in 0..k {
         let e = 2 * (m - j);
@@ -187,6 +198,7 @@ fn reflections(
     Done::Finished
 }
 
+// A quotient's value, chosen.
 fn chosen_of(q: ScalarResult) -> ScalarResult
     ensures { λ r. ⌜ scalar.resultOf r ≡ chosen (scalar.resultOf q) ⌝ }
 {
@@ -206,8 +218,9 @@ fn value_row(
     y: &mut [f64],
     t: usize,
 ) -> Done
-    requires { ⌜ (t < k) × ((k ≤ m) × ((k ≤ r) × ((m ≤ 24) × ((r ≤ 24) × (length (now «left_out») ≡ r))))) ⌝ }
-    ensures { λ d. ⌜ doneOf d (now (y .exit)) ≡ valueStep m r k (factorOf (now (cols .entry)) (now («left_out» .entry))) (now (y .entry)) t ⌝ }
+    requires { ⌜ MarkedColumns m r k (length (now «left_out»)) × (t < k) ⌝ }
+    ensures { λ d. ⌜ doneOf d (now (y .exit))
+        ≡ valueStep m r k (factorOf (now (cols .entry)) (now («left_out» .entry))) (now (y .entry)) t ⌝ }
 {
     let j = k - 1 - t;
     let d = at(cols, j * m + j);
@@ -222,9 +235,11 @@ fn value_row(
     store(y, j, chosen_of(known.div(d)))
 }
 
+// The values, from the last column to the first.
 fn values(m: usize, r: usize, k: usize, cols: &[f64], left_out: &[bool], y: &mut [f64]) -> Done
-    requires { ⌜ (k ≤ m) × ((k ≤ r) × ((m ≤ 24) × ((r ≤ 24) × (length (now «left_out») ≡ r)))) ⌝ }
-    ensures { λ d. ⌜ doneOf d (now (y .exit)) ≡ foldR (valueStep m r k (factorOf (now (cols .entry)) (now («left_out» .entry)))) (now (y .entry)) k ⌝ }
+    requires { ⌜ MarkedColumns m r k (length (now «left_out»)) ⌝ }
+    ensures { λ d. ⌜ doneOf d (now (y .exit))
+        ≡ foldR (valueStep m r k (factorOf (now (cols .entry)) (now («left_out» .entry)))) (now (y .entry)) k ⌝ }
 {
     for t in 0..k {
         match value_row(m, r, k, cols, left_out, y, t) {
@@ -237,6 +252,7 @@ fn values(m: usize, r: usize, k: usize, cols: &[f64], left_out: &[bool], y: &mut
     Done::Finished
 }
 
+// The lesser of two counts.
 fn fewer(a: usize, b: usize) -> usize
     ensures { λ r. ⌜ r ≡ min a b ⌝ }
 {
@@ -257,8 +273,10 @@ fn squares_in(
     left_out: &mut [bool],
     v: &mut [f64],
 ) -> Done
-    requires { ⌜ (m ≤ 24) × ((r ≤ 24) × ((length (now y) ≡ 2 * r) × ((length (now cols) ≡ 2 * ((r + 1) * m)) × ((length (now «left_out») ≡ r) × (2 * m ≤ length (now v)))))) ⌝ }
-    ensures { λ d. ⌜ replied d (now (y .exit)) ≡ replyOf (zeros (2 * r)) (leastSquaresOf m r (now (rows .entry)) (now (rhs .entry))) ⌝ }
+    requires { ⌜ OutputLengths m r (length (now y)) × (length (now cols) ≡ 2 * ((r + 1) * m))
+        × (length (now «left_out») ≡ r) × (2 * m ≤ length (now v)) ⌝ }
+    ensures { λ d. ⌜ replied d (now (y .exit))
+        ≡ replyOf (zeros (2 * r)) (leastSquaresOf m r (now (rows .entry)) (now (rhs .entry))) ⌝ }
 {
     clear(y);
     unmark(left_out);
@@ -270,6 +288,7 @@ fn squares_in(
     }
 }
 
+// The same with scratch slices that are long enough.
 fn squares_cut(
     m: usize,
     r: usize,
@@ -280,17 +299,21 @@ fn squares_cut(
     left_out: &mut [bool],
     v: &mut [f64],
 ) -> Done
-    requires { ⌜ (m ≤ 24) × ((r ≤ 24) × ((length (now y) ≡ 2 * r) × ((2 * ((r + 1) * m) ≤ length (now cols)) × ((r ≤ length (now «left_out»)) × (2 * m ≤ length (now v)))))) ⌝ }
-    ensures { λ d. ⌜ replied d (now (y .exit)) ≡ replyOf (zeros (2 * r)) (leastSquaresOf m r (now (rows .entry)) (now (rhs .entry))) ⌝ }
+    requires { ⌜ OutputLengths m r (length (now y)) × (2 * ((r + 1) * m) ≤ length (now cols))
+        × (r ≤ length (now «left_out»)) × (2 * m ≤ length (now v)) ⌝ }
+    ensures { λ d. ⌜ replied d (now (y .exit))
+        ≡ replyOf (zeros (2 * r)) (leastSquaresOf m r (now (rows .entry)) (now (rhs .entry))) ⌝ }
 {
     let e = 2 * ((r + 1) * m);
     squares_in(m, r, rows, rhs, y, &mut cols[..e], &mut left_out[..r], v)
 }
 
-// The same of at most 12 rows and columns, as a run has them, with arrays of its own.
+// The same of at most 12 rows and columns, as a run has them, with arrays of its own, which are a quarter of those for
+// 24.
 fn squares_small(m: usize, r: usize, rows: &[f64], rhs: &[f64], y: &mut [f64]) -> Done
-    requires { ⌜ (m ≤ 12) × ((r ≤ 12) × (length (now y) ≡ 2 * r)) ⌝ }
-    ensures { λ d. ⌜ replied d (now (y .exit)) ≡ replyOf (zeros (2 * r)) (leastSquaresOf m r (now (rows .entry)) (now (rhs .entry))) ⌝ }
+    requires { ⌜ OutputLengths m r (length (now y)) × (m ≤ 12) × (r ≤ 12) ⌝ }
+    ensures { λ d. ⌜ replied d (now (y .exit))
+        ≡ replyOf (zeros (2 * r)) (leastSquaresOf m r (now (rows .entry)) (now (rhs .entry))) ⌝ }
 {
     let mut cols = [0.0; 312];
     let mut left_out = [false; 12];
@@ -300,8 +323,9 @@ fn squares_small(m: usize, r: usize, rows: &[f64], rhs: &[f64], y: &mut [f64]) -
 
 // The same of at most 24.
 fn squares_large(m: usize, r: usize, rows: &[f64], rhs: &[f64], y: &mut [f64]) -> Done
-    requires { ⌜ (m ≤ 24) × ((r ≤ 24) × (length (now y) ≡ 2 * r)) ⌝ }
-    ensures { λ d. ⌜ replied d (now (y .exit)) ≡ replyOf (zeros (2 * r)) (leastSquaresOf m r (now (rows .entry)) (now (rhs .entry))) ⌝ }
+    requires { ⌜ OutputLengths m r (length (now y)) ⌝ }
+    ensures { λ d. ⌜ replied d (now (y .exit))
+        ≡ replyOf (zeros (2 * r)) (leastSquaresOf m r (now (rows .entry)) (now (rhs .entry))) ⌝ }
 {
     let mut cols = [0.0; 1200];
     let mut left_out = [false; 24];
@@ -309,9 +333,11 @@ fn squares_large(m: usize, r: usize, rows: &[f64], rhs: &[f64], y: &mut [f64]) -
     squares_cut(m, r, rows, rhs, y, &mut cols, &mut left_out, &mut v)
 }
 
+// The whole, with arrays of its own; the lengths are checked.
 fn squares_sized(m: usize, r: usize, rows: &[f64], rhs: &[f64], y: &mut [f64]) -> Done
-    requires { ⌜ (m ≤ 24) × ((r ≤ 24) × (length (now y) ≡ 2 * r)) ⌝ }
-    ensures { λ d. ⌜ replied d (now (y .exit)) ≡ replyOf (zeros (2 * r)) (leastSquaresOf m r (now (rows .entry)) (now (rhs .entry))) ⌝ }
+    requires { ⌜ OutputLengths m r (length (now y)) ⌝ }
+    ensures { λ d. ⌜ replied d (now (y .exit))
+        ≡ replyOf (zeros (2 * r)) (leastSquaresOf m r (now (rows .entry)) (now (rhs .entry))) ⌝ }
 {
     if m <= 12 && r <= 12 {
         return squares_small(m, r, rows, rhs, y);
@@ -321,7 +347,8 @@ fn squares_sized(m: usize, r: usize, rows: &[f64], rhs: &[f64], y: &mut [f64]) -
 
 // The y with |rows y - rhs| least, for m rows of r columns.
 pub fn least_squares(m: usize, r: usize, rows: &[f64], rhs: &[f64], y: &mut [f64]) -> Done
-    ensures { λ d. ⌜ replied d (now (y .exit)) ≡ leastSquaresReply m r (now (rows .entry)) (now (rhs .entry)) (now (y .entry)) ⌝ }
+    ensures { λ d. ⌜ replied d (now (y .exit))
+        ≡ leastSquaresReply m r (now (rows .entry)) (now (rhs .entry)) (now (y .entry)) ⌝ }
 {
     if m > 24 {
         return Done::Refused(LinearError::TooMany);

@@ -1,4 +1,6 @@
-// The length of a list.
+// The length of a list. Its numbers are divided by the greatest size among them before they are squared: the square of a
+// very small number loses its digits below the least float, and that of a great one is infinite, while the quotients
+// are about 1 at most, and one of them is. The size is a free choice, so it is made sharp.
 ghost use mathlib.Core.Path.{_≡_};
 ghost use Prim.Native.Nat.{_<_};
 ghost use Rattle.interval.specs.Result as scalar;
@@ -54,7 +56,8 @@ fn squares_times(v: &[f64], i: Scalar, n: usize) -> Scalar
     sum
 }
 
-// The sum of the squares of the first n, each over g: times its inverse, so that there is one for all of them.
+// The sum of the squares of the first n, each over g. A quotient is the product with the divisor's inverse, so one
+// inverse serves them all.
 fn scaled_squares(v: &[f64], g: Scalar, n: usize) -> ScalarResult
     requires { ⌜ 0 < n ⌝ }
     ensures { λ r. ⌜ scalar.resultOf r ≡ scaledSquares (at (now (v .entry))) g n ⌝ }
@@ -65,6 +68,7 @@ fn scaled_squares(v: &[f64], g: Scalar, n: usize) -> ScalarResult
     }
 }
 
+// The root of the sum of squares, scaled back.
 fn scaled_root(g: Scalar, squares: ScalarResult) -> ScalarResult
     ensures { λ r. ⌜ scalar.resultOf r ≡ scaledRoot g (scalar.resultOf squares) ⌝ }
 {
@@ -77,7 +81,7 @@ fn scaled_root(g: Scalar, squares: ScalarResult) -> ScalarResult
     }
 }
 
-// The length of the first n.
+// The length of the first n. Where no size is definitely positive there is nothing to divide by.
 pub fn norm_of(v: &[f64], n: usize) -> ScalarResult
     ensures { λ r. ⌜ scalar.resultOf r ≡ normOf (at (now (v .entry))) n ⌝ }
 {
@@ -88,6 +92,7 @@ pub fn norm_of(v: &[f64], n: usize) -> ScalarResult
     dot_of(v, v, n).sqrt()
 }
 
+// A scalar's result as the answer of a call.
 fn answer(r: ScalarResult) -> Answer
     ensures { λ a. ⌜ resultOf a ≡ scalar.resultOf r ⌝ }
 {
@@ -97,6 +102,7 @@ fn answer(r: ScalarResult) -> Answer
     }
 }
 
+// The root of the sum of squares of v.
 pub fn norm(n: usize, v: &[f64]) -> Answer
     ensures { λ r. ⌜ resultOf r ≡ normReply n (now (v .entry)) ⌝ }
 {

@@ -1,4 +1,5 @@
-// A run of scalars less a multiple of another, each chosen.
+// A run of scalars less a multiple of another, each chosen: what a reflection does to a column. The choice is made by
+// the two upper bounds of the difference, which have to be worked out for it anyway.
 ghost use mathlib.Core.Path.{_≡_};
 ghost use Prim.Native.Nat.{_≤_};
 ghost use lib.Dec.{T};
@@ -6,7 +7,7 @@ ghost use lib.ListN.{length};
 ghost use Rattle.interval.specs.Scalar.{degenerate, subOf, mulOf};
 ghost use Rattle.linear.specs.Bounds.{scalarOf, isProper};
 ghost use Rattle.linear.specs.Choose.{chooseOf};
-ghost use Rattle.linear.specs.Flat.{Inside};
+ghost use Rattle.linear.specs.Flat.{BothInside};
 ghost use Rattle.linear.specs.Scaled.{minusScaled};
 use crate::bounds::Bounds;
 use crate::bounds::bounds_of;
@@ -24,7 +25,8 @@ use crate::flat::put_inside;
 use interval::Scalar;
 use interval::lesser_of;
 
-// The number chosen from an interval, by its bounds.
+// The number chosen from an interval, by its bounds: zero is within where neither bound is negative, and the middle is
+// half of above - below.
 fn chosen(b: Bounds) -> f64
     requires { ⌜ T (isProper b) ⌝ }
     ensures { λ r. ⌜ degenerate r ≡ chooseOf (scalarOf b) ⌝ }
@@ -57,7 +59,7 @@ fn scaled_points_inside(
     w0: usize,
     k: usize,
 ) -> usize
-    requires { ⌜ Inside v0 1 k (length (now v)) × Inside w0 1 k (length (now w)) ⌝ }
+    requires { ⌜ BothInside v0 1 (length (now v)) w0 1 (length (now w)) k ⌝ }
     ensures { λ r. ⌜ (r ≤ k) × (now (v .exit) ≡ minusScaled (now (v .entry)) v0 a (now (w .entry)) w0 r) ⌝ }
 {
     for p in 0..k {
@@ -76,7 +78,7 @@ fn scaled_points_inside(
 
 // minus_scaled where every place is inside.
 fn scaled_inside(v: &mut [f64], v0: usize, a: Scalar, w: &[f64], w0: usize, k: usize)
-    requires { ⌜ Inside v0 1 k (length (now v)) × Inside w0 1 k (length (now w)) ⌝ }
+    requires { ⌜ BothInside v0 1 (length (now v)) w0 1 (length (now w)) k ⌝ }
     ensures { λ _. ⌜ now (v .exit) ≡ minusScaled (now (v .entry)) v0 a (now (w .entry)) w0 k ⌝ }
 {
     let done = scaled_points_inside(v, v0, a, w, w0, k);

@@ -1,10 +1,12 @@
-// The shortest step onto linear constraints.
+// The shortest step onto linear constraints. Sums are worked out two at a time, since neither waits for the other, and
+// the factor is a call of its own, since it serves several right-hand sides.
 ghost use mathlib.Core.Path.{_≡_};
 ghost use Prim.Native.Nat.{_+_, _*_, _<_, _≤_};
 ghost use lib.ListN.{length};
 ghost use Rattle.linear.specs.Calls.{blank, minusSolvedReply, gramFactorReply, minusFactoredReply};
 ghost use Rattle.linear.specs.Cholesky.{factorOf};
 ghost use Rattle.linear.specs.Flat.{zeros, put};
+ghost use Rattle.linear.specs.Lengths.{Counts, OutputLengths, FactorLengths};
 ghost use Rattle.linear.specs.Replies.{replied, replyOf};
 ghost use Rattle.linear.specs.Solved.{gramAt, LowerRows, minusAt, minusOf, minusSolvedOf, gramFactorOf};
 ghost use Rattle.linear.specs.Solved.{minusFactoredOf};
@@ -25,8 +27,8 @@ use interval::Scalar;
 
 // Rows i and i + 1 of the products, two of a column at a time, up to the second's diagonal.
 fn gram_rows(m: usize, n: usize, jc: &[f64], g: &mut [f64], i: usize)
-    requires { ⌜ (m ≤ 24) × ((n ≤ 24) × ((i + 1 < m) × ((length (now g) ≡ 2 * (m * m))
-        × LowerRows (gramAt n (now jc)) m i (now g)))) ⌝ }
+    requires { ⌜ Counts m n × (length (now g) ≡ 2 * (m * m)) × (i + 1 < m)
+        × LowerRows (gramAt n (now jc)) m i (now g) ⌝ }
     ensures { λ _. ⌜ LowerRows (gramAt n (now (jc .entry))) m (i + 2) (now (g .exit)) ⌝ }
 {
     let top = i * n;
@@ -40,8 +42,8 @@ fn gram_rows(m: usize, n: usize, jc: &[f64], g: &mut [f64], i: usize)
 
 // Row i of the products, up to the diagonal.
 fn gram_row(m: usize, n: usize, jc: &[f64], g: &mut [f64], i: usize)
-    requires { ⌜ (m ≤ 24) × ((n ≤ 24) × ((i < m) × ((length (now g) ≡ 2 * (m * m))
-        × LowerRows (gramAt n (now jc)) m i (now g)))) ⌝ }
+    requires { ⌜ Counts m n × (length (now g) ≡ 2 * (m * m)) × (i < m)
+        × LowerRows (gramAt n (now jc)) m i (now g) ⌝ }
     ensures { λ _. ⌜ LowerRows (gramAt n (now (jc .entry))) m (i + 1) (now (g .exit)) ⌝ }
 {
     let top = i * n;
@@ -53,7 +55,7 @@ fn gram_row(m: usize, n: usize, jc: &[f64], g: &mut [f64], i: usize)
 
 // The products of the rows, the lower triangle, which is all that a factor reads.
 fn gram(m: usize, n: usize, jc: &[f64], g: &mut [f64])
-    requires { ⌜ (m ≤ 24) × ((n ≤ 24) × (length (now g) ≡ 2 * (m * m))) ⌝ }
+    requires { ⌜ Counts m n × (length (now g) ≡ 2 * (m * m)) ⌝ }
     ensures { λ _. ⌜ LowerRows (gramAt n (now (jc .entry))) m m (now (g .exit)) ⌝ }
 {
     let half = m / 2;
@@ -87,7 +89,7 @@ fn minus_two(m: usize, n: usize, jc: &[f64], from: &[f64], k: &[f64], out: &mut 
 
 // The values, two at a time.
 fn minus(m: usize, n: usize, jc: &[f64], from: &[f64], k: &[f64], out: &mut [f64])
-    requires { ⌜ (m ≤ 24) × ((n ≤ 24) × (length (now out) ≡ 2 * n)) ⌝ }
+    requires { ⌜ OutputLengths m n (length (now out)) ⌝ }
     ensures { λ _. ⌜ now (out .exit) ≡ minusOf m n (now (jc .entry)) (now (from .entry)) (now (k .entry)) ⌝ }
 {
     let half = n / 2;
@@ -109,8 +111,8 @@ fn gram_factor_sized(
     l: &mut [f64],
     left_out: &mut [bool],
 ) -> Done
-    requires { ⌜ (m ≤ 24) × ((n ≤ 24) × ((length (now g) ≡ 2 * (m * m)) × ((length (now l) ≡ 2 * (m * m))
-        × (length (now «left_out») ≡ m)))) ⌝ }
+    requires { ⌜ Counts m n × (length (now g) ≡ 2 * (m * m))
+        × FactorLengths m (length (now l)) (length (now «left_out»)) ⌝ }
     ensures { λ r. ⌜ replied r (factorOf (now (l .exit)) (now («left_out» .exit)))
         ≡ replyOf (blank m) (gramFactorOf m n (now (jc .entry))) ⌝ }
 {
@@ -130,8 +132,7 @@ fn minus_factored_in(
     out: &mut [f64],
     k: &mut [f64],
 ) -> Done
-    requires { ⌜ (m ≤ 24) × ((n ≤ 24) × ((length (now «left_out») ≡ m) × ((length (now out) ≡ 2 * n)
-        × (length (now k) ≡ 2 * m)))) ⌝ }
+    requires { ⌜ OutputLengths m n (length (now out)) × (length (now «left_out») ≡ m) × (length (now k) ≡ 2 * m) ⌝ }
     ensures { λ r. ⌜ replied r (now (out .exit))
         ≡ replyOf (zeros (2 * n)) (minusFactoredOf m n (now (jc .entry))
         (factorOf (now (l .entry)) (now («left_out» .entry))) (now (rhs .entry)) (now (from .entry))) ⌝ }
@@ -153,8 +154,7 @@ fn minus_factored_with(
     out: &mut [f64],
     k: &mut [f64],
 ) -> Done
-    requires { ⌜ (m ≤ 24) × ((n ≤ 24) × ((length (now «left_out») ≡ m) × ((length (now out) ≡ 2 * n)
-        × (2 * m ≤ length (now k))))) ⌝ }
+    requires { ⌜ OutputLengths m n (length (now out)) × (length (now «left_out») ≡ m) × (2 * m ≤ length (now k)) ⌝ }
     ensures { λ r. ⌜ replied r (now (out .exit))
         ≡ replyOf (zeros (2 * n)) (minusFactoredOf m n (now (jc .entry))
         (factorOf (now (l .entry)) (now («left_out» .entry))) (now (rhs .entry)) (now (from .entry))) ⌝ }
@@ -174,7 +174,7 @@ fn minus_factored_sized(
     from: &[f64],
     out: &mut [f64],
 ) -> Done
-    requires { ⌜ (m ≤ 24) × ((n ≤ 24) × ((length (now «left_out») ≡ m) × (length (now out) ≡ 2 * n))) ⌝ }
+    requires { ⌜ OutputLengths m n (length (now out)) × (length (now «left_out») ≡ m) ⌝ }
     ensures { λ r. ⌜ replied r (now (out .exit))
         ≡ replyOf (zeros (2 * n)) (minusFactoredOf m n (now (jc .entry))
         (factorOf (now (l .entry)) (now («left_out» .entry))) (now (rhs .entry)) (now (from .entry))) ⌝ }
@@ -195,8 +195,8 @@ fn solved_in(
     l: &mut [f64],
     left_out: &mut [bool],
 ) -> Done
-    requires { ⌜ (m ≤ 24) × ((n ≤ 24) × ((length (now out) ≡ 2 * n) × ((length (now g) ≡ 2 * (m * m))
-        × ((length (now l) ≡ 2 * (m * m)) × (length (now «left_out») ≡ m))))) ⌝ }
+    requires { ⌜ OutputLengths m n (length (now out)) × (length (now g) ≡ 2 * (m * m))
+        × FactorLengths m (length (now l)) (length (now «left_out»)) ⌝ }
     ensures { λ r. ⌜ replied r (now (out .exit))
         ≡ replyOf (zeros (2 * n)) (minusSolvedOf m n (now (jc .entry)) (now (rhs .entry)) (now (from .entry))) ⌝ }
 {
@@ -221,8 +221,8 @@ fn solved_cut(
     l: &mut [f64],
     left_out: &mut [bool],
 ) -> Done
-    requires { ⌜ (m ≤ 24) × ((n ≤ 24) × ((length (now out) ≡ 2 * n) × ((2 * (m * m) ≤ length (now g))
-        × ((2 * (m * m) ≤ length (now l)) × (m ≤ length (now «left_out»)))))) ⌝ }
+    requires { ⌜ OutputLengths m n (length (now out)) × (2 * (m * m) ≤ length (now g))
+        × (2 * (m * m) ≤ length (now l)) × (m ≤ length (now «left_out»)) ⌝ }
     ensures { λ r. ⌜ replied r (now (out .exit))
         ≡ replyOf (zeros (2 * n)) (minusSolvedOf m n (now (jc .entry)) (now (rhs .entry)) (now (from .entry))) ⌝ }
 {
@@ -240,9 +240,9 @@ fn solved_cut(
     )
 }
 
-// The same of at most 12 rows, as a run has them, with arrays of its own.
+// The same of at most 12 rows, as a run has them, with arrays of its own, which are a quarter of those for 24.
 fn solved_small(m: usize, n: usize, jc: &[f64], rhs: &[f64], from: &[f64], out: &mut [f64]) -> Done
-    requires { ⌜ (m ≤ 12) × ((n ≤ 24) × (length (now out) ≡ 2 * n)) ⌝ }
+    requires { ⌜ OutputLengths m n (length (now out)) × (m ≤ 12) ⌝ }
     ensures { λ r. ⌜ replied r (now (out .exit))
         ≡ replyOf (zeros (2 * n)) (minusSolvedOf m n (now (jc .entry)) (now (rhs .entry)) (now (from .entry))) ⌝ }
 {
@@ -254,7 +254,7 @@ fn solved_small(m: usize, n: usize, jc: &[f64], rhs: &[f64], from: &[f64], out: 
 
 // The same of at most 24.
 fn solved_large(m: usize, n: usize, jc: &[f64], rhs: &[f64], from: &[f64], out: &mut [f64]) -> Done
-    requires { ⌜ (m ≤ 24) × ((n ≤ 24) × (length (now out) ≡ 2 * n)) ⌝ }
+    requires { ⌜ OutputLengths m n (length (now out)) ⌝ }
     ensures { λ r. ⌜ replied r (now (out .exit))
         ≡ replyOf (zeros (2 * n)) (minusSolvedOf m n (now (jc .entry)) (now (rhs .entry)) (now (from .entry))) ⌝ }
 {
@@ -264,8 +264,9 @@ fn solved_large(m: usize, n: usize, jc: &[f64], rhs: &[f64], from: &[f64], out: 
     solved_cut(m, n, jc, rhs, from, out, &mut g, &mut l, &mut left_out)
 }
 
+// The whole, with arrays of its own; the lengths are checked.
 fn solved_sized(m: usize, n: usize, jc: &[f64], rhs: &[f64], from: &[f64], out: &mut [f64]) -> Done
-    requires { ⌜ (m ≤ 24) × ((n ≤ 24) × (length (now out) ≡ 2 * n)) ⌝ }
+    requires { ⌜ OutputLengths m n (length (now out)) ⌝ }
     ensures { λ r. ⌜ replied r (now (out .exit))
         ≡ replyOf (zeros (2 * n)) (minusSolvedOf m n (now (jc .entry)) (now (rhs .entry)) (now (from .entry))) ⌝ }
 {

@@ -1,10 +1,12 @@
-// Solving through a factor.
+// Solving through a factor: L y = b from the first row on, then Lᵀ x = y from the last. A place that is left out stays
+// +0, and its zero terms are subtracted as in the Rust, where each of them widens the sum by a step.
 ghost use mathlib.Core.Path.{_≡_};
 ghost use Prim.Native.Nat.{_*_, _<_, _≤_};
 ghost use lib.ListN.{length};
 ghost use Rattle.linear.specs.Answers.{doneOf};
 ghost use Rattle.linear.specs.Calls.{solveReply};
 ghost use Rattle.linear.specs.Flat.{zeros};
+ghost use Rattle.linear.specs.Lengths.{OutputLengths};
 ghost use Rattle.linear.specs.Replies.{replied, replyOf};
 ghost use Rattle.linear.specs.Results.{foldR};
 ghost use Rattle.linear.specs.Substitution.{forwardStep, backStep, solveOf};
@@ -18,7 +20,8 @@ use crate::store::store;
 // y[i], from those before it.
 fn forward_row(n: usize, l: &[f64], left_out: &[bool], b: &[f64], y: &mut [f64], i: usize) -> Done
     requires { ⌜ (i < n) × ((n ≤ 24) × (length (now «left_out») ≡ n)) ⌝ }
-    ensures { λ r. ⌜ doneOf r (now (y .exit)) ≡ forwardStep n (now (l .entry)) (now («left_out» .entry)) (now (b .entry)) (now (y .entry)) i ⌝ }
+    ensures { λ r. ⌜ doneOf r (now (y .exit))
+        ≡ forwardStep n (now (l .entry)) (now («left_out» .entry)) (now (b .entry)) (now (y .entry)) i ⌝ }
 {
     if left_out[i] {
         return Done::Finished;
@@ -28,9 +31,11 @@ fn forward_row(n: usize, l: &[f64], left_out: &[bool], b: &[f64], y: &mut [f64],
     store(y, i, s.div(at(l, row + i)))
 }
 
+// L y = b.
 fn forward(n: usize, l: &[f64], left_out: &[bool], b: &[f64], y: &mut [f64]) -> Done
     requires { ⌜ (n ≤ 24) × (length (now «left_out») ≡ n) ⌝ }
-    ensures { λ r. ⌜ doneOf r (now (y .exit)) ≡ foldR (forwardStep n (now (l .entry)) (now («left_out» .entry)) (now (b .entry))) (now (y .entry)) n ⌝ }
+    ensures { λ r. ⌜ doneOf r (now (y .exit))
+        ≡ foldR (forwardStep n (now (l .entry)) (now («left_out» .entry)) (now (b .entry))) (now (y .entry)) n ⌝ }
 {
     for i in 0..n {
         match forward_row(n, l, left_out, b, y, i) {
@@ -46,7 +51,8 @@ fn forward(n: usize, l: &[f64], left_out: &[bool], b: &[f64], y: &mut [f64]) -> 
 // x[i] for i = n - 1 - t, from those behind it.
 fn back_row(n: usize, l: &[f64], left_out: &[bool], y: &[f64], x: &mut [f64], t: usize) -> Done
     requires { ⌜ (t < n) × ((n ≤ 24) × (length (now «left_out») ≡ n)) ⌝ }
-    ensures { λ r. ⌜ doneOf r (now (x .exit)) ≡ backStep n (now (l .entry)) (now («left_out» .entry)) (now (y .entry)) (now (x .entry)) t ⌝ }
+    ensures { λ r. ⌜ doneOf r (now (x .exit))
+        ≡ backStep n (now (l .entry)) (now («left_out» .entry)) (now (y .entry)) (now (x .entry)) t ⌝ }
 {
     let i = n - 1 - t;
     if left_out[i] {
@@ -56,9 +62,11 @@ fn back_row(n: usize, l: &[f64], left_out: &[bool], y: &[f64], x: &mut [f64], t:
     store(x, i, s.div(at(l, i * n + i)))
 }
 
+// Lᵀ x = y.
 fn back(n: usize, l: &[f64], left_out: &[bool], y: &[f64], x: &mut [f64]) -> Done
     requires { ⌜ (n ≤ 24) × (length (now «left_out») ≡ n) ⌝ }
-    ensures { λ r. ⌜ doneOf r (now (x .exit)) ≡ foldR (backStep n (now (l .entry)) (now («left_out» .entry)) (now (y .entry))) (now (x .entry)) n ⌝ }
+    ensures { λ r. ⌜ doneOf r (now (x .exit))
+        ≡ foldR (backStep n (now (l .entry)) (now («left_out» .entry)) (now (y .entry))) (now (x .entry)) n ⌝ }
 {
     for t in 0..n {
         match back_row(n, l, left_out, y, x, t) {
@@ -73,8 +81,9 @@ fn back(n: usize, l: &[f64], left_out: &[bool], y: &[f64], x: &mut [f64]) -> Don
 
 // Both substitutions, from clear slices.
 fn solve_in(n: usize, l: &[f64], left_out: &[bool], b: &[f64], x: &mut [f64], y: &mut [f64]) -> Done
-    requires { ⌜ (n ≤ 24) × ((length (now «left_out») ≡ n) × ((length (now x) ≡ 2 * n) × (length (now y) ≡ 2 * n))) ⌝ }
-    ensures { λ r. ⌜ replied r (now (x .exit)) ≡ replyOf (zeros (2 * n)) (solveOf n (now (l .entry)) (now («left_out» .entry)) (now (b .entry))) ⌝ }
+    requires { ⌜ OutputLengths n n (length (now x)) × (length (now «left_out») ≡ n) × (length (now y) ≡ 2 * n) ⌝ }
+    ensures { λ r. ⌜ replied r (now (x .exit))
+        ≡ replyOf (zeros (2 * n)) (solveOf n (now (l .entry)) (now («left_out» .entry)) (now (b .entry))) ⌝ }
 {
     clear(x);
     clear(y);
@@ -86,7 +95,8 @@ fn solve_in(n: usize, l: &[f64], left_out: &[bool], b: &[f64], x: &mut [f64], y:
 
 // Clears the output of a step that was refused.
 pub fn cleared(d: Done, x: &mut [f64]) -> Done
-    ensures { λ r. ⌜ replied r (now (x .exit)) ≡ replyOf (zeros (length (now (x .entry)))) (doneOf d (now (x .entry))) ⌝ }
+    ensures { λ r. ⌜ replied r (now (x .exit))
+        ≡ replyOf (zeros (length (now (x .entry)))) (doneOf d (now (x .entry))) ⌝ }
 {
     match d {
         Done::Finished => Done::Finished,
@@ -99,8 +109,9 @@ pub fn cleared(d: Done, x: &mut [f64]) -> Done
 
 // The same with an array of its own; the lengths are checked.
 pub fn solve_sized(n: usize, l: &[f64], left_out: &[bool], b: &[f64], x: &mut [f64]) -> Done
-    requires { ⌜ (n ≤ 24) × ((length (now «left_out») ≡ n) × (length (now x) ≡ 2 * n)) ⌝ }
-    ensures { λ r. ⌜ replied r (now (x .exit)) ≡ replyOf (zeros (2 * n)) (solveOf n (now (l .entry)) (now («left_out» .entry)) (now (b .entry))) ⌝ }
+    requires { ⌜ OutputLengths n n (length (now x)) × (length (now «left_out») ≡ n) ⌝ }
+    ensures { λ r. ⌜ replied r (now (x .exit))
+        ≡ replyOf (zeros (2 * n)) (solveOf n (now (l .entry)) (now («left_out» .entry)) (now (b .entry))) ⌝ }
 {
     let mut y = [0.0; 48];
     solve_with(n, l, left_out, b, x, &mut y)
@@ -115,8 +126,9 @@ fn solve_with(
     x: &mut [f64],
     y: &mut [f64],
 ) -> Done
-    requires { ⌜ (n ≤ 24) × ((length (now «left_out») ≡ n) × ((length (now x) ≡ 2 * n) × (2 * n ≤ length (now y)))) ⌝ }
-    ensures { λ r. ⌜ replied r (now (x .exit)) ≡ replyOf (zeros (2 * n)) (solveOf n (now (l .entry)) (now («left_out» .entry)) (now (b .entry))) ⌝ }
+    requires { ⌜ OutputLengths n n (length (now x)) × (length (now «left_out») ≡ n) × (2 * n ≤ length (now y)) ⌝ }
+    ensures { λ r. ⌜ replied r (now (x .exit))
+        ≡ replyOf (zeros (2 * n)) (solveOf n (now (l .entry)) (now («left_out» .entry)) (now (b .entry))) ⌝ }
 {
     let m = 2 * n;
     solve_in(n, l, left_out, b, x, &mut y[..m])
@@ -124,7 +136,8 @@ fn solve_with(
 
 // x with L Lᵀ x = b for the factor of `cholesky`; a place that is left out is +0.
 pub fn solve_cholesky(n: usize, l: &[f64], left_out: &[bool], b: &[f64], x: &mut [f64]) -> Done
-    ensures { λ r. ⌜ replied r (now (x .exit)) ≡ solveReply n (now (l .entry)) (now («left_out» .entry)) (now (b .entry)) (now (x .entry)) ⌝ }
+    ensures { λ r. ⌜ replied r (now (x .exit))
+        ≡ solveReply n (now (l .entry)) (now («left_out» .entry)) (now (b .entry)) (now (x .entry)) ⌝ }
 {
     if n > 24 {
         return Done::Refused(LinearError::TooMany);

@@ -15,11 +15,11 @@ is-row-inside-requires-3 c κs = search needs
 
 returns : tie.Need-returns
 returns c =
-    λ e. (
-      c .before .before .before .before .is-row-inside .ensures (c .before .before .before .if1 .taken),
-      c .before .before .is-row-inside2 .ensures (c .before .if2 .taken),
-      c .is-row-inside3 .ensures e,
-    )
+    λ e. record {
+      first = c .before .before .before .before .is-row-inside .ensures (c .before .before .before .if1 .taken);
+      second = c .before .before .is-row-inside2 .ensures (c .before .if2 .taken);
+      row = c .is-row-inside3 .ensures e;
+    }
 
 returns-2 : tie.Need-returns-2
 returns-2 c = λ e. absurd (false≢true e)

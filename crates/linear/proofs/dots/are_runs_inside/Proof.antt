@@ -13,7 +13,7 @@ is-row-inside-requires c κs = search needs
 returns : tie.Need-returns
 returns c =
     λ e. let i = c .before .before .both-inside .ensures (c .before .if1 .taken) in
-    (i .0, i .1, c .is-row-inside .ensures e)
+    record { first = i .first; second = i .second; row = c .is-row-inside .ensures e }
 
 returns-2 : tie.Need-returns-2
 returns-2 c = λ e. absurd (false≢true e)

@@ -18,12 +18,13 @@ is-proper-requires c κs = search needs
 
 returns : tie.Need-returns
 returns c = λ e.
-    let places = c .before .before .before .both-inside .ensures (c .before .before .if1 .taken) in (
-      places .0,
-      places .1,
-      yes {b = isProper (boundsOf (c .before .before .before .before .args .z))}
-          (sym (ap isProper (c .before .bounds-of .ensures)) ∙ sym (c .is-proper .ensures) ∙ e),
-    )
+    let places = c .before .before .before .both-inside .ensures (c .before .before .if1 .taken) in
+    record {
+      first = places .first;
+      second = places .second;
+      start = yes {b = isProper (boundsOf (c .before .before .before .before .args .z))}
+          (sym (ap isProper (c .before .bounds-of .ensures)) ∙ sym (c .is-proper .ensures) ∙ e);
+    }
 
 returns-2 : tie.Need-returns-2
 returns-2 c = λ e. absurd (false≢true e)

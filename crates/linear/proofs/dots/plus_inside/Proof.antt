@@ -26,8 +26,13 @@ bounds-of-requires : tie.Need-bounds-of-requires Inv-loop μ-loop
 bounds-of-requires c κs = search needs
 
 plus-points-inside-requires : tie.Need-plus-points-inside-requires Inv-loop μ-loop
-plus-points-inside-requires c κs = let k = c .before .before .before in
-    (k .pre .0, k .pre .1, proper-bounds (k .args .z) (c .bounds-of .ensures) (k .pre .2) .proper)
+plus-points-inside-requires c κs =
+    let k = c .before .before .before in
+    record {
+      first = k .pre .first;
+      second = k .pre .second;
+      start = proper-bounds (k .args .z) (c .bounds-of .ensures) (k .pre .start) .proper;
+    }
 
 loop-holds : tie.Need-loop-holds Inv-loop μ-loop
 loop-holds c = (points-within _ _ _ (c .before .plus-points-inside .ensures .0), λ z h. h)
@@ -35,35 +40,35 @@ loop-holds c = (points-within _ _ _ (c .before .plus-points-inside .ensures .0),
 mul-at-inside : tie.Need-mul-at-inside Inv-loop μ-loop
 mul-at-inside c = omega (
   arith,
-  c .before .before .before .before .before .before .before .pre .0 (c .before .loop .t) (c .loop-test .taken),
+  c .before .before .before .before .before .before .before .pre .first (c .before .loop .t) (c .loop-test .taken),
 )
 
 add-at-inside : tie.Need-add-at-inside Inv-loop μ-loop
 add-at-inside c = omega (
   arith,
-  c .before .before .before .before .before .before .before .pre .0 (c .before .loop .t) (c .loop-test .taken),
+  c .before .before .before .before .before .before .before .pre .first (c .before .loop .t) (c .loop-test .taken),
 )
 
 at-inside-requires : tie.Need-at-inside-requires Inv-loop μ-loop
 at-inside-requires c κs =
-    c .before .before .before .before .before .before .before .pre .0 (c .before .loop .t) (c .loop-test .taken)
+    c .before .before .before .before .before .before .before .pre .first (c .before .loop .t) (c .loop-test .taken)
 
 mul-at-inside-2 : tie.Need-mul-at-inside-2 Inv-loop μ-loop
 mul-at-inside-2 c = omega (
   arith,
-  c .before .before .before .before .before .before .before .before .pre .1 (c .before .before .loop .t)
+  c .before .before .before .before .before .before .before .before .pre .second (c .before .before .loop .t)
       (c .before .loop-test .taken),
 )
 
 add-at-inside-2 : tie.Need-add-at-inside-2 Inv-loop μ-loop
 add-at-inside-2 c = omega (
   arith,
-  c .before .before .before .before .before .before .before .before .pre .1 (c .before .before .loop .t)
+  c .before .before .before .before .before .before .before .before .pre .second (c .before .before .loop .t)
       (c .before .loop-test .taken),
 )
 
 at-inside-requires-2 : tie.Need-at-inside-requires-2 Inv-loop μ-loop
-at-inside-requires-2 c κs = c .before .before .before .before .before .before .before .before .pre .1
+at-inside-requires-2 c κs = c .before .before .before .before .before .before .before .before .pre .second
     (c .before .before .loop .t) (c .before .loop-test .taken)
 
 plus-product-requires : tie.Need-plus-product-requires Inv-loop μ-loop

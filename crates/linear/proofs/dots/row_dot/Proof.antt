@@ -12,10 +12,11 @@ is-row-inside-requires-2 : tie.Need-is-row-inside-requires-2
 is-row-inside-requires-2 c κs = search needs
 
 row-inside-requires : tie.Need-row-inside-requires
-row-inside-requires c κs = (
-  c .before .before .before .is-row-inside .ensures (c .before .before .if1 .taken),
-  c .before .is-row-inside2 .ensures (c .if2 .taken),
-)
+row-inside-requires c κs =
+    record {
+      first = c .before .before .before .is-row-inside .ensures (c .before .before .if1 .taken);
+      second = c .before .is-row-inside2 .ensures (c .if2 .taken);
+    }
 
 returns : tie.Need-returns
 returns c = c .row-inside .ensures

@@ -18,24 +18,24 @@ abbrev μ-loop : tie.MeasureT-loop
 μ-loop a a0 b b0 k sum₀ done t₀ sum t = k - t
 
 row-points-inside-requires : tie.Need-row-points-inside-requires Inv-loop μ-loop
-row-points-inside-requires c κs = (c .before .before .pre .0, c .before .before .pre .1)
+row-points-inside-requires c κs = c .before .before .pre
 
 loop-holds : tie.Need-loop-holds Inv-loop μ-loop
 loop-holds c = (c .before .row-points-inside .ensures .0, λ z h. h)
 
 add-at-inside : tie.Need-add-at-inside Inv-loop μ-loop
 add-at-inside c =
-    omega (arith, c .before .before .before .before .before .before .pre .0 (c .before .loop .t) (c .loop-test .taken))
+    omega (arith, c .before .before .before .before .before .before .pre .first (c .before .loop .t) (c .loop-test .taken))
 
 at-inside-requires : tie.Need-at-inside-requires Inv-loop μ-loop
 at-inside-requires c κs =
-    omega (arith, c .before .before .before .before .before .before .pre .0 (c .before .loop .t) (c .loop-test .taken))
+    omega (arith, c .before .before .before .before .before .before .pre .first (c .before .loop .t) (c .loop-test .taken))
 
 add-at-inside-2 : tie.Need-add-at-inside-2 Inv-loop μ-loop
 add-at-inside-2 c =
     omega (
       arith,
-      c .before .before .before .before .before .before .before .pre .1 (c .before .before .loop .t)
+      c .before .before .before .before .before .before .before .pre .second (c .before .before .loop .t)
           (c .before .loop-test .taken),
     )
 
@@ -43,7 +43,7 @@ at-inside-requires-2 : tie.Need-at-inside-requires-2 Inv-loop μ-loop
 at-inside-requires-2 c κs =
     omega (
       arith,
-      c .before .before .before .before .before .before .before .pre .1 (c .before .before .loop .t)
+      c .before .before .before .before .before .before .before .pre .second (c .before .before .loop .t)
           (c .before .loop-test .taken),
     )
 

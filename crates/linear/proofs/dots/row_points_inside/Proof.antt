@@ -30,17 +30,17 @@ loop-holds c = (search needs, zero-bounds (c .bounds-of .ensures))
 
 add-at-inside : tie.Need-add-at-inside Inv-loop μ-loop
 add-at-inside c =
-    omega (arith, c .before .before .before .before .before .pre .0 (c .before .loop .t) (c .loop-test .taken))
+    omega (arith, c .before .before .before .before .before .pre .first (c .before .loop .t) (c .loop-test .taken))
 
 at-inside-requires : tie.Need-at-inside-requires Inv-loop μ-loop
 at-inside-requires c κs =
-    omega (arith, c .before .before .before .before .before .pre .0 (c .before .loop .t) (c .loop-test .taken))
+    omega (arith, c .before .before .before .before .before .pre .first (c .before .loop .t) (c .loop-test .taken))
 
 add-at-inside-2 : tie.Need-add-at-inside-2 Inv-loop μ-loop
 add-at-inside-2 c =
     omega (
       arith,
-      c .before .before .before .before .before .before .pre .1 (c .before .before .loop .t)
+      c .before .before .before .before .before .before .pre .second (c .before .before .loop .t)
           (c .before .loop-test .taken),
     )
 
@@ -48,7 +48,7 @@ at-inside-requires-2 : tie.Need-at-inside-requires-2 Inv-loop μ-loop
 at-inside-requires-2 c κs =
     omega (
       arith,
-      c .before .before .before .before .before .before .pre .1 (c .before .before .loop .t)
+      c .before .before .before .before .before .before .pre .second (c .before .before .loop .t)
           (c .before .loop-test .taken),
     )
 

@@ -25,25 +25,25 @@ bounds-of-requires c κs = search needs
 loop-holds : tie.Need-loop-holds Inv-loop μ-loop
 unfolding minusTo
 loop-holds c =
-    (search needs, proper-bounds (c .before .before .args .z) (c .bounds-of .ensures) (c .before .before .pre .2))
+    (search needs, proper-bounds (c .before .before .args .z) (c .bounds-of .ensures) (c .before .before .pre .start))
 
 add-at-inside : tie.Need-add-at-inside Inv-loop μ-loop
-add-at-inside c = omega (arith, c .before .before .before .before .pre .0 (c .before .loop .t) (c .loop-test .taken))
+add-at-inside c = omega (arith, c .before .before .before .before .pre .first (c .before .loop .t) (c .loop-test .taken))
 
 at-inside-requires : tie.Need-at-inside-requires Inv-loop μ-loop
 at-inside-requires c κs =
-    omega (arith, c .before .before .before .before .pre .0 (c .before .loop .t) (c .loop-test .taken))
+    omega (arith, c .before .before .before .before .pre .first (c .before .loop .t) (c .loop-test .taken))
 
 add-at-inside-2 : tie.Need-add-at-inside-2 Inv-loop μ-loop
 add-at-inside-2 c = omega (
   arith,
-  c .before .before .before .before .before .pre .1 (c .before .before .loop .t) (c .before .loop-test .taken),
+  c .before .before .before .before .before .pre .second (c .before .before .loop .t) (c .before .loop-test .taken),
 )
 
 at-inside-requires-2 : tie.Need-at-inside-requires-2 Inv-loop μ-loop
 at-inside-requires-2 c κs = omega (
   arith,
-  c .before .before .before .before .before .pre .1 (c .before .before .loop .t) (c .before .loop-test .taken),
+  c .before .before .before .before .before .pre .second (c .before .before .loop .t) (c .before .loop-test .taken),
 )
 
 minus-fresh-requires : tie.Need-minus-fresh-requires Inv-loop μ-loop

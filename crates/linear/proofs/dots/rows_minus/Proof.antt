@@ -12,11 +12,13 @@ is-proper-requires : tie.Need-is-proper-requires
 is-proper-requires c κs = search needs
 
 rows-inside-requires : tie.Need-rows-inside-requires
-rows-inside-requires c κs = (
-  c .before .before .before .before .pre .0,
-  c .before .before .before .before .pre .1,
-  yes (sym (rw (c .before .before .bounds-of .ensures, c .if1 .taken) at (c .before .is-proper .ensures))),
-)
+rows-inside-requires c κs =
+    let p = c .before .before .before .before .pre in
+    record {
+      first = p .first;
+      second = p .second;
+      start = yes (sym (rw (c .before .before .bounds-of .ensures, c .if1 .taken) at (c .before .is-proper .ensures)));
+    }
 
 returns : tie.Need-returns
 returns c = c .rows-inside .ensures

@@ -27,7 +27,7 @@ add-at-inside : tie.Need-add-at-inside Inv-loop μ-loop
 add-at-inside c =
     omega (
       arith,
-      c .before .before .before .before .before .before .before .pre .2 (c .before .loop .t)
+      c .before .before .before .before .before .before .before .pre .row (c .before .loop .t)
           (c .loop-test .taken),
     )
 
@@ -35,7 +35,7 @@ at-inside-requires : tie.Need-at-inside-requires Inv-loop μ-loop
 at-inside-requires c κs =
     omega (
       arith,
-      c .before .before .before .before .before .before .before .pre .2 (c .before .loop .t)
+      c .before .before .before .before .before .before .before .pre .row (c .before .loop .t)
           (c .loop-test .taken),
     )
 
@@ -43,7 +43,7 @@ mul-at-inside : tie.Need-mul-at-inside Inv-loop μ-loop
 mul-at-inside c =
     omega (
       arith,
-      c .before .before .before .before .before .before .before .before .pre .0 (c .before .before .loop .t)
+      c .before .before .before .before .before .before .before .before .pre .first (c .before .before .loop .t)
           (c .before .loop-test .taken),
     )
 
@@ -51,13 +51,13 @@ add-at-inside-2 : tie.Need-add-at-inside-2 Inv-loop μ-loop
 add-at-inside-2 c =
     omega (
       arith,
-      c .before .before .before .before .before .before .before .before .pre .0 (c .before .before .loop .t)
+      c .before .before .before .before .before .before .before .before .pre .first (c .before .before .loop .t)
           (c .before .loop-test .taken),
     )
 
 at-inside-requires-2 : tie.Need-at-inside-requires-2 Inv-loop μ-loop
 at-inside-requires-2 c κs =
-    c .before .before .before .before .before .before .before .before .pre .0 (c .before .before .loop .t)
+    c .before .before .before .before .before .before .before .before .pre .first (c .before .before .loop .t)
     (c .before .loop-test .taken)
 
 plus-product-requires : tie.Need-plus-product-requires Inv-loop μ-loop
@@ -69,7 +69,7 @@ mul-at-inside-2 : tie.Need-mul-at-inside-2 Inv-loop μ-loop
 mul-at-inside-2 c =
     omega (
       arith,
-      c .before .before .before .before .before .before .before .before .before .before .pre .1
+      c .before .before .before .before .before .before .before .before .before .before .pre .second
           (c .before .before .before .before .loop .t) (c .before .before .before .loop-test .taken),
     )
 
@@ -77,13 +77,13 @@ add-at-inside-3 : tie.Need-add-at-inside-3 Inv-loop μ-loop
 add-at-inside-3 c =
     omega (
       arith,
-      c .before .before .before .before .before .before .before .before .before .before .pre .1
+      c .before .before .before .before .before .before .before .before .before .before .pre .second
           (c .before .before .before .before .loop .t) (c .before .before .before .loop-test .taken),
     )
 
 at-inside-requires-3 : tie.Need-at-inside-requires-3 Inv-loop μ-loop
 at-inside-requires-3 c κs =
-    c .before .before .before .before .before .before .before .before .before .before .pre .1
+    c .before .before .before .before .before .before .before .before .before .before .pre .second
     (c .before .before .before .before .loop .t) (c .before .before .before .loop-test .taken)
 
 plus-product-requires-2 : tie.Need-plus-product-requires-2 Inv-loop μ-loop

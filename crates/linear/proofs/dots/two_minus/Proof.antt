@@ -49,13 +49,14 @@ two-inside-requires c κs =
     (sym (c .before .before .before .before .before .is-proper .ensures)
     ∙ c .before .before .before .before .if2 .taken) in
     let q = yes (sym (c .before .before .before .is-proper2 .ensures) ∙ c .before .before .if3 .taken) in
-    let a = k .before .before .before .before .before .before .before .args in (
-      anew-inside (a .a .now) (a .a0) (a .sa) (a .k) (i .0),
-      anew-inside (a .a .now) (a .a1) (a .sa) (a .k) (i .1),
-      anew-inside (a .b .now) (a .b0) 1 (a .k) (i .2),
-      p,
-      q,
-    )
+    let a = k .before .before .before .before .before .before .before .args in
+    record {
+      first = anew-inside (a .a .now) (a .a0) (a .sa) (a .k) (i .first);
+      second = anew-inside (a .a .now) (a .a1) (a .sa) (a .k) (i .second);
+      row = anew-inside (a .b .now) (a .b0) 1 (a .k) (i .row);
+      first-start = p;
+      second-start = q;
+    }
 
 neg-requires-3 : tie.Need-neg-requires-3
 neg-requires-3 c κs = search needs

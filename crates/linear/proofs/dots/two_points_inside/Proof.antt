@@ -25,25 +25,25 @@ loop-holds : tie.Need-loop-holds Inv-loop μ-loop
 unfolding plusTo
 loop-holds c = (
   search needs,
-  start-bounds (c .before .before .args .y) (c .before .before .pre .3),
+  start-bounds (c .before .before .args .y) (c .before .before .pre .first-start),
   start-bounds
-      (c .before .before .args .z) (c .before .before .pre .4),
+      (c .before .before .args .z) (c .before .before .pre .second-start),
 )
 
 mul-at-inside : tie.Need-mul-at-inside Inv-loop μ-loop
-mul-at-inside c = omega (arith, c .before .before .before .before .pre .0 (c .before .loop .t) (c .loop-test .taken))
+mul-at-inside c = omega (arith, c .before .before .before .before .pre .first (c .before .loop .t) (c .loop-test .taken))
 
 add-at-inside : tie.Need-add-at-inside Inv-loop μ-loop
-add-at-inside c = omega (arith, c .before .before .before .before .pre .0 (c .before .loop .t) (c .loop-test .taken))
+add-at-inside c = omega (arith, c .before .before .before .before .pre .first (c .before .loop .t) (c .loop-test .taken))
 
 at-inside-requires : tie.Need-at-inside-requires Inv-loop μ-loop
-at-inside-requires c κs = c .before .before .before .before .pre .0 (c .before .loop .t) (c .loop-test .taken)
+at-inside-requires c κs = c .before .before .before .before .pre .first (c .before .loop .t) (c .loop-test .taken)
 
 mul-at-inside-2 : tie.Need-mul-at-inside-2 Inv-loop μ-loop
 mul-at-inside-2 c =
     omega (
       arith,
-      c .before .before .before .before .before .pre .1 (c .before .before .loop .t)
+      c .before .before .before .before .before .pre .second (c .before .before .loop .t)
           (c .before .loop-test .taken),
     )
 
@@ -51,19 +51,19 @@ add-at-inside-2 : tie.Need-add-at-inside-2 Inv-loop μ-loop
 add-at-inside-2 c =
     omega (
       arith,
-      c .before .before .before .before .before .pre .1 (c .before .before .loop .t)
+      c .before .before .before .before .before .pre .second (c .before .before .loop .t)
           (c .before .loop-test .taken),
     )
 
 at-inside-requires-2 : tie.Need-at-inside-requires-2 Inv-loop μ-loop
 at-inside-requires-2 c κs =
-    c .before .before .before .before .before .pre .1 (c .before .before .loop .t) (c .before .loop-test .taken)
+    c .before .before .before .before .before .pre .second (c .before .before .loop .t) (c .before .loop-test .taken)
 
 add-at-inside-3 : tie.Need-add-at-inside-3 Inv-loop μ-loop
 add-at-inside-3 c =
     omega (
       arith,
-      c .before .before .before .before .before .before .pre .2 (c .before .before .before .loop .t)
+      c .before .before .before .before .before .before .pre .row (c .before .before .before .loop .t)
           (c .before .before .loop-test .taken),
     )
 
@@ -71,7 +71,7 @@ at-inside-requires-3 : tie.Need-at-inside-requires-3 Inv-loop μ-loop
 at-inside-requires-3 c κs =
     omega (
       arith,
-      c .before .before .before .before .before .before .pre .2 (c .before .before .before .loop .t)
+      c .before .before .before .before .before .before .pre .row (c .before .before .before .loop .t)
           (c .before .before .loop-test .taken),
     )
 

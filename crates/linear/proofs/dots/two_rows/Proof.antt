@@ -23,14 +23,14 @@ unfolding ofBits
 two-inside-requires c κs =
     let i = c .before .before .before .before .are-rows-inside .ensures (c .before .before .before .if1 .taken) in
     let p = zero-bounds (c .before .before .bounds-of .ensures) .proper in
-    let a = c .before .before .before .before .before .before .before .args in (
-      anew-inside (a .a .now) (a .a0) 1 (a .k) (i .0),
-      anew-inside (a .a .now) (a .a1) 1 (a .k) (i .1),
-      anew-inside
-          (a .b .now) (a .b0) 1 (a .k) (i .2),
-      p,
-      p,
-    )
+    let a = c .before .before .before .before .before .before .before .args in
+    record {
+      first = anew-inside (a .a .now) (a .a0) 1 (a .k) (i .first);
+      second = anew-inside (a .a .now) (a .a1) 1 (a .k) (i .second);
+      row = anew-inside (a .b .now) (a .b0) 1 (a .k) (i .row);
+      first-start = p;
+      second-start = p;
+    }
 
 returns : tie.Need-returns
 unfolding ofBits

@@ -34,10 +34,11 @@ at-requires c κs = search needs
 
 rows-minus-requires : tie.Need-rows-minus-requires
 rows-minus-requires c κs =
-    let p = c .before .before .before .before .before .before .before .pre in (
-      row-inside (p .0) (omega (arith, p)) (p .1 .1 .1 .1),
-      row-inside (omega (arith, p)) (omega (arith, p)) (p .1 .1 .1 .1),
-    )
+    let p = c .before .before .before .before .before .before .before .pre in
+    record {
+      first = row-inside (p .0) (omega (arith, p)) (p .2 .entries);
+      second = row-inside (omega (arith, p)) (omega (arith, p)) (p .2 .entries);
+    }
 
 add-store : tie.Need-add-store
 add-store c = omega (arith, row (c .before .before .before .before .before .before .before .before .before))

@@ -42,8 +42,8 @@ returns c =
     let u = f .before .before .before .before .before in
     let k = u .before .before .before .before in
     let s = k .before .before .before .before .before in
-    let l = rw (s .pre .1 .0) at (k .clear .ensures) in
-    let left = rw (s .pre .1 .1) at (u .unmark .ensures) in
+    let l = rw (s .pre .entries) at (k .clear .ensures) in
+    let left = rw (s .pre .marks) at (u .unmark .ensures) in
     let e = rw (c .enum-told .given .1, l, left) at (f .factor-rows .ensures)
     ∙ rows-are-entries (s .args .n) (s .args .a .now) in
     rw (← e)
@@ -61,8 +61,8 @@ returns-2 c =
     let u = f .before .before .before .before .before in
     let k = u .before .before .before .before in
     let s = k .before .before .before .before .before in
-    let l = rw (s .pre .1 .0) at (k .clear .ensures) in
-    let left = rw (s .pre .1 .1) at (u .unmark .ensures) in
+    let l = rw (s .pre .entries) at (k .clear .ensures) in
+    let left = rw (s .pre .marks) at (u .unmark .ensures) in
     let e = rw (c .before .before .before .before .before .before .before .before .before .e .given .1, l, left) at
     (f .factor-rows .ensures) ∙ rows-are-entries (s .args .n) (s .args .a .now) in
     let size : length (f .factor-rows .last .1 .1 .0) ≡ 2 * (s .args .n * s .args .n) =

@@ -22,7 +22,10 @@ at-requires c κs = search needs
 rows-minus-requires : tie.Need-rows-minus-requires
 rows-minus-requires c κs =
     let p = c .before .before .before .before .before .pre in
-    (row-inside (p .0) (omega (arith, p)) (p .1 .1 .1), row-inside (p .0) (omega (arith, p)) (p .1 .1 .1))
+    record {
+      first = row-inside (p .0) (omega (arith, p)) (p .1 .entries);
+      second = row-inside (p .0) (omega (arith, p)) (p .1 .entries);
+    }
 
 pivot-of-requires : tie.Need-pivot-of-requires
 pivot-of-requires c κs = search needs

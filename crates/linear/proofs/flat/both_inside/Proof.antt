@@ -11,7 +11,11 @@ is-inside-requires-2 : tie.Need-is-inside-requires-2
 is-inside-requires-2 c κs = search needs
 
 returns : tie.Need-returns
-returns c = λ e. (c .before .before .is-inside .ensures (c .before .if1 .taken), c .is-inside2 .ensures e)
+returns c =
+    λ e. record {
+      first = c .before .before .is-inside .ensures (c .before .if1 .taken);
+      second = c .is-inside2 .ensures e;
+    }
 
 returns-2 : tie.Need-returns-2
 returns-2 c = λ e. absurd (false≢true e)

@@ -10,7 +10,7 @@ use Rattle.linear.proofs.householder.column_entry.Tie as tie
 
 -- the row's place
 row : (s : tie.Start) → s .args .p % s .args .m * s .args .r ≤ 576
-row s = product-small (omega (arith, mod-lt (s .args .p) (s .pre .0))) (omega arith)
+row s = product-small (omega (arith, mod-lt (s .args .p) (s .pre .1))) (omega arith)
 
 div-t : tie.Need-div-t
 div-t c = search needs

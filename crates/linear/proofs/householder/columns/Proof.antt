@@ -24,15 +24,16 @@ add-n : tie.Need-add-n Inv-loop μ-loop
 add-n c = search needs
 
 mul-n : tie.Need-mul-n Inv-loop μ-loop
-mul-n c = let s = c .before .before .before in omega (arith, columns-small (s .pre .1 .0) (s .pre .0))
+mul-n c = let s = c .before .before .before in omega (arith, columns-small (s .pre .0 .columns) (s .pre .0 .rows))
 
 loop-holds : tie.Need-loop-holds Inv-loop μ-loop
 loop-holds c = (search needs, search needs, sym (listTo-none _ _))
 
 column-entry-requires : tie.Need-column-entry-requires Inv-loop μ-loop
 column-entry-requires c κs = let s = c .before .before .before .before .before .before in (
+  s .pre .0,
   rows-positive (s .args .r + 1) (s .args .m) (c .before .loop-test .taken),
-  (s .pre .0, (s .pre .1 .0, omega (arith, columns-small (s .pre .1 .0) (s .pre .0)))),
+  omega (arith, columns-small (s .pre .0 .columns) (s .pre .0 .rows)),
 )
 
 put-requires : tie.Need-put-requires Inv-loop μ-loop
@@ -40,7 +41,7 @@ put-requires c κs = search needs
 
 add-p : tie.Need-add-p Inv-loop μ-loop
 add-p c = let s = c .before .before .before .before .before .before .before .before .before .before in
-    omega (arith, columns-small (s .pre .1 .0) (s .pre .0))
+    omega (arith, columns-small (s .pre .0 .columns) (s .pre .0 .rows))
 
 loop-less : tie.Need-loop-less Inv-loop μ-loop
 loop-less c = search needs
@@ -67,7 +68,7 @@ returns c =
     let a = s .args in
     let e = rw (le-antisymm (c .before .loop .inv .0) (c .loop-test .left)) at (c .before .loop .inv .2) in
     e ∙ listTo-all (columnEntry (a .m) (a .r) (a .rows .now) (a .rhs .now)) ((a .r + 1) * a .m) (a .cols .now)
-    (s .pre .1 .1)
+    (s .pre .1)
 
 pub columns-spec : {M : Type 1} → statement M
 columns-spec =

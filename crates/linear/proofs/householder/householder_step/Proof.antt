@@ -19,22 +19,8 @@ enum-known-length c = search needs
 reflect-with-requires : tie.Need-reflect-with-requires
 reflect-with-requires c κs =
     let p = c .before .before .before .before .before .before .before .before .before .before .before .before .before
-    .before .before .before .pre in (
-      p .0,
-      (
-        p .1 .0,
-        (
-          p .1 .1 .0,
-          (
-            p .1 .1 .1 .0,
-            (
-              p .1 .1 .1 .1 .0,
-              c .before .before .before .before .before .before .before .before .before .before .tail .ensures,
-            ),
-          ),
-        ),
-      ),
-    )
+    .before .before .before .pre in
+    (p .0, p .1, c .before .before .before .before .before .before .before .before .before .before .tail .ensures)
 
 enum-known-e : tie.Need-enum-known-e
 enum-known-e c = search needs

@@ -28,7 +28,7 @@ returns c =
       ← c .before .before .before .before .before .before .before .before .before .before .definitely-greater .ensures,
       c .before .before .before .before .before .before .before .before .before .if1 .taken,
       ← c .before .before .before .before .before .before .before .before .before .before .before .before .before
-          .before .pre .1 .1 .1 .1 .1,
+          .before .pre .2,
       ← c .before .before .before .before .before .before .before .normal .ensures,
     )
     (with-marks (c .before .before .reflect-by .result) (c .before .before .reflect-by .last .1 .1 .1 .1 .0)

@@ -40,8 +40,11 @@ slice-aggregate-householder-step c = sym (length-take-le _ _ (omega arith))
 
 householder-step-requires : tie.Need-householder-step-requires Inv-loop μ-loop
 householder-step-requires c κs =
-    let p = c .before .before .before .before .before .before .before .before .pre in
-    (omega arith, (p .1 .1 .0, (omega arith, (p .1 .1 .1 .0, (omega arith, length-take-le _ _ (omega arith))))))
+    let p = c .before .before .before .before .before .before .before .before .pre in (
+      record { rows = p .0 .rows; columns = p .0 .columns; row = omega arith; column = omega arith },
+      omega arith,
+      length-take-le _ _ (omega arith),
+    )
 
 enum-told : tie.Need-enum-told Inv-loop μ-loop
 enum-told c = search needs

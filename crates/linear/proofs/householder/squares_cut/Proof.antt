@@ -9,7 +9,7 @@ use Rattle.linear.proofs.householder.squares_cut.Statement.{statement}
 use Rattle.linear.proofs.householder.squares_cut.Tie as tie
 
 room : (s : tie.Start) → (s .args .r + 1) * s .args .m ≤ 600
-room s = columns-small (s .pre .1 .0) (s .pre .0)
+room s = columns-small (s .pre .0 .columns) (s .pre .0 .rows)
 
 add-e : tie.Need-add-e
 add-e c = search needs
@@ -35,20 +35,8 @@ slice-aggregate-squares-in-2 c = sym (length-take-le _ _ (omega arith))
 
 squares-in-requires : tie.Need-squares-in-requires
 squares-in-requires c κs =
-    let p = c .before .before .before .before .before .before .before .before .before .before .pre in (
-      p .0,
-      (
-        p .1 .0,
-        (
-          p .1 .1 .0,
-          (
-            length-take-le _ _ (omega
-                (arith, room (c .before .before .before .before .before .before .before .before .before .before))),
-            (length-take-le _ _ (omega arith), p .1 .1 .1 .1 .1),
-          ),
-        ),
-      ),
-    )
+    let p = c .before .before .before .before .before .before .before .before .before .before .pre in
+    (p .0, length-take-le _ _ (p .1), length-take-le _ _ (p .2), p .3)
 
 same-length : tie.Need-same-length
 same-length c = search needs

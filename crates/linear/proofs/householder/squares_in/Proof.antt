@@ -17,7 +17,7 @@ use Rattle.linear.proofs.householder.squares_in.Tie as tie
 -- the output, cleared
 blank : (k : tie.After-clear)
     → k .clear .last .0 ≡ zeros (2 * k .before .before .before .before .before .before .before .before .args .r)
-blank k = rw (k .before .before .before .before .before .before .before .before .pre .1 .1 .0) at (k .clear .ensures)
+blank k = rw (k .before .before .before .before .before .before .before .before .pre .0 .values) at (k .clear .ensures)
 
 -- the reflections, from the columns and no marks
 reflected : (k : tie.After-reflections)
@@ -28,7 +28,7 @@ reflected : (k : tie.After-reflections)
     (factorOf (columnsOf (a .m) (a .r) (a .rows .now) (a .rhs .now)) (replicate (a .r) false)) (min (a .r) (a .m))
 reflected k =
     let marks = rw (k .before .before .before .before .before .before .before .before .before .before .before .before
-    .before .before .before .before .before .before .before .before .before .before .before .pre .1 .1 .1 .1 .0) at
+    .before .before .before .before .before .before .before .before .before .before .before .pre .2) at
     (k .before .before .before .before .before .before .before .before .before .before .before .unmark .ensures) in
     rw (
       k .before .before .before .before .before .before .before .columns .ensures,
@@ -59,24 +59,15 @@ values-requires c κs =
     let k = c .before .before .before .before .before .before .before .before .before .before .before in
     let p = k .before .before .before .before .before .before .before .before .before .before .before .before .before
     .before .before .before .before .before .before .before .before .before .before .pre in
-    let e = k .before .before .before .before .fewer .ensures in (
-      omega (arith, e),
-      (
-        omega (arith, e),
-        (
-          p .0,
-          (
-            p .1 .0,
-            omega (
-              arith,
-              p,
-              k .reflections .kept,
-              k .before .before .before .before .before .before .before .before .before .before .before .unmark .kept,
-            ),
-          ),
-        ),
-      ),
-    )
+    let e = k .before .before .before .before .fewer .ensures in
+    let u = k .before .before .before .before .before .before .before .before .before .before .before .unmark .kept in
+    record {
+      rows = p .0 .rows;
+      columns = p .0 .columns;
+      among-rows = omega (arith, e);
+      among-columns = omega (arith, e);
+      marks = omega (arith, p, k .reflections .kept, u);
+    }
 
 cleared-requires : tie.Need-cleared-requires
 cleared-requires c κs = search needs

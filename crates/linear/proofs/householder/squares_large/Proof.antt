@@ -20,8 +20,8 @@ squares-cut-requires c κs =
     let s = c .before .before .before .before .before .before .before in
     let p = s .pre in
     let room : (s .args .r + 1) * s .args .m ≤ 600 =
-    mul-le-mul {n₁ = s .args .r + 1} {m₁ = s .args .m} {n₂ = 25} {m₂ = 24} (omega (arith, p)) (p .0) in
-    (omega (arith, p), (omega (arith, p), (p .1 .1, (omega (arith, room), (omega (arith, p), omega (arith, p))))))
+    mul-le-mul {n₁ = s .args .r + 1} {m₁ = s .args .m} {n₂ = 25} {m₂ = 24} (omega (arith, p)) (p .rows) in
+    (p, omega (arith, room), omega (arith, p), omega (arith, p))
 
 same-length : tie.Need-same-length
 same-length c = search needs

@@ -29,13 +29,13 @@ loop-holds c = (search needs, refl, refl)
 add-at-inside : tie.Need-add-at-inside Inv-loop μ-loop
 add-at-inside c =
     let t = c .before in
-    omega (arith, t .before .before .before .before .pre .0 (t .before .loop .p) (t .loop-test .taken))
+    omega (arith, t .before .before .before .before .pre .first (t .before .loop .p) (t .loop-test .taken))
 
 at-inside-requires : tie.Need-at-inside-requires Inv-loop μ-loop
 at-inside-requires c κs =
     let t = c .before in
     let l = t .before .loop in
-    let i = t .before .before .before .before .pre .0 (l .p) (t .loop-test .taken) in
+    let i = t .before .before .before .before .pre .first (l .p) (t .loop-test .taken) in
     omega (arith, i, l .inv .1)
 
 bounds-of-requires : tie.Need-bounds-of-requires Inv-loop μ-loop
@@ -44,12 +44,12 @@ bounds-of-requires c κs = search needs
 add-at-inside-2 : tie.Need-add-at-inside-2 Inv-loop μ-loop
 add-at-inside-2 c =
     let t = c .before .before .before in
-    omega (arith, t .before .before .before .before .pre .1 (t .before .loop .p) (t .loop-test .taken))
+    omega (arith, t .before .before .before .before .pre .second (t .before .loop .p) (t .loop-test .taken))
 
 at-inside-requires-2 : tie.Need-at-inside-requires-2 Inv-loop μ-loop
 at-inside-requires-2 c κs =
     let t = c .before .before .before in
-    omega (arith, t .before .before .before .before .pre .1 (t .before .loop .p) (t .loop-test .taken))
+    omega (arith, t .before .before .before .before .pre .second (t .before .loop .p) (t .loop-test .taken))
 
 are-points-requires : tie.Need-are-points-requires Inv-loop μ-loop
 are-points-requires c κs = search needs
@@ -74,7 +74,7 @@ returns-2 c =
 add-put-inside : tie.Need-add-put-inside Inv-loop μ-loop
 add-put-inside c =
     let t = c .before .before .before .before .before .before .before .before .before in
-    omega (arith, t .before .before .before .before .pre .0 (t .before .loop .p) (t .loop-test .taken))
+    omega (arith, t .before .before .before .before .pre .first (t .before .loop .p) (t .loop-test .taken))
 
 minus-points-requires : tie.Need-minus-points-requires Inv-loop μ-loop
 minus-points-requires c κs =
@@ -92,7 +92,7 @@ put-inside-requires : tie.Need-put-inside-requires Inv-loop μ-loop
 put-inside-requires c κs =
     let t = c .before .before .before .before .before .before .before .before .before .before .before .before in
     let l = t .before .loop in
-    let i = t .before .before .before .before .pre .0 (l .p) (t .loop-test .taken) in
+    let i = t .before .before .before .before .pre .first (l .p) (t .loop-test .taken) in
     omega (arith, i, l .inv .1)
 
 add-p : tie.Need-add-p Inv-loop μ-loop

@@ -26,7 +26,7 @@ gram-rows-requires : tie.Need-gram-rows-requires Inv-loop μ-loop
 gram-rows-requires c κs =
     let s = c .before .before .before .before .before in
     let l = c .before .before .loop in
-    (s .pre .0, (s .pre .1 .0, (omega (arith, c .before .loop-test .taken), (l .inv .1 ∙ s .pre .1 .1, l .inv .2))))
+    (s .pre .0, l .inv .1 ∙ s .pre .1, omega (arith, c .before .loop-test .taken), l .inv .2)
 
 add-h : tie.Need-add-h Inv-loop μ-loop
 add-h c = search needs
@@ -48,7 +48,7 @@ gram-row-requires c κs =
     let s = c .before .before .before .before .before .before in
     let l = c .before .before .before .loop in
     let e = le-antisymm (l .inv .0) (c .before .before .loop-test .left) in
-    (s .pre .0, (s .pre .1 .0, (c .before .if1 .taken, (l .inv .1 ∙ s .pre .1 .1, rw e at (l .inv .2)))))
+    (s .pre .0, l .inv .1 ∙ s .pre .1, c .before .if1 .taken, rw e at (l .inv .2))
 
 same-length : tie.Need-same-length Inv-loop μ-loop
 same-length c = search needs

@@ -19,7 +19,7 @@ abbrev μ-loop : tie.MeasureT-loop
 
 -- the products of the places do not overflow
 rooms : (s : tie.Start Inv-loop μ-loop) → (s .args .i * s .args .n ≤ 576) × (s .args .i * s .args .m ≤ 576)
-rooms s = (product-small (omega (arith, s .pre)) (s .pre .1 .0), product-small (omega (arith, s .pre)) (s .pre .0))
+rooms s = (product-small (omega (arith, s .pre)) (s .pre .0 .columns), product-small (omega (arith, s .pre)) (s .pre .0 .rows))
 
 mul-top : tie.Need-mul-top Inv-loop μ-loop
 mul-top c = omega (arith, rooms (c .before .before) .0)
@@ -37,7 +37,7 @@ loop-holds c =
       search needs,
       search needs,
       filled-none (gramAt (a .n) (a .jc .now)) (a .m) (a .i) (a .i + 1) (a .g .now)
-          (s .pre .1 .1 .1 .1),
+          (s .pre .3),
     )
 
 add-put : tie.Need-add-put Inv-loop μ-loop
@@ -56,7 +56,7 @@ mul-row-dot c =
     omega (
       arith,
       product-small {i = c .before .before .loop .j} {n = s .args .n}
-          (omega (arith, s .pre, c .before .loop-test .taken)) (s .pre .1 .0),
+          (omega (arith, s .pre, c .before .loop-test .taken)) (s .pre .0 .columns),
     )
 
 row-dot-requires : tie.Need-row-dot-requires Inv-loop μ-loop
@@ -87,9 +87,9 @@ loop-again c =
     let s = c .before .before .before .before .before .before .before .before .before in
     let a = s .args in
     let ht : l .j < a .m = omega (arith, c .before .before .before .before .before .loop-test .taken, s .pre) in
-    let size : length (l .g) ≡ 2 * (a .m * a .m) = l .inv .1 ∙ s .pre .1 .1 .1 .0 in
+    let size : length (l .g) ≡ 2 * (a .m * a .m) = l .inv .1 ∙ s .pre .1 in
     let fill = filled-one (gramAt (a .n) (a .jc .now)) (a .m) (a .i) (l .j) (l .g) ht size
-    (c .before .before .before .row-dot .ensures) (s .pre .1 .1 .0) (l .inv .2) in (
+    (c .before .before .before .row-dot .ensures) (s .pre .2) (l .inv .2) in (
       omega (arith, c .before .before .before .before .before .loop-test .taken),
       search needs,
       rw

@@ -19,7 +19,7 @@ abbrev μ-loop : tie.MeasureT-loop
 
 -- the products of the places do not overflow
 rooms : (s : tie.Start Inv-loop μ-loop) → (s .args .i * s .args .n ≤ 576) × (s .args .i * s .args .m ≤ 576)
-rooms s = (product-small (omega (arith, s .pre)) (s .pre .1 .0), product-small (omega (arith, s .pre)) (s .pre .0))
+rooms s = (product-small (omega (arith, s .pre)) (s .pre .0 .columns), product-small (omega (arith, s .pre)) (s .pre .0 .rows))
 
 mul-top : tie.Need-mul-top Inv-loop μ-loop
 mul-top c = omega (arith, rooms (c .before .before) .0)
@@ -37,7 +37,7 @@ loop-holds c =
       search needs,
       search needs,
       filled-none (gramAt (a .n) (a .jc .now)) (a .m) (a .i) (a .i + 2) (a .g .now)
-          (s .pre .1 .1 .1 .1),
+          (s .pre .3),
     )
 
 add-two-rows : tie.Need-add-two-rows Inv-loop μ-loop
@@ -49,7 +49,7 @@ mul-two-rows c =
     omega (
       arith,
       product-small {i = c .before .loop .j} {n = s .args .n} (omega (arith, s .pre, c .loop-test .taken))
-          (s .pre .1 .0),
+          (s .pre .0 .columns),
     )
 
 two-rows-requires : tie.Need-two-rows-requires Inv-loop μ-loop
@@ -114,8 +114,8 @@ loop-again c =
     let d = c .before .before .before .before .before .before .before .before .two-rows .ensures in
     let ht : l .j < a .m = omega
     (arith, c .before .before .before .before .before .before .before .before .before .loop-test .taken, s .pre) in
-    let size : length (l .g) ≡ 2 * (a .m * a .m) = l .inv .1 ∙ s .pre .1 .1 .1 .0 in
-    let fill = filled-two (gramAt (a .n) (a .jc .now)) (a .m) (a .i) (l .j) (l .g) ht size (d .0) (s .pre .1 .1 .0)
+    let size : length (l .g) ≡ 2 * (a .m * a .m) = l .inv .1 ∙ s .pre .1 in
+    let fill = filled-two (gramAt (a .n) (a .jc .now)) (a .m) (a .i) (l .j) (l .g) ht size (d .0) (s .pre .2)
     (second-row (a .n) (a .jc .now) (a .i) (l .j) (d .1)) (l .inv .2) in (
       omega (arith, c .before .before .before .before .before .before .before .before .before .loop-test .taken),
       search needs,

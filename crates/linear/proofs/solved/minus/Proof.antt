@@ -77,7 +77,7 @@ returns c =
     let last : 2 * half + 1 ≡ a .n = omega (arith, c .before .before .before .before .before .if1 .taken) in
     let more = listTo-more f (2 * half) (a .out .now) (omega (arith, s .pre, last)) in
     (rw (e, c .before .before .before .minus-at .ensures) at (c .before .before .put .ensures)) ∙ more
-    ∙ ap (λ (i : ℕ). listTo f i ++ drop (2 * i) (a .out .now)) last ∙ listTo-all f (a .n) (a .out .now) (s .pre .1 .1)
+    ∙ ap (λ (i : ℕ). listTo f i ++ drop (2 * i) (a .out .now)) last ∙ listTo-all f (a .n) (a .out .now) (s .pre .values)
 
 same-length-2 : tie.Need-same-length-2 Inv-loop μ-loop
 same-length-2 c = search needs
@@ -91,7 +91,7 @@ returns-2 c =
     let f : ℕ → Scalar = minusAt (a .m) (a .n) (a .jc .now) (a .from .now) (a .k .now) in
     let e = rw (le-antisymm (l .inv .0) (c .before .loop-test .left)) at (l .inv .2) in
     let last : 2 * (a .n / 2) ≡ a .n = omega (arith, c .if1 .left) in
-    e ∙ ap (λ (i : ℕ). listTo f i ++ drop (2 * i) (a .out .now)) last ∙ listTo-all f (a .n) (a .out .now) (s .pre .1 .1)
+    e ∙ ap (λ (i : ℕ). listTo f i ++ drop (2 * i) (a .out .now)) last ∙ listTo-all f (a .n) (a .out .now) (s .pre .values)
 
 pub minus-spec : {M : Type 1} → statement M
 minus-spec =

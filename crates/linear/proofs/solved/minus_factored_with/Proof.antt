@@ -18,7 +18,7 @@ slice-aggregate-minus-factored-in c = sym (length-take-le _ _ (omega arith))
 minus-factored-in-requires : tie.Need-minus-factored-in-requires
 minus-factored-in-requires c κs =
     let p = c .before .before .before .before .before .before .before .before .before .pre in
-    (p .0, (p .1 .0, (p .1 .1 .0, (p .1 .1 .1 .0, length-take-le _ _ (p .1 .1 .1 .1)))))
+    (p .0, p .1, length-take-le _ _ (p .2))
 
 same-length : tie.Need-same-length
 same-length c = search needs

@@ -9,7 +9,7 @@ use Rattle.linear.proofs.solved.solved_cut.Statement.{statement}
 use Rattle.linear.proofs.solved.solved_cut.Tie as tie
 
 room : (s : tie.Start) → s .args .m * s .args .m ≤ 576
-room s = product-small (s .pre .0) (s .pre .0)
+room s = product-small (s .pre .0 .rows) (s .pre .0 .rows)
 
 mul-s : tie.Need-mul-s
 mul-s c = let k = c .before .before .before .before in omega (arith, room (k .before .before .before))
@@ -44,13 +44,9 @@ slice-aggregate-solved-in-3 c = sym (length-take-le _ _ (omega arith))
 solved-in-requires : tie.Need-solved-in-requires
 solved-in-requires c κs =
     let p = c .before .before .before .before .before .before .before .before .before .before .before .pre in
-    let r = p .1 .1 .1 in (
-      p .0,
-      (
-        p .1 .0,
-        (p .1 .1 .0, (length-take-le _ _ (r .0), (length-take-le _ _ (r .1 .0), length-take-le _ _ (r .1 .1)))),
-      ),
-    )
+    let l = length-take-le _ _ (p .2) in
+    let left = length-take-le _ _ (p .3) in
+    (p .0, length-take-le _ _ (p .1), record { rows = p .0 .rows; entries = l; marks = left })
 
 same-length : tie.Need-same-length
 same-length c = search needs

@@ -70,7 +70,7 @@ returns-2 c =
     let k = after .gram-factor-sized in
     let f = factorOf (k .last .1 .1 .1 .1 .0) (k .last .1 .1 .1 .1 .1 .0) in
     let e = rw (told .e .given .1) at (factor-done (a .m) (a .n) (a .jc .now) (k .result) f (k .ensures)) in
-    let size : length (a .out .now) ≡ 2 * a .n = s .pre .1 .1 .0 in
+    let size : length (a .out .now) ≡ 2 * a .n = s .pre .0 .values in
     rw (
       c .before .before .clear .ensures,
       size,

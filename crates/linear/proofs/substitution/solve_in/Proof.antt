@@ -44,8 +44,8 @@ returns c =
     let y = f .before .before .before .before in
     let x = y .before .before .before .before in
     let s = x .before .before .before .before .before .before .before in
-    let ex = rw (s .pre .1 .1 .0) at (x .clear .ensures) in
-    let ey = rw (s .pre .1 .1 .1) at (y .clear2 .ensures) in
+    let ex = rw (s .pre .0 .values) at (x .clear .ensures) in
+    let ey = rw (s .pre .2) at (y .clear2 .ensures) in
     let forward = rw (b .before .before .before .enum-told .given .1, ey) at (f .forward .ensures) in
     let back = rw ex at (b .back .ensures) in
     let size : length (b .back .last .1 .1 .1 .1 .0) ≡ 2 * s .args .n = omega (arith, b .back .kept, x .clear .kept) in
@@ -64,8 +64,8 @@ returns-2 c =
     let y = f .before .before .before .before in
     let x = y .before .before .before .before in
     let s = x .before .before .before .before .before .before .before in
-    let ex = rw (s .pre .1 .1 .0) at (x .clear .ensures) in
-    let ey = rw (s .pre .1 .1 .1) at (y .clear2 .ensures) in
+    let ex = rw (s .pre .0 .values) at (x .clear .ensures) in
+    let ey = rw (s .pre .2) at (y .clear2 .ensures) in
     let forward = rw (c .before .e .given .1, ey) at (f .forward .ensures) in
     rw (← forward, ex)
 

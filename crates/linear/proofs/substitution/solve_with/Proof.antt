@@ -13,12 +13,12 @@ slice-relend-prefix-solve-in c = search needs
 
 slice-aggregate-solve-in : tie.Need-slice-aggregate-solve-in
 slice-aggregate-solve-in c =
-    sym (length-take-le _ _ (c .before .before .before .before .before .before .before .pre .1 .1 .1))
+    sym (length-take-le _ _ (c .before .before .before .before .before .before .before .pre .2))
 
 solve-in-requires : tie.Need-solve-in-requires
 solve-in-requires c κs =
     let s = c .before .before .before .before .before .before .before in
-    (s .pre .0, (s .pre .1 .0, (s .pre .1 .1 .0, length-take-le _ _ (s .pre .1 .1 .1))))
+    (s .pre .0, s .pre .1, length-take-le _ _ (s .pre .2))
 
 same-length : tie.Need-same-length
 same-length c = search needs
