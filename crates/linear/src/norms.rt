@@ -1,5 +1,5 @@
-// The length of a list. Its numbers are divided by the greatest size among them before they are squared: the square of a
-// very small number loses its digits below the least float, and that of a great one is infinite, while the quotients
+// The length of a list. Its numbers are divided by the greatest size among them before they are squared: the square of
+// a very small number loses its digits below the least float, and that of a great one is infinite, while the quotients
 // are about 1 at most, and one of them is. The size is a free choice, so it is made sharp.
 ghost use mathlib.Core.Path.{_≡_};
 ghost use Prim.Native.Nat.{_<_};

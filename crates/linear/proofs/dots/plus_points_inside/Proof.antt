@@ -23,13 +23,16 @@ abbrev μ-loop : tie.MeasureT-loop
 
 loop-holds : tie.Need-loop-holds Inv-loop μ-loop
 unfolding plusTo
-loop-holds c = (search needs, points-start _ _ _, start-bounds (c .before .before .args .z) (c .before .before .pre .start))
+loop-holds c =
+    (search needs, points-start _ _ _, start-bounds (c .before .before .args .z) (c .before .before .pre .start))
 
 mul-at-inside : tie.Need-mul-at-inside Inv-loop μ-loop
-mul-at-inside c = omega (arith, c .before .before .before .before .pre .first (c .before .loop .t) (c .loop-test .taken))
+mul-at-inside c =
+    omega (arith, c .before .before .before .before .pre .first (c .before .loop .t) (c .loop-test .taken))
 
 add-at-inside : tie.Need-add-at-inside Inv-loop μ-loop
-add-at-inside c = omega (arith, c .before .before .before .before .pre .first (c .before .loop .t) (c .loop-test .taken))
+add-at-inside c =
+    omega (arith, c .before .before .before .before .pre .first (c .before .loop .t) (c .loop-test .taken))
 
 at-inside-requires : tie.Need-at-inside-requires Inv-loop μ-loop
 at-inside-requires c κs = c .before .before .before .before .pre .first (c .before .loop .t) (c .loop-test .taken)

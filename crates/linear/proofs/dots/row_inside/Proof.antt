@@ -25,11 +25,13 @@ loop-holds c = (c .before .row-points-inside .ensures .0, λ z h. h)
 
 add-at-inside : tie.Need-add-at-inside Inv-loop μ-loop
 add-at-inside c =
-    omega (arith, c .before .before .before .before .before .before .pre .first (c .before .loop .t) (c .loop-test .taken))
+    omega
+    (arith, c .before .before .before .before .before .before .pre .first (c .before .loop .t) (c .loop-test .taken))
 
 at-inside-requires : tie.Need-at-inside-requires Inv-loop μ-loop
 at-inside-requires c κs =
-    omega (arith, c .before .before .before .before .before .before .pre .first (c .before .loop .t) (c .loop-test .taken))
+    omega
+    (arith, c .before .before .before .before .before .before .pre .first (c .before .loop .t) (c .loop-test .taken))
 
 add-at-inside-2 : tie.Need-add-at-inside-2 Inv-loop μ-loop
 add-at-inside-2 c =

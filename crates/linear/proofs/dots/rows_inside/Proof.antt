@@ -28,7 +28,8 @@ loop-holds c =
     (search needs, proper-bounds (c .before .before .args .z) (c .bounds-of .ensures) (c .before .before .pre .start))
 
 add-at-inside : tie.Need-add-at-inside Inv-loop μ-loop
-add-at-inside c = omega (arith, c .before .before .before .before .pre .first (c .before .loop .t) (c .loop-test .taken))
+add-at-inside c =
+    omega (arith, c .before .before .before .before .pre .first (c .before .loop .t) (c .loop-test .taken))
 
 at-inside-requires : tie.Need-at-inside-requires Inv-loop μ-loop
 at-inside-requires c κs =

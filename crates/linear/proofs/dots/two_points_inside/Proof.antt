@@ -31,10 +31,12 @@ loop-holds c = (
 )
 
 mul-at-inside : tie.Need-mul-at-inside Inv-loop μ-loop
-mul-at-inside c = omega (arith, c .before .before .before .before .pre .first (c .before .loop .t) (c .loop-test .taken))
+mul-at-inside c =
+    omega (arith, c .before .before .before .before .pre .first (c .before .loop .t) (c .loop-test .taken))
 
 add-at-inside : tie.Need-add-at-inside Inv-loop μ-loop
-add-at-inside c = omega (arith, c .before .before .before .before .pre .first (c .before .loop .t) (c .loop-test .taken))
+add-at-inside c =
+    omega (arith, c .before .before .before .before .pre .first (c .before .loop .t) (c .loop-test .taken))
 
 at-inside-requires : tie.Need-at-inside-requires Inv-loop μ-loop
 at-inside-requires c κs = c .before .before .before .before .pre .first (c .before .loop .t) (c .loop-test .taken)

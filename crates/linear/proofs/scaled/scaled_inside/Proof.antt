@@ -32,28 +32,32 @@ add-at-inside : tie.Need-add-at-inside Inv-loop μ-loop
 add-at-inside c =
     let t = c .before in
     let l = t .before .loop in
-    let i = t .before .before .before .before .before .before .before .before .pre .first (l .p) (t .loop-test .taken) in
+    let i =
+    t .before .before .before .before .before .before .before .before .pre .first (l .p) (t .loop-test .taken) in
     omega (arith, i)
 
 at-inside-requires : tie.Need-at-inside-requires Inv-loop μ-loop
 at-inside-requires c κs =
     let t = c .before in
     let l = t .before .loop in
-    let i = t .before .before .before .before .before .before .before .before .pre .first (l .p) (t .loop-test .taken) in
+    let i =
+    t .before .before .before .before .before .before .before .before .pre .first (l .p) (t .loop-test .taken) in
     omega (arith, i, l .inv .1)
 
 add-at-inside-2 : tie.Need-add-at-inside-2 Inv-loop μ-loop
 add-at-inside-2 c =
     let t = c .before .before in
     let l = t .before .loop in
-    let i = t .before .before .before .before .before .before .before .before .pre .second (l .p) (t .loop-test .taken) in
+    let i =
+    t .before .before .before .before .before .before .before .before .pre .second (l .p) (t .loop-test .taken) in
     omega (arith, i)
 
 at-inside-requires-2 : tie.Need-at-inside-requires-2 Inv-loop μ-loop
 at-inside-requires-2 c κs =
     let t = c .before .before in
     let l = t .before .loop in
-    let i = t .before .before .before .before .before .before .before .before .pre .second (l .p) (t .loop-test .taken) in
+    let i =
+    t .before .before .before .before .before .before .before .before .pre .second (l .p) (t .loop-test .taken) in
     omega (arith, i)
 
 minus-chosen-requires : tie.Need-minus-chosen-requires Inv-loop μ-loop
@@ -63,14 +67,16 @@ add-put-inside : tie.Need-add-put-inside Inv-loop μ-loop
 add-put-inside c =
     let t = c .before .before .before .before .before in
     let l = t .before .loop in
-    let i = t .before .before .before .before .before .before .before .before .pre .first (l .p) (t .loop-test .taken) in
+    let i =
+    t .before .before .before .before .before .before .before .before .pre .first (l .p) (t .loop-test .taken) in
     omega (arith, i)
 
 put-inside-requires : tie.Need-put-inside-requires Inv-loop μ-loop
 put-inside-requires c κs =
     let t = c .before .before .before .before .before in
     let l = t .before .loop in
-    let i = t .before .before .before .before .before .before .before .before .pre .first (l .p) (t .loop-test .taken) in
+    let i =
+    t .before .before .before .before .before .before .before .before .pre .first (l .p) (t .loop-test .taken) in
     omega (arith, i, l .inv .1)
 
 add-p : tie.Need-add-p Inv-loop μ-loop

@@ -91,7 +91,8 @@ returns-2 c =
     let f : ℕ → Scalar = minusAt (a .m) (a .n) (a .jc .now) (a .from .now) (a .k .now) in
     let e = rw (le-antisymm (l .inv .0) (c .before .loop-test .left)) at (l .inv .2) in
     let last : 2 * (a .n / 2) ≡ a .n = omega (arith, c .if1 .left) in
-    e ∙ ap (λ (i : ℕ). listTo f i ++ drop (2 * i) (a .out .now)) last ∙ listTo-all f (a .n) (a .out .now) (s .pre .values)
+    e ∙ ap (λ (i : ℕ). listTo f i ++ drop (2 * i) (a .out .now)) last
+    ∙ listTo-all f (a .n) (a .out .now) (s .pre .values)
 
 pub minus-spec : {M : Type 1} → statement M
 minus-spec =
