@@ -9,7 +9,7 @@ use lib.Dec.{T}
 use lib.Ieee.{Float, nan, inf, fin, binary64, ofBits, toBits, neg, isNan, nanBits, lt, le, fits}
 use lib.Ieee.Fits.{neg-fits}
 use Rattle.interval.specs.Pattern.{infBits}
-use Rattle.interval.specs.Step.{nextUp, nextDown}
+use Rattle.interval.specs.Step.{nextDown}
 use Rattle.interval.proofs.Tests.{step-in}
 use Rattle.interval.proofs.Patterns.{no-nan}
 use Rattle.interval.proofs.NextUp.{bits-neg, ofBits-neg, no-nan-below, ends, up-side, below-zero}

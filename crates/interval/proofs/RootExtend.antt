@@ -9,6 +9,7 @@ use lib.Dec.{T, ltb}
 use lib.Arith.{le→nltb}
 use lib.Ieee.{Float, nan, inf, fin, eq, isNan, nanBits, binary64}
 use lib.Ieee.Bits.{nanBits-above}
+use Rattle.interval.specs.RootSteps.{Extendable}
 
 pub record Facts (s r u v : ℕ) : Type 0 where
   pub whole : (s * 134217728 + u) * (s * 134217728 + u) + v * 134217728 ≡ (s * s + r) * 2 ^ 54 + u * u
@@ -87,11 +88,12 @@ itself (inf s) a = tt
 itself (fin s m e) a = tt
 
 pub ready : (c s : ℕ) → 2 ^ 52 ≤ c → c < 2 ^ 54 → s * s ≤ c → c < (s + 1) * (s + 1)
-    → (2 ^ 26 ≤ s) × ((s < 2 ^ 27) × (c - s * s ≤ 2 * s))
-ready c s a b h k = (
-  least (root-lt 67108864 c (s + 1) (omega (arith, a)) k),
-  (root-lt s c 134217728 h (omega (arith, b)), omega (arith, k, next-sq s)),
-)
+    → Extendable s (c - s * s)
+ready c s a b h k = record {
+  from = least (root-lt 67108864 c (s + 1) (omega (arith, a)) k);
+  small = root-lt s c 134217728 h (omega (arith, b));
+  rest = omega (arith, k, next-sq s);
+}
   where
     least : 67108864 < s + 1 → 2 ^ 26 ≤ s
     least g = omega arith

@@ -8,7 +8,8 @@ ghost use Prim.Native.Nat.{_+_, _*_, _^_, _<_, _≤_};
 ghost use lib.Ieee.{binary64, ofBits, low};
 ghost use Rattle.interval.specs.Pattern.{magnitude, infBits};
 ghost use Rattle.interval.specs.Root.{IsRoot, roundedRoot, nearestRoot};
-ghost use Rattle.interval.specs.RootSteps.{Decomposed, Normalizable, Normalized, EvenExponent};
+ghost use Rattle.interval.specs.RootSteps.{Decomposed, Normalizable, Normalized, EvenExponent, Significand};
+ghost use Rattle.interval.specs.RootSteps.{Extendable, Extended};
 
 // The greatest whole number up to `start` whose square is at most c.
 fn lower_to_root(c: u64, start: u64) -> u64
@@ -24,7 +25,7 @@ fn lower_to_root(c: u64, start: u64) -> u64
 
 // The whole part of the root of c, from a start that is not above it.
 fn raise_to_root(c: u64, start: u64) -> u64
-    requires { ⌜ (c < 2 ^ 54) × ((start < 2 ^ 28) × (start * start ≤ c)) ⌝ }
+    requires { ⌜ (c < 2 ^ 54) × (start < 2 ^ 28) × (start * start ≤ c) ⌝ }
     ensures { λ q. ⌜ IsRoot c q ⌝ }
 {
     let mut q = start;
@@ -42,8 +43,8 @@ struct PartialRoot {
 
 // 27 digits more: the root of (s * s + r) * 2 ^ 54.
 fn extend_root(s: u64, r: u64) -> PartialRoot
-    requires { ⌜ (2 ^ 26 ≤ s) × ((s < 2 ^ 27) × (r ≤ 2 * s)) ⌝ }
-    ensures { λ p. ⌜ (p .q * p .q + p .r ≡ (s * s + r) * 2 ^ 54) × (p .r ≤ 2 * p .q) ⌝ }
+    requires { ⌜ Extendable s r ⌝ }
+    ensures { λ p. ⌜ Extended ((s * s + r) * 2 ^ 54) (p .q) (p .r) ⌝ }
 {
     let t = r * 134217728;
     let d = s * 2;
@@ -76,7 +77,7 @@ fn pattern_of(c: u64) -> u64
 // no halving. The sum rounds to the nearest whole number: with a half taken off it is rarely above the root, so the
 // branches of the loops that correct it are predicted.
 fn estimate(c: u64) -> u64
-    requires { ⌜ (2 ^ 52 ≤ c) × (c < 2 ^ 54) ⌝ }
+    requires { ⌜ Significand c ⌝ }
     ensures { λ q. ⌜ q < 2 ^ 28 ⌝ }
 {
     let m = pattern_of(c);
@@ -93,7 +94,7 @@ fn estimate(c: u64) -> u64
 
 // The root of c * 2 ^ 54.
 fn root_digits(c: u64) -> u64
-    requires { ⌜ (2 ^ 52 ≤ c) × (c < 2 ^ 54) ⌝ }
+    requires { ⌜ Significand c ⌝ }
     ensures { λ q. ⌜ IsRoot (c * 2 ^ 54) q ⌝ }
 {
     let s = raise_to_root(c, lower_to_root(c, estimate(c)));
@@ -139,7 +140,7 @@ fn normalize(s: Scaled) -> Scaled
 
 // The same number, with an even exponent.
 fn even_exponent(s: Scaled) -> Scaled
-    requires { ⌜ (s .c < 2 ^ 53) ⌝ }
+    requires { ⌜ s .c < 2 ^ 53 ⌝ }
     ensures { λ r. ⌜ EvenExponent (s .c) (s .e) (r .c) (r .e) ⌝ }
 {
     if s.e % 2 == 0 {

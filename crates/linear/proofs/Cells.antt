@@ -5,7 +5,7 @@ use mathlib.Core.Path.{_≡_, sym, ap, _∙_}
 use native.Mathlib.Nat.{not-suc-le-zero, mul-le-mul, mod-lt, div-lt-iff-lt-mul}
 use native.Mathlib.Omega.{arith}
 use lib.Arith.{digits-lt, digits-div, digits-mod}
-use Rattle.linear.specs.Flat.{Inside}
+use Rattle.linear.specs.Lengths.{Inside}
 
 -- inside a flat list of n * n scalars
 pub cell-inside : {n r k m : ℕ} → r < n → k < n → m ≡ 2 * (n * n) → 2 * (r * n + k) + 1 < m

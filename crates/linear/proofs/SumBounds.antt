@@ -14,7 +14,7 @@ use Rattle.interval.proofs.Given.{yes}
 use Rattle.linear.specs.declared.bounds.Bounds.{Bounds}
 use Rattle.linear.specs.Bounds.{boundsOf, scalarOf, Bounding}
 use Rattle.linear.specs.Dot.{plusTo}
-use Rattle.linear.specs.Flat.{Inside}
+use Rattle.linear.specs.Lengths.{Inside}
 use Rattle.linear.proofs.Sums.{holds, plusTo-more}
 use Rattle.linear.proofs.BoundLaws.{bounds-back, bounding}
 

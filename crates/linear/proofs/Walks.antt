@@ -11,7 +11,8 @@ use borrow.Author.Tests.{le-ltb}
 use lib.Ieee.{Float, nan}
 use lib.ListN.{length}
 use Rattle.interval.specs.Scalar.{degenerate}
-use Rattle.linear.specs.Flat.{at, Inside}
+use Rattle.linear.specs.Flat.{at}
+use Rattle.linear.specs.Lengths.{Inside}
 use Rattle.linear.proofs.FlatLaws.{at-outside}
 use Rattle.linear.proofs.FactorEntries.{same-or-not}
 

@@ -7,7 +7,7 @@ use lib.Dec.{T}
 use lib.Ieee.{inf, binary64, add, neg, lt}
 use Rattle.interval.specs.declared.Scalar.{Scalar}
 use Rattle.interval.specs.Scalar.{zero64}
-use Rattle.linear.specs.Flat.{Inside}
+use Rattle.linear.specs.Lengths.{Inside}
 use Rattle.linear.specs.declared.bounds.Bounds.{Bounds}
 
 abbrev pub boundsOf : Scalar → Bounds

@@ -1,6 +1,6 @@
 -- Scalars in a flat list of numbers: the i-th has its lower end at 2 i and its upper end at 2 i + 1. Reading outside
 -- the list gives NaN, and writing there changes nothing.
-use Prim.Native.Nat.{ℕ, zero, suc, _+_, _*_, _<_}
+use Prim.Native.Nat.{ℕ, zero, suc, _+_, _*_}
 use mathlib.Core.Bool.{Bool}
 use mathlib.Core.List.{List, [], _∷_, _++_}
 use lib.Dec.{ltb}
@@ -25,21 +25,6 @@ zeros n = replicate n zero64
 -- the scalars from base on, step apart: a row with step 1, a column with the row's length
 unfoldable pub along : List Float → ℕ → ℕ → ℕ → Scalar
 along xs base step j = at xs (base + j * step)
-
--- the first k of them are inside a list of so many numbers
-abbrev pub Inside : ℕ → ℕ → ℕ → ℕ → Type 0
-Inside base step k len = (t : ℕ) → t < k → 2 * (base + t * step) + 1 < len
-
--- k scalars of each of two runs are inside lists of a and of b numbers
-pub record BothInside (a0 sa a b0 sb b k : ℕ) : Type 0 where
-  pub first : Inside a0 sa k a
-  pub second : Inside b0 sb k b
-
--- k scalars of two runs of a list of a numbers, and of a row of a list of b
-pub record ThreeInside (a0 a1 sa a b0 b k : ℕ) : Type 0 where
-  pub first : Inside a0 sa k a
-  pub second : Inside a1 sa k a
-  pub row : Inside b0 1 k b
 
 -- xs with f 0 to f (k - 1) stored from the place base on
 unfoldable pub fillTo : List Float → ℕ → (ℕ → Scalar) → ℕ → List Float

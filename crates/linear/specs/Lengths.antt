@@ -1,7 +1,9 @@
--- Counts within the limit and slices of the right lengths: what a private function is given, since the public function
--- that calls it has checked them (document 01's refusals 1 and 2).
-use Prim.Native.Nat.{ℕ, _*_, _<_, _≤_}
+-- What private functions are given: counts within the limit and slices of the right lengths, which the public function
+-- that calls them has checked (document 01's refusals 1 and 2), and runs of places that were found to be inside.
+use Prim.Native.Nat.{ℕ, _+_, _*_, _<_, _≤_}
 use mathlib.Core.Path.{_≡_}
+
+-- ---- counts and lengths
 
 -- m rows and n columns
 pub record Counts (m n : ℕ) : Type 0 where
@@ -34,3 +36,20 @@ pub record MarkedColumns (m r k left : ℕ) : Type 0 where
   pub among-rows : k ≤ m
   pub among-columns : k ≤ r
   pub marks : left ≡ r
+
+-- ---- places
+
+-- k scalars from base on, step apart, are inside a list of len numbers
+abbrev pub Inside : ℕ → ℕ → ℕ → ℕ → Type 0
+Inside base step k len = (t : ℕ) → t < k → 2 * (base + t * step) + 1 < len
+
+-- k scalars of each of two runs are inside lists of a and of b numbers
+pub record BothInside (a0 sa a b0 sb b k : ℕ) : Type 0 where
+  pub first : Inside a0 sa k a
+  pub second : Inside b0 sb k b
+
+-- k scalars of two runs of a list of a numbers, and of a row of a list of b
+pub record ThreeInside (a0 a1 sa a b0 b k : ℕ) : Type 0 where
+  pub first : Inside a0 sa k a
+  pub second : Inside a1 sa k a
+  pub row : Inside b0 1 k b

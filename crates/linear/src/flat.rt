@@ -5,7 +5,8 @@ ghost use mathlib.Core.Path.{_≡_};
 ghost use mathlib.Core.Bool.{true};
 ghost use Prim.Native.Nat.{_+_, _*_, _<_, min};
 ghost use lib.ListN.{length};
-ghost use Rattle.linear.specs.Flat.{at, put, zeros, along, Inside, BothInside};
+ghost use Rattle.linear.specs.Flat.{at, put, zeros, along};
+ghost use Rattle.linear.specs.Lengths.{Inside, BothInside};
 use interval::Scalar;
 
 // The i-th scalar; NaN outside the slice.

@@ -58,7 +58,7 @@ fn columns(m: usize, r: usize, rows: &[f64], rhs: &[f64], cols: &mut [f64])
 
 // Column j from its diagonal on.
 fn tail(m: usize, cols: &[f64], j: usize, x: &mut [f64])
-    requires { ⌜ (j < m) × ((m ≤ 24) × (length (now x) ≡ 2 * (m - j))) ⌝ }
+    requires { ⌜ (j < m) × (m ≤ 24) × (length (now x) ≡ 2 * (m - j)) ⌝ }
     ensures { λ _. ⌜ now (x .exit) ≡ tailOf m (now (cols .entry)) j ⌝ }
 {
     let base = j * m + j;
@@ -104,7 +104,7 @@ fn reflect(v: &[f64], vv: Scalar, n: usize, base: usize, cols: &mut [f64]) -> Do
 
 // k columns from column j on reflected.
 fn reflect_all(m: usize, j: usize, v: &[f64], vv: Scalar, cols: &mut [f64], k: usize) -> Done
-    requires { ⌜ (j < m) × ((m ≤ 24) × (j + k ≤ 25)) ⌝ }
+    requires { ⌜ (j < m) × (m ≤ 24) × (j + k ≤ 25) ⌝ }
     ensures { λ r. ⌜ doneOf r (now (cols .exit)) ≡ reflectTo m j (now (v .entry)) vv (now (cols .entry)) k ⌝ }
 {
     let n = m - j;

@@ -7,7 +7,7 @@ ghost use lib.ListN.{length};
 ghost use Rattle.interval.specs.Scalar.{degenerate, subOf, mulOf};
 ghost use Rattle.linear.specs.Bounds.{scalarOf, isProper};
 ghost use Rattle.linear.specs.Choose.{chooseOf};
-ghost use Rattle.linear.specs.Flat.{BothInside};
+ghost use Rattle.linear.specs.Lengths.{BothInside};
 ghost use Rattle.linear.specs.Scaled.{minusScaled};
 use crate::bounds::Bounds;
 use crate::bounds::bounds_of;

@@ -19,7 +19,7 @@ use crate::store::store;
 
 // y[i], from those before it.
 fn forward_row(n: usize, l: &[f64], left_out: &[bool], b: &[f64], y: &mut [f64], i: usize) -> Done
-    requires { ⌜ (i < n) × ((n ≤ 24) × (length (now «left_out») ≡ n)) ⌝ }
+    requires { ⌜ (i < n) × (n ≤ 24) × (length (now «left_out») ≡ n) ⌝ }
     ensures { λ r. ⌜ doneOf r (now (y .exit))
         ≡ forwardStep n (now (l .entry)) (now («left_out» .entry)) (now (b .entry)) (now (y .entry)) i ⌝ }
 {
@@ -50,7 +50,7 @@ fn forward(n: usize, l: &[f64], left_out: &[bool], b: &[f64], y: &mut [f64]) -> 
 
 // x[i] for i = n - 1 - t, from those behind it.
 fn back_row(n: usize, l: &[f64], left_out: &[bool], y: &[f64], x: &mut [f64], t: usize) -> Done
-    requires { ⌜ (t < n) × ((n ≤ 24) × (length (now «left_out») ≡ n)) ⌝ }
+    requires { ⌜ (t < n) × (n ≤ 24) × (length (now «left_out») ≡ n) ⌝ }
     ensures { λ r. ⌜ doneOf r (now (x .exit))
         ≡ backStep n (now (l .entry)) (now («left_out» .entry)) (now (y .entry)) (now (x .entry)) t ⌝ }
 {

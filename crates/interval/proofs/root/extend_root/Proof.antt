@@ -1,6 +1,6 @@
 -- `extend_root` meets its contract: with t = 2 s u + v the square of s * 2^27 + u leaves v * 2^27 - u * u, and where
 -- that is negative one less is the root.
-use Prim.Native.Nat.{_+_, _-_, _*_, _/_, _%_}
+use Prim.Native.Nat.{_+_, _*_, _/_, _%_}
 use native.Mathlib.Omega.{arith}
 use borrow.Author.Needs.{needs}
 use Rattle.interval.proofs.RootExtend.{Facts, facts, some, pred}
@@ -9,7 +9,7 @@ use Rattle.interval.proofs.root.extend_root.Tie as tie
 
 the : (c : tie.Start) → Facts (c .args .s) (c .args .r) (c .args .r * 134217728 / (c .args .s * 2))
     (c .args .r * 134217728 % (c .args .s * 2))
-the c = facts (c .args .s) (c .args .r) (c .pre .0) (c .pre .1 .1)
+the c = facts (c .args .s) (c .args .r) (c .pre .from) (c .pre .rest)
 
 mul-t : tie.Need-mul-t
 mul-t c = search needs
@@ -36,7 +36,10 @@ mul-w : tie.Need-mul-w
 mul-w c = record { fits = omega (arith, the c .square) }
 
 returns : tie.Need-returns
-returns c = (omega (arith, the (c .before) .whole, c .if1 .taken), omega (arith, the (c .before) .rest))
+returns c = record {
+  same = omega (arith, the (c .before) .whole, c .if1 .taken);
+  rest = omega (arith, the (c .before) .rest);
+}
 
 sub-t10 : tie.Need-sub-t10
 sub-t10 c = search needs
@@ -65,8 +68,9 @@ returns-2 : tie.Need-returns-2
 returns-2 c =
     let q = c .before .args .s * 134217728 + (c .before .args .r * 134217728 / (c .before .args .s * 2)) in
     let h = some (c .before .args .r * 134217728 / (c .before .args .s * 2))
-    (c .before .args .r * 134217728 % (c .before .args .s * 2) * 134217728) (c .if1 .left) in (
-      omega (
+    (c .before .args .r * 134217728 % (c .before .args .s * 2) * 134217728) (c .if1 .left) in
+    record {
+      same = omega (
         arith,
         the (c .before) .whole,
         the (c .before) .square,
@@ -74,9 +78,9 @@ returns-2 c =
         c .if1 .left,
         pred q (omega (arith, h)),
         h,
-      ),
-      omega (arith, c .if1 .left, c .before .pre),
-    )
+      );
+      rest = omega (arith, c .if1 .left, c .before .pre);
+    }
 
 pub extend-root-spec : {M : Type 1} → statement M
 extend-root-spec =

@@ -1,5 +1,5 @@
 -- `lower_to_root` meets its contract: the candidate never rises, and the loop is left where its square is at most c.
-use Prim.Native.Nat.{_-_, _≤_}
+use Prim.Native.Nat.{_≤_}
 use native.Mathlib.Omega.{arith}
 use borrow.Author.Needs.{needs}
 use Rattle.interval.proofs.RootExtend.{some, fits28}

@@ -1,5 +1,4 @@
 -- `normalize` meets its contract: each turn moves one factor of 2 from the exponent to c.
-use Prim.Native.Nat.{_-_}
 use native.Mathlib.Omega.{arith}
 use borrow.Author.Needs.{needs}
 use Rattle.interval.proofs.RootBits.{Up, up-start, up-more, up-turn}

@@ -14,7 +14,7 @@ abbrev μ-loop : tie.MeasureT-loop
 μ-loop c start q₀ q = 2 ^ 27 - q
 
 loop-holds : tie.Need-loop-holds Inv-loop μ-loop
-loop-holds c = c .pre .1 .1
+loop-holds c = c .pre .2
 
 add-loop : tie.Need-add-loop Inv-loop μ-loop
 add-loop c = record {

@@ -1,6 +1,6 @@
 -- `is_inside` meets its contract: with few steps their product does not overflow, and the last place is inside.
 use mathlib.Core.Bool.{false≢true}
-use Prim.Native.Nat.{_-_, _*_, _≤_}
+use Prim.Native.Nat.{_-_, _≤_}
 use native.Mathlib.Nat.{mul-le-mul}
 use native.Mathlib.Omega.{arith}
 use borrow.Author.Needs.{needs}

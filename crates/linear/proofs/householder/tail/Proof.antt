@@ -75,7 +75,7 @@ returns c =
     let s = c .before .before .before .before in
     let a = s .args in
     let e = rw (le-antisymm (c .before .loop .inv .0) (c .loop-test .left)) at (c .before .loop .inv .2) in
-    e ∙ listTo-all (along (a .cols .now) (a .j * a .m + a .j) 1) (a .m - a .j) (a .x .now) (s .pre .1 .1)
+    e ∙ listTo-all (along (a .cols .now) (a .j * a .m + a .j) 1) (a .m - a .j) (a .x .now) (s .pre .2)
 
 pub tail-spec : {M : Type 1} → statement M
 tail-spec =
