@@ -10,6 +10,7 @@ use crate::area::write_begun;
 use crate::checks;
 use crate::checks::Checked;
 use crate::checks::refusal;
+use crate::damping::first_damping;
 use crate::state;
 use crate::state::Event;
 use crate::state::Kind;
@@ -17,7 +18,6 @@ use crate::state::Phase;
 use crate::state::Returned;
 use crate::state::Sizes;
 use crate::state::State;
-use crate::vectors::or_zero;
 use interval::Scalar;
 
 // The asked point, or the standing one where no question is open. It is empty for a run that number 4 refuses as altered, and for an area of the wrong length.
@@ -73,7 +73,7 @@ pub fn begin(
         return not_begun(number);
     }
     write_begun(area, start);
-    let mu = or_zero(Scalar::from_ratio(1, 1000));
+    let mu = first_damping();
     let state = state::state_with(z, mu, max_step, Phase::Open(Kind::Start));
     Returned {
         state,

@@ -4,13 +4,21 @@
 // interval that grew with every factor would in the end say nothing.
 ghost use Prim.Native.Nat.{_^_, _<_};
 ghost use mathlib.Core.Path.{_≡_};
-ghost use Rattle.run.specs.Damping.{damped, shrunk};
+ghost use Rattle.run.specs.Damping.{firstMu, damped, shrunk};
 ghost use Rattle.run.specs.State.{rejectedFor, withRadius};
 ghost use Rattle.run.specs.program.Damping.{goesOn, stopsAt};
 use crate::state::Rejection;
 use crate::state::Search;
 use crate::state::Stop;
+use crate::vectors::or_zero;
 use interval::Scalar;
+
+// The first damping, 1/1000: little beside the scaling D, so that a run begins near the full step.
+pub fn first_damping() -> Scalar
+    ensures { λ r. ⌜ r ≡ firstMu ⌝ }
+{
+    or_zero(Scalar::from_ratio(1, 1000))
+}
 
 // Whether the search goes on with more damping, or stops.
 pub enum Damped {

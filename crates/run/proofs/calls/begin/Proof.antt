@@ -4,7 +4,6 @@ use mathlib.Core.List.{List}
 use mathlib.Core.Path.{_≡_, _∙_, ap}
 use lib.Ieee.{Float}
 use Rattle.interval.specs.declared.Scalar.{Scalar}
-use Rattle.run.specs.Vectors.{orZero}
 use Rattle.run.specs.Area.{areaOf, begunMemory}
 use Rattle.run.specs.Calls.{afterCall, begunOf}
 use Rattle.run.specs.Damping.{firstMu}
@@ -41,11 +40,8 @@ write-begun-requires c κs =
     let a = c .before .before .before .before .before .args in
     begin-lengths (record { n = a .n; m = a .m; s = a .s; limit = a .limit }) (now (a .start)) (a .max-step) (now (a .area)) (c .before .before .refusal .ensures) (c .before .if1 .left)
 
-from-ratio-requires : tie.Need-from-ratio-requires
-from-ratio-requires c κs = search needs
-
-or-zero-requires : tie.Need-or-zero-requires
-or-zero-requires c κs = search needs
+first-damping-requires : tie.Need-first-damping-requires
+first-damping-requires c κs = search needs
 
 state-with-requires : tie.Need-state-with-requires
 state-with-requires c κs = search needs
@@ -55,10 +51,10 @@ same-length c = search needs
 
 returns-2 : tie.Need-returns-2
 returns-2 c =
-    let a = c .before .before .before .before .before .before .before .before .before .before .before .args in
+    let a = c .before .before .before .before .before .before .before .before .before .before .args in
     let z : Sizes = record { n = a .n; m = a .m; s = a .s; limit = a .limit } in
-    begun (now (a .start)) (c .state-with .ensures) (c .before .or-zero .ensures ∙ ap orZero (c .before .before .from-ratio .ensures)) (c .before .before .before .before .before .write-begun .ensures .is)
-    ∙ begin-passed z (now (a .start)) (a .max-step) (now (a .area)) (c .before .before .before .before .before .before .before .before .refusal .ensures) (c .before .before .before .before .before .before .before .if1 .left)
+    begun (now (a .start)) (c .state-with .ensures) (c .before .first-damping .ensures) (c .before .before .before .before .write-begun .ensures .is)
+    ∙ begin-passed z (now (a .start)) (a .max-step) (now (a .area)) (c .before .before .before .before .before .before .before .refusal .ensures) (c .before .before .before .before .before .before .if1 .left)
 
 pub begin-spec : {M : Type 1} → statement M
 begin-spec =
@@ -68,8 +64,7 @@ begin-spec =
     not-begun-requires
     returns
     write-begun-requires
-    from-ratio-requires
-    or-zero-requires
+    first-damping-requires
     state-with-requires
     same-length
     returns-2)
