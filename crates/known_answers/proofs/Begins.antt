@@ -14,7 +14,7 @@ use lib.ListN.{length, length-append}
 use Rattle.interval.specs.declared.Scalar.{Scalar}
 use Rattle.linear.specs.Flat.{zeros}
 use Rattle.run.specs.Limits.{AREA}
-use Rattle.run.specs.Area.{POINT, SPARE, Memory, areaOf, begunMemory}
+use Rattle.run.specs.Area.{POINT-LEN, SPARE-LEN, Memory, areaOf, begunMemory}
 use Rattle.run.specs.Calls.{AfterCall, Accepted, unchanged, checks}
 use Rattle.run.specs.Checks.{sizesFit, valid, inDomain, allInDomain, stepFits}
 use Rattle.run.specs.State.{stateWith, noRun}
@@ -71,13 +71,13 @@ area-length : (w : Memory)
     → length (areaOf w)
     ≡ length (w .standing)
     + (length (w .landed) + (length (w .asked) + (length (w .standingRows) + (length (w .landedRows)
-    + (length (w .step) + (length (w .multipliers) + (length (w .curvature) + (length (w .filter) + SPARE))))))))
+    + (length (w .step) + (length (w .multipliers) + (length (w .curvature) + (length (w .filter) + SPARE-LEN))))))))
 unfolding areaOf
 area-length w = simp (length-append, length-clear)
 
-pub begun-area : (start : List Float) → length start ≤ POINT → length (areaOf (begunMemory start)) ≡ AREA
+pub begun-area : (start : List Float) → length start ≤ POINT-LEN → length (areaOf (begunMemory start)) ≡ AREA
 begun-area start h =
-    area-length (begunMemory start) ∙ rw (length-padded POINT start h)
+    area-length (begunMemory start) ∙ rw (length-padded POINT-LEN start h)
 
 pub begun-valid : (z : Sizes) (max : Scalar) → sizesFit z ≡ true → valid (begunState z max) ≡ true
 begun-valid z max fit =

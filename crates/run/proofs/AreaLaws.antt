@@ -14,7 +14,7 @@ use Rattle.interval.specs.declared.Scalar.{Scalar}
 use Rattle.interval.specs.Scalar.{pick}
 use Rattle.linear.specs.Flat.{put, zeros}
 use Rattle.linear.proofs.FlatLaws.{length-put}
-use Rattle.run.specs.Area.{SIZES, SPARE, Memory, areaOf, memoryOf, isOpen, isTried, isCorrected, padded}
+use Rattle.run.specs.Area.{SIZES, SPARE-LEN, Memory, areaOf, memoryOf, isOpen, isTried, isCorrected, padded}
 use Rattle.run.specs.Area.{startOf, usedIn}
 use Rattle.run.specs.program.Area.{slotsOf, Holds, written, clearedTo}
 use Rattle.run.specs.program.Area.{Limits}
@@ -176,7 +176,7 @@ set-same (n ∷ ns) (suc k) = ap (λ (r : List ℕ). n ∷ r) (set-same ns k)
 -- an area whose slots are these lists
 pub record Slots (ls : List (List Float)) (a : List Float) : Type 0 where
   pub sized : map length ls ≡ SIZES
-  pub is : a ≡ joined ls (zeros SPARE)
+  pub is : a ≡ joined ls (zeros SPARE-LEN)
 
 pub slots-of : {w : Memory} {a : List Float} → Holds w a → Slots (slotsOf w) a
 unfolding areaOf
@@ -197,12 +197,12 @@ module _ {ls : List (List Float)} {a : List Float} (h : Slots ls a) where
   pub wrote : (k : ℕ) (s : List Float) {b : List Float} → k < 9 → length s ≡ getD SIZES k 0 → b ≡ written a (startOf SIZES k) s → Slots (set ls k s) b
   wrote k s {b} l e q = record {
     sized = lengths-set ls k s ∙ rw (h .sized, e) (set-same SIZES k);
-    is = q ∙ rw (h .is, ← h .sized) (write-part (zeros SPARE) ls k s (slot-there k l) (e ∙ sym (slot-length k)));
+    is = q ∙ rw (h .is, ← h .sized) (write-part (zeros SPARE-LEN) ls k s (slot-there k l) (e ∙ sym (slot-length k)));
   }
 
   -- what is read of slot k
   pub slot-read : (k : ℕ) → k < 9 → take (getD SIZES k 0) (drop (startOf SIZES k) a) ≡ getD ls k []
-  slot-read k l = rw (← slot-length k, h .is, ← h .sized) (read-part (zeros SPARE) ls k (slot-there k l))
+  slot-read k l = rw (← slot-length k, h .is, ← h .sized) (read-part (zeros SPARE-LEN) ls k (slot-there k l))
 
   -- slot j over slot i
   pub copied : (i j : ℕ) {b : List Float} → i < 9 → j < 9 → getD SIZES j 0 ≡ getD SIZES i 0 → b ≡ written a (startOf SIZES i) (take (getD SIZES j 0) (drop (startOf SIZES j) a)) → Slots (set ls i (getD ls j [])) b
@@ -227,7 +227,7 @@ clear-lengths [] = refl
 clear-lengths (n ∷ ns) = rw (length-replicate, clear-lengths ns)
 
 pub all-clear : {a : List Float} → a ≡ zeros 8000 → Slots (map zeros SIZES) a
-all-clear e = record { sized = clear-lengths SIZES; is = e ∙ sym (clear-joined SIZES SPARE) }
+all-clear e = record { sized = clear-lengths SIZES; is = e ∙ sym (clear-joined SIZES SPARE-LEN) }
 
 length-joined : (ls : List (List Float)) (e : List Float) → length (joined ls e) ≡ total (map length ls) + length e
 length-joined [] e = omega arith
@@ -236,18 +236,18 @@ length-joined (x ∷ ls) e = length-append x (joined ls e) ∙ rw (length-joined
 module _ {ls : List (List Float)} {a : List Float} (h : Slots ls a) where
   pub slots-length : length a ≡ 8000
   slots-length =
-      ap length (h .is) ∙ length-joined ls (zeros SPARE) ∙ ap₂ (λ (ns : List ℕ) (n : ℕ). total ns + n) (h .sized)
-      (length-clear SPARE)
+      ap length (h .is) ∙ length-joined ls (zeros SPARE-LEN) ∙ ap₂ (λ (ns : List ℕ) (n : ℕ). total ns + n) (h .sized)
+      (length-clear SPARE-LEN)
 
-  pub spare-drop : drop (startOf SIZES 9) a ≡ zeros SPARE
+  pub spare-drop : drop (startOf SIZES 9) a ≡ zeros SPARE-LEN
   spare-drop =
       let m : length ls ≡ 9 = sym (length-map ls (length {A = Float})) ∙ ap (length {A = ℕ}) (h .sized) in
-      rw (h .is, ← h .sized, ← m) (drop-end ls (zeros SPARE))
+      rw (h .is, ← h .sized, ← m) (drop-end ls (zeros SPARE-LEN))
 
-  pub spare-read : (j : ℕ) → getD a (startOf SIZES 9 + j) nan ≡ getD (zeros SPARE) j nan
+  pub spare-read : (j : ℕ) → getD a (startOf SIZES 9 + j) nan ≡ getD (zeros SPARE-LEN) j nan
   spare-read j =
       let m : length ls ≡ 9 = sym (length-map ls (length {A = Float})) ∙ ap (length {A = ℕ}) (h .sized) in
-      rw (h .is, ← h .sized, ← m) (read-end ls (zeros SPARE) j nan)
+      rw (h .is, ← h .sized, ← m) (read-end ls (zeros SPARE-LEN) j nan)
 
 -- as much of a slot as is in use lies within the area
 pub room : (base size : ℕ) {n long : ℕ} → n ≤ size → base + size ≤ 8000 → long ≡ 8000 → base + n ≤ long
@@ -406,8 +406,8 @@ module _ (st : State) (l : Limits (st .sizes) (st .counts .iterations)) where
         (cons-eq (k 1968 24 _ (u .1 .1 .1 .1 .1 .1 .0) (omega arith))
         (cons-eq (k 1992 288 _ (u .1 .1 .1 .1 .1 .1 .1 .0) (omega arith)) (cons-eq (k 2280 800 _ (u .1 .1 .1 .1 .1 .1 .1 .1 .0) (omega arith)) refl))))))))
 
-    pub memory-holds : {b : List Float} → b ≡ clearedTo SIZES (usedIn st) a 9 ++ zeros SPARE → Holds (memoryOf st a) b
+    pub memory-holds : {b : List Float} → b ≡ clearedTo SIZES (usedIn st) a 9 ++ zeros SPARE-LEN → Holds (memoryOf st a) b
     unfolding clearedTo startOf memoryOf areaOf
     memory-holds e =
         let w = memoryOf st a in
-        record { sized = memory-sized; is = e ∙ regroup (w .standing) (w .landed) (w .asked) (w .standingRows) (w .landedRows) (w .step) (w .multipliers) (w .curvature) (w .filter) (zeros SPARE) }
+        record { sized = memory-sized; is = e ∙ regroup (w .standing) (w .landed) (w .asked) (w .standingRows) (w .landedRows) (w .step) (w .multipliers) (w .curvature) (w .filter) (zeros SPARE-LEN) }

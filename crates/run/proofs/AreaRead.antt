@@ -18,7 +18,7 @@ use Rattle.linear.proofs.Lists.{at-append}
 use Rattle.run.specs.Rows.{rowNumbers, valueAt, constraintsOf, sumOf}
 use Rattle.run.specs.Residuals.{linearizedAt, squaredOf, sumSquared, violationOf}
 use Rattle.run.specs.Judgement.{sumChange}
-use Rattle.run.specs.Area.{POINT, ROWS, CURVATURE, FILTER, ASKED, SIZES, Memory, areaOf, memoryOf, startOf}
+use Rattle.run.specs.Area.{POINT-LEN, ROWS-LEN, CURVATURE-LEN, FILTER-LEN, ASKED-AT, SIZES, Memory, areaOf, memoryOf, startOf}
 use Rattle.run.specs.Area.{padded, usedOf, isTried, isCorrected, isOpen}
 use Rattle.run.specs.Limits.{AREA}
 use Rattle.run.specs.program.Area.{Holds, slotsOf}
@@ -50,36 +50,36 @@ length-used a base size inUse count h = length-padded size (take (pick inUse cou
     at-most false = zero-le
 
 pub record Sized (w : Memory) : Type 0 where
-  pub standing-size : length (w .standing) ≡ POINT
-  pub landed-size : length (w .landed) ≡ POINT
-  pub asked-size : length (w .asked) ≡ POINT
-  pub standing-rows-size : length (w .standingRows) ≡ ROWS
-  pub landed-rows-size : length (w .landedRows) ≡ ROWS
-  pub step-size : length (w .step) ≡ POINT
-  pub multipliers-size : length (w .multipliers) ≡ POINT
-  pub curvature-size : length (w .curvature) ≡ CURVATURE
-  pub filter-size : length (w .filter) ≡ FILTER
+  pub standing-size : length (w .standing) ≡ POINT-LEN
+  pub landed-size : length (w .landed) ≡ POINT-LEN
+  pub asked-size : length (w .asked) ≡ POINT-LEN
+  pub standing-rows-size : length (w .standingRows) ≡ ROWS-LEN
+  pub landed-rows-size : length (w .landedRows) ≡ ROWS-LEN
+  pub step-size : length (w .step) ≡ POINT-LEN
+  pub multipliers-size : length (w .multipliers) ≡ POINT-LEN
+  pub curvature-size : length (w .curvature) ≡ CURVATURE-LEN
+  pub filter-size : length (w .filter) ≡ FILTER-LEN
 
 -- what a call reads has the slots' sizes, whatever the area
 pub read-sized : (st : State) (a : List Float) → SizeBounds (st .sizes) → st .counts .iterations ≤ st .sizes .limit → Sized (memoryOf st a)
 unfolding memoryOf
 read-sized st a f h =
     let z = st .sizes in
-    let n2 : 2 * z .n ≤ POINT = omega arith in
-    let m2 : 2 * z .m ≤ POINT = omega arith in
-    let i4 : 4 * st .counts .iterations ≤ FILTER = omega arith in
+    let n2 : 2 * z .n ≤ POINT-LEN = omega arith in
+    let m2 : 2 * z .m ≤ POINT-LEN = omega arith in
+    let i4 : 4 * st .counts .iterations ≤ FILTER-LEN = omega arith in
     let tried = isTried (st .phase) in
     let corrected = isCorrected (st .phase) in
     record {
-      standing-size = length-used a 0 POINT true (2 * z .n) n2;
-      landed-size = length-used a 24 POINT corrected (2 * z .n) n2;
-      asked-size = length-used a 48 POINT (isOpen (st .phase)) (2 * z .n) n2;
-      standing-rows-size = length-used a 72 ROWS tried (rowNumbers (z .n) (z .m) (z .s)) (rows-fit z f);
-      landed-rows-size = length-used a 1008 ROWS corrected (rowNumbers (z .n) (z .m) (z .s)) (rows-fit z f);
-      step-size = length-used a 1944 POINT tried (2 * z .n) n2;
-      multipliers-size = length-used a 1968 POINT tried (2 * z .m) m2;
-      curvature-size = length-used a 1992 CURVATURE tried (2 * (z .n * z .n)) (curvature-fits z f);
-      filter-size = length-used a 2280 FILTER tried (4 * st .counts .iterations) i4;
+      standing-size = length-used a 0 POINT-LEN true (2 * z .n) n2;
+      landed-size = length-used a 24 POINT-LEN corrected (2 * z .n) n2;
+      asked-size = length-used a 48 POINT-LEN (isOpen (st .phase)) (2 * z .n) n2;
+      standing-rows-size = length-used a 72 ROWS-LEN tried (rowNumbers (z .n) (z .m) (z .s)) (rows-fit z f);
+      landed-rows-size = length-used a 1008 ROWS-LEN corrected (rowNumbers (z .n) (z .m) (z .s)) (rows-fit z f);
+      step-size = length-used a 1944 POINT-LEN tried (2 * z .n) n2;
+      multipliers-size = length-used a 1968 POINT-LEN tried (2 * z .m) m2;
+      curvature-size = length-used a 1992 CURVATURE-LEN tried (2 * (z .n * z .n)) (curvature-fits z f);
+      filter-size = length-used a 2280 FILTER-LEN tried (4 * st .counts .iterations) i4;
     }
 
 -- ---- slots of the area
@@ -98,15 +98,15 @@ module _ (w : Memory) (f : Sized w) where
   area-long = slots-length (slots-of held)
 
   -- the three points, each in its slot
-  pub standing-part : (c : ℕ) → c ≤ POINT → take c (areaOf w) ≡ take c (w .standing)
+  pub standing-part : (c : ℕ) → c ≤ POINT-LEN → take c (areaOf w) ≡ take c (w .standing)
   unfolding startOf
   standing-part c h = slot-part 0 c (omega arith) h
 
-  pub landed-part : (c : ℕ) → c ≤ POINT → take c (drop 24 (areaOf w)) ≡ take c (w .landed)
+  pub landed-part : (c : ℕ) → c ≤ POINT-LEN → take c (drop 24 (areaOf w)) ≡ take c (w .landed)
   unfolding startOf
   landed-part c h = slot-part 1 c (omega arith) h
 
-  pub asked-part : (c : ℕ) → c ≤ POINT → take c (drop ASKED (areaOf w)) ≡ take c (w .asked)
+  pub asked-part : (c : ℕ) → c ≤ POINT-LEN → take c (drop ASKED-AT (areaOf w)) ≡ take c (w .asked)
   unfolding startOf
   asked-part c h = slot-part 2 c (omega arith) h
 
@@ -125,14 +125,14 @@ module _ (st : State) (w : Memory) (f : Sized w) (small : SizeBounds (st .sizes)
   count : ℕ
   count = rowNumbers (st .sizes .n) (st .sizes .m) (st .sizes .s)
 
-  read-rows : (a r : List Float) (base : ℕ) (inUse : Bool) (xs : List Float) → inUse ≡ true → length xs ≡ count → r ≡ padded ROWS xs → take count (drop base a) ≡ take count r → usedOf a base ROWS inUse count ≡ padded ROWS xs
-  read-rows a r base inUse xs u e p q = rw (u, q, p, take-at xs (zeros (ROWS - length xs)) count e)
+  read-rows : (a r : List Float) (base : ℕ) (inUse : Bool) (xs : List Float) → inUse ≡ true → length xs ≡ count → r ≡ padded ROWS-LEN xs → take count (drop base a) ≡ take count r → usedOf a base ROWS-LEN inUse count ≡ padded ROWS-LEN xs
+  read-rows a r base inUse xs u e p q = rw (u, q, p, take-at xs (zeros (ROWS-LEN - length xs)) count e)
 
-  pub standing-rows-back : isTried (st .phase) ≡ true → (xs : List Float) → length xs ≡ rowNumbers (st .sizes .n) (st .sizes .m) (st .sizes .s) → w .standingRows ≡ padded ROWS xs → memoryOf st (areaOf w) .standingRows ≡ padded ROWS xs
+  pub standing-rows-back : isTried (st .phase) ≡ true → (xs : List Float) → length xs ≡ rowNumbers (st .sizes .n) (st .sizes .m) (st .sizes .s) → w .standingRows ≡ padded ROWS-LEN xs → memoryOf st (areaOf w) .standingRows ≡ padded ROWS-LEN xs
   unfolding memoryOf count startOf
   standing-rows-back u xs e p = read-rows (areaOf w) (w .standingRows) 72 (isTried (st .phase)) xs u e p (slot-part w f 3 count (omega arith) (rows-fit (st .sizes) small))
 
-  pub landed-rows-back : isCorrected (st .phase) ≡ true → (xs : List Float) → length xs ≡ rowNumbers (st .sizes .n) (st .sizes .m) (st .sizes .s) → w .landedRows ≡ padded ROWS xs → memoryOf st (areaOf w) .landedRows ≡ padded ROWS xs
+  pub landed-rows-back : isCorrected (st .phase) ≡ true → (xs : List Float) → length xs ≡ rowNumbers (st .sizes .n) (st .sizes .m) (st .sizes .s) → w .landedRows ≡ padded ROWS-LEN xs → memoryOf st (areaOf w) .landedRows ≡ padded ROWS-LEN xs
   unfolding memoryOf count startOf
   landed-rows-back u xs e p = read-rows (areaOf w) (w .landedRows) 1008 (isCorrected (st .phase)) xs u e p (slot-part w f 4 count (omega arith) (rows-fit (st .sizes) small))
 
@@ -143,39 +143,39 @@ module _ (st : State) (w : Memory) (f : Sized w) (small : SizeBounds (st .sizes)
       let m = 2 * st .counts .iterations in
       let c : 4 * st .counts .iterations ≡ 2 * m = omega arith in
       let l : 2 * m ≤ length (w .filter) = omega (arith, f .filter-size, small .limit) in
-      let e : usedOf (areaOf w) 2280 FILTER (isTried (st .phase)) (4 * st .counts .iterations) ≡ padded FILTER (take (2 * m) (w .filter)) = rw (u, c, slot-part w f 8 (2 * m) (omega arith) (omega (arith, small .limit))) in
-      ap (λ (l : List Float). at l i) e ∙ at-padded FILTER (take (2 * m) (w .filter)) i (omega (arith, length-take (2 * m) (w .filter))) ∙ at-take (w .filter) m i k l
+      let e : usedOf (areaOf w) 2280 FILTER-LEN (isTried (st .phase)) (4 * st .counts .iterations) ≡ padded FILTER-LEN (take (2 * m) (w .filter)) = rw (u, c, slot-part w f 8 (2 * m) (omega arith) (omega (arith, small .limit))) in
+      ap (λ (l : List Float). at l i) e ∙ at-padded FILTER-LEN (take (2 * m) (w .filter)) i (omega (arith, length-take (2 * m) (w .filter))) ∙ at-take (w .filter) m i k l
 
 -- ---- rows with +0 behind them
 
 module _ (z : Sizes) (xs : List Float) (e : length xs ≡ rowNumbers (z .n) (z .m) (z .s)) where
-  pub constraints-agree : Agree (valueAt (constraintsOf (z .n) (z .m) (padded ROWS xs))) (valueAt (constraintsOf (z .n) (z .m) xs)) (z .m)
+  pub constraints-agree : Agree (valueAt (constraintsOf (z .n) (z .m) (padded ROWS-LEN xs))) (valueAt (constraintsOf (z .n) (z .m) xs)) (z .m)
   constraints-agree i h =
-      at-padded ROWS xs (0 + i) (omega (arith, mul-le-mul-left {m = 1} {n = z .n + 1} (z .m + z .s) (omega arith)))
+      at-padded ROWS-LEN xs (0 + i) (omega (arith, mul-le-mul-left {m = 1} {n = z .n + 1} (z .m + z .s) (omega arith)))
 
-  pub sum-agrees : Agree (valueAt (sumOf (z .n) (z .m) (z .s) (padded ROWS xs))) (valueAt (sumOf (z .n) (z .m) (z .s) xs)) (z .s)
+  pub sum-agrees : Agree (valueAt (sumOf (z .n) (z .m) (z .s) (padded ROWS-LEN xs))) (valueAt (sumOf (z .n) (z .m) (z .s) xs)) (z .s)
   sum-agrees i h =
-      at-padded ROWS xs (z .m * (z .n + 1) + i)
+      at-padded ROWS-LEN xs (z .m * (z .n + 1) + i)
       (omega (arith, add-mul (z .m) (z .s) (z .n + 1), mul-le-mul-left {m = 1} {n = z .n + 1} (z .s) (omega arith)))
 
-  pub violation-padded : violationOf (constraintsOf (z .n) (z .m) (padded ROWS xs)) ≡ violationOf (constraintsOf (z .n) (z .m) xs)
+  pub violation-padded : violationOf (constraintsOf (z .n) (z .m) (padded ROWS-LEN xs)) ≡ violationOf (constraintsOf (z .n) (z .m) xs)
   unfolding violationOf
-  violation-padded = normOf-ext (valueAt (constraintsOf (z .n) (z .m) (padded ROWS xs))) (valueAt (constraintsOf (z .n) (z .m) xs)) (z .m) constraints-agree
+  violation-padded = normOf-ext (valueAt (constraintsOf (z .n) (z .m) (padded ROWS-LEN xs))) (valueAt (constraintsOf (z .n) (z .m) xs)) (z .m) constraints-agree
 
-  pub squared-padded : sumSquared (sumOf (z .n) (z .m) (z .s) (padded ROWS xs)) ≡ sumSquared (sumOf (z .n) (z .m) (z .s) xs)
+  pub squared-padded : sumSquared (sumOf (z .n) (z .m) (z .s) (padded ROWS-LEN xs)) ≡ sumSquared (sumOf (z .n) (z .m) (z .s) xs)
   unfolding squaredOf linearizedAt plusTo
   squared-padded =
-      let d = sumOf (z .n) (z .m) (z .s) (padded ROWS xs) in
+      let d = sumOf (z .n) (z .m) (z .s) (padded ROWS-LEN xs) in
       let b = sumOf (z .n) (z .m) (z .s) xs in
       let same : Agree (linearizedAt d (d .list) 0) (linearizedAt b (b .list) 0) (z .s) = λ i h. ap (λ (v : Scalar). addOf v zeroS) (sum-agrees i h) in
       dotTo-ext (linearizedAt d (d .list) 0) (linearizedAt b (b .list) 0) (linearizedAt d (d .list) 0) (linearizedAt b (b .list) 0) (z .s) same same
 
 pub change-padded : (z : Sizes) (xs ys : List Float) → length xs ≡ rowNumbers (z .n) (z .m) (z .s) → length ys ≡ rowNumbers (z .n) (z .m) (z .s)
-    → sumChange (sumOf (z .n) (z .m) (z .s) (padded ROWS xs)) (sumOf (z .n) (z .m) (z .s) (padded ROWS ys)) ≡ sumChange (sumOf (z .n) (z .m) (z .s) xs) (sumOf (z .n) (z .m) (z .s) ys)
+    → sumChange (sumOf (z .n) (z .m) (z .s) (padded ROWS-LEN xs)) (sumOf (z .n) (z .m) (z .s) (padded ROWS-LEN ys)) ≡ sumChange (sumOf (z .n) (z .m) (z .s) xs) (sumOf (z .n) (z .m) (z .s) ys)
 unfolding sumChange
 change-padded z xs ys p q =
-    let d = valueAt (sumOf (z .n) (z .m) (z .s) (padded ROWS xs)) in
-    let d′ = valueAt (sumOf (z .n) (z .m) (z .s) (padded ROWS ys)) in
+    let d = valueAt (sumOf (z .n) (z .m) (z .s) (padded ROWS-LEN xs)) in
+    let d′ = valueAt (sumOf (z .n) (z .m) (z .s) (padded ROWS-LEN ys)) in
     let b = valueAt (sumOf (z .n) (z .m) (z .s) xs) in
     let b′ = valueAt (sumOf (z .n) (z .m) (z .s) ys) in
     dotTo-ext (λ i. subOf (d i) (d′ i)) (λ i. subOf (b i) (b′ i)) (λ i. addOf (d i) (d′ i)) (λ i. addOf (b i) (b′ i)) (z .s)

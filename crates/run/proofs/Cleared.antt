@@ -15,7 +15,7 @@ use lib.Seq.{getD-drop, getD-take}
 use Rattle.interval.specs.declared.Scalar.{Scalar}
 use Rattle.interval.specs.Scalar.{zero64}
 use Rattle.run.specs.Rows.{rowNumbers}
-use Rattle.run.specs.Area.{POINT, ROWS, CURVATURE, FILTER, SPARE, SIZES, Memory, areaOf, memoryOf}
+use Rattle.run.specs.Area.{POINT-LEN, ROWS-LEN, CURVATURE-LEN, FILTER-LEN, SPARE-LEN, SIZES, Memory, areaOf, memoryOf}
 use Rattle.run.specs.Limits.{AREA}
 use Rattle.run.specs.Area.{begunMemory, startOf, usedIn}
 use Rattle.run.specs.program.Area.{slotsOf}
@@ -84,13 +84,13 @@ module _ (used : List ℕ) (w : Memory) (t : SlotsZeroBehind used w) where
       ∙ read-inside (getD (slotsOf w) k []) j nan zero64 (omega (arith, x .long))
       ∙ x .rest j u
 
-  spare-cleared : (i : ℕ) → AREA - SPARE ≤ i → i < AREA → getD (areaOf w) i nan ≡ zero64
+  spare-cleared : (i : ℕ) → AREA - SPARE-LEN ≤ i → i < AREA → getD (areaOf w) i nan ≡ zero64
   unfolding startOf
   spare-cleared i h l =
       let j = i - 3080 in
       let e : i ≡ 3080 + j = omega arith in
       ap (λ (p : ℕ). getD (areaOf w) p nan) e ∙ spare-read area-slots j
-      ∙ getD-replicate SPARE j zero64 nan (omega arith)
+      ∙ getD-replicate SPARE-LEN j zero64 nan (omega arith)
 
 tidy-cleared : (st : State) (w : Memory) → SlotsZeroBehind (usedIn st) w → Cleared st (areaOf w)
 tidy-cleared st w t =
@@ -168,17 +168,17 @@ reply-none-leaves st a =
 begun-tidy : (z : Sizes) (start : List Float) (max : Scalar) → SizeBounds z → length start ≡ 2 * z .n
     → SlotsZeroBehind (usedIn (begunOf z start max .state)) (begunMemory start)
 begun-tidy z start max b e =
-    let point = tidy-padded POINT (2 * z .n) start (omega arith) (omega (arith, b .n)) in
+    let point = tidy-padded POINT-LEN (2 * z .n) start (omega arith) (omega (arith, b .n)) in
     record {
       standing = point;
-      landed = tidy-zeros POINT 0;
+      landed = tidy-zeros POINT-LEN 0;
       asked = point;
-      standing-rows = tidy-zeros ROWS 0;
-      landed-rows = tidy-zeros ROWS 0;
-      step = tidy-zeros POINT 0;
-      multipliers = tidy-zeros POINT 0;
-      curvature = tidy-zeros CURVATURE 0;
-      filter = tidy-zeros FILTER 0;
+      standing-rows = tidy-zeros ROWS-LEN 0;
+      landed-rows = tidy-zeros ROWS-LEN 0;
+      step = tidy-zeros POINT-LEN 0;
+      multipliers = tidy-zeros POINT-LEN 0;
+      curvature = tidy-zeros CURVATURE-LEN 0;
+      filter = tidy-zeros FILTER-LEN 0;
     }
 
 abbrev Begun : AfterCall → Type 0

@@ -19,7 +19,7 @@ use Rattle.run.specs.Vectors.{fillTo, spreadTo}
 use Rattle.run.specs.Rows.{rowNumbers, constraintsOf}
 use Rattle.run.specs.Residuals.{violationOf}
 use Rattle.run.specs.Curvature.{curvatureEntries}
-use Rattle.run.specs.Area.{POINT, ROWS, CURVATURE, FILTER, SIZES, Memory, padded, memoryOf, startOf}
+use Rattle.run.specs.Area.{POINT-LEN, ROWS-LEN, CURVATURE-LEN, FILTER-LEN, SIZES, Memory, padded, memoryOf, startOf}
 use Rattle.run.specs.program.Area.{written}
 use Rattle.run.specs.program.Area.{Holds, slotsOf}
 use Rattle.run.specs.Area.{withStart, usedIn, usedOf, isOpen, isTried, isCorrected}
@@ -218,15 +218,15 @@ reads-tidy st a l =
     let corrected = isCorrected (st .phase) in
     let u = used-below st l in
     record {
-      standing = used-tidy a 0 POINT true (2 * z .n) (u .0);
-      landed = used-tidy a 24 POINT corrected (2 * z .n) (u .1 .0);
-      asked = used-tidy a 48 POINT (isOpen (st .phase)) (2 * z .n) (u .1 .1 .0);
-      standing-rows = used-tidy a 72 ROWS tried rows (u .1 .1 .1 .0);
-      landed-rows = used-tidy a 1008 ROWS corrected rows (u .1 .1 .1 .1 .0);
-      step = used-tidy a 1944 POINT tried (2 * z .n) (u .1 .1 .1 .1 .1 .0);
-      multipliers = used-tidy a 1968 POINT tried (2 * z .m) (u .1 .1 .1 .1 .1 .1 .0);
-      curvature = used-tidy a 1992 CURVATURE tried (2 * curvatureEntries (z .n)) (u .1 .1 .1 .1 .1 .1 .1 .0);
-      filter = used-tidy a 2280 FILTER tried (4 * st .counts .iterations) (u .1 .1 .1 .1 .1 .1 .1 .1 .0);
+      standing = used-tidy a 0 POINT-LEN true (2 * z .n) (u .0);
+      landed = used-tidy a 24 POINT-LEN corrected (2 * z .n) (u .1 .0);
+      asked = used-tidy a 48 POINT-LEN (isOpen (st .phase)) (2 * z .n) (u .1 .1 .0);
+      standing-rows = used-tidy a 72 ROWS-LEN tried rows (u .1 .1 .1 .0);
+      landed-rows = used-tidy a 1008 ROWS-LEN corrected rows (u .1 .1 .1 .1 .0);
+      step = used-tidy a 1944 POINT-LEN tried (2 * z .n) (u .1 .1 .1 .1 .1 .0);
+      multipliers = used-tidy a 1968 POINT-LEN tried (2 * z .m) (u .1 .1 .1 .1 .1 .1 .0);
+      curvature = used-tidy a 1992 CURVATURE-LEN tried (2 * curvatureEntries (z .n)) (u .1 .1 .1 .1 .1 .1 .1 .0);
+      filter = used-tidy a 2280 FILTER-LEN tried (4 * st .counts .iterations) (u .1 .1 .1 .1 .1 .1 .1 .1 .0);
     }
 
 at-most : (b : Bool) (n : ℕ) → pick b n 0 ≤ n
@@ -267,7 +267,7 @@ only-points st {w} {a} e u =
 
 start-slots :
     (w : Memory) (rows : List Float) {point : ℕ} → SlotsZeroBehind (pointsUsed point) w →
-    set (set (slotsOf w) 2 (zeros POINT)) 3 (padded ROWS rows) ≡ slotsOf (withStart w rows)
+    set (set (slotsOf w) 2 (zeros POINT-LEN)) 3 (padded ROWS-LEN rows) ≡ slotsOf (withStart w rows)
 start-slots w rows t =
     rw (
       clear-slot (t .landed),
@@ -282,7 +282,7 @@ start-slots w rows t =
 -- once the asked point is cleared and the rows are in their slot
 pub started-holds :
     (w : Memory) (rows : List Float) {point : ℕ} {a : List Float} → SlotsZeroBehind (pointsUsed point) w →
-    Slots (set (set (slotsOf w) 2 (zeros POINT)) 3 (padded ROWS rows)) a → Holds (withStart w rows) a
+    Slots (set (set (slotsOf w) 2 (zeros POINT-LEN)) 3 (padded ROWS-LEN rows)) a → Holds (withStart w rows) a
 started-holds w rows {a = a} t h =
     holds-of (withStart w rows) (subst (λ (ls : List (List Float)). Slots ls a) (start-slots w rows t) h)
 
@@ -291,11 +291,11 @@ started-holds w rows {a = a} t h =
 module _ (z : Sizes) {iterations : ℕ} (l : Limits z iterations) {us : List ℕ} (e : us ≡ allUsed z iterations) where
   all-below : Below (allUsed z iterations) SIZES
   all-below =
-      let point : 2 * z .n ≤ POINT = omega (arith, l .n) in
-      let rows : rowNumbers (z .n) (z .m) (z .s) ≤ ROWS = omega (arith, rows-fit z l) in
-      let multipliers : 2 * z .m ≤ POINT = omega (arith, l .m) in
-      let entries : 2 * curvatureEntries (z .n) ≤ CURVATURE = omega (arith, entries-fit z l) in
-      let pairs : 4 * iterations ≤ FILTER = omega (arith, l .iterations-fit) in
+      let point : 2 * z .n ≤ POINT-LEN = omega (arith, l .n) in
+      let rows : rowNumbers (z .n) (z .m) (z .s) ≤ ROWS-LEN = omega (arith, rows-fit z l) in
+      let multipliers : 2 * z .m ≤ POINT-LEN = omega (arith, l .m) in
+      let entries : 2 * curvatureEntries (z .n) ≤ CURVATURE-LEN = omega (arith, entries-fit z l) in
+      let pairs : 4 * iterations ≤ FILTER-LEN = omega (arith, l .iterations-fit) in
       (point, (point, (point, (rows, (rows, (point, (multipliers, (entries, (pairs, tt)))))))))
 
   pub fits : (k : ℕ) → k < 9 → getD us k 0 ≤ getD SIZES k 0
@@ -309,7 +309,7 @@ pub used-as : {us vs : List ℕ} → us ≡ vs → (k : ℕ) {size : ℕ} {xs : 
 used-as e k {size} {xs} t = subst (λ (us : List ℕ). ZeroBehind size (getD us k 0) xs) (sym e) t
 
 pub few-rows :
-    (z : Sizes) {n : ℕ} → (z .n ≤ 12) × ((z .m ≤ 12) × (z .s ≤ 24)) → n ≡ rowNumbers (z .n) (z .m) (z .s) → n ≤ ROWS
+    (z : Sizes) {n : ℕ} → (z .n ≤ 12) × ((z .m ≤ 12) × (z .s ≤ 24)) → n ≡ rowNumbers (z .n) (z .m) (z .s) → n ≤ ROWS-LEN
 few-rows z p e = omega (arith, e, few-scalars {n = z .n} {m = z .m} {s = z .s} (p .0) (p .1 .0) (p .1 .1))
 
 pub rows-as : {n m size : ℕ} {xs : List Float} → n ≡ m → ZeroBehind size m xs → ZeroBehind size n xs

@@ -23,7 +23,7 @@ use Rattle.run.specs.Proposal as proposal
 use Rattle.run.specs.Judgement.{Judged, judgeOf}
 use Rattle.run.specs.Limits.{CORRECTIONS}
 use Rattle.run.specs.Corrected.{to, stay, shiftOf, shiftFrom, shiftedStep}
-use Rattle.run.specs.Area.{POINT, ROWS, CURVATURE, FILTER, Memory, usedIn, padded, onlyStanding, withStart}
+use Rattle.run.specs.Area.{POINT-LEN, ROWS-LEN, CURVATURE-LEN, FILTER-LEN, Memory, usedIn, padded, onlyStanding, withStart}
 use Rattle.run.specs.program.Area.{Holds}
 use Rattle.run.specs.Area.{withLanded, withTaken}
 use Rattle.run.specs.Limits.{DAMPINGS}
@@ -85,14 +85,14 @@ only-standing : (used most : List ℕ) (w : Memory) → getD used 0 0 ≡ getD m
 only-standing used most w e t =
     record {
       standing = tidy-more (t .standing) (omega arith);
-      landed = tidy-zeros POINT (getD used 1 0);
-      asked = tidy-zeros POINT (getD used 2 0);
-      standing-rows = tidy-zeros ROWS (getD used 3 0);
-      landed-rows = tidy-zeros ROWS (getD used 4 0);
-      step = tidy-zeros POINT (getD used 5 0);
-      multipliers = tidy-zeros POINT (getD used 6 0);
-      curvature = tidy-zeros CURVATURE (getD used 7 0);
-      filter = tidy-zeros FILTER (getD used 8 0);
+      landed = tidy-zeros POINT-LEN (getD used 1 0);
+      asked = tidy-zeros POINT-LEN (getD used 2 0);
+      standing-rows = tidy-zeros ROWS-LEN (getD used 3 0);
+      landed-rows = tidy-zeros ROWS-LEN (getD used 4 0);
+      step = tidy-zeros POINT-LEN (getD used 5 0);
+      multipliers = tidy-zeros POINT-LEN (getD used 6 0);
+      curvature = tidy-zeros CURVATURE-LEN (getD used 7 0);
+      filter = tidy-zeros FILTER-LEN (getD used 8 0);
     }
 
 module _ (st : State) (w : Memory) (t : AtWork st w) where
@@ -171,10 +171,10 @@ left-kept st w t (asks x y) h =
       sizes-kept = refl;
       tidy = record {
         standing = t .standing;
-        landed = tidy-zeros POINT 0;
+        landed = tidy-zeros POINT-LEN 0;
         asked = h .next;
         standing-rows = t .standing-rows;
-        landed-rows = tidy-zeros ROWS 0;
+        landed-rows = tidy-zeros ROWS-LEN 0;
         step = h .delta;
         multipliers = h .lambda;
         curvature = t .curvature;
@@ -233,16 +233,16 @@ filter-tidy size used count filter f theta h t =
     tidy-put (tidy-put t (2 * count) f (omega arith)) (2 * count + 1) theta (omega arith)
 
 module _ (st : State) (w : Memory) (t : AtWork st w) where
-  curvature-used : ZeroBehind CURVATURE (2 * curvatureEntries (st .sizes .n)) (curvatureOf st w)
+  curvature-used : ZeroBehind CURVATURE-LEN (2 * curvatureEntries (st .sizes .n)) (curvatureOf st w)
   curvature-used = by (st .search .plain)
     where
-      by : (b : Bool) → ZeroBehind CURVATURE (2 * curvatureEntries (st .sizes .n)) (pick b (zeros CURVATURE) (w .curvature))
-      by true = tidy-zeros CURVATURE (2 * curvatureEntries (st .sizes .n))
+      by : (b : Bool) → ZeroBehind CURVATURE-LEN (2 * curvatureEntries (st .sizes .n)) (pick b (zeros CURVATURE-LEN) (w .curvature))
+      by true = tidy-zeros CURVATURE-LEN (2 * curvatureEntries (st .sizes .n))
       by false = t .curvature
 
   -- with one pair more in the filter
   pub taken-working :
-      (b : List Float) (f theta : Scalar) → ZeroBehind CURVATURE (2 * curvatureEntries (st .sizes .n)) b →
+      (b : List Float) (f theta : Scalar) → ZeroBehind CURVATURE-LEN (2 * curvatureEntries (st .sizes .n)) b →
       SlotsZeroBehind (allUsed (st .sizes) (st .counts .iterations + 1))
       (withTaken w b (filterWith (w .filter) (st .counts .iterations) f theta))
   taken-working b f theta tidy-b =
@@ -255,17 +255,17 @@ module _ (st : State) (w : Memory) (t : AtWork st w) where
         step = t .step;
         multipliers = t .multipliers;
         curvature = tidy-b;
-        filter = filter-tidy FILTER (4 * (st .counts .iterations + 1)) (st .counts .iterations) (w .filter) f theta
+        filter = filter-tidy FILTER-LEN (4 * (st .counts .iterations + 1)) (st .counts .iterations) (w .filter) f theta
             (omega arith) (tidy-more (t .filter) (omega arith));
       }
 
   pub learned-tidy : {b : List Float}
       → updateCurvature (st .sizes .n) (curvatureOf st w) (w .step) (standingAt st w) (landedAt st w) (w .multipliers)
       ≡ ok b
-      → ZeroBehind CURVATURE (2 * curvatureEntries (st .sizes .n)) b
+      → ZeroBehind CURVATURE-LEN (2 * curvatureEntries (st .sizes .n)) b
   learned-tidy e =
       given e
-      (curvature-tidy CURVATURE (st .sizes .n) (curvatureOf st w) (w .step) (standingAt st w) (landedAt st w)
+      (curvature-tidy CURVATURE-LEN (st .sizes .n) (curvatureOf st w) (w .step) (standingAt st w) (landedAt st w)
       (w .multipliers) curvature-used)
 
   take-kept : (theta length : Scalar) → Kept (st .sizes) (run.take st w theta length)
@@ -278,7 +278,7 @@ module _ (st : State) (w : Memory) (t : AtWork st w) where
       (λ third v.
       or-refuse-kept st w t
       (updateCurvature (st .sizes .n) (curvatureOf st w) (w .step) (standingAt st w) (landedAt st w) (w .multipliers)) _
-      (curvature-tidy CURVATURE (st .sizes .n) (curvatureOf st w) (w .step) (standingAt st w) (landedAt st w)
+      (curvature-tidy CURVATURE-LEN (st .sizes .n) (curvatureOf st w) (w .step) (standingAt st w) (landedAt st w)
       (w .multipliers) curvature-used)
       (λ b tidy-b.
       let pairs = filterWith (w .filter) (st .counts .iterations) (sumSquared (standingAt st w .sum)) theta in
@@ -339,14 +339,14 @@ module _ (st : State) (w : Memory) (t : AtWork st w) where
 -- rows as they are answered
 pub record Answered (st : State) (rows : List Float) : Type 0 where
   pub many : length rows ≡ rowNumbers (st .sizes .n) (st .sizes .m) (st .sizes .s)
-  pub fit : length rows ≤ ROWS
+  pub fit : length rows ≤ ROWS-LEN
 
 module _ (st : State) (w : Memory) (t : AtWork st w) (rows : List Float) (r : Answered st rows) where
-  rows-tidy : ZeroBehind ROWS (rowNumbers (st .sizes .n) (st .sizes .m) (st .sizes .s)) (padded ROWS rows)
+  rows-tidy : ZeroBehind ROWS-LEN (rowNumbers (st .sizes .n) (st .sizes .m) (st .sizes .s)) (padded ROWS-LEN rows)
   rows-tidy =
-      tidy-padded ROWS (rowNumbers (st .sizes .n) (st .sizes .m) (st .sizes .s)) rows (omega (arith, r .many)) (r .fit)
+      tidy-padded ROWS-LEN (rowNumbers (st .sizes .n) (st .sizes .m) (st .sizes .s)) rows (omega (arith, r .many)) (r .fit)
 
-  pub landed-working : (n : ℕ) (step : List Float) → ZeroBehind POINT (2 * st .sizes .n) step
+  pub landed-working : (n : ℕ) (step : List Float) → ZeroBehind POINT-LEN (2 * st .sizes .n) step
       → AtWork (landing st n) (withLanded w rows step)
   landed-working n step s =
       record {
@@ -399,14 +399,14 @@ module _ (st : State) (w : Memory) (t : AtWork st w) (rows : List Float) (r : An
   start-working =
       record {
         standing = t .standing;
-        landed = tidy-zeros POINT _;
-        asked = tidy-zeros POINT _;
+        landed = tidy-zeros POINT-LEN _;
+        asked = tidy-zeros POINT-LEN _;
         standing-rows = rows-tidy;
-        landed-rows = tidy-zeros ROWS _;
-        step = tidy-zeros POINT _;
-        multipliers = tidy-zeros POINT _;
-        curvature = tidy-zeros CURVATURE _;
-        filter = tidy-zeros FILTER _;
+        landed-rows = tidy-zeros ROWS-LEN _;
+        step = tidy-zeros POINT-LEN _;
+        multipliers = tidy-zeros POINT-LEN _;
+        curvature = tidy-zeros CURVATURE-LEN _;
+        filter = tidy-zeros FILTER-LEN _;
       }
 
   start-kept : Kept (st .sizes) (started st w rows)
@@ -450,11 +450,11 @@ module _ (st : State) {most : ℕ} (bounded : Bounded most st) (rows : List Floa
 
   -- where the asked point landed
   pub lands : {w : Memory} {a b : List Float} →
-      Working st w a → (ZeroBehind ROWS (length rows) (w .landedRows) → Holds (withLanded w rows (w .step)) b) →
+      Working st w a → (ZeroBehind ROWS-LEN (length rows) (w .landedRows) → Holds (withLanded w rows (w .step)) b) →
       Working st (withLanded w rows (w .step)) b
   lands {w} h f =
       record {
-        holds = f (subst (λ (n : ℕ). ZeroBehind ROWS n (w .landedRows)) (sym many) (h .tidy .landed-rows));
+        holds = f (subst (λ (n : ℕ). ZeroBehind ROWS-LEN n (w .landedRows)) (sym many) (h .tidy .landed-rows));
         tidy = landed-working st w (h .tidy) rows as-answered 0 (w .step) (h .tidy .step);
       }
 

@@ -1,4 +1,5 @@
--- The work area (document 01, "Area"): 8,000 numbers in slots. A slot's used places are from its start; all else is +0 after a call.
+-- The work area (document 01, "Area"): 8,000 numbers in slots. A slot's used places are from its start; all else is +0
+-- after a call.
 use Prim.Native.Nat.{ℕ, _+_, _-_, _*_, zero, suc}
 use mathlib.Core.Bool.{Bool, true, false}
 use mathlib.Core.List.{List, _++_, [], _∷_}
@@ -14,24 +15,51 @@ use Rattle.run.specs.declared.state.Phase.the-variants.{Open, Over}
 use Rattle.run.specs.declared.state.State.{State}
 
 -- how many numbers each slot has
-abbrev pub POINT : ℕ
-POINT = 24
+abbrev pub POINT-LEN : ℕ
+POINT-LEN = 24
 
-abbrev pub ROWS : ℕ
-ROWS = 936
+abbrev pub ROWS-LEN : ℕ
+ROWS-LEN = 936
 
-abbrev pub CURVATURE : ℕ
-CURVATURE = 288
+abbrev pub CURVATURE-LEN : ℕ
+CURVATURE-LEN = 288
 
-abbrev pub FILTER : ℕ
-FILTER = 800
+abbrev pub FILTER-LEN : ℕ
+FILTER-LEN = 800
 
-abbrev pub SPARE : ℕ
-SPARE = 4920
+abbrev pub SPARE-LEN : ℕ
+SPARE-LEN = 4920
 
--- where the asked point's slot begins: behind the standing and the landed point
-abbrev pub ASKED : ℕ
-ASKED = 48
+-- where each slot begins, the standing point's at 0, and what is behind them
+abbrev pub STANDING-AT : ℕ
+STANDING-AT = 0
+
+abbrev pub LANDED-AT : ℕ
+LANDED-AT = 24
+
+abbrev pub ASKED-AT : ℕ
+ASKED-AT = 48
+
+abbrev pub STANDING-ROWS-AT : ℕ
+STANDING-ROWS-AT = 72
+
+abbrev pub LANDED-ROWS-AT : ℕ
+LANDED-ROWS-AT = 1008
+
+abbrev pub STEP-AT : ℕ
+STEP-AT = 1944
+
+abbrev pub MULTIPLIERS-AT : ℕ
+MULTIPLIERS-AT = 1968
+
+abbrev pub CURVATURE-AT : ℕ
+CURVATURE-AT = 1992
+
+abbrev pub FILTER-AT : ℕ
+FILTER-AT = 2280
+
+abbrev pub SPARE-AT : ℕ
+SPARE-AT = 3080
 
 -- what the area holds, slot by slot; each list has its slot's length
 pub record Memory : Type 0 where
@@ -48,7 +76,8 @@ pub record Memory : Type 0 where
 -- the area, number by number
 unfoldable pub areaOf : Memory → List Float
 areaOf w =
-    w .standing ++ (w .landed ++ (w .asked ++ (w .standingRows ++ (w .landedRows ++ (w .step ++ (w .multipliers ++ (w .curvature ++ (w .filter ++ zeros SPARE))))))))
+    w .standing ++ (w .landed ++ (w .asked ++ (w .standingRows ++ (w .landedRows ++ (w .step
+    ++ (w .multipliers ++ (w .curvature ++ (w .filter ++ zeros SPARE-LEN))))))))
 
 -- xs, and +0 behind it
 abbrev pub padded : ℕ → List Float → List Float
@@ -58,8 +87,8 @@ padded size xs = xs ++ zeros (size - length xs)
 abbrev pub usedOf : List Float → ℕ → ℕ → Bool → ℕ → List Float
 usedOf a base size inUse count = padded size (take (pick inUse count 0) (drop base a))
 
--- which slots are in use: the asked point while a question is open; standing rows, curvature and filter, step and multipliers while a trial or correction is; the landed point and rows while a
--- correction is
+-- which slots are in use: the asked point while a question is open; standing rows, curvature and filter, step and
+-- multipliers while a trial or correction is; the landed point and rows while a correction is
 abbrev pub isOpen : Phase → Bool
 isOpen (Open k) = true
 isOpen Over = false
@@ -84,15 +113,15 @@ memoryOf st a =
     let tried = isTried (st .phase) in
     let corrected = isCorrected (st .phase) in
     record {
-      standing = usedOf a 0 POINT true (2 * n);
-      landed = usedOf a 24 POINT corrected (2 * n);
-      asked = usedOf a ASKED POINT (isOpen (st .phase)) (2 * n);
-      standingRows = usedOf a 72 ROWS tried rows;
-      landedRows = usedOf a 1008 ROWS corrected rows;
-      step = usedOf a 1944 POINT tried (2 * n);
-      multipliers = usedOf a 1968 POINT tried (2 * st .sizes .m);
-      curvature = usedOf a 1992 CURVATURE tried (2 * curvatureEntries n);
-      filter = usedOf a 2280 FILTER tried (4 * st .counts .iterations);
+      standing = usedOf a STANDING-AT POINT-LEN true (2 * n);
+      landed = usedOf a LANDED-AT POINT-LEN corrected (2 * n);
+      asked = usedOf a ASKED-AT POINT-LEN (isOpen (st .phase)) (2 * n);
+      standingRows = usedOf a STANDING-ROWS-AT ROWS-LEN tried rows;
+      landedRows = usedOf a LANDED-ROWS-AT ROWS-LEN corrected rows;
+      step = usedOf a STEP-AT POINT-LEN tried (2 * n);
+      multipliers = usedOf a MULTIPLIERS-AT POINT-LEN tried (2 * st .sizes .m);
+      curvature = usedOf a CURVATURE-AT CURVATURE-LEN tried (2 * curvatureEntries n);
+      filter = usedOf a FILTER-AT FILTER-LEN tried (4 * st .counts .iterations);
     }
 
 -- ---- how a call changes it
@@ -100,53 +129,53 @@ memoryOf st a =
 -- after a begin: the start point stands and is asked
 abbrev pub begunMemory : List Float → Memory
 begunMemory start = record {
-  standing = padded POINT start;
-  landed = zeros POINT;
-  asked = padded POINT start;
-  standingRows = zeros ROWS;
-  landedRows = zeros ROWS;
-  step = zeros POINT;
-  multipliers = zeros POINT;
-  curvature = zeros CURVATURE;
-  filter = zeros FILTER;
+  standing = padded POINT-LEN start;
+  landed = zeros POINT-LEN;
+  asked = padded POINT-LEN start;
+  standingRows = zeros ROWS-LEN;
+  landedRows = zeros ROWS-LEN;
+  step = zeros POINT-LEN;
+  multipliers = zeros POINT-LEN;
+  curvature = zeros CURVATURE-LEN;
+  filter = zeros FILTER-LEN;
 }
 
 -- after a finish, or refusal 5 or 6: only the standing point
 abbrev pub onlyStanding : Memory → Memory
 onlyStanding w = record {
   standing = w .standing;
-  landed = zeros POINT;
-  asked = zeros POINT;
-  standingRows = zeros ROWS;
-  landedRows = zeros ROWS;
-  step = zeros POINT;
-  multipliers = zeros POINT;
-  curvature = zeros CURVATURE;
-  filter = zeros FILTER;
+  landed = zeros POINT-LEN;
+  asked = zeros POINT-LEN;
+  standingRows = zeros ROWS-LEN;
+  landedRows = zeros ROWS-LEN;
+  step = zeros POINT-LEN;
+  multipliers = zeros POINT-LEN;
+  curvature = zeros CURVATURE-LEN;
+  filter = zeros FILTER-LEN;
 }
 
 -- a start's answer
 abbrev pub withStart : Memory → List Float → Memory
 withStart w rows = record {
   standing = w .standing;
-  landed = zeros POINT;
-  asked = zeros POINT;
-  standingRows = padded ROWS rows;
-  landedRows = zeros ROWS;
-  step = zeros POINT;
-  multipliers = zeros POINT;
-  curvature = zeros CURVATURE;
-  filter = zeros FILTER;
+  landed = zeros POINT-LEN;
+  asked = zeros POINT-LEN;
+  standingRows = padded ROWS-LEN rows;
+  landedRows = zeros ROWS-LEN;
+  step = zeros POINT-LEN;
+  multipliers = zeros POINT-LEN;
+  curvature = zeros CURVATURE-LEN;
+  filter = zeros FILTER-LEN;
 }
 
 -- a trial asked: nothing has landed
 abbrev pub withTrial : Memory → List Float → List Float → List Float → Memory
 withTrial w next delta lambda = record {
   standing = w .standing;
-  landed = zeros POINT;
+  landed = zeros POINT-LEN;
   asked = next;
   standingRows = w .standingRows;
-  landedRows = zeros ROWS;
+  landedRows = zeros ROWS-LEN;
   step = delta;
   multipliers = lambda;
   curvature = w .curvature;
@@ -174,7 +203,7 @@ withLanded w rows step = record {
   landed = w .asked;
   asked = w .asked;
   standingRows = w .standingRows;
-  landedRows = padded ROWS rows;
+  landedRows = padded ROWS-LEN rows;
   step = step;
   multipliers = w .multipliers;
   curvature = w .curvature;
@@ -196,7 +225,7 @@ withTaken w curvature filter = record {
 }
 
 abbrev pub SIZES : List ℕ
-SIZES = POINT ∷ (POINT ∷ (POINT ∷ (ROWS ∷ (ROWS ∷ (POINT ∷ (POINT ∷ (CURVATURE ∷ (FILTER ∷ []))))))))
+SIZES = POINT-LEN ∷ (POINT-LEN ∷ (POINT-LEN ∷ (ROWS-LEN ∷ (ROWS-LEN ∷ (POINT-LEN ∷ (POINT-LEN ∷ (CURVATURE-LEN ∷ (FILTER-LEN ∷ []))))))))
 
 -- how many numbers of each slot are in use
 abbrev pub usedIn : State → List ℕ
@@ -208,7 +237,12 @@ usedIn st =
     2 * n
     ∷ (pick corrected (2 * n) 0
     ∷ (pick (isOpen (st .phase)) (2 * n) 0
-    ∷ (pick tried rows 0 ∷ (pick corrected rows 0 ∷ (pick tried (2 * n) 0 ∷ (pick tried (2 * st .sizes .m) 0 ∷ (pick tried (2 * curvatureEntries n) 0 ∷ (pick tried (4 * st .counts .iterations) 0 ∷ []))))))))
+    ∷ (pick tried rows 0
+    ∷ (pick corrected rows 0
+    ∷ (pick tried (2 * n) 0
+    ∷ (pick tried (2 * st .sizes .m) 0
+    ∷ (pick tried (2 * curvatureEntries n) 0
+    ∷ (pick tried (4 * st .counts .iterations) 0 ∷ []))))))))
 
 -- where slot k begins
 unfoldable pub startOf : List ℕ → ℕ → ℕ
@@ -228,4 +262,4 @@ landedAt st w = rowsAt st (w .landedRows)
 
 -- the curvature that a proposal goes by: none in plain
 abbrev pub curvatureOf : State → Memory → List Float
-curvatureOf st w = pick (st .search .plain) (zeros CURVATURE) (w .curvature)
+curvatureOf st w = pick (st .search .plain) (zeros CURVATURE-LEN) (w .curvature)

@@ -9,7 +9,7 @@ use lib.ListN.{length, take, drop}
 use Rattle.interval.specs.Scalar.{pick}
 use Rattle.interval.specs.declared.Scalar.{Scalar}
 use Rattle.run.specs.Answered.{answered, answeredNone}
-use Rattle.run.specs.Area.{areaOf, begunMemory, memoryOf, ASKED}
+use Rattle.run.specs.Area.{areaOf, begunMemory, memoryOf, ASKED-AT}
 use Rattle.run.specs.Checks.{sizesFit, allInDomain, stepFits, valid}
 use Rattle.run.specs.Damping.{firstMu}
 use Rattle.run.specs.Endings.{AfterSlots}
@@ -93,7 +93,7 @@ replyNoneOf st a = checks (valid st) 4 (unchanged st a) (noneOpen st a (st .phas
 -- ---- the point: the asked one, or with no question open the standing one
 
 abbrev pub pointAt : Phase → ℕ
-pointAt (Open k) = ASKED
+pointAt (Open k) = ASKED-AT
 pointAt Over = 0
 
 unfoldable pub pointOf : State → List Float → List Float

@@ -8,7 +8,7 @@ use Rattle.interval.specs.Scalar.{zeroS, definitelyGreater}
 use Rattle.interval.specs.Scaling.{isPositive}
 use Rattle.interval.specs.declared.Scalar.{Scalar}
 use Rattle.linear.specs.Flat.{at}
-use Rattle.run.specs.Limits.{MOST, CORRECTIONS, TURN-DOWNS, QUESTIONS}
+use Rattle.run.specs.Limits.{VARIABLES, CONSTRAINTS, SUM-ROWS, ITERATIONS, TURN-DOWNS, QUESTIONS, CORRECTIONS, MOST}
 use Rattle.run.specs.Vectors.{allTo}
 use Rattle.run.specs.declared.state.Kind.the-variants as kind
 use Rattle.run.specs.declared.state.Phase.{Phase}
@@ -18,9 +18,10 @@ use Rattle.run.specs.declared.state.State.{State}
 
 -- ---- limits
 
--- n and m to 12, s to 24, the limit to 200
+-- n, m, s and the limit
 abbrev pub sizesFit : Sizes → Bool
-sizesFit z = leb (z .n) 12 && (leb (z .m) 12 && (leb (z .s) 24 && leb (z .limit) 200))
+sizesFit z =
+    leb (z .n) VARIABLES && (leb (z .m) CONSTRAINTS && (leb (z .s) SUM-ROWS && leb (z .limit) ITERATIONS))
 
 -- an end in the domain: finite with magnitude at most 2^400, lo ≤ hi
 abbrev pub inDomain : Scalar → Bool
@@ -34,7 +35,9 @@ allInDomain xs count = allTo (λ i. inDomain (at xs i)) count
 abbrev pub countsFit : State → Bool
 countsFit st =
     leb (st .counts .iterations) (st .sizes .limit)
-    && (leb (st .search .«turned_down») (TURN-DOWNS * (st .counts .iterations + 1)) && (leb (st .counts .question) (QUESTIONS * st .sizes .limit) && leb (st .counts .corrections) CORRECTIONS))
+    && (leb (st .search .«turned_down») (TURN-DOWNS * (st .counts .iterations + 1))
+    && (leb (st .counts .question) (QUESTIONS * st .sizes .limit)
+    && leb (st .counts .corrections) CORRECTIONS))
 
 -- with a trial or correction open, iterations are below the limit; with a question open, mu is finite with 0 < lo ≤ hi
 abbrev pub phaseFits : State → Phase → Bool

@@ -8,7 +8,7 @@ use lib.Ieee.{Float, nan}
 use lib.ListN.{length, getD}
 use Rattle.interval.specs.Scalar.{zero64}
 use Rattle.interval.specs.declared.Scalar.{Scalar}
-use Rattle.run.specs.Area.{SPARE, SIZES, usedIn, startOf}
+use Rattle.run.specs.Area.{SPARE-LEN, SIZES, usedIn, startOf}
 use Rattle.run.specs.Calls.{AfterCall, refusedByCheck, Accepted, beginOf, replyOf, replyNoneOf}
 use Rattle.run.specs.Limits.{AREA}
 use Rattle.run.specs.declared.state.Sizes.{Sizes}
@@ -20,7 +20,7 @@ pub record Cleared (st : State) (a : List Float) : Type 0 where
   pub whole : length a ≡ AREA
   pub remainders : (k j : ℕ) → k < length SIZES → getD (usedIn st) k 0 ≤ j → j < getD SIZES k 0
       → getD a (startOf SIZES k + j) nan ≡ zero64
-  pub spare : (i : ℕ) → AREA - SPARE ≤ i → i < AREA → getD a i nan ≡ zero64
+  pub spare : (i : ℕ) → AREA - SPARE-LEN ≤ i → i < AREA → getD a i nan ≡ zero64
 
 -- what a reply to a run leaves, where the run is the state st and the area a
 pub record Replied (st : State) (a : List Float) (l : AfterCall) : Type 0 where

@@ -1,4 +1,5 @@
 pub mod Limits
+pub mod Results
 pub mod Rows
 pub mod Vectors
 pub mod Checks

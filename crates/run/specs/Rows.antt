@@ -1,5 +1,5 @@
--- Rows as they are answered (document 01, "Rows"; the Rust's `Rows`): 2 (m + s) (n + 1) numbers, the constraint values, their slopes row by row, then the sum's. All is read at its place in the
--- answered list.
+-- Rows as they are answered (document 01, "Rows"; the Rust's `Rows`): 2 (m + s) (n + 1) numbers, the constraint values,
+-- their slopes row by row, then the sum's. All is read at its place in the answered list.
 use Prim.Native.Nat.{ℕ, _+_, _*_}
 use mathlib.Core.List.{List}
 use lib.Ieee.{Float}
@@ -7,10 +7,15 @@ use Rattle.interval.specs.declared.Scalar.{Scalar}
 use Rattle.linear.specs.Flat.{at, along}
 use Rattle.run.specs.declared.rows.RowCounts.{RowCounts}
 use Rattle.run.specs.declared.rows.RowSet.{RowSet}
+use Rattle.run.specs.declared.state.Sizes.{Sizes}
 
 -- how many numbers an answer has
 abbrev pub rowNumbers : ℕ → ℕ → ℕ → ℕ
 rowNumbers n m s = 2 * ((m + s) * (n + 1))
+
+-- the counts of an answer in a run of these sizes
+abbrev pub rowCounts : Sizes → RowCounts
+rowCounts z = record { n = z .n; m = z .m; s = z .s }
 
 -- rows of one kind: `count` values from the place `values` on, and from the place `slopes` on n slopes for each
 pub record Rows : Type 0 where

@@ -6,6 +6,7 @@ ghost use mathlib.Core.Bool.{true};
 ghost use mathlib.Core.Path.{_≡_};
 ghost use lib.ListN.{length};
 ghost use Rattle.interval.specs.Scalar.{pick};
+ghost use Rattle.run.specs.Limits.{AREA};
 ghost use Rattle.run.specs.declared.state.Kind.the-variants as kinds;
 ghost use Rattle.run.specs.declared.state.Phase.the-variants.{Open};
 ghost use Rattle.run.specs.Answered.{started, fromStanding, answered, answeredNone};
@@ -36,7 +37,7 @@ use linear::Answer;
 // A start's rows: which variables they depend on is fixed for the whole run, and the first iteration follows. A
 // variable that no residual definitely depends on would make the curvature singular, so it keeps its place.
 fn started(st: State, area: &mut [f64], rows: &[f64]) -> Returned
-    requires { ⌜ (length (now area) ≡ 8000) ×
+    requires { ⌜ (length (now area) ≡ AREA) ×
         ((length (now rows) ≡ rowNumbers (st .sizes .n) (st .sizes .m) (st .sizes .s)) ×
         (Bounded 1073741824 st × (st .phase ≡ Open kinds.Start))) ⌝ }
     ensures { λ r. ⌜ ((w : Memory) → Uses (usedIn st) w (now (area .entry)) →
@@ -50,7 +51,7 @@ fn started(st: State, area: &mut [f64], rows: &[f64]) -> Returned
 
 // A trial's or a correction's rows land, once the violation of the standing point is known.
 fn land(st: State, area: &mut [f64], rows: &[f64], trial: bool) -> Returned
-    requires { ⌜ (length (now area) ≡ 8000) ×
+    requires { ⌜ (length (now area) ≡ AREA) ×
         ((length (now rows) ≡ rowNumbers (st .sizes .n) (st .sizes .m) (st .sizes .s)) ×
         (Underway st × (st .counts .corrections ≤ 4))) ⌝ }
     ensures { λ r. ⌜ ((w : Memory) → Working st w (now (area .entry)) →
@@ -72,7 +73,7 @@ fn land(st: State, area: &mut [f64], rows: &[f64], trial: bool) -> Returned
 
 // What follows an accepted answer with rows.
 pub fn answered(kind: Kind, st: State, area: &mut [f64], rows: &[f64]) -> Returned
-    requires { ⌜ (length (now area) ≡ 8000) ×
+    requires { ⌜ (length (now area) ≡ AREA) ×
         ((length (now rows) ≡ rowNumbers (st .sizes .n) (st .sizes .m) (st .sizes .s)) ×
         (Bounded 1073741824 st × ((st .counts .corrections ≤ 4) ×
         ((phaseFits st (Open kind) ≡ true) × (st .phase ≡ Open kind))))) ⌝ }
@@ -94,7 +95,7 @@ pub fn answered(kind: Kind, st: State, area: &mut [f64], rows: &[f64]) -> Return
 
 // What follows an accepted answer with none.
 pub fn answered_none(kind: Kind, st: State, area: &mut [f64]) -> Returned
-    requires { ⌜ (length (now area) ≡ 8000) × (Bounded 1073741824 st × (phaseFits st (Open kind) ≡ true)) ⌝ }
+    requires { ⌜ (length (now area) ≡ AREA) × (Bounded 1073741824 st × (phaseFits st (Open kind) ≡ true)) ⌝ }
     ensures { λ r. ⌜ ((w : Memory) → Working st w (now (area .entry)) →
         Leaves (answeredNone kind st w) r (now (area .exit))) ⌝ }
 {

@@ -6,14 +6,17 @@ ghost use mathlib.Core.List.{_++_};
 ghost use mathlib.Core.Path.{_≡_};
 ghost use lib.ListN.{length, take, drop, getD};
 ghost use Rattle.linear.specs.Flat.{zeros};
+ghost use Rattle.run.specs.Limits.{AREA, VARIABLES, CONSTRAINTS, SUM-ROWS, ITERATIONS};
 ghost use Rattle.run.specs.Area.{padded, startOf, usedIn, memoryOf, begunMemory, Memory, onlyStanding};
+ghost use Rattle.run.specs.Area.{POINT-LEN, ROWS-LEN, CURVATURE-LEN, FILTER-LEN, STANDING-AT, ASKED-AT};
 ghost use Rattle.run.specs.Area.{withStart, withTrial, withLanded, withTaken};
 ghost use Rattle.run.specs.Filter.{filterWith};
 ghost use Rattle.run.specs.Rows.{rowNumbers};
 ghost use Rattle.run.specs.Vectors.{movedOf};
 ghost use Rattle.run.specs.program.Area.{written, clearedTo, Limits, allUsed, Uses, Holds, pointsUsed};
-ghost use Rattle.run.specs.program.Area.{ZeroBehind};
+ghost use Rattle.run.specs.program.Area.{ZeroBehind, SlotRead};
 use crate::filter::push;
+use crate::limits::AREA;
 use crate::state::Kind;
 use crate::state::Phase;
 use crate::state::Sizes;
@@ -23,36 +26,34 @@ use interval::Scalar;
 use linear::clear;
 
 // Where each slot begins.
-pub const STANDING: usize = 0;
+pub const STANDING_AT: usize = 0;
 
-pub const LANDED: usize = 24;
+pub const LANDED_AT: usize = 24;
 
-pub const ASKED: usize = 48;
+pub const ASKED_AT: usize = 48;
 
-pub const STANDING_ROWS: usize = 72;
+pub const STANDING_ROWS_AT: usize = 72;
 
-pub const LANDED_ROWS: usize = 1008;
+pub const LANDED_ROWS_AT: usize = 1008;
 
-pub const STEP: usize = 1944;
+pub const STEP_AT: usize = 1944;
 
-pub const MULTIPLIERS: usize = 1968;
+pub const MULTIPLIERS_AT: usize = 1968;
 
-pub const CURVATURE: usize = 1992;
+pub const CURVATURE_AT: usize = 1992;
 
-pub const FILTER: usize = 2280;
+pub const FILTER_AT: usize = 2280;
 
-pub const SPARE: usize = 3080;
-
-pub const AREA: usize = 8000;
+pub const SPARE_AT: usize = 3080;
 
 // How many numbers a point, an answer's rows, the curvature and the filter have at most.
-pub const POINT: usize = 24;
+pub const POINT_LEN: usize = 24;
 
-pub const ROWS: usize = 936;
+pub const ROWS_LEN: usize = 936;
 
-pub const ENTRIES: usize = 288;
+pub const CURVATURE_LEN: usize = 288;
 
-pub const PAIRS: usize = 800;
+pub const FILTER_LEN: usize = 800;
 
 // Writes src from the place base on.
 pub fn write(area: &mut [f64], base: usize, src: &[f64])
@@ -113,7 +114,7 @@ fn clear_unused_slots(area: &mut [f64], sizes: &[usize], used: &[usize])
 
 // How many numbers an answer's rows have.
 fn row_numbers(z: Sizes) -> usize
-    requires { ⌜ (z .n ≤ 12) × ((z .m ≤ 12) × (z .s ≤ 24)) ⌝ }
+    requires { ⌜ (z .n ≤ VARIABLES) × ((z .m ≤ CONSTRAINTS) × (z .s ≤ SUM-ROWS)) ⌝ }
     ensures { λ r. ⌜ r ≡ rowNumbers (z .n) (z .m) (z .s) ⌝ }
 {
     2 * ((z.m + z.s) * (z.n + 1))
@@ -169,99 +170,160 @@ fn in_use(st: State) -> [usize; 9]
 
 // Clears every place that is not in use. A caller may have written anything there, and the definitions read +0.
 pub fn clear_unused(area: &mut [f64], st: State)
-    requires { ⌜ (length (now area) ≡ 8000) × Limits (st .sizes) (st .counts .iterations) ⌝ }
+    requires { ⌜ (length (now area) ≡ AREA) × Limits (st .sizes) (st .counts .iterations) ⌝ }
     ensures { λ _. ⌜ Uses (usedIn st) (memoryOf st (now (area .entry))) (now (area .exit)) ⌝ }
 {
     let sizes = [
-        POINT,
-        POINT,
-        POINT,
-        ROWS,
-        ROWS,
-        POINT,
-        POINT,
-        ENTRIES,
-        PAIRS,
+        POINT_LEN,
+        POINT_LEN,
+        POINT_LEN,
+        ROWS_LEN,
+        ROWS_LEN,
+        POINT_LEN,
+        POINT_LEN,
+        CURVATURE_LEN,
+        FILTER_LEN,
     ];
     let used = in_use(st);
     clear_unused_slots(area, &sizes, &used);
-    clear_from(area, SPARE, AREA - SPARE);
+    clear_from(area, SPARE_AT, AREA - SPARE_AT);
 }
+
+// ---- what is read of a slot
+
+pub fn standing_point(area: &[f64]) -> &[f64]
+    requires { ⌜ length (now area) ≡ AREA ⌝ }
+    ensures { λ r. ⌜ SlotRead POINT-LEN (λ w. w .standing) (now (area .entry)) (now r) ⌝ }
+{
+    &area[STANDING_AT..LANDED_AT]
+}
+
+pub fn landed_point(area: &[f64]) -> &[f64]
+    requires { ⌜ length (now area) ≡ AREA ⌝ }
+    ensures { λ r. ⌜ SlotRead POINT-LEN (λ w. w .landed) (now (area .entry)) (now r) ⌝ }
+{
+    &area[LANDED_AT..ASKED_AT]
+}
+
+pub fn standing_rows(area: &[f64]) -> &[f64]
+    requires { ⌜ length (now area) ≡ AREA ⌝ }
+    ensures { λ r. ⌜ SlotRead ROWS-LEN (λ w. w .standingRows) (now (area .entry)) (now r) ⌝ }
+{
+    &area[STANDING_ROWS_AT..LANDED_ROWS_AT]
+}
+
+pub fn landed_rows(area: &[f64]) -> &[f64]
+    requires { ⌜ length (now area) ≡ AREA ⌝ }
+    ensures { λ r. ⌜ SlotRead ROWS-LEN (λ w. w .landedRows) (now (area .entry)) (now r) ⌝ }
+{
+    &area[LANDED_ROWS_AT..STEP_AT]
+}
+
+pub fn step(area: &[f64]) -> &[f64]
+    requires { ⌜ length (now area) ≡ AREA ⌝ }
+    ensures { λ r. ⌜ SlotRead POINT-LEN (λ w. w .step) (now (area .entry)) (now r) ⌝ }
+{
+    &area[STEP_AT..MULTIPLIERS_AT]
+}
+
+pub fn multipliers(area: &[f64]) -> &[f64]
+    requires { ⌜ length (now area) ≡ AREA ⌝ }
+    ensures { λ r. ⌜ SlotRead POINT-LEN (λ w. w .multipliers) (now (area .entry)) (now r) ⌝ }
+{
+    &area[MULTIPLIERS_AT..CURVATURE_AT]
+}
+
+pub fn curvature(area: &[f64]) -> &[f64]
+    requires { ⌜ length (now area) ≡ AREA ⌝ }
+    ensures { λ r. ⌜ SlotRead CURVATURE-LEN (λ w. w .curvature) (now (area .entry)) (now r) ⌝ }
+{
+    &area[CURVATURE_AT..FILTER_AT]
+}
+
+pub fn filter(area: &[f64]) -> &[f64]
+    requires { ⌜ length (now area) ≡ AREA ⌝ }
+    ensures { λ r. ⌜ SlotRead FILTER-LEN (λ w. w .filter) (now (area .entry)) (now r) ⌝ }
+{
+    &area[FILTER_AT..SPARE_AT]
+}
+
+// ---- what a call writes
 
 // After a begin: the start point stands and is asked.
 pub fn write_begun(area: &mut [f64], start: &[f64])
-    requires { ⌜ (length (now area) ≡ 8000) × (length (now start) ≤ 24) ⌝ }
+    requires { ⌜ (length (now area) ≡ AREA) × (length (now start) ≤ POINT-LEN) ⌝ }
     ensures { λ _. ⌜ Holds (begunMemory (now (start .entry))) (now (area .exit)) ⌝ }
 {
     clear(area);
-    slot(area, STANDING, POINT, start);
-    slot(area, ASKED, POINT, start);
+    slot(area, STANDING_AT, POINT_LEN, start);
+    slot(area, ASKED_AT, POINT_LEN, start);
 }
 
 // After a finish, or refusal 5 or 6: only the standing point. Behind the numbers in use all is +0 already, and at the
 // smallest drawings clearing is most of a call's time.
 pub fn keep_standing(area: &mut [f64], z: Sizes, iterations: usize)
-    requires { ⌜ (length (now area) ≡ 8000) × Limits z iterations ⌝ }
+    requires { ⌜ (length (now area) ≡ AREA) × Limits z iterations ⌝ }
     ensures { λ _. ⌜ ((w : Memory) → Uses (allUsed z iterations) w (now (area .entry)) →
         Holds (onlyStanding w) (now (area .exit))) ⌝ }
 {
     let used = all_used(z, iterations);
-    clear_from(area, LANDED, POINT);
-    clear_from(area, ASKED, POINT);
-    clear_from(area, STANDING_ROWS, used[3]);
-    clear_from(area, LANDED_ROWS, used[4]);
-    clear_from(area, STEP, POINT);
-    clear_from(area, MULTIPLIERS, POINT);
-    clear_from(area, CURVATURE, used[7]);
-    clear_from(area, FILTER, used[8]);
+    clear_from(area, LANDED_AT, POINT_LEN);
+    clear_from(area, ASKED_AT, POINT_LEN);
+    clear_from(area, STANDING_ROWS_AT, used[3]);
+    clear_from(area, LANDED_ROWS_AT, used[4]);
+    clear_from(area, STEP_AT, POINT_LEN);
+    clear_from(area, MULTIPLIERS_AT, POINT_LEN);
+    clear_from(area, CURVATURE_AT, used[7]);
+    clear_from(area, FILTER_AT, used[8]);
 }
 
 // A start's answer. Before it only the two points are in use, so all else is +0 already.
 pub fn write_start(area: &mut [f64], rows: &[f64])
-    requires { ⌜ (length (now area) ≡ 8000) × (length (now rows) ≤ 936) ⌝ }
+    requires { ⌜ (length (now area) ≡ AREA) × (length (now rows) ≤ ROWS-LEN) ⌝ }
     ensures { λ _. ⌜ ((w : Memory) (point : ℕ) → Uses (pointsUsed point) w (now (area .entry)) →
         Holds (withStart w (now (rows .entry))) (now (area .exit))) ⌝ }
 {
-    clear_from(area, ASKED, POINT);
-    write(area, STANDING_ROWS, rows);
+    clear_from(area, ASKED_AT, POINT_LEN);
+    write(area, STANDING_ROWS_AT, rows);
 }
 
 // The point that a step leads to from the standing one is asked.
 fn write_next(area: &mut [f64], n: usize, delta: &[f64])
-    requires { ⌜ length (now area) ≡ 8000 ⌝ }
+    requires { ⌜ length (now area) ≡ AREA ⌝ }
     ensures { λ _. ⌜ now (area .exit)
-        ≡ written (now (area .entry)) 48 (movedOf n (take 24 (drop 0 (now (area .entry)))) (now (delta .entry))) ⌝ }
+        ≡ written (now (area .entry)) ASKED-AT
+        (movedOf n (take POINT-LEN (drop STANDING-AT (now (area .entry)))) (now (delta .entry))) ⌝ }
 {
     let mut next = [0.0; 24];
-    moved(n, &area[STANDING..LANDED], delta, &mut next);
-    write(area, ASKED, &next);
+    moved(n, &area[STANDING_AT..LANDED_AT], delta, &mut next);
+    write(area, ASKED_AT, &next);
 }
 
 // A trial asked, where the step leads: nothing has landed. Of the landed rows those in use are cleared.
 pub fn write_trial(area: &mut [f64], z: Sizes, delta: &[f64], lambda: &[f64])
-    requires { ⌜ (length (now area) ≡ 8000) ×
-        (((z .n ≤ 12) × ((z .m ≤ 12) × (z .s ≤ 24))) × ((length (now delta) ≡ 24) × (length (now lambda) ≡ 24))) ⌝ }
+    requires { ⌜ (length (now area) ≡ AREA) ×
+        (((z .n ≤ VARIABLES) × ((z .m ≤ CONSTRAINTS) × (z .s ≤ SUM-ROWS))) × ((length (now delta) ≡ 24) × (length (now lambda) ≡ 24))) ⌝ }
     ensures { λ _. ⌜ ((w : Memory) → Holds w (now (area .entry)) →
-        ZeroBehind 936 (rowNumbers (z .n) (z .m) (z .s)) (w .landedRows) →
+        ZeroBehind ROWS-LEN (rowNumbers (z .n) (z .m) (z .s)) (w .landedRows) →
         Holds (withTrial w (movedOf (z .n) (w .standing) (now (delta .entry))) (now (delta .entry))
         (now (lambda .entry))) (now (area .exit))) ⌝ }
 {
     write_next(area, z.n, delta);
-    clear_from(area, LANDED, POINT);
-    clear_from(area, LANDED_ROWS, row_numbers(z));
-    write(area, STEP, delta);
-    write(area, MULTIPLIERS, lambda);
+    clear_from(area, LANDED_AT, POINT_LEN);
+    clear_from(area, LANDED_ROWS_AT, row_numbers(z));
+    write(area, STEP_AT, delta);
+    write(area, MULTIPLIERS_AT, lambda);
 }
 
 // The asked point landed, with its rows, in a slot that is +0 behind as many.
 pub fn write_landed(area: &mut [f64], rows: &[f64])
-    requires { ⌜ (length (now area) ≡ 8000) × (length (now rows) ≤ 936) ⌝ }
+    requires { ⌜ (length (now area) ≡ AREA) × (length (now rows) ≤ ROWS-LEN) ⌝ }
     ensures { λ _. ⌜ ((w : Memory) → Holds w (now (area .entry)) →
-        ZeroBehind 936 (length (now (rows .entry))) (w .landedRows) →
+        ZeroBehind ROWS-LEN (length (now (rows .entry))) (w .landedRows) →
         Holds (withLanded w (now (rows .entry)) (w .step)) (now (area .exit))) ⌝ }
 {
-    copy(area, ASKED, LANDED, POINT);
-    write(area, LANDED_ROWS, rows);
+    copy(area, ASKED_AT, LANDED_AT, POINT_LEN);
+    write(area, LANDED_ROWS_AT, rows);
 }
 
 // The landed point stands, with the curvature after it; the filter has the pair of the point that stood. Of the rows
@@ -274,18 +336,18 @@ pub fn write_taken(
     f: Scalar,
     theta: Scalar,
 )
-    requires { ⌜ (length (now area) ≡ 8000) ×
-        (((z .n ≤ 12) × ((z .m ≤ 12) × (z .s ≤ 24))) × ((length (now curvature) ≡ 288) × (count < 200))) ⌝ }
+    requires { ⌜ (length (now area) ≡ AREA) ×
+        (((z .n ≤ VARIABLES) × ((z .m ≤ CONSTRAINTS) × (z .s ≤ SUM-ROWS))) × ((length (now curvature) ≡ CURVATURE-LEN) × (count < ITERATIONS))) ⌝ }
     ensures { λ _. ⌜ ((w : Memory) → Holds w (now (area .entry)) →
-        ZeroBehind 936 (rowNumbers (z .n) (z .m) (z .s)) (w .standingRows) →
-        ZeroBehind 936 (rowNumbers (z .n) (z .m) (z .s)) (w .landedRows) →
-        ZeroBehind 288 (2 * (z .n * z .n)) (w .curvature) →
-        ZeroBehind 288 (2 * (z .n * z .n)) (now (curvature .entry)) →
+        ZeroBehind ROWS-LEN (rowNumbers (z .n) (z .m) (z .s)) (w .standingRows) →
+        ZeroBehind ROWS-LEN (rowNumbers (z .n) (z .m) (z .s)) (w .landedRows) →
+        ZeroBehind CURVATURE-LEN (2 * (z .n * z .n)) (w .curvature) →
+        ZeroBehind CURVATURE-LEN (2 * (z .n * z .n)) (now (curvature .entry)) →
         Holds (withTaken w (now (curvature .entry)) (filterWith (w .filter) count f theta)) (now (area .exit))) ⌝ }
 {
-    copy(area, LANDED, STANDING, POINT);
-    copy(area, LANDED_ROWS, STANDING_ROWS, row_numbers(z));
+    copy(area, LANDED_AT, STANDING_AT, POINT_LEN);
+    copy(area, LANDED_ROWS_AT, STANDING_ROWS_AT, row_numbers(z));
     let entries = 2 * (z.n * z.n);
-    write(area, CURVATURE, &curvature[0..entries]);
-    push(&mut area[FILTER..SPARE], count, f, theta);
+    write(area, CURVATURE_AT, &curvature[0..entries]);
+    push(&mut area[FILTER_AT..SPARE_AT], count, f, theta);
 }

@@ -15,6 +15,7 @@ ghost use Rattle.linear.specs.Flat.{listTo, at, put};
 ghost use Rattle.linear.specs.Norm.{normOf};
 ghost use Rattle.linear.specs.Results.{foldR, bind};
 ghost use Rattle.linear.specs.Substitution.{storeR, solveOf};
+ghost use Rattle.run.specs.Limits.{VARIABLES, CONSTRAINTS};
 ghost use Rattle.run.specs.Basis.{packed, partsOut, gramStep, gramRow, extended, Basis, rowStep, noRows};
 ghost use Rattle.run.specs.Basis.{basisOf, coefficientAt, orderAt, correctionOf, multiplierStep, multipliersOf};
 ghost use Rattle.run.specs.Rows.{rowsIn, valueAt};
@@ -66,7 +67,7 @@ pub fn store(xs: &mut [f64], i: usize, q: ScalarResult) -> Done
 
 // The first r rows and columns of a matrix, packed.
 fn pack(r: usize, a: &[f64], to: &mut [f64])
-    requires { ⌜ (r ≤ 12) × (length (now to) ≡ 2 * (r * r)) ⌝ }
+    requires { ⌜ (r ≤ CONSTRAINTS) × (length (now to) ≡ 2 * (r * r)) ⌝ }
     ensures { λ _. ⌜ now (to .exit) ≡ packed r (now (a .entry)) ⌝ }
 {
     let n = r * r;
@@ -77,7 +78,7 @@ fn pack(r: usize, a: &[f64], to: &mut [f64])
 
 // What row i of `wide` has along each of r vectors.
 fn projections(k: usize, r: usize, i: usize, wide: &[f64], q: &[f64], b: &mut [f64])
-    requires { ⌜ (r ≤ 12) × ((i < 12) × (length (now b) ≡ 2 * r)) ⌝ }
+    requires { ⌜ (r ≤ CONSTRAINTS) × ((i < 12) × (length (now b) ≡ 2 * r)) ⌝ }
     ensures { λ _. ⌜ now (b .exit) ≡ listTo (λ j. dotTo (row (now (wide .entry)) i) (row (now (q .entry)) j) k) r ⌝ }
 {
     for j in 0..r {
@@ -95,7 +96,7 @@ fn coefficients(
     gram: &[f64],
     a: &mut [f64],
 ) -> Done
-    requires { ⌜ (r ≤ 12) × ((i < 12) × (length (now a) ≡ 24)) ⌝ }
+    requires { ⌜ (r ≤ CONSTRAINTS) × ((i < 12) × (length (now a) ≡ 24)) ⌝ }
     ensures { λ d. ⌜ doneOf d (take (2 * r) (now (a .exit))) ≡ solveOf r (packed r (now (gram .entry))) (replicate r false) (listTo (λ j. dotTo (row (now (wide .entry)) i) (row (now (q .entry)) j) k) r) ⌝ }
 {
     let e = 2 * r;
@@ -126,7 +127,7 @@ fn two_outside(r: usize, i: usize, wide: &[f64], q: &[f64], a: &[f64], out: &mut
 
 // Row i of `wide` without its coefficients a, from the start of `out` on, two entries at a time.
 fn outside(k: usize, r: usize, i: usize, wide: &[f64], q: &[f64], a: &[f64], out: &mut [f64])
-    requires { ⌜ (k ≤ 12) × (i < 12) ⌝ }
+    requires { ⌜ (k ≤ VARIABLES) × (i < 12) ⌝ }
     ensures { λ _. ⌜ now (out .exit) ≡ fillTo (now (out .entry)) 0 (λ p. minusTo (at (now (a .entry))) (column (now (q .entry)) p) (entry (now (wide .entry)) i p) r) k ⌝ }
 {
     let half = k / 2;
@@ -148,7 +149,7 @@ fn outside(k: usize, r: usize, i: usize, wide: &[f64], q: &[f64], a: &[f64], out
 
 // v without its parts along r vectors, which row r of the coefficients keeps.
 fn parts_out(k: usize, r: usize, q: &[f64], v: &mut [f64], coefficients: &mut [f64])
-    requires { ⌜ (k ≤ 12) × (r ≤ 12) ⌝ }
+    requires { ⌜ (k ≤ VARIABLES) × (r ≤ CONSTRAINTS) ⌝ }
     ensures { λ _. ⌜ takenBy (now (v .exit)) (now (coefficients .exit)) ≡ partsOut k r (now (q .entry)) (takenBy (now (v .entry)) (now (coefficients .entry))) r ⌝ }
 {
     for j in 0..r {
@@ -160,7 +161,7 @@ fn parts_out(k: usize, r: usize, q: &[f64], v: &mut [f64], coefficients: &mut [f
 
 // Entry j of the Gram factor's row r, below its diagonal.
 fn gram_entry(k: usize, r: usize, q: &[f64], gram: &mut [f64], j: usize) -> Done
-    requires { ⌜ (r ≤ 12) × (j < r) ⌝ }
+    requires { ⌜ (r ≤ CONSTRAINTS) × (j < r) ⌝ }
     ensures { λ d. ⌜ doneOf d (now (gram .exit)) ≡ gramStep k r (now (q .entry)) (now (gram .entry)) j ⌝ }
 {
     let z = row_dot(q, 12 * r, q, 12 * j, k);
@@ -170,7 +171,7 @@ fn gram_entry(k: usize, r: usize, q: &[f64], gram: &mut [f64], j: usize) -> Done
 }
 
 fn gram_entries(k: usize, r: usize, q: &[f64], gram: &mut [f64]) -> Done
-    requires { ⌜ r ≤ 12 ⌝ }
+    requires { ⌜ r ≤ CONSTRAINTS ⌝ }
     ensures { λ d. ⌜ doneOf d (now (gram .exit)) ≡ foldR (gramStep k r (now (q .entry))) (now (gram .entry)) r ⌝ }
 {
     for j in 0..r {
@@ -186,7 +187,7 @@ fn gram_entries(k: usize, r: usize, q: &[f64], gram: &mut [f64]) -> Done
 
 // Row r of the Gram factor, of the newest vector.
 fn gram_row(k: usize, r: usize, q: &[f64], gram: &mut [f64]) -> Done
-    requires { ⌜ r ≤ 12 ⌝ }
+    requires { ⌜ r ≤ CONSTRAINTS ⌝ }
     ensures { λ d. ⌜ doneOf d (now (gram .exit)) ≡ gramRow k r (now (q .entry)) (now (gram .entry)) ⌝ }
 {
     match gram_entries(k, r, q, gram) {
@@ -203,7 +204,7 @@ fn gram_row(k: usize, r: usize, q: &[f64], gram: &mut [f64]) -> Done
 
 // Row i of `jc`, from the start of v on.
 fn row_of(k: usize, i: usize, jc: &[f64], v: &mut [f64])
-    requires { ⌜ (k ≤ 12) × (i < 12) ⌝ }
+    requires { ⌜ (k ≤ VARIABLES) × (i < 12) ⌝ }
     ensures { λ _. ⌜ now (v .exit) ≡ fillTo (now (v .entry)) 0 (row (now (jc .entry)) i) k ⌝ }
 {
     for p in 0..k {
@@ -237,7 +238,7 @@ fn add_row(
     gram: &mut [f64],
     coefficients: &mut [f64],
 ) -> Rank
-    requires { ⌜ (k ≤ 12) × ((r ≤ i) × (i < 12)) ⌝ }
+    requires { ⌜ (k ≤ VARIABLES) × ((r ≤ i) × (i < 12)) ⌝ }
     ensures { λ x. ⌜ ((w : List Float) (o : List ℕ) → rankedOf x (now (q .exit)) (now (gram .exit)) (now (coefficients .exit)) w (set o r i) ≡ extended (problemBy k 0 (λ _. zeroS) [] (now (jc .entry))) (basisBy r (now (q .entry)) (now (gram .entry)) (now (coefficients .entry)) w o) i) ⌝ }
 {
     let mut v = [0.0; 24];
@@ -258,7 +259,7 @@ fn add_row(
 
 // r scalars of a, each chosen, from t0 on in `to`.
 fn chosen_at(r: usize, a: &[f64], to: &mut [f64], t0: usize)
-    requires { ⌜ (r ≤ 12) × (t0 < 65536) ⌝ }
+    requires { ⌜ (r ≤ CONSTRAINTS) × (t0 < 65536) ⌝ }
     ensures { λ _. ⌜ now (to .exit) ≡ fillTo (now (to .entry)) t0 (λ j. chooseOf (at (now (a .entry)) j)) r ⌝ }
 {
     for j in 0..r {
@@ -276,7 +277,7 @@ fn measure(
     gram: &[f64],
     a: &mut [f64],
 ) -> Answer
-    requires { ⌜ (k ≤ 12) × ((r ≤ 12) × ((i < 12) × (length (now a) ≡ 24))) ⌝ }
+    requires { ⌜ (k ≤ VARIABLES) × ((r ≤ CONSTRAINTS) × ((i < 12) × (length (now a) ≡ 24))) ⌝ }
     ensures { λ x. ⌜ ((f : List Float → value.Scalar → scalar.Res Basis) → bind (resultOf x) (f (take (2 * r) (now (a .exit)))) ≡ bind (solveOf r (packed r (now (gram .entry))) (replicate r false) (listTo (λ j. dotTo (row (now (wide .entry)) i) (row (now (q .entry)) j) k) r)) (λ a. bind (normOf (λ p. minusTo (at a) (column (now (q .entry)) p) (entry (now (wide .entry)) i p) r) k) (f a))) ⌝ }
 {
     let mut out = [0.0; 24];
@@ -304,7 +305,7 @@ fn next_row(
     dependent: &mut [f64],
     order: &mut [usize],
 ) -> Rank
-    requires { ⌜ (k ≤ 12) × ((r ≤ i) × ((i < 12) × (length (now order) ≡ 24))) ⌝ }
+    requires { ⌜ (k ≤ VARIABLES) × ((r ≤ i) × ((i < 12) × (length (now order) ≡ 24))) ⌝ }
     ensures { λ x. ⌜ rankedOf x (now (q .exit)) (now (gram .exit)) (now (coefficients .exit)) (now (dependent .exit)) (now (order .exit)) ≡ rowStep (problemBy k 0 (λ _. zeroS) (now (wide .entry)) (now (jc .entry))) (basisBy r (now (q .entry)) (now (gram .entry)) (now (coefficients .entry)) (now (dependent .entry)) (now (order .entry))) i ⌝ }
 {
     let mut a = [0.0; 24];
@@ -337,7 +338,7 @@ pub fn basis(
     dependent: &mut [f64],
     order: &mut [usize],
 ) -> Rank
-    requires { ⌜ (k ≤ 12) × ((m ≤ 12) × (basisBy 0 (now q) (now gram) (now coefficients) (now dependent) (now order) ≡ noRows)) ⌝ }
+    requires { ⌜ (k ≤ VARIABLES) × ((m ≤ CONSTRAINTS) × (basisBy 0 (now q) (now gram) (now coefficients) (now dependent) (now order) ≡ noRows)) ⌝ }
     ensures { λ x. ⌜ rankedOf x (now (q .exit)) (now (gram .exit)) (now (coefficients .exit)) (now (dependent .exit)) (now (order .exit)) ≡ basisOf (problemBy k m (λ _. zeroS) (now (wide .entry)) (now (jc .entry))) ⌝ }
 {
     let mut r = 0;
@@ -369,7 +370,7 @@ fn coefficient_at(r: usize, coefficients: &[f64], dependent: &[f64], t: usize, j
 
 // The coefficients of all rows in that order, packed.
 fn coefficient_rows(m: usize, r: usize, coefficients: &[f64], dependent: &[f64], rows: &mut [f64])
-    requires { ⌜ (m ≤ 12) × ((r ≤ 12) × (length (now rows) ≡ 2 * (m * r))) ⌝ }
+    requires { ⌜ (m ≤ CONSTRAINTS) × ((r ≤ CONSTRAINTS) × (length (now rows) ≡ 2 * (m * r))) ⌝ }
     ensures { λ _. ⌜ now (rows .exit) ≡ listTo (λ p. coefficientAt (basisBy r [] [] (now (coefficients .entry)) (now (dependent .entry)) []) (p / r) (p % r)) (m * r) ⌝ }
 {
     let n = m * r;
@@ -395,7 +396,7 @@ fn order_at(r: usize, order: &[usize], t: usize) -> usize
 
 // The right-hand side: the constraint values in that order, chosen, negated.
 fn sides(m: usize, r: usize, order: &[usize], xs: &[f64], e: RowSet, rhs: &mut [f64])
-    requires { ⌜ (m ≤ 12) × ((length (now order) ≡ 24) × (length (now rhs) ≡ 2 * m)) ⌝ }
+    requires { ⌜ (m ≤ CONSTRAINTS) × ((length (now order) ≡ 24) × (length (now rhs) ≡ 2 * m)) ⌝ }
     ensures { λ _. ⌜ now (rhs .exit) ≡ listTo (λ t. negOf (chooseOf (valueAt (rowsIn (now (xs .entry)) e) (orderAt (basisBy r [] [] [] [] (now (order .entry))) t)))) m ⌝ }
 {
     for t in 0..m {
@@ -417,7 +418,7 @@ pub fn correction(
     e: RowSet,
     delta: &mut [f64],
 ) -> Done
-    requires { ⌜ (k ≤ 12) × ((m ≤ 12) × ((r ≤ 12) × ((length (now order) ≡ 24) × (length (now delta) ≡ 24)))) ⌝ }
+    requires { ⌜ (k ≤ VARIABLES) × ((m ≤ CONSTRAINTS) × ((r ≤ CONSTRAINTS) × ((length (now order) ≡ 24) × (length (now delta) ≡ 24)))) ⌝ }
     ensures { λ d. ⌜ doneOf d (now (delta .exit)) ≡ correctionOf (problemBy k m (valueAt (rowsIn (now (xs .entry)) e)) [] []) (basisBy r (now (q .entry)) [] (now (coefficients .entry)) (now (dependent .entry)) (now (order .entry))) ⌝ }
 {
     let s = 2 * (m * r);
@@ -453,7 +454,7 @@ fn store_chosen(xs: &mut [f64], i: usize, q: ScalarResult) -> Done
 
 // The multiplier of vector r - 1 - u, from those behind it; the coefficients stand behind Q.
 fn multiplier(k: usize, r: usize, q: &[f64], pull: &[f64], by_row: &mut [f64], u: usize) -> Done
-    requires { ⌜ (r ≤ 12) × (u < r) ⌝ }
+    requires { ⌜ (r ≤ CONSTRAINTS) × (u < r) ⌝ }
     ensures { λ d. ⌜ doneOf d (now («by_row» .exit)) ≡ multiplierStep k (basisBy r (now (q .entry)) [] (drop 288 (now (q .entry))) [] []) (now (pull .entry)) (now («by_row» .entry)) u ⌝ }
 {
     let t = r - 1 - u;
@@ -464,7 +465,7 @@ fn multiplier(k: usize, r: usize, q: &[f64], pull: &[f64], by_row: &mut [f64], u
 }
 
 fn multipliers_by_row(k: usize, r: usize, q: &[f64], pull: &[f64], by_row: &mut [f64]) -> Done
-    requires { ⌜ r ≤ 12 ⌝ }
+    requires { ⌜ r ≤ CONSTRAINTS ⌝ }
     ensures { λ d. ⌜ doneOf d (now («by_row» .exit)) ≡ foldR (multiplierStep k (basisBy r (now (q .entry)) [] (drop 288 (now (q .entry))) [] []) (now (pull .entry))) (now («by_row» .entry)) r ⌝ }
 {
     for u in 0..r {
@@ -487,7 +488,7 @@ pub fn multipliers(
     pull: &[f64],
     lambda: &mut [f64],
 ) -> Done
-    requires { ⌜ (r ≤ 12) × ((length (now order) ≡ 24) × (length (now lambda) ≡ 24)) ⌝ }
+    requires { ⌜ (r ≤ CONSTRAINTS) × ((length (now order) ≡ 24) × (length (now lambda) ≡ 24)) ⌝ }
     ensures { λ d. ⌜ doneOf d (now (lambda .exit)) ≡ multipliersOf k (basisBy r (now (q .entry)) [] (drop 288 (now (q .entry))) [] (now (order .entry))) (now (pull .entry)) ⌝ }
 {
     let mut by_row = [0.0; 24];

@@ -11,6 +11,7 @@ use crate::checks;
 use crate::checks::Checked;
 use crate::checks::refusal;
 use crate::damping::first_damping;
+use crate::limits::AREA;
 use crate::state;
 use crate::state::Event;
 use crate::state::Kind;
@@ -20,14 +21,15 @@ use crate::state::Sizes;
 use crate::state::State;
 use interval::Scalar;
 
-// The asked point, or the standing one where no question is open. It is empty for a run that number 4 refuses as altered, and for an area of the wrong length.
+// The asked point, or the standing one where no question is open. It is empty for a run that number 4 refuses as
+// altered, and for an area of the wrong length.
 pub fn point(st: State, area: &[f64]) -> &[f64]
     ensures { λ r. ⌜ now r ≡ pointOf st (now (area .entry)) ⌝ }
 {
     if !checks::valid(st) {
         return &area[..0];
     }
-    if area.len() != 8000 {
+    if area.len() != AREA {
         return &area[..0];
     }
     let q = 2 * st.sizes.n;
@@ -35,7 +37,7 @@ pub fn point(st: State, area: &[f64]) -> &[f64]
     let Phase::Open(_) = phase else {
         return &area[..q];
     };
-    &area[area::ASKED..area::ASKED + q]
+    &area[area::ASKED_AT..area::ASKED_AT + q]
 }
 
 // Beside a refusal: no run, so any reply to it gets 4.
@@ -55,7 +57,8 @@ fn not_begun(number: usize) -> Returned
     }
 }
 
-// Begins a run of n variables, m constraint rows and s sum rows from the point `start`, with at most `limit` iterations: its first question asks for the rows of `start`.
+// Begins a run of n variables, m constraint rows and s sum rows from the point `start`, with at most `limit`
+// iterations: its first question asks for the rows of `start`.
 pub fn begin(
     n: usize,
     m: usize,
@@ -65,7 +68,8 @@ pub fn begin(
     max_step: Scalar,
     area: &mut [f64],
 ) -> Returned
-    ensures { λ r. ⌜ afterCall r (now (area .exit)) ≡ beginOf (record { n = n; m = m; s = s; limit = limit }) (now (start .entry)) «max_step» (now (area .entry)) ⌝ }
+    ensures { λ r. ⌜ afterCall r (now (area .exit))
+        ≡ beginOf (record { n = n; m = m; s = s; limit = limit }) (now (start .entry)) «max_step» (now (area .entry)) ⌝ }
 {
     let z = Sizes { n, m, s, limit };
     let number = refusal(z, start, max_step, area.len());

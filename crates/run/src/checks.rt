@@ -8,8 +8,17 @@ ghost use lib.ListN.{length};
 ghost use Rattle.interval.specs.Scalar.{pick};
 ghost use Rattle.interval.specs.Scaling.{isPositive};
 ghost use Rattle.run.specs.Checks.{inDomain, allInDomain, sizesFit, countsFit, valid, stepFits};
-ghost use Rattle.run.specs.Limits.{AREA};
+ghost use Rattle.run.specs.Limits.{AREA, ITERATIONS};
 ghost use Rattle.run.specs.program.Checks.{checkOf, checkRowsOf};
+use crate::limits::AREA;
+use crate::limits::CONSTRAINTS;
+use crate::limits::CORRECTIONS;
+use crate::limits::DOMAIN_BITS;
+use crate::limits::ITERATIONS;
+use crate::limits::QUESTIONS;
+use crate::limits::SUM_ROWS;
+use crate::limits::TURN_DOWNS;
+use crate::limits::VARIABLES;
 use crate::state::Kind;
 use crate::state::Phase;
 use crate::state::Sizes;
@@ -20,7 +29,7 @@ use interval::Scalar;
 pub fn in_domain(x: Scalar) -> bool
     ensures { λ r. ⌜ r ≡ inDomain x ⌝ }
 {
-    let most = f64::from_bits(0x58F0000000000000);
+    let most = f64::from_bits(DOMAIN_BITS);
     (-most <= x.lo) & ((x.lo <= x.hi) & (x.hi <= most))
 }
 
@@ -53,21 +62,21 @@ pub enum Checked {
 pub fn sizes_fit(z: Sizes) -> bool
     ensures { λ r. ⌜ r ≡ sizesFit z ⌝ }
 {
-    if z.n > 12 {
+    if z.n > VARIABLES {
         return false;
     }
-    if z.m > 12 {
+    if z.m > CONSTRAINTS {
         return false;
     }
-    if z.s > 24 {
+    if z.s > SUM_ROWS {
         return false;
     }
-    z.limit <= 200
+    z.limit <= ITERATIONS
 }
 
 // Whether the counts of a run are such as its calls leave.
 fn counts_fit(st: State) -> bool
-    requires { ⌜ st .sizes .limit ≤ 200 ⌝ }
+    requires { ⌜ st .sizes .limit ≤ ITERATIONS ⌝ }
     ensures { λ r. ⌜ r ≡ countsFit st ⌝ }
 {
     let limit = st.sizes.limit;
@@ -75,13 +84,13 @@ fn counts_fit(st: State) -> bool
     if iterations > limit {
         return false;
     }
-    if st.search.turned_down > 1100 * (iterations + 1) {
+    if st.search.turned_down > TURN_DOWNS * (iterations + 1) {
         return false;
     }
-    if st.counts.question > 5500 * limit {
+    if st.counts.question > QUESTIONS * limit {
         return false;
     }
-    st.counts.corrections <= 4
+    st.counts.corrections <= CORRECTIONS
 }
 
 // Whether finite with 0 < lo ≤ hi.
@@ -131,7 +140,7 @@ pub fn check(st: State, area: usize) -> Checked
     let Phase::Open(kind) = phase else {
         return Checked::Refuse(4);
     };
-    if area != 8000 {
+    if area != AREA {
         return Checked::Refuse(2);
     }
     Checked::Accept(kind)
@@ -166,7 +175,7 @@ pub fn refusal(z: Sizes, start: &[f64], max_step: Scalar, area: usize) -> usize
     if start.len() != 2 * z.n {
         return 2;
     }
-    if area != 8000 {
+    if area != AREA {
         return 2;
     }
     if !all_in_domain(start, z.n) {

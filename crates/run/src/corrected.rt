@@ -9,6 +9,7 @@ ghost use Rattle.interval.specs.Scalar.{zeroS, pick, sharpen};
 ghost use Rattle.linear.specs.Answers.{doneOf, resultOf};
 ghost use Rattle.linear.specs.Choose.{chooseOf};
 ghost use Rattle.linear.specs.Flat.{listTo, at};
+ghost use Rattle.run.specs.Limits.{AREA, VARIABLES, CONSTRAINTS, CORRECTIONS};
 ghost use Rattle.run.specs.declared.state.Kind.the-variants as kinds;
 ghost use Rattle.run.specs.Answered.{answeredNone};
 ghost use Rattle.run.specs.Area.{Memory, rowsAt};
@@ -25,6 +26,7 @@ use crate::area;
 use crate::decide::judge_landed;
 use crate::endings::ask;
 use crate::endings::refuse;
+use crate::limits::CORRECTIONS;
 use crate::residuals;
 use crate::residuals::chosen_values;
 use crate::residuals::landed_violation;
@@ -67,7 +69,7 @@ fn moving_slope(moves: bool, v: Scalar) -> Scalar
 
 // The slopes of the constraints by the variables that move, chosen, and zero by the others.
 fn moving_slopes(n: usize, m: usize, xs: &[f64], moving: &[bool], jc: &mut [f64])
-    requires { ⌜ (n ≤ 12) × ((m ≤ 12) × ((length (now moving) ≡ 12) × (length (now jc) ≡ 2 * (m * n)))) ⌝ }
+    requires { ⌜ (n ≤ VARIABLES) × ((m ≤ CONSTRAINTS) × ((length (now moving) ≡ 12) × (length (now jc) ≡ 2 * (m * n)))) ⌝ }
     ensures { λ _. ⌜ now (jc .exit) ≡ listTo
         (λ p. movingSlope (now (moving .entry)) (constraintsOf n m (now (xs .entry))) (p / n) (p % n)) (m * n) ⌝ }
 {
@@ -93,7 +95,7 @@ fn sharpened(n: usize, from: &[f64], to: &mut [f64])
 
 // The shortest move that meets the linearized constraints.
 pub fn shift(n: usize, m: usize, xs: &[f64], moving: &[bool], d: &mut [f64]) -> Done
-    requires { ⌜ (n ≤ 12) × ((m ≤ 12) × ((length (now moving) ≡ 12) × (length (now d) ≡ 24))) ⌝ }
+    requires { ⌜ (n ≤ VARIABLES) × ((m ≤ CONSTRAINTS) × ((length (now moving) ≡ 12) × (length (now d) ≡ 24))) ⌝ }
     ensures { λ r. ⌜ doneOf r (now (d .exit)) ≡ shiftOf (now (moving .entry)) (constraintsOf n m (now (xs .entry))) ⌝ }
 {
     let q = 2 * (m * n);
@@ -119,7 +121,7 @@ pub fn shift_from(
     landed: &[f64],
     next: &mut [f64],
 ) -> Shifted
-    requires { ⌜ (n ≤ 12) × ((m ≤ 12) × ((length (now moving) ≡ 12) × (length (now next) ≡ 24))) ⌝ }
+    requires { ⌜ (n ≤ VARIABLES) × ((m ≤ CONSTRAINTS) × ((length (now moving) ≡ 12) × (length (now next) ≡ 24))) ⌝ }
     ensures { λ r. ⌜ shiftedOf r (now (next .exit))
         ≡ shiftFrom (now (moving .entry)) (constraintsOf n m (now (xs .entry))) (now (landed .entry)) ⌝ }
 {
@@ -160,7 +162,7 @@ pub enum Nearer {
 
 // The landed point is shifted back onto the constraints, and that point asked, or it is judged.
 fn correct(st: State, area: &mut [f64], theta: Scalar, landed: Answer) -> Returned
-    requires { ⌜ (length (now area) ≡ 8000) × Underway st ⌝ }
+    requires { ⌜ (length (now area) ≡ AREA) × Underway st ⌝ }
     ensures { λ r. ⌜ ((w : Memory) → ViolationsKnown st theta (resultOf landed) w (now (area .entry)) →
         Leaves (correct st w theta) r (now (area .exit))) ⌝ }
 {
@@ -169,9 +171,9 @@ fn correct(st: State, area: &mut [f64], theta: Scalar, landed: Answer) -> Return
     let shifted = shift_from(
         st.sizes.n,
         st.sizes.m,
-        &area[area::LANDED_ROWS..area::STEP],
+        &area[area::LANDED_ROWS_AT..area::STEP_AT],
         &moving,
-        &area[area::LANDED..area::ASKED],
+        &area[area::LANDED_AT..area::ASKED_AT],
         &mut next,
     );
     match shifted {
@@ -183,7 +185,7 @@ fn correct(st: State, area: &mut [f64], theta: Scalar, landed: Answer) -> Return
             return refuse(st, area, e);
         }
     }
-    area::write(area, area::ASKED, &next);
+    area::write(area, area::ASKED_AT, &next);
     ask(st, Kind::Correction, st.counts.corrections)
 }
 
@@ -195,7 +197,7 @@ fn correct_or_judge(
     landed: Answer,
     corrects: bool,
 ) -> Returned
-    requires { ⌜ (length (now area) ≡ 8000) × Underway st ⌝ }
+    requires { ⌜ (length (now area) ≡ AREA) × Underway st ⌝ }
     ensures { λ r. ⌜ ((w : Memory) → ViolationsKnown st theta (resultOf landed) w (now (area .entry)) →
         Leaves (pick corrects (correct st w theta) (judge st w theta)) r (now (area .exit))) ⌝ }
 {
@@ -208,9 +210,9 @@ fn correct_or_judge(
 // A correction's rows that are nearer the constraints are kept, and the step is shifted as well, since its length and
 // the curvature are taken from where it led.
 fn keep(st: State, area: &mut [f64], rows: &[f64], theta: Scalar, landed: Answer) -> Returned
-    requires { ⌜ (length (now area) ≡ 8000) ×
+    requires { ⌜ (length (now area) ≡ AREA) ×
         ((length (now rows) ≡ rowNumbers (st .sizes .n) (st .sizes .m) (st .sizes .s)) ×
-        (Underway st × (st .counts .corrections ≤ 4))) ⌝ }
+        (Underway st × (st .counts .corrections ≤ CORRECTIONS))) ⌝ }
     ensures { λ r. ⌜ ((w : Memory) → StandingKnown st (ok theta) w (now (area .entry)) →
         resultOf landed ≡ violationOf (rowsAt st (now (rows .entry)) .constraints) →
         Leaves (keep st w (now (rows .entry)) theta) r (now (area .exit))) ⌝ }
@@ -220,7 +222,7 @@ fn keep(st: State, area: &mut [f64], rows: &[f64], theta: Scalar, landed: Answer
     let shift = shift(
         st.sizes.n,
         st.sizes.m,
-        &area[area::LANDED_ROWS..area::STEP],
+        &area[area::LANDED_ROWS_AT..area::STEP_AT],
         &moving,
         &mut d,
     );
@@ -230,11 +232,15 @@ fn keep(st: State, area: &mut [f64], rows: &[f64], theta: Scalar, landed: Answer
             return refuse(st, area, e);
         }
     }
-    shifted_step(st.sizes.n, &mut area[area::STEP..area::MULTIPLIERS], &d);
+    shifted_step(
+        st.sizes.n,
+        &mut area[area::STEP_AT..area::MULTIPLIERS_AT],
+        &d,
+    );
     area::write_landed(area, rows);
     let corrections = st.counts.corrections + 1;
     let t = with_landed_number(st, corrections);
-    correct_or_judge(t, area, theta, landed, corrections < 4)
+    correct_or_judge(t, area, theta, landed, corrections < CORRECTIONS)
 }
 
 // Whether a correction's rows, by their violation, are nearer the constraints than the landed ones.
@@ -258,9 +264,9 @@ fn is_nearer(new: Answer, old: Answer) -> Nearer
 
 // A correction's rows, from a standing point with violation theta: kept where they are nearer than the landed ones.
 pub fn land_correction(st: State, area: &mut [f64], rows: &[f64], theta: Scalar) -> Returned
-    requires { ⌜ (length (now area) ≡ 8000) ×
+    requires { ⌜ (length (now area) ≡ AREA) ×
         ((length (now rows) ≡ rowNumbers (st .sizes .n) (st .sizes .m) (st .sizes .s)) ×
-        (Underway st × (st .counts .corrections ≤ 4))) ⌝ }
+        (Underway st × (st .counts .corrections ≤ CORRECTIONS))) ⌝ }
     ensures { λ r. ⌜ ((w : Memory) → StandingKnown st (ok theta) w (now (area .entry)) →
         Leaves (landCorrection st w (now (rows .entry)) theta) r (now (area .exit))) ⌝ }
 {
@@ -281,7 +287,7 @@ pub fn land_correction(st: State, area: &mut [f64], rows: &[f64], theta: Scalar)
 
 // A trial's rows, from a standing point with violation theta: corrected where the violation rose.
 pub fn land_trial(st: State, area: &mut [f64], rows: &[f64], theta: Scalar) -> Returned
-    requires { ⌜ (length (now area) ≡ 8000) ×
+    requires { ⌜ (length (now area) ≡ AREA) ×
         ((length (now rows) ≡ rowNumbers (st .sizes .n) (st .sizes .m) (st .sizes .s)) × Underway st) ⌝ }
     ensures { λ r. ⌜ ((w : Memory) → StandingKnown st (ok theta) w (now (area .entry)) →
         Leaves (landTrial st w (now (rows .entry)) theta) r (now (area .exit))) ⌝ }
@@ -301,7 +307,7 @@ pub fn land_trial(st: State, area: &mut [f64], rows: &[f64], theta: Scalar) -> R
 
 // A correction that cannot be evaluated: the point that landed before it is judged.
 pub fn correction_none(st: State, area: &mut [f64]) -> Returned
-    requires { ⌜ (length (now area) ≡ 8000) × Underway st ⌝ }
+    requires { ⌜ (length (now area) ≡ AREA) × Underway st ⌝ }
     ensures { λ r. ⌜ ((w : Memory) → Working st w (now (area .entry)) →
         Leaves (answeredNone kinds.Correction st w) r (now (area .exit))) ⌝ }
 {

@@ -13,6 +13,7 @@ ghost use Rattle.linear.specs.Choose.{chooseOf};
 ghost use Rattle.linear.specs.Dot.{dotTo};
 ghost use Rattle.linear.specs.Flat.{at, along};
 ghost use Rattle.linear.specs.Substitution.{storeR};
+ghost use Rattle.run.specs.Limits.{VARIABLES, CONSTRAINTS, SUM-ROWS};
 ghost use Rattle.run.specs.Curvature.{learnedOf, alongOf, lagrangianChangeAt, lagrangianChange, chosenSum, rankOneStep};
 ghost use Rattle.run.specs.Curvature.{rankOneOf, correctedBy, updatedBy, updateCurvature};
 ghost use Rattle.run.specs.Rows.{constraintsOf, evaluationOf};
@@ -45,7 +46,7 @@ fn bends(v: Scalar) -> bool
 
 // Whether any curvature was learned.
 pub fn learned(n: usize, b: &[f64]) -> bool
-    requires { ⌜ n ≤ 12 ⌝ }
+    requires { ⌜ n ≤ VARIABLES ⌝ }
     ensures { λ r. ⌜ r ≡ learnedOf n (now (b .entry)) ⌝ }
 {
     let q = n * n;
@@ -66,7 +67,7 @@ fn dot_of(a: &[f64], b: &[f64], n: usize) -> Scalar
 
 // The first k rows of n, each times v, from the start of `out` on.
 pub fn products(n: usize, k: usize, rows: &[f64], v: &[f64], out: &mut [f64])
-    requires { ⌜ (n ≤ 12) × (k ≤ 12) ⌝ }
+    requires { ⌜ (n ≤ VARIABLES) × (k ≤ VARIABLES) ⌝ }
     ensures { λ _. ⌜ now (out .exit) ≡ fillTo (now (out .entry)) 0 (λ i. dotTo (along (now (rows .entry)) (i * n) 1) (at (now (v .entry))) n) k ⌝ }
 {
     for i in 0..k {
@@ -76,7 +77,7 @@ pub fn products(n: usize, k: usize, rows: &[f64], v: &[f64], out: &mut [f64])
 
 // The part of v along the constraints.
 pub fn along_constraints(n: usize, m: usize, xs: &[f64], v: &[f64], out: &mut [f64]) -> Done
-    requires { ⌜ (n ≤ 12) × ((m ≤ 12) × ((2 * n ≤ length (now v)) × (length (now out) ≡ 2 * n))) ⌝ }
+    requires { ⌜ (n ≤ VARIABLES) × ((m ≤ CONSTRAINTS) × ((2 * n ≤ length (now v)) × (length (now out) ≡ 2 * n))) ⌝ }
     ensures { λ r. ⌜ doneOf r (now (out .exit)) ≡ alongOf (constraintsOf n m (now (xs .entry))) (now (v .entry)) ⌝ }
 {
     let q = 2 * (m * n);
@@ -101,7 +102,7 @@ fn along_factored(
     v: &[f64],
     out: &mut [f64],
 ) -> Done
-    requires { ⌜ (n ≤ 12) × ((m ≤ 12) × ((2 * n ≤ length (now v)) × (length (now out) ≡ 2 * n))) ⌝ }
+    requires { ⌜ (n ≤ VARIABLES) × ((m ≤ CONSTRAINTS) × ((2 * n ≤ length (now v)) × (length (now out) ≡ 2 * n))) ⌝ }
     ensures { λ r. ⌜ ((xs : List Float) →
         Factored (constraintsOf n m xs) (now (slopes .entry)) (factorOf (now (l .entry)) (now («left_out» .entry))) →
         doneOf r (now (out .exit)) ≡ alongOf (constraintsOf n m xs) (now (v .entry))) ⌝ }
@@ -124,7 +125,7 @@ fn lagrangian_change_at(
     r: &[f64],
     j: usize,
 ) -> Scalar
-    requires { ⌜ (n ≤ 12) × ((m ≤ 12) × ((s ≤ 24) × (j < 65536))) ⌝ }
+    requires { ⌜ (n ≤ VARIABLES) × ((m ≤ CONSTRAINTS) × ((s ≤ SUM-ROWS) × (j < 65536))) ⌝ }
     ensures { λ y. ⌜ y ≡ lagrangianChangeAt (evaluationOf n m s (now (xs .entry))) (evaluationOf n m s (now (next .entry))) (now (lambda .entry)) (now (r .entry)) j ⌝ }
 {
     let c = constraints(n, m);
@@ -144,7 +145,7 @@ fn lagrangian_change(
     lambda: &[f64],
     y: &mut [f64],
 )
-    requires { ⌜ (n ≤ 12) × ((m ≤ 12) × ((s ≤ 24) × (now y ≡ vector))) ⌝ }
+    requires { ⌜ (n ≤ VARIABLES) × ((m ≤ CONSTRAINTS) × ((s ≤ SUM-ROWS) × (now y ≡ vector))) ⌝ }
     ensures { λ _. ⌜ now (y .exit) ≡ lagrangianChange n (evaluationOf n m s (now (xs .entry))) (evaluationOf n m s (now (next .entry))) (now (lambda .entry)) ⌝ }
 {
     let mut r = [0.0; 48];
@@ -188,7 +189,7 @@ fn rank_one_at(n: usize, b: &mut [f64], v: &[f64], inverse: ScalarResult, p: usi
 
 // b + v vᵀ / vs, each entry chosen.
 pub fn rank_one(n: usize, b: &mut [f64], v: &[f64], vs: Scalar) -> Done
-    requires { ⌜ n ≤ 12 ⌝ }
+    requires { ⌜ n ≤ VARIABLES ⌝ }
     ensures { λ r. ⌜ doneOf r (now (b .exit)) ≡ rankOneOf n (now (b .entry)) (now (v .entry)) vs ⌝ }
 {
     let q = n * n;
@@ -217,7 +218,7 @@ fn less_chosen(n: usize, y: &[f64], bs: &[f64], v: &mut [f64])
 
 // The update, with y along the constraints.
 pub fn corrected_by(n: usize, b: &mut [f64], y: &[f64], bs: &[f64], s: &[f64]) -> Done
-    requires { ⌜ n ≤ 12 ⌝ }
+    requires { ⌜ n ≤ VARIABLES ⌝ }
     ensures { λ r. ⌜ doneOf r (now (b .exit)) ≡ correctedBy n (now (b .entry)) (now (y .entry)) (now (bs .entry)) (now (s .entry)) ⌝ }
 {
     let mut v = [0.0; 24];
@@ -241,7 +242,7 @@ fn updated(
     y: &[f64],
     s: &[f64],
 ) -> Done
-    requires { ⌜ (n ≤ 12) × ((m ≤ 12) × (length (now y) ≡ 24)) ⌝ }
+    requires { ⌜ (n ≤ VARIABLES) × ((m ≤ CONSTRAINTS) × (length (now y) ≡ 24)) ⌝ }
     ensures { λ r. ⌜ ((xs : List Float) →
         Factored (constraintsOf n m xs) (now (slopes .entry)) (factorOf (now (l .entry)) (now («left_out» .entry))) →
         doneOf r (now (b .exit))
@@ -277,7 +278,7 @@ fn update_factored(
     l: &[f64],
     left_out: &[bool],
 ) -> Done
-    requires { ⌜ (n ≤ 12) × ((m ≤ 12) × ((s ≤ 24) × ((length (now step) ≡ 24)
+    requires { ⌜ (n ≤ VARIABLES) × ((m ≤ CONSTRAINTS) × ((s ≤ SUM-ROWS) × ((length (now step) ≡ 24)
         × Factored (constraintsOf n m (now xs)) (now slopes) (factorOf (now l) (now «left_out»))))) ⌝ }
     ensures { λ r. ⌜ doneOf r (now (b .exit))
         ≡ updateCurvature n (now (b .entry)) (now (step .entry)) (evaluationOf n m s (now (xs .entry)))
@@ -305,7 +306,7 @@ pub fn update_curvature(
     next: &[f64],
     lambda: &[f64],
 ) -> Done
-    requires { ⌜ (n ≤ 12) × ((m ≤ 12) × ((s ≤ 24) × (length (now step) ≡ 24))) ⌝ }
+    requires { ⌜ (n ≤ VARIABLES) × ((m ≤ CONSTRAINTS) × ((s ≤ SUM-ROWS) × (length (now step) ≡ 24))) ⌝ }
     ensures { λ r. ⌜ doneOf r (now (b .exit)) ≡ updateCurvature n (now (b .entry)) (now (step .entry))
         (evaluationOf n m s (now (xs .entry))) (evaluationOf n m s (now (next .entry))) (now (lambda .entry)) ⌝ }
 {

@@ -7,6 +7,7 @@ ghost use Rattle.interval.specs.Scalar.{pick};
 ghost use Rattle.interval.specs.Scaling.{isPositive};
 ghost use Rattle.linear.specs.Answers.{resultOf, doneOf};
 ghost use Rattle.linear.specs.Flat.{zeros};
+ghost use Rattle.run.specs.Limits.{AREA, VARIABLES, CONSTRAINTS, SUM-ROWS};
 ghost use Rattle.run.specs.Area.{Memory, landedAt, standingAt};
 ghost use Rattle.run.specs.Curvature.{learnedOf, updateCurvature};
 ghost use Rattle.run.specs.Decide.{held, linearOf, take, wasTaken, decide, judge};
@@ -51,7 +52,7 @@ use linear::LinearError;
 
 // The search goes on with that radius and more damping, while that is finite.
 fn grow(st: State, area: &mut [f64], radius: Scalar, why: Rejection, standing: Answer) -> Returned
-    requires { ⌜ (length (now area) ≡ 8000) × Bounded 1073741824 st ⌝ }
+    requires { ⌜ (length (now area) ≡ AREA) × Bounded 1073741824 st ⌝ }
     ensures { λ r. ⌜ ((w : Memory) → StandingKnown st (resultOf standing) w (now (area .entry)) →
         Leaves (run.grow (searching st (withRadius (rejectedFor (st .search) why) radius)) w) r (now (area .exit))) ⌝ }
 {
@@ -68,7 +69,7 @@ fn grow(st: State, area: &mut [f64], radius: Scalar, why: Rejection, standing: A
 // A step is turned down: the model was trusted too far, so a quarter of the length tried is the radius, with more
 // damping.
 pub fn turn_down(st: State, area: &mut [f64], why: Rejection, standing: Answer) -> Returned
-    requires { ⌜ (length (now area) ≡ 8000) × Bounded 1073741824 st ⌝ }
+    requires { ⌜ (length (now area) ≡ AREA) × Bounded 1073741824 st ⌝ }
     ensures { λ r. ⌜ ((w : Memory) → StandingKnown st (resultOf standing) w (now (area .entry)) →
         Leaves (run.turnDown st w why) r (now (area .exit))) ⌝ }
 {
@@ -85,19 +86,19 @@ pub fn turn_down(st: State, area: &mut [f64], why: Rejection, standing: Answer) 
 
 // Whether a step that is not lower is tried again without the curvature learned.
 fn may_retry(plain: bool, n: usize, area: &[f64]) -> bool
-    requires { ⌜ (n ≤ 12) × (length (now area) ≡ 8000) ⌝ }
+    requires { ⌜ (n ≤ VARIABLES) × (length (now area) ≡ AREA) ⌝ }
     ensures { λ r. ⌜ ((w : Memory) → Holds w (now (area .entry)) → r ≡ (not plain && learnedOf n (w .curvature))) ⌝ }
 {
     if plain {
         return false;
     }
-    learned(n, &area[area::CURVATURE..area::FILTER])
+    learned(n, &area[area::CURVATURE_AT..area::FILTER_AT])
 }
 
 // A step that is not lower is tried again without the curvature learned, once in an iteration, or turned down.
 // Curvature learned far away may point uphill here, and without it the damped step is one of descent.
 pub fn not_lower(st: State, area: &mut [f64], standing: Answer) -> Returned
-    requires { ⌜ (length (now area) ≡ 8000) × Bounded 1073741824 st ⌝ }
+    requires { ⌜ (length (now area) ≡ AREA) × Bounded 1073741824 st ⌝ }
     ensures { λ r. ⌜ ((w : Memory) → StandingKnown st (resultOf standing) w (now (area .entry)) →
         Leaves (run.notLower st w) r (now (area .exit))) ⌝ }
 {
@@ -146,19 +147,19 @@ fn linear_of(st: State, theta: Scalar, landed: Answer) -> Linear
 
 // The curvature before the step, over +0 into b: none in plain. Of its slot the entries in use are copied.
 fn curvature_in_use(plain: bool, n: usize, area: &[f64], b: &mut [f64])
-    requires { ⌜ (n ≤ 12) × ((length (now area) ≡ 8000) × (now b ≡ zeros 288)) ⌝ }
+    requires { ⌜ (n ≤ VARIABLES) × ((length (now area) ≡ AREA) × (now b ≡ zeros 288)) ⌝ }
     ensures { λ _. ⌜ ((w : Memory) → Holds w (now (area .entry)) → ZeroBehind 288 (2 * (n * n)) (w .curvature) →
         now (b .exit) ≡ pick plain (zeros 288) (w .curvature)) ⌝ }
 {
     if !plain {
-        let e = area::CURVATURE + 2 * (n * n);
-        area::write(b, 0, &area[area::CURVATURE..e]);
+        let e = area::CURVATURE_AT + 2 * (n * n);
+        area::write(b, 0, &area[area::CURVATURE_AT..e]);
     }
 }
 
 // The curvature after the step, over +0 into b.
 fn learn(z: Sizes, plain: bool, area: &[f64], b: &mut [f64]) -> Done
-    requires { ⌜ (z .n ≤ 12) × ((z .m ≤ 12) × ((z .s ≤ 24) × ((length (now area) ≡ 8000) × (now b ≡ zeros 288)))) ⌝ }
+    requires { ⌜ (z .n ≤ VARIABLES) × ((z .m ≤ CONSTRAINTS) × ((z .s ≤ SUM-ROWS) × ((length (now area) ≡ AREA) × (now b ≡ zeros 288)))) ⌝ }
     ensures { λ r. ⌜ ((w : Memory) → Holds w (now (area .entry)) → ZeroBehind 288 (2 * (z .n * z .n)) (w .curvature) →
         doneOf r (now (b .exit)) ≡ updateCurvature (z .n) (pick plain (zeros 288) (w .curvature)) (w .step)
         (evaluationOf (z .n) (z .m) (z .s) (w .standingRows)) (evaluationOf (z .n) (z .m) (z .s) (w .landedRows))
@@ -170,10 +171,10 @@ fn learn(z: Sizes, plain: bool, area: &[f64], b: &mut [f64]) -> Done
         z.m,
         z.s,
         b,
-        &area[area::STEP..area::MULTIPLIERS],
-        &area[area::STANDING_ROWS..area::LANDED_ROWS],
-        &area[area::LANDED_ROWS..area::STEP],
-        &area[area::MULTIPLIERS..area::CURVATURE],
+        &area[area::STEP_AT..area::MULTIPLIERS_AT],
+        &area[area::STANDING_ROWS_AT..area::LANDED_ROWS_AT],
+        &area[area::LANDED_ROWS_AT..area::STEP_AT],
+        &area[area::MULTIPLIERS_AT..area::CURVATURE_AT],
     )
 }
 
@@ -187,7 +188,7 @@ fn take_with(
     mu: Scalar,
     radius: Scalar,
 ) -> Returned
-    requires { ⌜ (length (now area) ≡ 8000) × (Underway st × (isPositive mu ≡ true)) ⌝ }
+    requires { ⌜ (length (now area) ≡ AREA) × (Underway st × (isPositive mu ≡ true)) ⌝ }
     ensures { λ r. ⌜ ((w : Memory) → ViolationsKnown st theta (resultOf landed) w (now (area .entry)) →
         Leaves (takenWith st w theta span mu radius) r (now (area .exit))) ⌝ }
 {
@@ -199,7 +200,7 @@ fn take_with(
         }
     }
     let f = residuals::sum_squared(
-        &area[area::STANDING_ROWS..area::LANDED_ROWS],
+        &area[area::STANDING_ROWS_AT..area::LANDED_ROWS_AT],
         st.sizes.n,
         st.sizes.m,
         st.sizes.s,
@@ -210,7 +211,7 @@ fn take_with(
 
 // The step of that length is taken, from a point with violation theta to the landed one.
 pub fn take(st: State, area: &mut [f64], theta: Scalar, landed: Answer, span: Scalar) -> Returned
-    requires { ⌜ (length (now area) ≡ 8000) × Underway st ⌝ }
+    requires { ⌜ (length (now area) ≡ AREA) × Underway st ⌝ }
     ensures { λ r. ⌜ ((w : Memory) → ViolationsKnown st theta (resultOf landed) w (now (area .entry)) →
         Leaves (take st w theta span) r (now (area .exit))) ⌝ }
 {
@@ -277,7 +278,7 @@ fn is_better(first: bool, j: Judged) -> bool
 
 // What follows a judgement, from a standing point with violation theta to the landed one.
 fn decide(st: State, area: &mut [f64], theta: Scalar, landed: Answer, j: Judged) -> Returned
-    requires { ⌜ (length (now area) ≡ 8000) × Underway st ⌝ }
+    requires { ⌜ (length (now area) ≡ AREA) × Underway st ⌝ }
     ensures { λ r. ⌜ ((w : Memory) → ViolationsKnown st theta (resultOf landed) w (now (area .entry)) →
         Leaves (decide st w theta j) r (now (area .exit))) ⌝ }
 {
@@ -293,7 +294,7 @@ fn decide(st: State, area: &mut [f64], theta: Scalar, landed: Answer, j: Judged)
 
 // The judgement of the landed point, from a standing point with violation theta.
 fn judge_in(st: State, area: &[f64], theta: Scalar, landed: Answer) -> Judgement
-    requires { ⌜ (length (now area) ≡ 8000) × Underway st ⌝ }
+    requires { ⌜ (length (now area) ≡ AREA) × Underway st ⌝ }
     ensures { λ r. ⌜ ((w : Memory) → ViolationsKnown st theta (resultOf landed) w (now (area .entry)) →
         judgementOf r ≡ judgeOf (st .sizes .n) (standingAt st w) (landedAt st w) theta (w .filter)
         (st .counts .iterations) (st .last) (w .step)) ⌝ }
@@ -303,20 +304,20 @@ fn judge_in(st: State, area: &[f64], theta: Scalar, landed: Answer) -> Judgement
         st.sizes.n,
         st.sizes.m,
         st.sizes.s,
-        &area[area::STANDING_ROWS..area::LANDED_ROWS],
-        &area[area::LANDED_ROWS..area::STEP],
+        &area[area::STANDING_ROWS_AT..area::LANDED_ROWS_AT],
+        &area[area::LANDED_ROWS_AT..area::STEP_AT],
         theta,
         landed,
-        &area[area::FILTER..area::SPARE],
+        &area[area::FILTER_AT..area::SPARE_AT],
         st.counts.iterations,
         last,
-        &area[area::STEP..area::MULTIPLIERS],
+        &area[area::STEP_AT..area::MULTIPLIERS_AT],
     )
 }
 
 // The landed point is judged, from a standing point with violation theta.
 pub fn judge_landed(st: State, area: &mut [f64], theta: Scalar, landed: Answer) -> Returned
-    requires { ⌜ (length (now area) ≡ 8000) × Underway st ⌝ }
+    requires { ⌜ (length (now area) ≡ AREA) × Underway st ⌝ }
     ensures { λ r. ⌜ ((w : Memory) → ViolationsKnown st theta (resultOf landed) w (now (area .entry)) →
         Leaves (judge st w theta) r (now (area .exit))) ⌝ }
 {

@@ -6,6 +6,7 @@ ghost use mathlib.Core.Path.{_≡_};
 ghost use lib.Ieee.{Float};
 ghost use lib.ListN.{length};
 ghost use Rattle.linear.specs.Answers.{numberOf};
+ghost use Rattle.run.specs.Limits.{AREA};
 ghost use Rattle.run.specs.Area.{Memory};
 ghost use Rattle.run.specs.Endings as run;
 ghost use Rattle.run.specs.program.Area.{Limits, Working, Holds};
@@ -38,7 +39,7 @@ fn number_of(e: LinearError) -> usize
 
 // The run is over with its counts; the area keeps the standing point alone.
 pub fn finish(st: State, area: &mut [f64], stop: Stop) -> Returned
-    requires { ⌜ (length (now area) ≡ 8000) × Limits (st .sizes) (st .counts .iterations) ⌝ }
+    requires { ⌜ (length (now area) ≡ AREA) × Limits (st .sizes) (st .counts .iterations) ⌝ }
     ensures { λ r. ⌜ ((w : Memory) → Working st w (now (area .entry)) →
         Leaves (run.finish st w stop) r (now (area .exit))) ⌝ }
 {
@@ -56,7 +57,7 @@ pub fn finish(st: State, area: &mut [f64], stop: Stop) -> Returned
 
 // The run is over with the number of a refusal; the area keeps the standing point alone.
 pub fn refuse(st: State, area: &mut [f64], e: LinearError) -> Returned
-    requires { ⌜ (length (now area) ≡ 8000) × Limits (st .sizes) (st .counts .iterations) ⌝ }
+    requires { ⌜ (length (now area) ≡ AREA) × Limits (st .sizes) (st .counts .iterations) ⌝ }
     ensures { λ r. ⌜ ((w : Memory) → Working st w (now (area .entry)) →
         Leaves (run.refuse st w (numberOf e)) r (now (area .exit))) ⌝ }
 {

@@ -6,14 +6,17 @@ ghost use mathlib.Core.Path.{_≡_};
 ghost use lib.ListN.{take};
 ghost use Rattle.interval.specs.Scalar.{definitelyLess};
 ghost use Rattle.run.specs.Filter.{filterSum, filterViolation, beatsTo, filterWith};
+ghost use Rattle.run.specs.Limits.{ITERATIONS};
 ghost use Rattle.run.specs.program.Filter.{beatsPair, beatsPairs, pairAt, pairsTo};
+use crate::limits::ITERATIONS;
 use interval::Scalar;
 use linear::at;
 use linear::put;
 
 fn beats_pair(filter: &[f64], f: Scalar, theta: Scalar, i: usize) -> bool
     requires { ⌜ i < 65536 ⌝ }
-    ensures { λ r. ⌜ r ≡ definitelyLess f (filterSum (now (filter .entry)) i) || definitelyLess theta (filterViolation (now (filter .entry)) i) ⌝ }
+    ensures { λ r. ⌜ r ≡ definitelyLess f (filterSum (now (filter .entry)) i)
+        || definitelyLess theta (filterViolation (now (filter .entry)) i) ⌝ }
 {
     if f.definitely_less(at(filter, 2 * i)) {
         return true;
@@ -67,8 +70,8 @@ fn beats_pairs(pairs: &[Pair], f: Scalar, theta: Scalar) -> bool
 }
 
 // The same of the first pairs of an array, which are lent.
-fn beats_first(pairs: [Pair; 200], count: usize, f: Scalar, theta: Scalar) -> bool
-    requires { ⌜ count ≤ 200 ⌝ }
+fn beats_first(pairs: [Pair; ITERATIONS], count: usize, f: Scalar, theta: Scalar) -> bool
+    requires { ⌜ count ≤ ITERATIONS ⌝ }
     ensures { λ r. ⌜ r ≡ beatsPairs (take count pairs) f theta ⌝ }
 {
     beats_pairs(&pairs[..count], f, theta)
@@ -86,27 +89,28 @@ fn pair_at(filter: &[f64], i: usize) -> Pair
 }
 
 // Its first pairs, as an array.
-fn pairs_of(filter: &[f64], count: usize) -> [Pair; 200]
-    requires { ⌜ count ≤ 200 ⌝ }
+fn pairs_of(filter: &[f64], count: usize) -> [Pair; ITERATIONS]
+    requires { ⌜ count ≤ ITERATIONS ⌝ }
     ensures { λ r. ⌜ take count r ≡ pairsTo (now (filter .entry)) count ⌝ }
 {
     let none = Pair {
         f: Scalar::ZERO,
         violation: Scalar::ZERO,
     };
-    let mut pairs = [none; 200];
+    let mut pairs = [none; ITERATIONS];
     for i in 0..count {
         pairs[i] = pair_at(filter, i);
     }
     pairs
 }
 
-// Whether f or theta is definitely less than in each of the flat filter's first pairs, asked of the pairs. A filter has at most 200: more, which no run has, are asked of the flat numbers.
+// Whether f or theta is definitely less than in each of the flat filter's first pairs, asked of the pairs. A filter has
+// at most one for each iteration: more, which no run has, are asked of the flat numbers.
 pub fn beats_as_pairs(filter: &[f64], f: Scalar, theta: Scalar, count: usize) -> bool
     requires { ⌜ count < 65536 ⌝ }
     ensures { λ r. ⌜ r ≡ beatsTo (now (filter .entry)) f theta count ⌝ }
 {
-    if count > 200 {
+    if count > ITERATIONS {
         return beats(filter, f, theta, count);
     }
     beats_first(pairs_of(filter, count), count, f, theta)
@@ -114,7 +118,7 @@ pub fn beats_as_pairs(filter: &[f64], f: Scalar, theta: Scalar, count: usize) ->
 
 // The filter with one pair more.
 pub fn push(filter: &mut [f64], count: usize, f: Scalar, theta: Scalar)
-    requires { ⌜ count < 200 ⌝ }
+    requires { ⌜ count < ITERATIONS ⌝ }
     ensures { λ _. ⌜ now (filter .exit) ≡ filterWith (now (filter .entry)) count f theta ⌝ }
 {
     put(filter, 2 * count, f);

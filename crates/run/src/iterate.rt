@@ -4,7 +4,8 @@ ghost use mathlib.Core.Path.{_≡_};
 ghost use lib.ListN.{length};
 ghost use Rattle.interval.specs.Scalar.{pick};
 ghost use Rattle.linear.specs.Answers.{resultOf};
-ghost use Rattle.run.specs.Area.{Memory};
+ghost use Rattle.run.specs.Limits.{AREA, VARIABLES, CONSTRAINTS, SUM-ROWS};
+ghost use Rattle.run.specs.Area.{Memory, SPARE-AT, CURVATURE-AT};
 ghost use Rattle.run.specs.Iterate.{leftAt};
 ghost use Rattle.run.specs.Iterate as run;
 ghost use Rattle.run.specs.Residuals.{sumSquared};
@@ -34,7 +35,7 @@ use linear::Answer;
 
 // The event that follows where a search was left, with the step and its multipliers.
 fn left_at(st: State, area: &mut [f64], found: Found, delta: &[f64], lambda: &[f64]) -> Returned
-    requires { ⌜ (length (now area) ≡ 8000) ×
+    requires { ⌜ (length (now area) ≡ AREA) ×
         (Bounded 2147483648 st × ((length (now delta) ≡ 24) × (length (now lambda) ≡ 24))) ⌝ }
     ensures { λ r. ⌜ ((w : Memory) → Working st w (now (area .entry)) →
         Leaves (leftAt st w (foundResult found (now (delta .entry)) (now (lambda .entry))
@@ -56,17 +57,17 @@ fn left_at(st: State, area: &mut [f64], found: Found, delta: &[f64], lambda: &[f
 
 // Where the curvature that a proposal goes by begins. In plain there is none: the last numbers of the area are +0.
 fn curvature_from(plain: bool) -> usize
-    ensures { λ r. ⌜ r ≡ pick plain 3080 1992 ⌝ }
+    ensures { λ r. ⌜ r ≡ pick plain SPARE-AT CURVATURE-AT ⌝ }
 {
     if plain {
-        return area::SPARE;
+        return area::SPARE_AT;
     }
-    area::CURVATURE
+    area::CURVATURE_AT
 }
 
 // The numbers of the standing point's problem, from its rows and their violation.
 fn standing_point(z: Sizes, rows: &[f64], theta: Scalar) -> StandingPoint
-    requires { ⌜ (z .n ≤ 12) × ((z .m ≤ 12) × (z .s ≤ 24)) ⌝ }
+    requires { ⌜ (z .n ≤ VARIABLES) × ((z .m ≤ CONSTRAINTS) × (z .s ≤ SUM-ROWS)) ⌝ }
     ensures { λ r. ⌜ r ≡ record {
       n = z .n;
       m = z .m;
@@ -92,14 +93,14 @@ fn seek_standing(
     delta: &mut [f64],
     lambda: &mut [f64],
 ) -> Found
-    requires { ⌜ (length (now area) ≡ 8000) ×
+    requires { ⌜ (length (now area) ≡ AREA) ×
         (Bounded 2147483648 st × ((length (now delta) ≡ 24) × (length (now lambda) ≡ 24))) ⌝ }
     ensures { λ r. ⌜ ((w : Memory) → StandingKnown st (resultOf standing) w (now (area .entry)) →
         foundResult r (now (delta .exit)) (now (lambda .exit))
         (movedOf (st .sizes .n) (w .standing) (now (delta .exit))) ≡ soughtOf st w) ⌝ }
 {
     let from = st.search;
-    let rows = &area[area::STANDING_ROWS..area::LANDED_ROWS];
+    let rows = &area[area::STANDING_ROWS_AT..area::LANDED_ROWS_AT];
     match standing {
         Answer::Value(theta) => {
             let moving = st.moving;
@@ -107,8 +108,8 @@ fn seek_standing(
             return seek(
                 standing_point(st.sizes, rows, theta),
                 rows,
-                &area[area::STANDING..area::LANDED],
-                &area[curvature..curvature + area::ENTRIES],
+                &area[area::STANDING_AT..area::LANDED_AT],
+                &area[curvature..curvature + area::CURVATURE_LEN],
                 &moving,
                 st.max_step,
                 from,
@@ -124,7 +125,7 @@ fn seek_standing(
 
 // The search for a proposal from the standing point with its violation, until a question, the finish or a refusal.
 pub fn search(st: State, area: &mut [f64], standing: Answer) -> Returned
-    requires { ⌜ (length (now area) ≡ 8000) × Bounded 2147483648 st ⌝ }
+    requires { ⌜ (length (now area) ≡ AREA) × Bounded 2147483648 st ⌝ }
     ensures { λ r. ⌜ ((w : Memory) → StandingKnown st (resultOf standing) w (now (area .entry)) →
         Leaves (run.search st w) r (now (area .exit))) ⌝ }
 {
@@ -136,7 +137,7 @@ pub fn search(st: State, area: &mut [f64], standing: Answer) -> Returned
 
 // A new iteration, or the finish where the limit is reached.
 pub fn iterate(st: State, area: &mut [f64], standing: Answer) -> Returned
-    requires { ⌜ (length (now area) ≡ 8000) × Bounded 2147483648 st ⌝ }
+    requires { ⌜ (length (now area) ≡ AREA) × Bounded 2147483648 st ⌝ }
     ensures { λ r. ⌜ ((w : Memory) → StandingKnown st (resultOf standing) w (now (area .entry)) →
         Leaves (run.iterate st w) r (now (area .exit))) ⌝ }
 {

@@ -5,6 +5,7 @@ ghost use mathlib.Core.Path.{_≡_};
 ghost use lib.ListN.{length};
 ghost use Rattle.interval.specs.Scalar.{subOf};
 ghost use Rattle.linear.specs.Answers.{resultOf};
+ghost use Rattle.run.specs.Limits.{VARIABLES, CONSTRAINTS, SUM-ROWS};
 ghost use Rattle.run.specs.Filter.{beatsTo};
 ghost use Rattle.run.specs.Judgement.{sumChange, indefinite, rises, contracts, judgedBy, judgeOf};
 ghost use Rattle.run.specs.Residuals.{sumSquared, violationOf};
@@ -94,7 +95,7 @@ fn judged_at(
     last: Last,
     length: Scalar,
 ) -> Judged
-    requires { ⌜ (n ≤ 12) × ((m ≤ 12) × ((s ≤ 24) × (count < 65536))) ⌝ }
+    requires { ⌜ (n ≤ VARIABLES) × ((m ≤ CONSTRAINTS) × ((s ≤ SUM-ROWS) × (count < 65536))) ⌝ }
     ensures { λ r. ⌜ r ≡ judgedBy (sumChange (sumOf n m s (now (at .entry))) (sumOf n m s (now (next .entry)))) (subOf theta «theta_next») (beatsTo (now (filter .entry)) (sumSquared (sumOf n m s (now (next .entry)))) «theta_next» count) length last ⌝ }
 {
     let change = sum_change(at, next, rows::sum(n, m, s));
@@ -124,7 +125,7 @@ pub fn judge(
     last: Last,
     step: &[f64],
 ) -> Judgement
-    requires { ⌜ (n ≤ 12) × ((m ≤ 12) × ((s ≤ 24) × ((count < 65536) × (length (now step) ≡ 24)))) ⌝ }
+    requires { ⌜ (n ≤ VARIABLES) × ((m ≤ CONSTRAINTS) × ((s ≤ SUM-ROWS) × ((count < 65536) × (length (now step) ≡ 24)))) ⌝ }
     ensures { λ r. ⌜ (resultOf landed ≡ violationOf (constraintsOf n m (now (next .entry))) →
         judgementOf r ≡ judgeOf n (evaluationOf n m s (now (at .entry))) (evaluationOf n m s (now (next .entry))) theta
         (now (filter .entry)) count last (now (step .entry))) ⌝ }

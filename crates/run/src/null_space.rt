@@ -2,6 +2,7 @@
 ghost use Prim.Native.Nat.{_<_, _≤_, _+_, _-_};
 ghost use mathlib.Core.Path.{_≡_};
 ghost use Rattle.interval.specs.Scalar.{pick, definitelyGreater};
+ghost use Rattle.run.specs.Limits.{VARIABLES, CONSTRAINTS};
 ghost use Rattle.run.specs.NullSpace.{partOff, leftAfter, remaindersTo, withoutTo, squareOf, directionsTo};
 ghost use Rattle.run.specs.NullSpace.{directionsOf};
 ghost use Rattle.run.specs.Vectors.{matrix};
@@ -37,7 +38,7 @@ pub enum Found {
 
 // Row p of `left` without its part along row t of w.
 fn part_off(k: usize, w: &[f64], t: usize, left: &mut [f64], p: usize)
-    requires { ⌜ (k ≤ 12) × ((t < 12) × (p < 12)) ⌝ }
+    requires { ⌜ (k ≤ VARIABLES) × ((t < 12) × (p < 12)) ⌝ }
     ensures { λ _. ⌜ now (left .exit) ≡ partOff k (now (w .entry)) t (now (left .entry)) p ⌝ }
 {
     let a = choose(row_dot(left, 12 * p, w, 12 * t, k));
@@ -46,7 +47,7 @@ fn part_off(k: usize, w: &[f64], t: usize, left: &mut [f64], p: usize)
 
 // The same of rows p and p + 1, whose parts do not wait for each other.
 fn two_parts_off(k: usize, w: &[f64], t: usize, left: &mut [f64], p: usize)
-    requires { ⌜ (k ≤ 12) × ((t < 12) × (p < 11)) ⌝ }
+    requires { ⌜ (k ≤ VARIABLES) × ((t < 12) × (p < 11)) ⌝ }
     ensures { λ _. ⌜ now (left .exit)
         ≡ partOff k (now (w .entry)) t (partOff k (now (w .entry)) t (now (left .entry)) p) (p + 1) ⌝ }
 {
@@ -57,7 +58,7 @@ fn two_parts_off(k: usize, w: &[f64], t: usize, left: &mut [f64], p: usize)
 
 // Row p without its parts along the first r of q, one after the other.
 fn left_after(k: usize, r: usize, q: &[f64], left: &mut [f64], p: usize)
-    requires { ⌜ (k ≤ 12) × ((r ≤ 12) × (p < 12)) ⌝ }
+    requires { ⌜ (k ≤ VARIABLES) × ((r ≤ CONSTRAINTS) × (p < 12)) ⌝ }
     ensures { λ _. ⌜ now (left .exit) ≡ leftAfter k (now (q .entry)) (now (left .entry)) p r ⌝ }
 {
     for t in 0..r {
@@ -67,7 +68,7 @@ fn left_after(k: usize, r: usize, q: &[f64], left: &mut [f64], p: usize)
 
 // The same of rows p and p + 1.
 fn two_left_after(k: usize, r: usize, q: &[f64], left: &mut [f64], p: usize)
-    requires { ⌜ (k ≤ 12) × ((r ≤ 12) × (p < 11)) ⌝ }
+    requires { ⌜ (k ≤ VARIABLES) × ((r ≤ CONSTRAINTS) × (p < 11)) ⌝ }
     ensures { λ _. ⌜ now (left .exit)
         ≡ leftAfter k (now (q .entry)) (leftAfter k (now (q .entry)) (now (left .entry)) p r) (p + 1) r ⌝ }
 {
@@ -78,7 +79,7 @@ fn two_left_after(k: usize, r: usize, q: &[f64], left: &mut [f64], p: usize)
 
 // The unit directions, with what is left of them after Q, into a clear matrix.
 fn remainders(k: usize, r: usize, q: &[f64], left: &mut [f64])
-    requires { ⌜ (k ≤ 12) × ((r ≤ 12) × (now left ≡ matrix)) ⌝ }
+    requires { ⌜ (k ≤ VARIABLES) × ((r ≤ CONSTRAINTS) × (now left ≡ matrix)) ⌝ }
     ensures { λ _. ⌜ now (left .exit) ≡ remaindersTo k r (now (q .entry)) k ⌝ }
 {
     let half = k / 2;
@@ -98,7 +99,7 @@ fn remainders(k: usize, r: usize, q: &[f64], left: &mut [f64])
 
 // The remainders without their parts along row t of z.
 fn without(k: usize, z: &[f64], t: usize, left: &mut [f64])
-    requires { ⌜ (k ≤ 12) × (t < 12) ⌝ }
+    requires { ⌜ (k ≤ VARIABLES) × (t < 12) ⌝ }
     ensures { λ _. ⌜ now (left .exit) ≡ withoutTo k (now (z .entry)) t (now (left .entry)) k ⌝ }
 {
     let half = k / 2;
@@ -130,7 +131,7 @@ fn longer(best: Remainder, p: usize, square: Scalar) -> Remainder
 
 // The longest remainder.
 fn longest(k: usize, left: &[f64]) -> Remainder
-    requires { ⌜ k ≤ 12 ⌝ }
+    requires { ⌜ k ≤ VARIABLES ⌝ }
     ensures { λ r. ⌜ r ≡ longestIn k (now (left .entry)) (k - 1) ⌝ }
 {
     let mut best = Remainder {
@@ -145,7 +146,7 @@ fn longest(k: usize, left: &[f64]) -> Remainder
 
 // The longest remainder as one more direction, of at most `most`.
 fn take_longest(k: usize, count: usize, most: usize, z: &mut [f64], left: &mut [f64]) -> Next
-    requires { ⌜ (k ≤ 12) × ((count < most) × (most ≤ 12)) ⌝ }
+    requires { ⌜ (k ≤ VARIABLES) × ((count < most) × (most ≤ 12)) ⌝ }
     ensures { λ r. ⌜ nextOf k (most - (count + 1)) r count (now (z .exit)) (now (left .exit)) ≡ spanOf (directionsTo k (most - count) (directionsIn count (now (z .entry)) (now (left .entry)))) ⌝ }
 {
     let best = longest(k, left);
@@ -180,7 +181,7 @@ fn less(k: usize, r: usize) -> usize
 
 // Z, from the first r rows of Q over k variables, into a clear matrix; `left` is scratch, clear too.
 pub fn free_directions(k: usize, r: usize, q: &[f64], z: &mut [f64], left: &mut [f64]) -> Found
-    requires { ⌜ (k ≤ 12) × ((r ≤ 12) × ((now z ≡ matrix) × (now left ≡ matrix))) ⌝ }
+    requires { ⌜ (k ≤ VARIABLES) × ((r ≤ CONSTRAINTS) × ((now z ≡ matrix) × (now left ≡ matrix))) ⌝ }
     ensures { λ d. ⌜ foundOf d (now (z .exit)) ≡ spanOf (directionsOf k r (now (q .entry))) ⌝ }
 {
     let most = less(k, r);

@@ -10,11 +10,14 @@ ghost use Rattle.run.specs.Pieces.{movingReply, judgeReply, expectsReply
 ghost use Rattle.run.specs.Pieces.{updateReply, stepReplied, stepReply, learnedReply, learningOf};
 ghost use Rattle.run.specs.program.Judgement.{judgementOf};
 ghost use Rattle.run.specs.program.Proposal.{expectedResult};
+use crate::area::FILTER_LEN;
 use crate::checks::sizes_fit;
 use crate::corrected;
 use crate::curvature;
 use crate::judgement;
 use crate::judgement::Judgement;
+use crate::limits::ITERATIONS;
+use crate::limits::VARIABLES;
 use crate::proposal;
 use crate::proposal::Expected;
 use crate::proposal::StandingPoint;
@@ -167,10 +170,10 @@ pub fn judge(
 ) -> Judgement
     ensures { λ r. ⌜ judgementOf r ≡ judgeReply n m s (now (xs .entry)) (now (next .entry)) theta (now (filter .entry)) count last (now (step .entry)) ⌝ }
 {
-    if count > 200 {
+    if count > ITERATIONS {
         return Judgement::Refused(LinearError::TooMany);
     }
-    let fit = fits(n, m, s, xs, next.len(), xs.len(), filter.len(), 800);
+    let fit = fits(n, m, s, xs, next.len(), xs.len(), filter.len(), FILTER_LEN);
     match wants(fit, step.len(), 24) {
         Done::Refused(e) => {
             return Judgement::Refused(e);
@@ -218,7 +221,7 @@ fn cleared(d: Done, x: &mut [f64]) -> Done
 pub fn cut(n: usize, radius: Scalar, delta: &mut [f64]) -> Done
     ensures { λ r. ⌜ replied r (now (delta .exit)) ≡ cutReply n radius (now (delta .entry)) ⌝ }
 {
-    if n > 12 {
+    if n > VARIABLES {
         return Done::Refused(LinearError::TooMany);
     }
     if delta.len() != 24 {
@@ -310,7 +313,7 @@ pub fn step_at(
 pub fn learned(n: usize, b: &[f64]) -> Learning
     ensures { λ r. ⌜ learningOf r ≡ learnedReply n (now (b .entry)) ⌝ }
 {
-    if n > 12 {
+    if n > VARIABLES {
         return Learning::Refused(LinearError::TooMany);
     }
     if b.len() != 288 {

@@ -5,6 +5,7 @@ ghost use mathlib.Core.List.{_++_};
 ghost use mathlib.Core.Path.{_≡_};
 ghost use lib.ListN.{length, replicate, getD};
 ghost use Rattle.linear.specs.Flat.{at, zeros};
+ghost use Rattle.run.specs.Limits.{VARIABLES, CONSTRAINTS, SUM-ROWS};
 ghost use Rattle.run.specs.Curvature.{curvatureAt};
 ghost use Rattle.run.specs.Problem.{keepNext, keptTo, scalingAt, squeezedOf, gradientOf, problemOf};
 ghost use Rattle.run.specs.Rows.{rowsIn, slopeAt, constraintsOf, evaluationOf, valueAt};
@@ -45,7 +46,7 @@ fn keep_next(moves: bool, index: &mut [usize], count: usize, i: usize) -> usize
 
 // The variables that move, in order, into a clear slice, and how many.
 pub fn keep(moving: &[bool], n: usize, index: &mut [usize]) -> usize
-    requires { ⌜ (n ≤ 12) × ((length (now moving) ≡ 12) × (now index ≡ replicate 12 0)) ⌝ }
+    requires { ⌜ (n ≤ VARIABLES) × ((length (now moving) ≡ 12) × (now index ≡ replicate 12 0)) ⌝ }
     ensures { λ r. ⌜ keptBy r (now (index .exit)) ≡ keptTo (now (moving .entry)) n ⌝ }
 {
     let mut count = 0;
@@ -80,7 +81,7 @@ fn squeeze_row(
     to: &mut [f64],
     t0: usize,
 )
-    requires { ⌜ (Small e × (i < 65536)) × ((k ≤ 12) × ((length (now index) ≡ 12) × (t0 < 65536))) ⌝ }
+    requires { ⌜ (Small e × (i < 65536)) × ((k ≤ VARIABLES) × ((length (now index) ≡ 12) × (t0 < 65536))) ⌝ }
     ensures { λ _. ⌜ now (to .exit) ≡ fillTo (now (to .entry)) t0 (λ p. chosenIf «is_chosen»
         (slopeAt (rowsIn (now (xs .entry)) e) i (getD (now (index .entry)) p 0))) k ⌝ }
 {
@@ -91,7 +92,7 @@ fn squeeze_row(
 
 // The slopes by the kept variables, chosen as they are read where only the choices are used.
 pub fn squeeze(xs: &[f64], e: RowSet, index: &[usize], k: usize, is_chosen: bool, to: &mut [f64])
-    requires { ⌜ Small e × ((k ≤ 12) × (length (now index) ≡ 12)) ⌝ }
+    requires { ⌜ Small e × ((k ≤ VARIABLES) × (length (now index) ≡ 12)) ⌝ }
     ensures { λ _. ⌜ now (to .exit) ≡ squeezedAs «is_chosen» (keptBy k (now (index .entry)))
         (rowsIn (now (xs .entry)) e) (now (to .entry)) ⌝ }
 {
@@ -113,7 +114,7 @@ fn scaling(jr: &[f64], s: usize, jc: &[f64], m: usize, i: usize) -> Scalar
 
 // D, over the kept variables, at its place in a curve.
 fn scalings(k: usize, jr: &[f64], s: usize, jc: &[f64], m: usize, curve: &mut [f64])
-    requires { ⌜ k ≤ 12 ⌝ }
+    requires { ⌜ k ≤ VARIABLES ⌝ }
     ensures { λ _. ⌜ now (curve .exit) ≡ fillTo (now (curve .entry)) 144 (scalingAt (now (jr .entry)) s (now (jc .entry)) m) k ⌝ }
 {
     for i in 0..k {
@@ -192,7 +193,7 @@ fn undamped_row(
     h: &mut [f64],
     i: usize,
 )
-    requires { ⌜ (k ≤ 12) × ((length (now index) ≡ 12) × ((i < k) × ((t j : ℕ) → t < i → j < k → at (now h) (12 * t + j)
+    requires { ⌜ (k ≤ VARIABLES) × ((length (now index) ≡ 12) × ((i < k) × ((t j : ℕ) → t < i → j < k → at (now h) (12 * t + j)
         ≡ undampedAt (now jr) s (curvatureAt n (now b) (getD (now index) t 0) (getD (now index) j 0)) t j))) ⌝ }
     ensures { λ _. ⌜ now (h .exit) ≡ fillTo (now (h .entry)) (12 * i) (λ j. undampedAt (now (jr .entry)) s (curvatureAt n (now (b .entry)) (getD (now (index .entry)) i 0) (getD (now (index .entry)) j 0)) i j) k ⌝ }
 {
@@ -208,7 +209,7 @@ fn undamped_row(
 
 // J_rᵀ J_r + B over the kept variables, at the start of a clear curve.
 fn undamped(n: usize, index: &[usize], k: usize, jr: &[f64], s: usize, b: &[f64], curve: &mut [f64])
-    requires { ⌜ (k ≤ 12) × ((length (now index) ≡ 12) × (now curve ≡ zeros 336)) ⌝ }
+    requires { ⌜ (k ≤ VARIABLES) × ((length (now index) ≡ 12) × (now curve ≡ zeros 336)) ⌝ }
     ensures { λ _. ⌜ now (curve .exit) ≡ fillRows (zeros 336) (λ i j. undampedAt (now (jr .entry)) s (curvatureAt n (now (b .entry)) (getD (now (index .entry)) i 0) (getD (now (index .entry)) j 0)) i j) k k ⌝ }
 {
     for i in 0..k {
@@ -230,7 +231,7 @@ fn damped_at(v: Scalar, d: Scalar, mu: Scalar, i: usize, j: usize) -> Scalar
 
 // Row i of H.
 fn damped_row(k: usize, curve: &[f64], mu: Scalar, h: &mut [f64], i: usize)
-    requires { ⌜ (k ≤ 12) × (i < k) ⌝ }
+    requires { ⌜ (k ≤ VARIABLES) × (i < k) ⌝ }
     ensures { λ _. ⌜ now (h .exit) ≡ fillTo (now (h .entry)) (12 * i) (λ j. dampedEntry (at (now (curve .entry)) (12 * i + j)) (at (now (curve .entry)) (144 + i)) mu i j) k ⌝ }
 {
     let scale = at(curve, SCALINGS + i);
@@ -242,7 +243,7 @@ fn damped_row(k: usize, curve: &[f64], mu: Scalar, h: &mut [f64], i: usize)
 
 // H = J_rᵀ J_r + B + mu D, from a curve, into a clear matrix.
 pub fn damped(k: usize, curve: &[f64], mu: Scalar, h: &mut [f64])
-    requires { ⌜ (k ≤ 12) × ((length (now curve) ≡ 336) × (now h ≡ matrix)) ⌝ }
+    requires { ⌜ (k ≤ VARIABLES) × ((length (now curve) ≡ 336) × (now h ≡ matrix)) ⌝ }
     ensures { λ _. ⌜ now (h .exit) ≡ dampedFrom k (now (curve .entry)) mu ⌝ }
 {
     for i in 0..k {
@@ -254,7 +255,7 @@ pub fn damped(k: usize, curve: &[f64], mu: Scalar, h: &mut [f64])
 
 // The sum's gradient J_rᵀ r over the kept variables, chosen, at its place in a curve.
 fn gradient(xs: &[f64], e: RowSet, index: &[usize], k: usize, curve: &mut [f64])
-    requires { ⌜ Small e × ((k ≤ 12) × ((length (now index) ≡ 12) × ((p : ℕ) → getD (now index) p 0 < 65536))) ⌝ }
+    requires { ⌜ Small e × ((k ≤ VARIABLES) × ((length (now index) ≡ 12) × ((p : ℕ) → getD (now index) p 0 < 65536))) ⌝ }
     ensures { λ _. ⌜ now (curve .exit) ≡ fillTo (now (curve .entry)) 156 (gradientAt (keptBy k (now (index .entry))) (rowsIn (now (xs .entry)) e)) k ⌝ }
 {
     let mut r = [0.0; 48];
@@ -272,7 +273,7 @@ fn gradient(xs: &[f64], e: RowSet, index: &[usize], k: usize, curve: &mut [f64])
 
 // The slopes by the kept variables, and the same chosen.
 fn slopes(xs: &[f64], e: RowSet, index: &[usize], k: usize, wide: &mut [f64], narrow: &mut [f64])
-    requires { ⌜ Small e × ((k ≤ 12) × (length (now index) ≡ 12)) ⌝ }
+    requires { ⌜ Small e × ((k ≤ VARIABLES) × (length (now index) ≡ 12)) ⌝ }
     ensures { λ _. ⌜ (now (wide .exit) ≡ squeezedOf (keptBy k (now (index .entry))) (rowsIn (now (xs .entry)) e) (now (wide .entry))) × (now (narrow .exit) ≡ chosenOf (now (narrow .entry)) (now (wide .exit)) 0 (12 * e .count)) ⌝ }
 {
     squeeze(xs, e, index, k, false, wide);
@@ -292,7 +293,7 @@ fn fill_undamped(
     jc: &[f64],
     curve: &mut [f64],
 )
-    requires { ⌜ Small e × ((k ≤ 12) × ((length (now index) ≡ 12) × (((p : ℕ) → getD (now index) p 0 < 65536)
+    requires { ⌜ Small e × ((k ≤ VARIABLES) × ((length (now index) ≡ 12) × (((p : ℕ) → getD (now index) p 0 < 65536)
         × (now curve ≡ zeros 336)))) ⌝ }
     ensures { λ _. ⌜ now (curve .exit) ≡ undampedOf n (keptBy k (now (index .entry))) (now (jr .entry)) (e .count) (now (b .entry)) ++ (scalingsOf k (now (jr .entry)) (e .count) (now (jc .entry)) m ++ gradientOf (keptBy k (now (index .entry))) (rowsIn (now (xs .entry)) e)) ⌝ }
 {
@@ -315,7 +316,7 @@ pub fn problem(
     jc: &mut [f64],
     curve: &mut [f64],
 )
-    requires { ⌜ (n ≤ 12) × ((m ≤ 12) × ((s ≤ 24) × ((k ≤ 12) × ((length (now index) ≡ 12) × (((p : ℕ) → getD (now index) p 0 < 65536) × ((now wide ≡ matrix) × ((now jc ≡ matrix) × (now curve ≡ zeros 336)))))))) ⌝ }
+    requires { ⌜ (n ≤ VARIABLES) × ((m ≤ CONSTRAINTS) × ((s ≤ SUM-ROWS) × ((k ≤ VARIABLES) × ((length (now index) ≡ 12) × (((p : ℕ) → getD (now index) p 0 < 65536) × ((now wide ≡ matrix) × ((now jc ≡ matrix) × (now curve ≡ zeros 336)))))))) ⌝ }
     ensures { λ _. ⌜ ((mu : Scalar) → problemIn k m (valueAt (constraintsOf n m (now (xs .entry)))) (now (wide .exit)) (now (jc .exit)) (dampedFrom k (now (curve .exit)) mu) (gradientIn (now (curve .exit))) ≡ problemOf n (keptBy k (now (index .entry))) (evaluationOf n m s (now (xs .entry))) (now (b .entry)) mu) ⌝ }
 {
     let e = sum(n, m, s);

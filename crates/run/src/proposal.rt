@@ -9,6 +9,7 @@ ghost use Rattle.interval.specs.Scalar.{zeroS, subOf, definitelyGreater, pick};
 ghost use Rattle.linear.specs.Answers.{resultOf};
 ghost use Rattle.linear.specs.Choose.{chooseOf};
 ghost use Rattle.linear.specs.Results.{bind};
+ghost use Rattle.run.specs.Limits.{VARIABLES, CONSTRAINTS};
 ghost use Rattle.run.specs.Proposal.{curvatureAlong, expectsOf, ask, trialOf, shortenedOf, withinOf, proposalOf};
 ghost use Rattle.run.specs.Radius.{cutOf};
 ghost use Rattle.run.specs.Rows.{constraintsOf, evaluationOf};
@@ -66,7 +67,7 @@ pub enum Proposal {
 
 // deltaᵀ B delta.
 fn curvature_along(n: usize, b: &[f64], delta: &[f64]) -> Scalar
-    requires { ⌜ n ≤ 12 ⌝ }
+    requires { ⌜ n ≤ VARIABLES ⌝ }
     ensures { λ r. ⌜ r ≡ curvatureAlong n (now (b .entry)) (now (delta .entry)) ⌝ }
 {
     let mut rows = [0.0; 24];
@@ -114,7 +115,7 @@ fn asked(predicted: Scalar, length: Answer) -> Proposal
 
 // The point that a chosen step leads to.
 fn tried(n: usize, m: usize, rows: &[f64], x: &[f64], delta: &[f64]) -> Proposal
-    requires { ⌜ (n ≤ 12) × ((m ≤ 12) × (length (now delta) ≡ 24)) ⌝ }
+    requires { ⌜ (n ≤ VARIABLES) × ((m ≤ CONSTRAINTS) × (length (now delta) ≡ 24)) ⌝ }
     ensures { λ r. ⌜ ((lambda : List Float) → proposalResult r (now (delta .entry)) lambda (movedOf n (now (x .entry)) (now (delta .entry))) ≡ triedOf (pointOf n (now (x .entry)) (constraintsOf n m (now (rows .entry)))) (now (delta .entry)) lambda) ⌝ }
 {
     let mut next = [0.0; 24];
@@ -144,7 +145,7 @@ fn choose_if(in_use: bool, d: Scalar) -> Scalar
 
 // The point that a step leads to; it is chosen in its place.
 fn trial(n: usize, m: usize, rows: &[f64], x: &[f64], delta: &mut [f64]) -> Proposal
-    requires { ⌜ (n ≤ 12) × ((m ≤ 12) × (length (now delta) ≡ 24)) ⌝ }
+    requires { ⌜ (n ≤ VARIABLES) × ((m ≤ CONSTRAINTS) × (length (now delta) ≡ 24)) ⌝ }
     ensures { λ r. ⌜ ((lambda : List Float) → proposalResult r (now (delta .exit)) lambda (movedOf n (now (x .entry)) (now (delta .exit))) ≡ trialOf (pointOf n (now (x .entry)) (constraintsOf n m (now (rows .entry)))) (now (delta .entry)) lambda) ⌝ }
 {
     for i in 0..12 {

@@ -3,6 +3,7 @@ ghost use Prim.Native.Nat.{_≤_};
 ghost use mathlib.Core.Path.{_≡_};
 ghost use lib.ListN.{length};
 ghost use Rattle.linear.specs.Answers.{doneOf};
+ghost use Rattle.run.specs.Limits.{VARIABLES};
 ghost use Rattle.run.specs.Radius.{cutOf, cutWithin, reachOf};
 use crate::vectors::norm_of;
 use interval::Scalar;
@@ -26,7 +27,7 @@ pub fn cut(n: usize, delta: &mut [f64], shrink: Scalar)
 
 // `cut`, of at most 12 variables.
 pub fn cut_within(n: usize, radius: Scalar, delta: &mut [f64]) -> Done
-    requires { ⌜ (n ≤ 12) × (length (now delta) ≡ 24) ⌝ }
+    requires { ⌜ (n ≤ VARIABLES) × (length (now delta) ≡ 24) ⌝ }
     ensures { λ r. ⌜ doneOf r (now (delta .exit)) ≡ cutWithin n radius (now (delta .entry)) ⌝ }
 {
     match norm_of(delta, n) {

@@ -7,6 +7,7 @@ ghost use Rattle.interval.specs.Scalar.{addOf, negOf};
 ghost use Rattle.linear.specs.Choose.{chooseOf};
 ghost use Rattle.linear.specs.Dot.{dotTo};
 ghost use Rattle.linear.specs.Flat.{along, at, put, listTo};
+ghost use Rattle.run.specs.Limits.{VARIABLES};
 ghost use Rattle.run.specs.Reduced.{hTimesAt, forceOf, pullOf, reducedOf, againstOf};
 ghost use Rattle.run.specs.Vectors.{row, vector, fillTo, matrix, fillRows, anyTo};
 ghost use Rattle.run.specs.program.Reduced.{curved, lowerAt, alongOf, solvedWith, spanned, freePart};
@@ -45,7 +46,7 @@ fn slope_at(k: usize, h: &[f64], g: &[f64], v: &[f64], i: usize) -> Scalar
 
 // g + H v, chosen, into a clear vector.
 fn force(k: usize, h: &[f64], g: &[f64], v: &[f64], out: &mut [f64])
-    requires { ⌜ (k ≤ 12) × (now out ≡ vector) ⌝ }
+    requires { ⌜ (k ≤ VARIABLES) × (now out ≡ vector) ⌝ }
     ensures { λ _. ⌜ now (out .exit) ≡ forceOf (curved k (now (h .entry)) (now (g .entry))) (now (v .entry)) ⌝ }
 {
     for i in 0..k {
@@ -55,7 +56,7 @@ fn force(k: usize, h: &[f64], g: &[f64], v: &[f64], out: &mut [f64])
 
 // -(g + H v), chosen, into a clear vector.
 pub fn pull(k: usize, h: &[f64], g: &[f64], v: &[f64], out: &mut [f64])
-    requires { ⌜ (k ≤ 12) × (now out ≡ vector) ⌝ }
+    requires { ⌜ (k ≤ VARIABLES) × (now out ≡ vector) ⌝ }
     ensures { λ _. ⌜ now (out .exit) ≡ pullOf (curved k (now (h .entry)) (now (g .entry))) (now (v .entry)) ⌝ }
 {
     for i in 0..k {
@@ -77,7 +78,7 @@ fn two_h_times(k: usize, h: &[f64], z: &[f64], t: usize, hz: &mut [f64], i: usiz
 
 // H times row t of z, as row t of hz.
 fn h_times_row(k: usize, h: &[f64], z: &[f64], t: usize, hz: &mut [f64])
-    requires { ⌜ (k ≤ 12) × (t < 12) ⌝ }
+    requires { ⌜ (k ≤ VARIABLES) × (t < 12) ⌝ }
     ensures { λ _. ⌜ now (hz .exit) ≡ fillTo (now (hz .entry)) (12 * t) (λ i. chooseOf (dotTo (row (now (h .entry)) i) (row (now (z .entry)) t) k)) k ⌝ }
 {
     let half = k / 2;
@@ -93,7 +94,7 @@ fn h_times_row(k: usize, h: &[f64], z: &[f64], t: usize, hz: &mut [f64])
 
 // H times each direction, into a clear matrix.
 fn h_times_rows(k: usize, count: usize, h: &[f64], z: &[f64], hz: &mut [f64])
-    requires { ⌜ (k ≤ 12) × ((count ≤ 12) × (now hz ≡ matrix)) ⌝ }
+    requires { ⌜ (k ≤ VARIABLES) × ((count ≤ 12) × (now hz ≡ matrix)) ⌝ }
     ensures { λ _. ⌜ now (hz .exit) ≡ fillRows matrix (λ t i. chooseOf (dotTo (row (now (h .entry)) i) (row (now (z .entry)) t) k)) k count ⌝ }
 {
     for t in 0..count {
@@ -177,7 +178,7 @@ fn weights_for(t: usize, a: &[f64], w: &mut [f64]) -> WeightsEnd
 
 // The weights along Z against a force.
 fn weigh(k: usize, count: usize, h: &[f64], z: &[f64], force: &[f64], w: &mut [f64]) -> WeightsEnd
-    requires { ⌜ (k ≤ 12) × ((count ≤ 12) × (length (now w) ≡ 2 * count)) ⌝ }
+    requires { ⌜ (k ≤ VARIABLES) × ((count ≤ 12) × (length (now w) ≡ 2 * count)) ⌝ }
     ensures { λ r. ⌜ alongOf r (now (w .exit)) ≡ solvedWith count (reducedOf (curved k (now (h .entry)) vector) (spanned count (now (z .entry)))) (againstOf (curved k (now (h .entry)) vector) (spanned count (now (z .entry))) (now (force .entry))) ⌝ }
 {
     let e = 2 * (count * count);
@@ -198,7 +199,7 @@ pub fn free_part(
     z: &[f64],
     delta: &mut [f64],
 ) -> WeightsEnd
-    requires { ⌜ (k ≤ 12) × (count ≤ 12) ⌝ }
+    requires { ⌜ (k ≤ VARIABLES) × (count ≤ 12) ⌝ }
     ensures { λ r. ⌜ alongOf r (now (delta .exit)) ≡ freePart (curved k (now (h .entry)) (now (g .entry))) (now (delta .entry)) (spanned count (now (z .entry))) ⌝ }
 {
     let q = 2 * count;

@@ -5,6 +5,7 @@ ghost use mathlib.Core.Bool.{_||_};
 ghost use mathlib.Core.Path.{_≡_};
 ghost use lib.ListN.{length};
 ghost use Rattle.linear.specs.Answers.{resultOf};
+ghost use Rattle.run.specs.Limits.{AREA, VARIABLES, CONSTRAINTS, SUM-ROWS};
 ghost use Rattle.run.specs.Area.{Memory};
 ghost use Rattle.run.specs.Residuals.{linearizedAt, squaredOf, transposedAt, sumSquared, violationOf};
 ghost use Rattle.run.specs.Residuals.{predictedOf, dependsOn, movingOf};
@@ -60,7 +61,7 @@ pub fn transposed_at(xs: &[f64], e: RowSet, w: &[f64], j: usize) -> Scalar
 
 // f of a point, from its rows.
 pub fn sum_squared(xs: &[f64], n: usize, m: usize, s: usize) -> Scalar
-    requires { ⌜ (n ≤ 12) × ((m ≤ 12) × (s ≤ 24)) ⌝ }
+    requires { ⌜ (n ≤ VARIABLES) × ((m ≤ CONSTRAINTS) × (s ≤ SUM-ROWS)) ⌝ }
     ensures { λ r. ⌜ r ≡ sumSquared (sumOf n m s (now (xs .entry))) ⌝ }
 {
     squared(xs, sum(n, m, s), xs, 0)
@@ -100,7 +101,7 @@ pub fn chosen_slopes(xs: &[f64], e: RowSet, out: &mut [f64])
 
 // The violation of a point, from its rows.
 pub fn violation(xs: &[f64], n: usize, m: usize) -> Answer
-    requires { ⌜ (m ≤ 12) × (2 * m ≤ length (now xs)) ⌝ }
+    requires { ⌜ (m ≤ CONSTRAINTS) × (2 * m ≤ length (now xs)) ⌝ }
     ensures { λ r. ⌜ resultOf r ≡ violationOf (constraintsOf n m (now (xs .entry))) ⌝ }
 {
     let mut c = [0.0; 24];
@@ -122,7 +123,7 @@ fn linearized(xs: &[f64], e: RowSet, delta: &[f64], d: usize, out: &mut [f64])
 
 // The violation that a step leads to, to first order.
 pub fn predicted(xs: &[f64], n: usize, m: usize, delta: &[f64]) -> Answer
-    requires { ⌜ (n ≤ 12) × (m ≤ 12) ⌝ }
+    requires { ⌜ (n ≤ VARIABLES) × (m ≤ CONSTRAINTS) ⌝ }
     ensures { λ r. ⌜ resultOf r ≡ predictedOf (constraintsOf n m (now (xs .entry))) (now (delta .entry)) ⌝ }
 {
     let mut out = [0.0; 24];
@@ -146,7 +147,7 @@ pub fn depends_on(xs: &[f64], e: RowSet, j: usize) -> bool
 
 // Whether some residual definitely depends on variable j.
 fn moves(xs: &[f64], n: usize, m: usize, s: usize, j: usize) -> bool
-    requires { ⌜ (n ≤ 12) × ((m ≤ 12) × ((s ≤ 24) × (j < 65536))) ⌝ }
+    requires { ⌜ (n ≤ VARIABLES) × ((m ≤ CONSTRAINTS) × ((s ≤ SUM-ROWS) × (j < 65536))) ⌝ }
     ensures { λ r. ⌜ r
         ≡ dependsOn (sumOf n m s (now (xs .entry))) j || dependsOn (constraintsOf n m (now (xs .entry))) j ⌝ }
 {
@@ -158,7 +159,7 @@ fn moves(xs: &[f64], n: usize, m: usize, s: usize, j: usize) -> bool
 
 // Marks of the variables that some residual definitely depends on.
 pub fn moving(xs: &[f64], n: usize, m: usize, s: usize) -> [bool; 12]
-    requires { ⌜ (n ≤ 12) × ((m ≤ 12) × (s ≤ 24)) ⌝ }
+    requires { ⌜ (n ≤ VARIABLES) × ((m ≤ CONSTRAINTS) × (s ≤ SUM-ROWS)) ⌝ }
     ensures { λ r. ⌜ r ≡ movingOf n (evaluationOf n m s (now (xs .entry))) ⌝ }
 {
     let mut marks = [false; 12];
@@ -170,18 +171,22 @@ pub fn moving(xs: &[f64], n: usize, m: usize, s: usize) -> [bool; 12]
 
 // The violation of the standing point, from its rows in the area.
 pub fn standing_violation(z: Sizes, area: &[f64]) -> Answer
-    requires { ⌜ (z .m ≤ 12) × (length (now area) ≡ 8000) ⌝ }
+    requires { ⌜ (z .m ≤ CONSTRAINTS) × (length (now area) ≡ AREA) ⌝ }
     ensures { λ r. ⌜ ((w : Memory) → Holds w (now (area .entry)) →
         resultOf r ≡ violationOf (constraintsOf (z .n) (z .m) (w .standingRows))) ⌝ }
 {
-    violation(&area[area::STANDING_ROWS..area::LANDED_ROWS], z.n, z.m)
+    violation(
+        &area[area::STANDING_ROWS_AT..area::LANDED_ROWS_AT],
+        z.n,
+        z.m,
+    )
 }
 
 // The violation of the landed point, from its rows in the area.
 pub fn landed_violation(z: Sizes, area: &[f64]) -> Answer
-    requires { ⌜ (z .m ≤ 12) × (length (now area) ≡ 8000) ⌝ }
+    requires { ⌜ (z .m ≤ CONSTRAINTS) × (length (now area) ≡ AREA) ⌝ }
     ensures { λ r. ⌜ ((w : Memory) → Holds w (now (area .entry)) →
         resultOf r ≡ violationOf (constraintsOf (z .n) (z .m) (w .landedRows))) ⌝ }
 {
-    violation(&area[area::LANDED_ROWS..area::STEP], z.n, z.m)
+    violation(&area[area::LANDED_ROWS_AT..area::STEP_AT], z.n, z.m)
 }

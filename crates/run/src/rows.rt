@@ -1,10 +1,13 @@
-// One answer's rows: where the values and the slopes of the constraints and of the sum stand, and a view that reads them.
+// One answer's rows: where the values and the slopes of the constraints and of the sum stand, and a view that reads
+// them.
 ghost use Prim.Native.Nat.{_≤_, _+_, _*_, _<_};
 ghost use mathlib.Core.Path.{_≡_};
 ghost use lib.ListN.{drop};
 ghost use Rattle.linear.specs.Flat.{at};
-ghost use Rattle.run.specs.Rows.{constraintSet, sumSet, rowsIn, valueAt, slopeAt};
+ghost use Rattle.run.specs.Limits.{VARIABLES, CONSTRAINTS, SUM-ROWS};
+ghost use Rattle.run.specs.Rows.{rowCounts, constraintSet, sumSet, rowsIn, valueAt, slopeAt};
 ghost use Rattle.run.specs.program.Rows.{Small};
+use crate::state::Sizes;
 use interval::Scalar;
 use linear::along;
 
@@ -13,6 +16,17 @@ pub struct RowCounts {
     pub n: usize,
     pub m: usize,
     pub s: usize,
+}
+
+// The counts of an answer in a run of these sizes.
+pub fn row_counts(z: Sizes) -> RowCounts
+    ensures { λ r. ⌜ r ≡ rowCounts z ⌝ }
+{
+    RowCounts {
+        n: z.n,
+        m: z.m,
+        s: z.s,
+    }
 }
 
 // Rows of one kind: `count` values from the place `values` on, and n slopes for each from the place `slopes` on.
@@ -35,7 +49,7 @@ pub fn constraints(n: usize, m: usize) -> RowSet
 }
 
 pub fn sum(n: usize, m: usize, s: usize) -> RowSet
-    requires { ⌜ (n ≤ 12) × ((m ≤ 12) × (s ≤ 24)) ⌝ }
+    requires { ⌜ (n ≤ VARIABLES) × ((m ≤ CONSTRAINTS) × (s ≤ SUM-ROWS)) ⌝ }
     ensures { λ r. ⌜ r ≡ sumSet n m s ⌝ }
 {
     let values = m * (n + 1);
@@ -63,7 +77,7 @@ fn value_at(rows: &[f64], values: usize, i: usize) -> Scalar
 
 // Slope j of row i, of rows of n from the place `slopes` on.
 fn slope_at(rows: &[f64], slopes: usize, n: usize, i: usize, j: usize) -> Scalar
-    requires { ⌜ (slopes < 1000) × ((n ≤ 12) × (i < 65536)) ⌝ }
+    requires { ⌜ (slopes < 1000) × ((n ≤ VARIABLES) × (i < 65536)) ⌝ }
     ensures { λ r. ⌜ r ≡ at (now (rows .entry)) (slopes + i * n + j) ⌝ }
 {
     along(rows, slopes + i * n, 1, j)

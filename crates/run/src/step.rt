@@ -7,6 +7,7 @@ ghost use lib.Ieee.{Float};
 ghost use lib.ListN.{length, take, drop, replicate};
 ghost use Rattle.linear.specs.Answers.{doneOf};
 ghost use Rattle.linear.specs.Flat.{zeros};
+ghost use Rattle.run.specs.Limits.{VARIABLES, CONSTRAINTS, SUM-ROWS};
 ghost use Rattle.run.specs.Reduced.{pullOf};
 ghost use Rattle.run.specs.Rows.{rowsIn, valueAt, evaluationOf};
 ghost use Rattle.run.specs.Step.{freeStep, keptStep, stepOf};
@@ -66,7 +67,7 @@ const FRAME: usize = 888;
 
 // What pulls against the kept step, and whether both are finite.
 pub fn finite_pull(k: usize, h: &[f64], g: &[f64], kept: &[f64], out: &mut [f64]) -> bool
-    requires { ⌜ (k ≤ 12) × (now out ≡ vector) ⌝ }
+    requires { ⌜ (k ≤ VARIABLES) × (now out ≡ vector) ⌝ }
     ensures { λ r. ⌜ (now (out .exit) ≡ pullOf (curved k (now (h .entry)) (now (g .entry))) (now (kept .entry))) × (r ≡ (allFinite (now (kept .entry)) 12 && allFinite (now (out .exit)) 12)) ⌝ }
 {
     pull(k, h, g, kept, out);
@@ -98,7 +99,7 @@ fn free_step(
     delta: &mut [f64],
     lambda: &mut [f64],
 ) -> StepEnd
-    requires { ⌜ (k ≤ 12) × ((r ≤ 12) × ((count ≤ 12) × ((length (now order) ≡ 24) × ((length (now frame) ≡ 888) × (length (now lambda) ≡ 24))))) ⌝ }
+    requires { ⌜ (k ≤ VARIABLES) × ((r ≤ CONSTRAINTS) × ((count ≤ 12) × ((length (now order) ≡ 24) × ((length (now frame) ≡ 888) × (length (now lambda) ≡ 24))))) ⌝ }
     ensures { λ e. ⌜ endOf e (now (delta .exit)) (now (lambda .exit)) ≡ freeStep (curved k (now (h .entry)) (now (g .entry))) (basisFor r (take 288 (now (frame .entry))) (take 288 (drop 288 (now (frame .entry)))) (now (order .entry))) (now (delta .entry)) (spanned count (take 288 (drop 600 (now (frame .entry))))) ⌝ }
 {
     let mut p = [0.0; 24];
@@ -153,7 +154,7 @@ fn prepare_free(
     c: RowSet,
     frame: &mut [f64],
 ) -> Prepared
-    requires { ⌜ (k ≤ 12) × ((m ≤ 12) × ((r ≤ 12) × ((length (now q) ≡ 288) × ((length (now coefficients) ≡ 288) × ((length (now order) ≡ 24) × (now frame ≡ zeros 888)))))) ⌝ }
+    requires { ⌜ (k ≤ VARIABLES) × ((m ≤ CONSTRAINTS) × ((r ≤ CONSTRAINTS) × ((length (now q) ≡ 288) × ((length (now coefficients) ≡ 288) × ((length (now order) ≡ 24) × (now frame ≡ zeros 888)))))) ⌝ }
     ensures { λ x. ⌜ ((h g : List Float) → stepFromFactors x (curved k h g) (now (order .entry)) (now (frame .exit)) ≡ stepFromBasis (problemIn k m (valueAt (rowsIn (now (xs .entry)) c)) [] [] h g) (basisBy r (now (q .entry)) [] (now (coefficients .entry)) (now (dependent .entry)) (now (order .entry)))) × Few x ⌝ }
 {
     let mut left = [0.0; 288];
@@ -186,7 +187,7 @@ fn prepare_kept(
     order: &mut [usize],
     frame: &mut [f64],
 ) -> Prepared
-    requires { ⌜ (k ≤ 12) × ((m ≤ 12) × ((now order ≡ replicate 24 0) × (now frame ≡ zeros 888))) ⌝ }
+    requires { ⌜ (k ≤ VARIABLES) × ((m ≤ CONSTRAINTS) × ((now order ≡ replicate 24 0) × (now frame ≡ zeros 888))) ⌝ }
     ensures { λ x. ⌜ ((h g : List Float) → stepFromFactors x (curved k h g) (now (order .exit)) (now (frame .exit)) ≡ keptStep (problemIn k m (valueAt (rowsIn (now (xs .entry)) c)) (now (wide .entry)) (now (jc .entry)) h g)) × Few x ⌝ }
 {
     let mut q = [0.0; 288];
@@ -226,7 +227,7 @@ pub fn prepare(
     curve: &mut [f64],
     frame: &mut [f64],
 ) -> Prepared
-    requires { ⌜ (n ≤ 12) × ((m ≤ 12) × ((s ≤ 24) × ((length (now moving) ≡ 12) × ((now order ≡ replicate 24 0) × ((now curve ≡ zeros 336) × (now frame ≡ zeros 888)))))) ⌝ }
+    requires { ⌜ (n ≤ VARIABLES) × ((m ≤ CONSTRAINTS) × ((s ≤ SUM-ROWS) × ((length (now moving) ≡ 12) × ((now order ≡ replicate 24 0) × ((now curve ≡ zeros 336) × (now frame ≡ zeros 888)))))) ⌝ }
     ensures { λ x. ⌜ PreparedFor n (evaluationOf n m s (now (rows .entry))) (now (b .entry)) (now (moving .entry)) x (now (order .exit)) (now (curve .exit)) (now (frame .exit)) ⌝ }
 {
     let mut index = [0; 12];
@@ -250,7 +251,7 @@ fn prepared_step(
     kept: &mut [f64],
     lambda: &mut [f64],
 ) -> StepEnd
-    requires { ⌜ (k ≤ 12) × (Few prepared × ((length (now order) ≡ 24) × ((length (now frame) ≡ 888) × ((length (now kept) ≡ 24) × (length (now lambda) ≡ 24))))) ⌝ }
+    requires { ⌜ (k ≤ VARIABLES) × (Few prepared × ((length (now order) ≡ 24) × ((length (now frame) ≡ 888) × ((length (now kept) ≡ 24) × (length (now lambda) ≡ 24))))) ⌝ }
     ensures { λ x. ⌜ endOf x (now (kept .exit)) (now (lambda .exit)) ≡ stepFromFactors prepared (curved k (now (h .entry)) (now (g .entry))) (now (order .entry)) (now (frame .entry)) ⌝ }
 {
     match prepared {
@@ -275,7 +276,7 @@ fn kept_step(
     kept: &mut [f64],
     lambda: &mut [f64],
 ) -> StepEnd
-    requires { ⌜ (k ≤ 12) × (PreparedSizes prepared (now order) (now curve) (now frame) × ((length (now kept) ≡ 24) × (length (now lambda) ≡ 24))) ⌝ }
+    requires { ⌜ (k ≤ VARIABLES) × (PreparedSizes prepared (now order) (now curve) (now frame) × ((length (now kept) ≡ 24) × (length (now lambda) ≡ 24))) ⌝ }
     ensures { λ x. ⌜ endOf x (now (kept .exit)) (now (lambda .exit)) ≡ dampedStep k prepared (now (order .entry)) (now (curve .entry)) (now (frame .entry)) mu ⌝ }
 {
     let mut h = [0.0; 288];
@@ -309,7 +310,7 @@ pub fn damped_step(
     delta: &mut [f64],
     lambda: &mut [f64],
 ) -> StepEnd
-    requires { ⌜ (n ≤ 12) × ((length (now moving) ≡ 12) × (PreparedSizes prepared (now order) (now curve) (now frame) × ((length (now delta) ≡ 24) × (length (now lambda) ≡ 24)))) ⌝ }
+    requires { ⌜ (n ≤ VARIABLES) × ((length (now moving) ≡ 12) × (PreparedSizes prepared (now order) (now curve) (now frame) × ((length (now delta) ≡ 24) × (length (now lambda) ≡ 24)))) ⌝ }
     ensures { λ x. ⌜ endOf x (now (delta .exit)) (now (lambda .exit)) ≡ preparedStep n (now (moving .entry)) prepared (now (order .entry)) (now (curve .entry)) (now (frame .entry)) mu ⌝ }
 {
     let mut index = [0; 12];
@@ -332,7 +333,7 @@ pub fn step(
     delta: &mut [f64],
     lambda: &mut [f64],
 ) -> StepEnd
-    requires { ⌜ (n ≤ 12) × ((m ≤ 12) × ((s ≤ 24) × ((length (now moving) ≡ 12) × ((length (now delta) ≡ 24) × (length (now lambda) ≡ 24))))) ⌝ }
+    requires { ⌜ (n ≤ VARIABLES) × ((m ≤ CONSTRAINTS) × ((s ≤ SUM-ROWS) × ((length (now moving) ≡ 12) × ((length (now delta) ≡ 24) × (length (now lambda) ≡ 24))))) ⌝ }
     ensures { λ r. ⌜ endOf r (now (delta .exit)) (now (lambda .exit)) ≡ stepOf n (evaluationOf n m s (now (rows .entry))) (now (b .entry)) (now (moving .entry)) mu ⌝ }
 {
     let mut order = [0; 24];

@@ -4,8 +4,9 @@ ghost use Prim.Native.Nat.{_*_, _≤_, _<_};
 ghost use mathlib.Core.Path.{_≡_};
 ghost use lib.ListN.{length};
 ghost use Rattle.interval.specs.Result as scalar;
-ghost use Rattle.interval.specs.Scalar.{inverseOf, divOf};
+ghost use Rattle.interval.specs.Scalar.{pick, zeroS, inverseOf, divOf};
 ghost use Rattle.linear.specs.Answers.{resultOf};
+ghost use Rattle.linear.specs.Choose.{chooseOf};
 ghost use Rattle.linear.specs.Flat.{at, along};
 ghost use Rattle.linear.specs.Norm.{normOf};
 ghost use Rattle.run.specs.Vectors.{allFinite, chosenOf, orZero, fillTo, unitAt, combinedTo, spreadTo, movedOf};
@@ -49,6 +50,16 @@ pub fn chosen(xs: &[f64], base: usize, k: usize, to: &mut [f64])
     for i in 0..k {
         put(to, i, choose(at(xs, base + i)));
     }
+}
+
+// Chosen, or zero where it is not in use.
+pub fn choose_if(in_use: bool, v: Scalar) -> Scalar
+    ensures { λ r. ⌜ r ≡ pick «in_use» (chooseOf v) zeroS ⌝ }
+{
+    if in_use {
+        return choose(v);
+    }
+    Scalar::ZERO
 }
 
 // The value, or zero where a division is refused.

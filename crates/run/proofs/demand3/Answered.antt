@@ -12,7 +12,7 @@ use lib.Ieee.{Float}
 use lib.ListN.{length, take, length-replicate}
 use Rattle.interval.specs.Scalar.{zero64}
 use Rattle.run.specs.Residuals.{violationOf, movingOf}
-use Rattle.run.specs.Area.{POINT, ROWS, CURVATURE, FILTER, Memory, memoryOf, withLanded, withStart}
+use Rattle.run.specs.Area.{POINT-LEN, ROWS-LEN, CURVATURE-LEN, FILTER-LEN, Memory, memoryOf, withLanded, withStart}
 use Rattle.run.specs.Limits.{AREA}
 use Rattle.run.specs.Endings.{AfterSlots}
 use Rattle.run.specs.Area.{rowsAt, standingAt}
@@ -134,7 +134,7 @@ standing-read :
 unfolding memoryOf
 standing-read st a sound long =
     let small = size-bounds (st .sizes) (sound .sizes-fit) in
-    used-part a 0 POINT (2 * st .sizes .n) true refl (omega (arith, small .n, long))
+    used-part a 0 POINT-LEN (2 * st .sizes .n) true refl (omega (arith, small .n, long))
 
 -- ---- a trial or correction is open
 
@@ -195,7 +195,7 @@ module _ (S : CallContext) (since top : ℕ) (sound : Sound (S .run .state)) (T 
       (xs : List Float) →
       CheckedRows (st .sizes) xs →
       S .rows (st .counts .question) ≡ hasRows xs →
-      (step : List Float) → length step ≡ POINT → Landing S (landing st n) (withLanded w xs step) since
+      (step : List Float) → length step ≡ POINT-LEN → Landing S (landing st n) (withLanded w xs step) since
   unfolding st w tried-consistent
   landed-landing n few xs passed is step size =
       let v = tried-consistent in
@@ -213,7 +213,7 @@ module _ (S : CallContext) (since top : ℕ) (sound : Sound (S .run .state)) (T 
             asked-size = v .sized .asked-size;
             standing-rows-size = v .sized .standing-rows-size;
             landed-rows-size =
-                length-padded ROWS xs
+                length-padded ROWS-LEN xs
                 (let f = rows-fit (st .sizes) (size-bounds (st .sizes) (sound .sizes-fit)) in
                 let e = passed .good .size in
                 omega arith);
@@ -335,7 +335,7 @@ module _ (law : ExactLaws) (h : History) (r : Run) (sound : Sound (r .state))
       (C .landed-slot) in
       let L : Landing S (r .state) own (2 + n) =
       stayed-landing S (2 + n) k sound T refl agree (omega arith) long point refl slot (C .landed-point) in
-      let land : (step : List Float) → length step ≡ POINT → Landing S (landing (r .state) (n + 1)) (withLanded own xs step) (1 + (n + 1)) = λ step size.
+      let land : (step : List Float) → length step ≡ POINT-LEN → Landing S (landing (r .state) (n + 1)) (withLanded own xs step) (1 + (n + 1)) = λ step size.
       subst (Landing S (landing (r .state) (n + 1)) (withLanded own xs step)) two
       (landed-landing S (2 + n) k sound T refl agree (omega arith) long point (n + 1) (omega arith) xs passed
       (asked-rows h xs q (sym asked)) step size) in
@@ -414,16 +414,16 @@ module _ (law : ExactLaws) (h : History) (r : Run) (sound : Sound (r .state))
         point = start-point s;
         sized = record {
           standing-size = v .standing-size;
-          landed-size = length-replicate POINT zero64;
-          asked-size = length-replicate POINT zero64;
+          landed-size = length-replicate POINT-LEN zero64;
+          asked-size = length-replicate POINT-LEN zero64;
           standing-rows-size =
-              length-padded ROWS xs
+              length-padded ROWS-LEN xs
               (let g = rows-fit z (size-bounds z (sound .sizes-fit)) in let e = passed .good .size in omega arith);
-          landed-rows-size = length-replicate ROWS zero64;
-          step-size = length-replicate POINT zero64;
-          multipliers-size = length-replicate POINT zero64;
-          curvature-size = length-replicate CURVATURE zero64;
-          filter-size = length-replicate FILTER zero64;
+          landed-rows-size = length-replicate ROWS-LEN zero64;
+          step-size = length-replicate POINT-LEN zero64;
+          multipliers-size = length-replicate POINT-LEN zero64;
+          curvature-size = length-replicate CURVATURE-LEN zero64;
+          filter-size = length-replicate FILTER-LEN zero64;
         };
         sizes-fit = sound .sizes-fit;
         within = sound .within;

@@ -11,7 +11,7 @@ use Rattle.interval.specs.declared.Scalar.{Scalar}
 use Rattle.interval.specs.Result.{ok}
 use Rattle.interval.specs.Scalar.{definitelyGreater, definitelyLess}
 use Rattle.run.specs.Residuals.{violationOf}
-use Rattle.run.specs.Area.{POINT, Memory, withAsked, withLanded}
+use Rattle.run.specs.Area.{POINT-LEN, Memory, withAsked, withLanded}
 use Rattle.run.specs.Limits.{CORRECTIONS}
 use Rattle.run.specs.Corrected.{to, stay, shiftOf, shiftFrom, shiftedStep}
 use Rattle.run.specs.Area.{rowsAt, standingAt, landedAt}
@@ -34,7 +34,7 @@ use Rattle.run.proofs.demand3.Decide.{Landing, judge-after}
 
 abbrev asked-consistent :
     (S : CallContext) (z : Sizes) (k : Counts) (last : Last) (mu : Scalar) (w : Memory) (next : List Float) →
-    Long POINT next → Consistent S z k last mu w → Consistent S z k last mu (withAsked w next)
+    Long POINT-LEN next → Consistent S z k last mu w → Consistent S z k last mu (withAsked w next)
 asked-consistent S z k last mu w next e v =
     record {
       before = v .before;
@@ -86,7 +86,7 @@ land-trial-after law S st w rows L theta theta-is =
     or-refuse-after S (st .sizes) t v (violationOf (landedAt t v .constraints)) _ (violation-yields (landedAt t v .constraints))
     (λ new e u. either-after S (st .sizes) (definitelyGreater new theta) (correct t v theta) (judge t v theta) (λ h. correct-after law S t v L zero-le theta theta-is) (λ h. judge-after law S t v 1 L (omega arith) theta theta-is))
 
-keep-after : (law : ExactLaws) (S : CallContext) (st : State) (w : Memory) (rows : List Float) → length (w .step) ≡ POINT → ((step : List Float) → length step ≡ POINT → Landing S (landing st (st .counts .corrections + 1)) (withLanded w rows step) (1 + (st .counts .corrections + 1))) → st .counts .corrections ≤ 3
+keep-after : (law : ExactLaws) (S : CallContext) (st : State) (w : Memory) (rows : List Float) → length (w .step) ≡ POINT-LEN → ((step : List Float) → length step ≡ POINT-LEN → Landing S (landing st (st .counts .corrections + 1)) (withLanded w rows step) (1 + (st .counts .corrections + 1))) → st .counts .corrections ≤ 3
     → (theta : Scalar) → violationOf (standingAt st w .constraints) ≡ ok theta → After S (st .sizes) (keep st w rows theta)
 unfolding keep shiftedStep
 keep-after law S st w rows size land few theta theta-is =
@@ -99,7 +99,7 @@ keep-after law S st w rows size land few theta theta-is =
     (λ h. judge-after law S t v (1 + (st .counts .corrections + 1)) L (omega arith) theta theta-is)
     (λ h. let l = leb-false CORRECTIONS (st .counts .corrections + 1) h in correct-after law S t v L (omega arith) theta theta-is))
 
-pub land-correction-after : (law : ExactLaws) (S : CallContext) (st : State) (w : Memory) (rows : List Float) → Landing S st w (2 + st .counts .corrections) → ((step : List Float) → length step ≡ POINT → Landing S (landing st (st .counts .corrections + 1)) (withLanded w rows step) (1 + (st .counts .corrections + 1))) → st .counts .corrections ≤ 3
+pub land-correction-after : (law : ExactLaws) (S : CallContext) (st : State) (w : Memory) (rows : List Float) → Landing S st w (2 + st .counts .corrections) → ((step : List Float) → length step ≡ POINT-LEN → Landing S (landing st (st .counts .corrections + 1)) (withLanded w rows step) (1 + (st .counts .corrections + 1))) → st .counts .corrections ≤ 3
     → (theta : Scalar) → violationOf (standingAt st w .constraints) ≡ ok theta → After S (st .sizes) (landCorrection st w rows theta)
 unfolding landCorrection
 land-correction-after law S st w rows L land few theta theta-is =

@@ -17,7 +17,7 @@ use Rattle.linear.proofs.Folds.{bind-value}
 use Rattle.interval.proofs.Given.{yes}
 use Rattle.interval.proofs.Results.{ok-inj}
 use Rattle.run.specs.Residuals.{sumSquared, violationOf}
-use Rattle.run.specs.Area.{CURVATURE, Memory, withTaken}
+use Rattle.run.specs.Area.{CURVATURE-LEN, Memory, withTaken}
 use Rattle.run.specs.Curvature.{updateCurvature}
 use Rattle.run.specs.Judgement.{sumChange, rises, indefinite, contracts, Judged, judgedBy, judgeOf}
 use Rattle.run.specs.Filter.{beatsTo}
@@ -190,7 +190,7 @@ module _ (S : CallContext) (st : State) (w : Memory) (since : ℕ) (L : Landing 
 
   taken-consistent :
       (length mu radius : Scalar) (b : List Float) →
-      Long CURVATURE b →
+      Long CURVATURE-LEN b →
       mu ≡ nextMu (S .run .state .search .mu) →
       Forward S (st .sizes) (st .counts .landed) (last.Taken length) →
       Consistent S (st .sizes) (standingOn st length mu radius .counts) (last.Taken length) mu (withTaken w b filter′)
@@ -223,11 +223,11 @@ module _ (S : CallContext) (st : State) (w : Memory) (since : ℕ) (L : Landing 
         few-corrections = v .few-corrections;
       }
 
-  curvature-long : Long CURVATURE (curvatureOf st w)
+  curvature-long : Long CURVATURE-LEN (curvatureOf st w)
   curvature-long = go (st .search .plain)
     where
-      go : (b : Bool) → Long CURVATURE (pick b (zeros CURVATURE) (w .curvature))
-      go true = length-replicate CURVATURE zero64
+      go : (b : Bool) → Long CURVATURE-LEN (pick b (zeros CURVATURE-LEN) (w .curvature))
+      go true = length-replicate CURVATURE-LEN zero64
       go false = L .consistent .sized .curvature-size
 
   pub take-after :
@@ -249,7 +249,7 @@ module _ (S : CallContext) (st : State) (w : Memory) (since : ℕ) (L : Landing 
       next-mu-is mu third is-third ∙ ap nextMu (sym (L .mu-same)) in
       or-refuse-after S z st w
       (updateCurvature (z .n) (curvatureOf st w) (w .step) (standingAt st w) (landedAt st w) (w .multipliers)) _
-      (curvature-yields CURVATURE (z .n) (curvatureOf st w) (w .step) (standingAt st w) (landedAt st w) (w .multipliers)
+      (curvature-yields CURVATURE-LEN (z .n) (curvatureOf st w) (w .step) (standingAt st w) (landedAt st w) (w .multipliers)
       curvature-long)
       (λ b u size.
       iterate-after S (standingOn st length (shrunk mu third) radius) (withTaken w b filter′) (shrunk mu third)

@@ -13,7 +13,7 @@ use lib.ListN.{length, take, length-replicate}
 use Rattle.interval.specs.declared.Scalar.{Scalar}
 use Rattle.interval.specs.Scalar.{zero64}
 use Rattle.run.specs.Rows.{rowNumbers}
-use Rattle.run.specs.Area.{POINT, ROWS, CURVATURE, FILTER, ASKED, begunMemory, areaOf}
+use Rattle.run.specs.Area.{POINT-LEN, ROWS-LEN, CURVATURE-LEN, FILTER-LEN, ASKED-AT, begunMemory, areaOf}
 use Rattle.run.specs.Limits.{AREA}
 use Rattle.run.specs.Calls.{AfterCall, unchanged, beginOf, replyOpen, replyOf, noneOpen, replyNoneOf}
 use Rattle.run.specs.Checks.{sizesFit, allInDomain, stepFits, valid}
@@ -244,18 +244,18 @@ along law z (c ∷ cs) h r v = (
 
 -- ---- begin
 
-begun-sized : (start : List Float) → length start ≤ POINT → Sized (begunMemory start)
+begun-sized : (start : List Float) → length start ≤ POINT-LEN → Sized (begunMemory start)
 begun-sized start e =
     record {
-      standing-size = length-padded POINT start e;
-      landed-size = length-replicate POINT zero64;
-      asked-size = length-padded POINT start e;
-      standing-rows-size = length-replicate ROWS zero64;
-      landed-rows-size = length-replicate ROWS zero64;
-      step-size = length-replicate POINT zero64;
-      multipliers-size = length-replicate POINT zero64;
-      curvature-size = length-replicate CURVATURE zero64;
-      filter-size = length-replicate FILTER zero64;
+      standing-size = length-padded POINT-LEN start e;
+      landed-size = length-replicate POINT-LEN zero64;
+      asked-size = length-padded POINT-LEN start e;
+      standing-rows-size = length-replicate ROWS-LEN zero64;
+      landed-rows-size = length-replicate ROWS-LEN zero64;
+      step-size = length-replicate POINT-LEN zero64;
+      multipliers-size = length-replicate POINT-LEN zero64;
+      curvature-size = length-replicate CURVATURE-LEN zero64;
+      filter-size = length-replicate FILTER-LEN zero64;
     }
 
 module _ (z : Sizes) (start : List Float) (max : Scalar) (fit : sizesFit z ≡ true)
@@ -277,13 +277,13 @@ module _ (z : Sizes) (start : List Float) (max : Scalar) (fit : sizesFit z ≡ t
   -- the start stands as it is asked
   begun-point : take (2 * z .n) (begins .area) ≡ begun begins .points 0
   begun-point =
-      let n2 : 2 * z .n ≤ POINT = omega (arith, size-bounds z fit .n) in
+      let n2 : 2 * z .n ≤ POINT-LEN = omega (arith, size-bounds z fit .n) in
       let sized = begun-sized start (omega (arith, size, n2)) in
       let w = begunMemory start in
       let valid-begun = sound-valid (begins .state) begun-sound in
       standing-part w sized (2 * z .n) n2
       ∙ sym (asked-part w sized (2 * z .n) n2)
-      ∙ sym (point-given (begins .state) (areaOf w) ASKED valid-begun (area-long w sized) refl)
+      ∙ sym (point-given (begins .state) (areaOf w) ASKED-AT valid-begun (area-long w sized) refl)
 
   begun-holds : Inv z (begun begins) begins
   begun-holds =

@@ -14,7 +14,7 @@ use Rattle.interval.specs.Result.{Res, ok, refused}
 use Rattle.interval.specs.declared.Scalar.{Scalar}
 use Rattle.interval.specs.Scalar.{zero64, pick}
 use Rattle.linear.specs.Flat.{at}
-use Rattle.run.specs.Area.{POINT, ROWS, CURVATURE, FILTER, ASKED, Memory, memoryOf, areaOf, onlyStanding}
+use Rattle.run.specs.Area.{POINT-LEN, ROWS-LEN, CURVATURE-LEN, FILTER-LEN, ASKED-AT, Memory, memoryOf, areaOf, onlyStanding}
 use Rattle.run.specs.Area.{isTried, isCorrected}
 use Rattle.run.specs.Limits.{AREA}
 use Rattle.run.specs.Endings.{AfterSlots, finish, refuse, question, orRefuse}
@@ -224,28 +224,28 @@ point-given st a base v l e = rw (v, eq-eqb _ _ l, e)
 landed-back :
     (st : State) (w : Memory) →
     Sized w →
-    2 * st .sizes .n ≤ POINT →
+    2 * st .sizes .n ≤ POINT-LEN →
     isCorrected (st .phase) ≡ true →
     take (2 * st .sizes .n) (memoryOf st (areaOf w) .landed) ≡ take (2 * st .sizes .n) (w .landed)
 unfolding memoryOf
 landed-back st w sized n2 u =
-    used-part (areaOf w) 24 POINT (2 * st .sizes .n) (isCorrected (st .phase)) u (omega (arith, n2, area-long w sized))
+    used-part (areaOf w) 24 POINT-LEN (2 * st .sizes .n) (isCorrected (st .phase)) u (omega (arith, n2, area-long w sized))
     ∙ landed-part w sized (2 * st .sizes .n) n2
 
 -- ---- a finish
 
-standing-sized : (w : Memory) → length (w .standing) ≡ POINT → Sized (onlyStanding w)
+standing-sized : (w : Memory) → length (w .standing) ≡ POINT-LEN → Sized (onlyStanding w)
 standing-sized w e =
     record {
       standing-size = e;
-      landed-size = length-replicate POINT zero64;
-      asked-size = length-replicate POINT zero64;
-      standing-rows-size = length-replicate ROWS zero64;
-      landed-rows-size = length-replicate ROWS zero64;
-      step-size = length-replicate POINT zero64;
-      multipliers-size = length-replicate POINT zero64;
-      curvature-size = length-replicate CURVATURE zero64;
-      filter-size = length-replicate FILTER zero64;
+      landed-size = length-replicate POINT-LEN zero64;
+      asked-size = length-replicate POINT-LEN zero64;
+      standing-rows-size = length-replicate ROWS-LEN zero64;
+      landed-rows-size = length-replicate ROWS-LEN zero64;
+      step-size = length-replicate POINT-LEN zero64;
+      multipliers-size = length-replicate POINT-LEN zero64;
+      curvature-size = length-replicate CURVATURE-LEN zero64;
+      filter-size = length-replicate FILTER-LEN zero64;
     }
 
 -- of a state of which only the counts and the point are known
@@ -254,7 +254,7 @@ pub record Ending (S : CallContext) (st : State) (w : Memory) (mu : Scalar) : Ty
   pub way : Way S (st .sizes) (st .counts .standing) before (st .last) mu
   pub before-many : length before ≡ st .counts .iterations
   pub point : take (2 * st .sizes .n) (w .standing) ≡ S .history .points (st .counts .standing)
-  pub long : length (w .standing) ≡ POINT
+  pub long : length (w .standing) ≡ POINT-LEN
   pub sound : Sound (over st)
 
 pub finish-counts :
@@ -265,7 +265,7 @@ finish-counts S st w s mu E q =
     let p = playedTo (finish st w s) in
     let sized = standing-sized w (E .long) in
     let small = size-bounds z (E .sound .sizes-fit) in
-    let n2 : 2 * z .n ≤ POINT = omega (arith, small .n) in
+    let n2 : 2 * z .n ≤ POINT-LEN = omega (arith, small .n) in
     let d = enter S z (st .counts .standing) (E .before) (st .last) mu (E .way) p refl in
     let counted : st .counts .iterations ≡ entered (S .history) (S .run) (S .call) p .changes =
     sym (d .changes-are ∙ E .before-many) in
@@ -335,7 +335,7 @@ module _ (S : CallContext) (st : State) (w : Memory) (k : Kind) (corrections sin
   unfolding h′ p
   rows-are = S .enters (p .event) refl
 
-  n2 : 2 * st .sizes .n ≤ POINT
+  n2 : 2 * st .sizes .n ≤ POINT-LEN
   n2 = omega (arith, size-bounds (st .sizes) (v .sizes-fit) .n)
 
   -- a point that was asked before is still known under its number
@@ -379,9 +379,9 @@ module _ (S : CallContext) (st : State) (w : Memory) (k : Kind) (corrections sin
   unfolding p st′ h′ memoryOf
   asked-back sound =
       let long = area-long w (v .sized) in
-      used-part (areaOf w) ASKED POINT (2 * st .sizes .n) true refl (omega (arith, n2, long))
+      used-part (areaOf w) ASKED-AT POINT-LEN (2 * st .sizes .n) true refl (omega (arith, n2, long))
       ∙ rw (eq-eqb (st .counts .question + 1) (st .counts .question + 1) refl)
-      (sym (point-given st′ (areaOf w) ASKED sound long refl))
+      (sym (point-given st′ (areaOf w) ASKED-AT sound long refl))
 
   asked-tried :
       (n top : ℕ) →
@@ -470,7 +470,7 @@ correction-after S st w mu v count-bounds lim few slot point asked below =
     let z = st .sizes in
     let rows-back = rows-are S st w kind.Correction n (1 + n) mu v count-bounds lim in
     let small = size-bounds z (v .sizes-fit) in
-    let n2 : 2 * z .n ≤ POINT = omega (arith, small .n) in
+    let n2 : 2 * z .n ≤ POINT-LEN = omega (arith, small .n) in
     let k = st .counts .landed in
     let rowed = slot .rowed in
     let old = older S st w kind.Correction n (1 + n) mu v count-bounds lim k asked in

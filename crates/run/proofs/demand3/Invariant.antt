@@ -14,7 +14,7 @@ use Rattle.interval.specs.Result.{ok}
 use Rattle.run.specs.Rows.{constraintsOf, sumOf}
 use Rattle.run.specs.Residuals.{sumSquared, violationOf}
 use Rattle.run.specs.Filter.{filterSum, filterViolation}
-use Rattle.run.specs.Area.{ROWS, Memory, memoryOf, padded}
+use Rattle.run.specs.Area.{ROWS-LEN, Memory, memoryOf, padded}
 use Rattle.run.specs.Endings.{AfterSlots}
 use Rattle.run.specs.Checks.{sizesFit, phaseFits}
 use Rattle.run.specs.Calls.{inArea}
@@ -64,7 +64,7 @@ pub record FittingRows (z : Sizes) (given : AnsweredRows) : Type 0 where
 -- the rows accepted for a question are in a slot
 pub record Slot (z : Sizes) (given : AnsweredRows) (slot : List Float) : Type 0 where
   pub rowed : FittingRows z given
-  pub in-slot : slot ≡ padded ROWS (rowed .rows)
+  pub in-slot : slot ≡ padded ROWS-LEN (rowed .rows)
 
 -- the i-th pair is f and the violation of those rows
 pub record Pair (z : Sizes) (given : AnsweredRows) (filter : List Float) (i : ℕ) : Type 0 where

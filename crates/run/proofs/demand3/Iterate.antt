@@ -11,7 +11,7 @@ use Rattle.interval.specs.Scalar.{zero64, degenerate, divOf, isFinite, sharpen}
 use Rattle.interval.specs.Scaling.{four64}
 use Rattle.run.specs.Residuals.{violationOf}
 use Rattle.run.specs.Proposal.{Trial}
-use Rattle.run.specs.Area.{ROWS, POINT, Memory, withTrial}
+use Rattle.run.specs.Area.{ROWS-LEN, POINT-LEN, Memory, withTrial}
 use Rattle.run.specs.Curvature.{learnedOf}
 use Rattle.run.specs.Search.{Found, asks, stops, refuses, searchOf}
 use Rattle.run.specs.Damping.{grown}
@@ -57,10 +57,10 @@ trial-consistent S z k last mu w t s v =
       point = v .point;
       sized = record {
         standing-size = v .sized .standing-size;
-        landed-size = length-replicate POINT zero64;
+        landed-size = length-replicate POINT-LEN zero64;
         asked-size = s .next-size;
         standing-rows-size = v .sized .standing-rows-size;
-        landed-rows-size = length-replicate ROWS zero64;
+        landed-rows-size = length-replicate ROWS-LEN zero64;
         step-size = s .delta-size;
         multipliers-size = s .lambda-size;
         curvature-size = v .sized .curvature-size;

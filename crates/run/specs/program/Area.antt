@@ -9,7 +9,8 @@ use lib.ListN.{length, take, drop, getD}
 use Rattle.interval.specs.Result.{Res, ok}
 use Rattle.interval.specs.Scalar.{zero64}
 use Rattle.interval.specs.declared.Scalar.{Scalar}
-use Rattle.run.specs.Area.{Memory, areaOf, SIZES, padded, startOf, POINT, ROWS, CURVATURE, FILTER}
+use Rattle.run.specs.Limits.{VARIABLES, CONSTRAINTS, SUM-ROWS, ITERATIONS}
+use Rattle.run.specs.Area.{Memory, areaOf, SIZES, padded, startOf, POINT-LEN, ROWS-LEN, CURVATURE-LEN, FILTER-LEN}
 use Rattle.run.specs.Curvature.{curvatureEntries}
 use Rattle.run.specs.Residuals.{violationOf}
 use Rattle.run.specs.Rows.{rowNumbers, constraintsOf}
@@ -32,6 +33,11 @@ pub record Holds (w : Memory) (a : List Float) : Type 0 where
   pub sized : map length (slotsOf w) ≡ SIZES
   pub is : a ≡ areaOf w
 
+-- what a reader of a slot returns: as many numbers as the slot has, and those that the area holds there
+pub record SlotRead (size : ℕ) (slot : Memory → List Float) (a xs : List Float) : Type 0 where
+  pub long : length xs ≡ size
+  pub read : (w : Memory) → Holds w a → xs ≡ slot w
+
 -- the first k slots, each with so many numbers of an area and +0 behind
 unfoldable pub clearedTo : List ℕ → List ℕ → List Float → ℕ → List Float
 clearedTo sizes used a zero = []
@@ -44,15 +50,15 @@ pub record ZeroBehind (size used : ℕ) (xs : List Float) : Type 0 where
 
 -- each list in its slot, with so many numbers of each in use
 pub record SlotsZeroBehind (used : List ℕ) (w : Memory) : Type 0 where
-  pub standing : ZeroBehind POINT (getD used 0 0) (w .standing)
-  pub landed : ZeroBehind POINT (getD used 1 0) (w .landed)
-  pub asked : ZeroBehind POINT (getD used 2 0) (w .asked)
-  pub standing-rows : ZeroBehind ROWS (getD used 3 0) (w .standingRows)
-  pub landed-rows : ZeroBehind ROWS (getD used 4 0) (w .landedRows)
-  pub step : ZeroBehind POINT (getD used 5 0) (w .step)
-  pub multipliers : ZeroBehind POINT (getD used 6 0) (w .multipliers)
-  pub curvature : ZeroBehind CURVATURE (getD used 7 0) (w .curvature)
-  pub filter : ZeroBehind FILTER (getD used 8 0) (w .filter)
+  pub standing : ZeroBehind POINT-LEN (getD used 0 0) (w .standing)
+  pub landed : ZeroBehind POINT-LEN (getD used 1 0) (w .landed)
+  pub asked : ZeroBehind POINT-LEN (getD used 2 0) (w .asked)
+  pub standing-rows : ZeroBehind ROWS-LEN (getD used 3 0) (w .standingRows)
+  pub landed-rows : ZeroBehind ROWS-LEN (getD used 4 0) (w .landedRows)
+  pub step : ZeroBehind POINT-LEN (getD used 5 0) (w .step)
+  pub multipliers : ZeroBehind POINT-LEN (getD used 6 0) (w .multipliers)
+  pub curvature : ZeroBehind CURVATURE-LEN (getD used 7 0) (w .curvature)
+  pub filter : ZeroBehind FILTER-LEN (getD used 8 0) (w .filter)
 
 -- every slot in use, as while a correction is open
 abbrev pub allUsed : Sizes → ℕ → List ℕ
@@ -95,7 +101,7 @@ ViolationsKnown st theta landed w a = WithViolations (st .sizes) (st .counts .it
 
 -- sizes and iterations whose numbers in use fit the slots
 pub record Limits (z : Sizes) (iterations : ℕ) : Type 0 where
-  pub n : z .n ≤ 12
-  pub m : z .m ≤ 12
-  pub s : z .s ≤ 24
-  pub iterations-fit : iterations ≤ 200
+  pub n : z .n ≤ VARIABLES
+  pub m : z .m ≤ CONSTRAINTS
+  pub s : z .s ≤ SUM-ROWS
+  pub iterations-fit : iterations ≤ ITERATIONS

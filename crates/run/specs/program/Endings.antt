@@ -5,6 +5,7 @@ use mathlib.Core.List.{List}
 use mathlib.Core.Path.{_≡_}
 use lib.Ieee.{Float}
 use Rattle.interval.specs.Scaling.{isPositive}
+use Rattle.run.specs.Limits.{VARIABLES, CONSTRAINTS, SUM-ROWS, ITERATIONS}
 use Rattle.run.specs.Endings.{AfterSlots}
 use Rattle.run.specs.program.Area.{Holds}
 use Rattle.run.specs.declared.state.Returned.{Returned}
@@ -20,10 +21,10 @@ pub record Leaves (o : AfterSlots) (r : Returned) (a : List Float) : Type 0 wher
 
 -- the numbers of an open run are small, with fewer than t turn-downs, and its damping is positive
 pub record Bounded (t : ℕ) (st : State) : Type 0 where
-  pub few-variables : st .sizes .n ≤ 12
-  pub few-constraints : st .sizes .m ≤ 12
-  pub few-sums : st .sizes .s ≤ 24
-  pub few-iterations : st .sizes .limit ≤ 200
+  pub few-variables : st .sizes .n ≤ VARIABLES
+  pub few-constraints : st .sizes .m ≤ CONSTRAINTS
+  pub few-sums : st .sizes .s ≤ SUM-ROWS
+  pub few-iterations : st .sizes .limit ≤ ITERATIONS
   pub within : st .counts .iterations ≤ st .sizes .limit
   pub few-corrections : st .counts .corrections ≤ 5
   pub few-questions : st .counts .question < 4294967296

@@ -1,5 +1,6 @@
 -- For private functions: row sets whose places are all within reach.
 use Prim.Native.Nat.{_<_, _≤_}
+use Rattle.run.specs.Limits.{VARIABLES, CONSTRAINTS, SUM-ROWS}
 use Rattle.run.specs.declared.rows.RowCounts.{RowCounts}
 use Rattle.run.specs.declared.rows.RowSet.{RowSet}
 
@@ -12,6 +13,6 @@ pub record Small (e : RowSet) : Type 0 where
 
 -- the counts of an answer, within the limits
 pub record FewRows (c : RowCounts) : Type 0 where
-  pub few-variables : c .n ≤ 12
-  pub few-constraints : c .m ≤ 12
-  pub few-sums : c .s ≤ 24
+  pub few-variables : c .n ≤ VARIABLES
+  pub few-constraints : c .m ≤ CONSTRAINTS
+  pub few-sums : c .s ≤ SUM-ROWS
