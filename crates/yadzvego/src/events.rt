@@ -117,10 +117,10 @@ pub fn returned_of(o: Returned) -> CReturned
     ensures { λ r. ⌜ r ≡ returnedFrom o ⌝ }
 {
     let state = o.state;
-    let answer = o.event;
+    let event = o.event;
     CReturned {
         run: c_state_of(state),
-        event: numbers_of(answer),
+        event: numbers_of(event),
     }
 }
 
@@ -137,9 +137,9 @@ fn refused_by_check(a: Event) -> bool
 
 // The run after a call over it: unchanged in every bit where the call is refused by 1 to 4.
 fn run_after(run: Run, state: State, event: Event) -> Run
-    ensures { λ r. ⌜ r ≡ runAfter run state answer ⌝ }
+    ensures { λ r. ⌜ r ≡ runAfter run state event ⌝ }
 {
-    if refused_by_check(answer) {
+    if refused_by_check(event) {
         return run;
     }
     c_state_of(state)
@@ -150,10 +150,10 @@ pub fn returned_after(run: Run, o: Returned) -> CReturned
     ensures { λ r. ⌜ r ≡ returnedAfter run (o .state) (o .event) ⌝ }
 {
     let state = o.state;
-    let answer = o.event;
+    let event = o.event;
     CReturned {
-        run: run_after(run, state, answer),
-        event: numbers_of(answer),
+        run: run_after(run, state, event),
+        event: numbers_of(event),
     }
 }
 
