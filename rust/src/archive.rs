@@ -4,7 +4,9 @@
 #[repr(C)]
 #[derive(Copy, Clone, Debug, Default, PartialEq)]
 pub struct Scalar {
+    /// The lower end.
     pub lo: f64,
+    /// The upper end.
     pub hi: f64,
 }
 
@@ -12,7 +14,9 @@ pub struct Scalar {
 #[repr(C)]
 #[derive(Clone, Copy)]
 pub struct ScalarResult {
+    /// 0, or the number of the refusal.
     pub number: u64,
+    /// The value, zero where it is refused.
     pub value: Scalar,
 }
 
@@ -20,27 +24,49 @@ pub struct ScalarResult {
 #[repr(C)]
 #[derive(Clone, Copy, Debug, PartialEq)]
 pub struct Run {
+    /// Variables.
     pub n: usize,
+    /// Constraint rows.
     pub m: usize,
+    /// Sum rows.
     pub s: usize,
+    /// The most iterations.
     pub limit: usize,
+    /// Changes of standing so far.
     pub iterations: usize,
+    /// The number of the last question.
     pub question: usize,
+    /// The number of the question whose point stands.
     pub standing: usize,
+    /// The number of the question whose point landed.
     pub landed: usize,
+    /// Corrections of the open trial so far.
     pub corrections: usize,
+    /// Turn-downs so far.
     pub turned_down: usize,
+    /// The damping.
     pub mu: Scalar,
+    /// The longest step that is tried now.
     pub radius: Scalar,
+    /// Of an open trial, the violation predicted.
     pub predicted: Scalar,
+    /// Of an open trial, its length as tried.
     pub tried: Scalar,
+    /// The longest step, as the begin gave it.
     pub max_step: Scalar,
+    /// The length of the last step taken.
     pub last_length: Scalar,
+    /// 0, 1, 2: a start, trial or correction is open; 3: over.
     pub phase: u8,
+    /// Why the last proposal was rejected, 0 for none yet.
     pub rejected: u8,
+    /// 1 where a step was taken, else 0.
     pub last: u8,
+    /// Whether the proposal is the first of its iteration.
     pub first: bool,
+    /// Whether it is made without the curvature learned.
     pub plain: bool,
+    /// Which variables move.
     pub moving: [bool; 12],
 }
 

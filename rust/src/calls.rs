@@ -12,34 +12,50 @@ use crate::solvers::least_squares::{Rejection, Stop};
 /// How many numbers an area has.
 pub const AREA: usize = 8000;
 
+/// What a question asks the rows of.
 #[derive(Clone, Copy, Debug, PartialEq, Eq)]
 pub enum Kind {
+    /// The start.
     Start,
+    /// A point that a step leads to.
     Trial,
+    /// A trial moved back onto the constraints.
     Correction,
 }
 
 /// A question, the finish or a refusal. `standing` is the number of the question whose point stands.
 #[derive(Clone, Copy, Debug, PartialEq, Eq)]
 pub enum Event {
+    /// The rows of the asked point are wanted.
     Question {
+        /// From 0 on.
         number: usize,
+        /// What is asked.
         kind: Kind,
+        /// The number of the question whose point stands.
         standing: usize,
     },
+    /// The run is over.
     Finish {
+        /// Why.
         stop: Stop,
+        /// Changes of standing.
         iterations: usize,
+        /// Proposals that were rejected.
         turned_down: usize,
+        /// The number of the question whose point stands.
         standing: usize,
     },
+    /// Refused by a number; 5 and 6 end the run.
     Refused(GeopError),
 }
 
 /// What a call returns: the run after it, and the event. A reply that is refused by 1 to 4 returns the run as it was.
 #[derive(Clone, Copy, Debug, PartialEq)]
 pub struct Returned {
+    /// For the next call.
     pub run: Run,
+    /// What it is told.
     pub event: Event,
 }
 
@@ -102,6 +118,27 @@ fn returned_of(r: ReturnedNumbers) -> Returned {
 
 /// Begins a run of `n` variables, `m` constraints and `s` sum rows: its first question asks for the rows of `start`,
 /// which has 2 `n` ends. The area has [`AREA`] numbers.
+///
+/// ```
+/// use yadzvego::scalars::Scalar;
+/// use yadzvego::{AREA, Event, begin, point, reply, reply_none};
+///
+/// // One variable x from 3 on, and the sum row x - 1.
+/// let mut area = vec![0.0; AREA];
+/// let mut now = begin(1, 0, 1, 20, &[3.0, 3.0], Scalar::from_i64(5), &mut area);
+/// while let Event::Question { .. } = now.event {
+///     let x = Scalar::new(point(now.run, &area)[0], point(now.run, &area)[1]);
+///     let value = x.sub(Scalar::ONE);
+///     let next = reply(now.run, &mut area, &[value.lo, value.hi, 1.0, 1.0]);
+///     now = match next.event {
+///         // Rows outside the domain: the point cannot be evaluated.
+///         Event::Refused(why) if why.number() == 3 => reply_none(now.run, &mut area),
+///         _ => next,
+///     };
+/// }
+/// assert!(matches!(now.event, Event::Finish { .. }));
+/// assert!((point(now.run, &area)[0] - 1.0).abs() < 1e-9);
+/// ```
 pub fn begin(
     n: usize,
     m: usize,

@@ -3,6 +3,7 @@
 use std::error::Error;
 use std::fmt::{self, Display, Formatter};
 
+/// A refusal, by what was wrong.
 #[derive(Clone, Copy, Debug, PartialEq, Eq)]
 pub enum GeopError {
     /// A count is above its limit.
@@ -19,6 +20,7 @@ pub enum GeopError {
     DivisorContainsZero = 6,
 }
 
+/// A value, or the refusal.
 pub type GeopResult<T> = Result<T, GeopError>;
 
 impl GeopError {
@@ -39,6 +41,7 @@ impl GeopError {
         }
     }
 
+    /// What was wrong, in words.
     pub fn root_message(&self) -> &str {
         match self {
             GeopError::TooMany => "a count is above its limit",

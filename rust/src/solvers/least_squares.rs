@@ -16,8 +16,11 @@ pub struct Options {
 /// Where [`minimize`] ended, and how it got there.
 #[derive(Clone, Debug)]
 pub struct Outcome<P> {
+    /// The point that stands.
     pub x: P,
+    /// Steps taken.
     pub iterations: usize,
+    /// Why it ended.
     pub stop: Stop,
     /// Steps proposed and turned down on the way.
     pub turned_down: usize,
@@ -29,16 +32,24 @@ pub enum Stop {
     /// The residuals cannot be evaluated at the start.
     Infeasible,
     /// The next step changes no variable at all; the step before it was turned down for `rejected`.
-    NoChange { rejected: Option<Rejection> },
+    NoChange {
+        /// Why the last proposal was rejected, if one was.
+        rejected: Option<Rejection>,
+    },
     /// No change can be told from its width, and the step no longer shrinks.
     Undecided,
     /// The model expects no definite drop, with `independent` of the `constraints` rows telling it something new.
     Flat {
+        /// How many constraint rows are independent.
         independent: usize,
+        /// Of how many.
         constraints: usize,
     },
     /// No step, however damped, is taken; the last one was turned down for `rejected`.
-    Damped { rejected: Option<Rejection> },
+    Damped {
+        /// Why the last proposal was rejected, if one was.
+        rejected: Option<Rejection>,
+    },
     /// [`Options::max_iterations`] steps were taken.
     Budget,
 }
@@ -62,11 +73,14 @@ pub struct Euclidean;
 /// Residuals, and their Jacobian row by row.
 #[derive(Clone, Debug, Default)]
 pub struct Rows {
+    /// The values, one for each row.
     pub values: Vec<Scalar>,
+    /// The slopes of each row, one for each variable.
     pub jacobian: Vec<Vec<Scalar>>,
 }
 
 impl Rows {
+    /// One row more.
     pub fn push(&mut self, value: Scalar, row: Vec<Scalar>) {
         self.values.push(value);
         self.jacobian.push(row);
@@ -94,7 +108,9 @@ impl Rows {
 /// The residuals at a point: those that must vanish, and those whose squares are minimized.
 #[derive(Clone, Debug, Default)]
 pub struct Evaluation {
+    /// Those that must vanish.
     pub constraints: Rows,
+    /// Those whose squares are summed.
     pub sum: Rows,
 }
 
@@ -116,7 +132,8 @@ fn reply(run: Run, area: &mut [f64], evaluation: Option<Evaluation>) -> GeopResu
 }
 
 /// Minimizes the sum of squares among the points where the constraints vanish, from `x0`. Every evaluation has as many
-/// rows as that of the start; a refusal of the archive is an error.
+/// rows as that of the start; a refusal of the archive is an error. [`crate::minimize`] is the same with evaluations
+/// that are made on the spot.
 pub async fn minimize(
     _space: &Euclidean,
     evaluate: impl AsyncFn(&Vec<Scalar>) -> Option<Evaluation>,

@@ -1,1 +1,3 @@
+//! The solvers, by geop's paths.
+
 pub mod least_squares;
