@@ -1,12 +1,18 @@
-//! Finds libyadzvego.a: in the folder that YADZVEGO_LIB names, or in ../target/staticlib, where `rt staticlib yadzvego`
-//! writes it.
+//! Finds libyadzvego.a: in the folder that YADZVEGO_LIB names, in ../lib, where the bundle has it, or in
+//! ../target/staticlib, where `rt staticlib yadzvego` writes it.
 
 use std::env;
 use std::path::{Path, PathBuf};
 
 fn main() {
     println!("cargo::rerun-if-env-changed=YADZVEGO_LIB");
-    let beside = Path::new(env!("CARGO_MANIFEST_DIR")).join("../target/staticlib");
+    let manifest = Path::new(env!("CARGO_MANIFEST_DIR"));
+    let bundled = manifest.join("../lib");
+    let beside = if bundled.join("libyadzvego.a").is_file() {
+        bundled
+    } else {
+        manifest.join("../target/staticlib")
+    };
     let folder = env::var_os("YADZVEGO_LIB").map_or(beside, PathBuf::from);
     let archive = folder.join("libyadzvego.a");
     println!("cargo::rerun-if-changed={}", archive.display());
