@@ -2,6 +2,8 @@
 # default ../shared/docs/src beside the repository. It is copied to target/compare with the edits that
 # compare/prepare.py names, and built by rustc alone, as for release.
 
+source compare/archives.sh
+
 # The archives that hold what compare/src/run_c.rs and rust/src/archive.rs declare.
 archives=(run_c yadzvego)
 
@@ -22,12 +24,7 @@ missing() {
 
 build_archives() {
     mkdir -p "$out"
-    for archive in "${archives[@]}"; do
-        rt staticlib "$archive" >"$out/$archive.log" 2>&1 || {
-            tail -n 20 "$out/$archive.log"
-            exit 1
-        }
-    done
+    archives "${archives[@]}"
 }
 
 # build_program FOLDER MAIN NAME: the program NAME from its file MAIN, beside the Rust that prepare.py wrote to
