@@ -218,7 +218,7 @@ module _ (law : ExactLaws) (h : History) (r : Run) (v : Inv (r .state .sizes) h 
 
 -- ---- all calls
 
-call-step :
+pub call-step :
     (law : ExactLaws) (z : Sizes) (h : History) (r : Run) (c : Call) →
     Inv z h r →
     Allowed z c →
@@ -310,7 +310,7 @@ module _ (z : Sizes) (start : List Float) (max : Scalar) (fit : sizesFit z ≡ t
         };
       }
 
-begin-holds :
+pub begin-holds :
     (z : Sizes) (start : List Float) (max : Scalar) (a : List Float) →
     let b = beginOf z start max a in
     b .event ≡ event.Question 0 kind.Start 0 → Inv z (begun (runOf b)) (runOf b)
