@@ -25,7 +25,8 @@ module _ (st : State) (a xs : List Float) (r : Returned) where
   by-same false a′ f e = ap (λ (l : AfterCall). callResultBy l (l .area)) e
 
   pub called-same : (code : ℕ) (a′ : List Float) → code % 2 ≡ 0
-      → afterCall r a′ ≡ pick (isNone code) (replyNoneOf st a) (replyOf st a xs) → Called run code xs (callResultOf r a′)
+      → afterCall r a′ ≡ pick (isNone code) (replyNoneOf st a) (replyOf st a xs)
+      → Called run code xs (callResultOf r a′)
   called-same code a′ even e f = rw (eq-eqb _ _ even) (by-same (isNone code) a′ f e)
 
   by-none : (b : Bool) (f : Floats xs) → afterCall r [] ≡ pick b (replyNoneOf st []) (replyOf st [] xs)

@@ -72,7 +72,8 @@ none-other r a x = sym (none-refused (r .state) a (r .area) x (valid (r .state))
 
 rows-other :
     (r : Run) (a xs : List Float) (f g : Floats xs) →
-    Allowed (r .state .sizes) (rows (other a) xs f) → callResult r (rows noArea xs g) ≡ callResult r (rows (other a) xs f)
+    Allowed (r .state .sizes) (rows (other a) xs f)
+    → callResult r (rows noArea xs g) ≡ callResult r (rows (other a) xs f)
 unfolding replyOf
 rows-other r a xs f g x = sym (rows-refused (r .state) a (r .area) xs x (valid (r .state)) (r .state .phase))
 
@@ -111,7 +112,8 @@ front z code c cs xs g count-is call-is n =
     k = countOf code
 
     first :
-        (r : Run) (f : Floats (take k ys)) → r .state .sizes ≡ z → callResult r (callOf code (take k ys) f) ≡ callResult r c
+        (r : Run) (f : Floats (take k ys)) → r .state .sizes ≡ z
+        → callResult r (callOf code (take k ys) f) ≡ callResult r c
     first r =
         subst
         (λ (l : List Float). (f : Floats l) → r .state .sizes ≡ z → callResult r (callOf code l f) ≡ callResult r c)

@@ -57,7 +57,8 @@ rest-more {whole} {p} {q} code codes ys r called =
 
 module _ {p₀ : CallResult} {codes : List ℕ} {xs : List Float} {p : CallResult} {i at : ℕ}
     (playing : Playing p₀ codes xs p i at) where
-  pub play-more : (d e : ℕ) {q : CallResult} → i < length codes → e ≡ at + min (countOf (getD codes i d)) (length xs - at)
+  pub play-more : (d e : ℕ) {q : CallResult} → i < length codes
+      → e ≡ at + min (countOf (getD codes i d)) (length xs - at)
       → Called (p .run) (getD codes i d) (take (e - at) (drop at xs)) q → Playing p₀ codes xs q (i + 1) e
   play-more d e {q} h at-end called = record { within = omega (arith, at-end, playing .within); rest = more }
     where

@@ -32,7 +32,8 @@ use Rattle.known_answers.specs.KnownAnswers.{between}
 use Rattle.known_answers.proofs.Zeros.{zeros-all}
 
 -- a check, passed or not
-checked : (P : AfterCall → Type 0) (b : Bool) (k : ℕ) (back : ℕ → AfterCall) (next : AfterCall) → P (back k) → (b ≡ true → P next)
+checked : (P : AfterCall → Type 0) (b : Bool) (k : ℕ) (back : ℕ → AfterCall) (next : AfterCall) → P (back k)
+    → (b ≡ true → P next)
     → P (checks b k back next)
 checked P true k back next p h = h refl
 checked P false k back next p h = p

@@ -54,7 +54,8 @@ module _ (z : Sizes) (start : List Float) (max : Scalar) (b : AfterCall) (g : Be
 
   none-answer : answerToNone b ≡ Finish stop.Infeasible 0 0 0
   none-answer = ap answerToNone (g .is)
-      ∙ ap (λ (o : AfterCall). o .event) (none-accepted (begunState z max) (areaOf (begunMemory start)) kind.Start accepted)
+      ∙ ap (λ (o : AfterCall). o .event)
+      (none-accepted (begunState z max) (areaOf (begunMemory start)) kind.Start accepted)
 
   rows-answer : (rows : List Float) → length rows ≡ rowNumbers (z .n) (z .m) (z .s)
       → allInDomain rows ((z .m + z .s) * (z .n + 1)) ≡ true

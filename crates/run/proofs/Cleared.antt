@@ -118,14 +118,16 @@ module _ (st : State) (a : List Float) where
         sizes-kept = refl;
         cleared = λ e. absurd (true≢false (sym (le-leb k 4 h) ∙ e));
         unchanged = λ e. (refl, refl);
+        follows = λ e. absurd (true≢false (sym (le-leb k 4 h) ∙ e));
       }
 
-  kept-replied : (o : AfterSlots) → Kept (st .sizes) o → Replied st a (inArea o)
+  kept-replied : (o : AfterSlots) → Kept (st .sizes) (st .counts .question) o → Replied st a (inArea o)
   kept-replied o k =
       record {
         sizes-kept = k .sizes-kept;
         cleared = λ e. tidy-cleared (o .state) (o .memory) (k .tidy);
         unchanged = λ e. absurd (true≢false (sym e ∙ k .past-checks));
+        follows = λ e. k .follows;
       }
 
 pub reply-leaves : (st : State) (a rows : List Float) → Replied st a (replyOf st a rows)

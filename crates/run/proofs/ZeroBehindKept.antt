@@ -47,7 +47,7 @@ use Rattle.run.specs.Radius.{reachOf}
 use Rattle.run.specs.Filter.{filterWith}
 use Rattle.run.specs.Corrected.{correct, landTrial, keep, landCorrection}
 use Rattle.run.specs.Answered.{started, answered, answeredNone}
-use Rattle.run.specs.Calls.{refusedByCheck}
+use Rattle.run.specs.Calls.{refusedByCheck, Follows}
 use Rattle.run.specs.declared.state.Kind.{Kind}
 use Rattle.run.specs.declared.state.Kind.the-variants as kind
 use Rattle.run.specs.declared.state.Rejection.{Rejection}
@@ -72,11 +72,12 @@ use Rattle.run.proofs.RefusalLaws as yields
 abbrev pub AtWork : State → Memory → Type 0
 AtWork st w = SlotsZeroBehind (allUsed (st .sizes) (st .counts .iterations)) w
 
--- what a run of these sizes is left as
-pub record Kept (z : Sizes) (o : AfterSlots) : Type 0 where
+-- what a run of these sizes, with the question of that number open, is left as
+pub record Kept (z : Sizes) (question : ℕ) (o : AfterSlots) : Type 0 where
   pub sizes-kept : o .state .sizes ≡ z
   pub tidy : SlotsZeroBehind (usedIn (o .state)) (o .memory)
   pub past-checks : refusedByCheck (o .event) ≡ false
+  pub follows : Follows question (o .state) (o .event)
 
 -- ---- how a call ends
 
@@ -96,20 +97,22 @@ only-standing used most w e t =
     }
 
 module _ (st : State) (w : Memory) (t : AtWork st w) where
-  finish-kept : (s : Stop) → Kept (st .sizes) (finish st w s)
+  finish-kept : (s : Stop) → Kept (st .sizes) (st .counts .question) (finish st w s)
   finish-kept s =
       record {
         sizes-kept = refl;
         tidy = only-standing (usedIn (finish st w s .state)) (allUsed (st .sizes) (st .counts .iterations)) w refl t;
         past-checks = refl;
+        follows = refl;
       }
 
-  refuse-kept : (k : ℕ) → T (eqb k 5 || eqb k 6) → Kept (st .sizes) (refuse st w k)
+  refuse-kept : (k : ℕ) → T (eqb k 5 || eqb k 6) → Kept (st .sizes) (st .counts .question) (refuse st w k)
   refuse-kept k h =
       record {
         sizes-kept = refl;
         tidy = only-standing (usedIn (refuse st w k .state)) (allUsed (st .sizes) (st .counts .iterations)) w refl t;
         past-checks = lt-leb k 4 (above (eqb k 5) (eqb k 6) refl refl h);
+        follows = (h, refl);
       }
     where
       above : (a b : Bool) → eqb k 5 ≡ a → eqb k 6 ≡ b → T (a || b) → 4 < k
@@ -119,13 +122,14 @@ module _ (st : State) (w : Memory) (t : AtWork st w) where
 
   -- what may be refused, and what follows it
   or-refuse-kept : {A : Type 0} {P : A → Type 0} (x : Res A) (next : A → AfterSlots) → Yields P x
-      → ((a : A) → P a → Kept (st .sizes) (next a)) → Kept (st .sizes) (orRefuse st w x next)
+      → ((a : A) → P a → Kept (st .sizes) (st .counts .question) (next a)) → Kept (st .sizes) (st .counts .question) (orRefuse st w x next)
   or-refuse-kept (ok a) next (gives p) h = h a p
   or-refuse-kept (refused k) next (yields.refuses p) h = refuse-kept k p
 
-either-kept : (z : Sizes) (b : Bool) (o o′ : AfterSlots) → Kept z o → Kept z o′ → Kept z (pick b o o′)
-either-kept z true o o′ h k = h
-either-kept z false o o′ h k = k
+either-kept : (z : Sizes) (question : ℕ) (b : Bool) (o o′ : AfterSlots) → Kept z question o → Kept z question o′
+    → Kept z question (pick b o o′)
+either-kept z question true o o′ h k = h
+either-kept z question false o o′ h k = k
 
 -- ---- the search
 
@@ -164,7 +168,7 @@ search-tidy (suc t) S max x =
     (proposalOf S (x .mu) (x .radius)) (proposal-tidy S (x .mu) (x .radius))
 
 left-kept : (st : State) (w : Memory) → AtWork st w → (f : Found) → FoundTidy (st .sizes .n) (st .sizes .m) f
-    → Kept (st .sizes) (leftAt st w f)
+    → Kept (st .sizes) (st .counts .question) (leftAt st w f)
 unfolding leftAt
 left-kept st w t (asks x y) h =
     record {
@@ -181,11 +185,12 @@ left-kept st w t (asks x y) h =
         filter = t .filter;
       };
       past-checks = refl;
+      follows = (refl, refl);
     }
 left-kept st w t (stops x s) h = finish-kept (searching st x) w t s
 left-kept st w t (refuses x k) h = refuse-kept (searching st x) w t k h
 
-search-kept : (st : State) (w : Memory) → AtWork st w → Kept (st .sizes) (search st w)
+search-kept : (st : State) (w : Memory) → AtWork st w → Kept (st .sizes) (st .counts .question) (search st w)
 unfolding search searchOf
 search-kept st w t =
     or-refuse-kept st w t (violationOf (standingAt st w .constraints)) _
@@ -194,22 +199,22 @@ search-kept st w t =
     left-kept st w t (searchOf (standingOf st w theta) (st .«max_step») (st .search))
     (search-tidy DAMPINGS (standingOf st w theta) (st .«max_step») (st .search)))
 
-iterate-kept : (st : State) (w : Memory) → AtWork st w → Kept (st .sizes) (iterate st w)
+iterate-kept : (st : State) (w : Memory) → AtWork st w → Kept (st .sizes) (st .counts .question) (iterate st w)
 unfolding iterate
 iterate-kept st w t =
-    either-kept (st .sizes) (leb (st .sizes .limit) (st .counts .iterations)) _ _ (finish-kept st w t stop.Budget)
+    either-kept (st .sizes) (st .counts .question) (leb (st .sizes .limit) (st .counts .iterations)) _ _ (finish-kept st w t stop.Budget)
     (search-kept st w t)
 
 -- ---- a step turned down
 
-grow-kept : (st : State) (w : Memory) → AtWork st w → Kept (st .sizes) (grow st w)
+grow-kept : (st : State) (w : Memory) → AtWork st w → Kept (st .sizes) (st .counts .question) (grow st w)
 unfolding grow
 grow-kept st w t =
     let x = grown (st .search) in
-    either-kept (st .sizes) (isFinite (x .mu)) _ _ (search-kept (searching st x) w t)
+    either-kept (st .sizes) (st .counts .question) (isFinite (x .mu)) _ _ (search-kept (searching st x) w t)
     (finish-kept (searching st x) w t (stop.Damped (st .search .rejected)))
 
-turn-down-kept : (st : State) (w : Memory) → AtWork st w → (r : Rejection) → Kept (st .sizes) (turnDown st w r)
+turn-down-kept : (st : State) (w : Memory) → AtWork st w → (r : Rejection) → Kept (st .sizes) (st .counts .question) (turnDown st w r)
 unfolding turnDown
 turn-down-kept st w t r =
     let x = rejectedFor (st .search) r in
@@ -217,10 +222,10 @@ turn-down-kept st w t r =
     (div-yields (st .trial .tried) (degenerate four64))
     (λ q u. grow-kept (searching st (withRadius x (sharpen q))) w t)
 
-not-lower-kept : (st : State) (w : Memory) → AtWork st w → Kept (st .sizes) (notLower st w)
+not-lower-kept : (st : State) (w : Memory) → AtWork st w → Kept (st .sizes) (st .counts .question) (notLower st w)
 unfolding notLower
 not-lower-kept st w t =
-    either-kept (st .sizes) (not (st .search .plain) && learnedOf (st .sizes .n) (w .curvature)) _ _
+    either-kept (st .sizes) (st .counts .question) (not (st .search .plain) && learnedOf (st .sizes .n) (w .curvature)) _ _
     (search-kept (searching st (retried (rejectedFor (st .search) why.NotLower))) w t)
     (turn-down-kept st w t why.NotLower)
 
@@ -268,7 +273,7 @@ module _ (st : State) (w : Memory) (t : AtWork st w) where
       (curvature-tidy CURVATURE-LEN (st .sizes .n) (curvatureOf st w) (w .step) (standingAt st w) (landedAt st w)
       (w .multipliers) curvature-used)
 
-  take-kept : (theta length : Scalar) → Kept (st .sizes) (run.take st w theta length)
+  take-kept : (theta length : Scalar) → Kept (st .sizes) (st .counts .question) (run.take st w theta length)
   unfolding run.take
   take-kept theta length =
       or-refuse-kept st w t (linearOf st w theta) _ (linear-yields st w theta)
@@ -289,15 +294,15 @@ module _ (st : State) (w : Memory) (t : AtWork st w) where
 
   -- ---- the judgement
 
-  decide-kept : (theta : Scalar) (j : Judged) → Kept (st .sizes) (decide st w theta j)
+  decide-kept : (theta : Scalar) (j : Judged) → Kept (st .sizes) (st .counts .question) (decide st w theta j)
   unfolding decide
   decide-kept theta j =
-      either-kept (st .sizes) (st .search .first && j .undecided && wasTaken (st .last) && not (j .contracting)) _ _
+      either-kept (st .sizes) (st .counts .question) (st .search .first && j .undecided && wasTaken (st .last) && not (j .contracting)) _ _
       (finish-kept st w t stop.Undecided)
-      (either-kept (st .sizes) (j .lower || (st .search .first && j .undecided && j .contracting)) _ _
+      (either-kept (st .sizes) (st .counts .question) (j .lower || (st .search .first && j .undecided && j .contracting)) _ _
       (take-kept theta (j .length)) (not-lower-kept st w t))
 
-  judge-kept : (theta : Scalar) → Kept (st .sizes) (judge st w theta)
+  judge-kept : (theta : Scalar) → Kept (st .sizes) (st .counts .question) (judge st w theta)
   unfolding judge
   judge-kept theta =
       or-refuse-kept st w t
@@ -309,7 +314,7 @@ module _ (st : State) (w : Memory) (t : AtWork st w) where
 
   -- ---- corrections
 
-  correct-kept : (theta : Scalar) → Kept (st .sizes) (correct st w theta)
+  correct-kept : (theta : Scalar) → Kept (st .sizes) (st .counts .question) (correct st w theta)
   unfolding correct
   correct-kept theta =
       or-refuse-kept st w t (shiftFrom (st .moving) (landedAt st w .constraints) (w .landed)) _
@@ -330,6 +335,7 @@ module _ (st : State) (w : Memory) (t : AtWork st w) where
                 filter = t .filter;
               };
               past-checks = refl;
+              follows = (refl, refl);
             }
         | stay ↦ λ u. judge-kept theta
       ])
@@ -361,7 +367,7 @@ module _ (st : State) (w : Memory) (t : AtWork st w) (rows : List Float) (r : An
         filter = t .filter;
       }
 
-  land-trial-kept : (theta : Scalar) → Kept (st .sizes) (landTrial st w rows theta)
+  land-trial-kept : (theta : Scalar) → Kept (st .sizes) (st .counts .question) (landTrial st w rows theta)
   unfolding landTrial
   land-trial-kept theta =
       let s = landing st 0 in
@@ -369,9 +375,9 @@ module _ (st : State) (w : Memory) (t : AtWork st w) (rows : List Float) (r : An
       let u = landed-working 0 (w .step) (t .step) in
       or-refuse-kept s v u (violationOf (landedAt s v .constraints)) _ (violation-yields (landedAt s v .constraints))
       (λ new p.
-      either-kept (st .sizes) (definitelyGreater new theta) _ _ (correct-kept s v u theta) (judge-kept s v u theta))
+      either-kept (st .sizes) (st .counts .question) (definitelyGreater new theta) _ _ (correct-kept s v u theta) (judge-kept s v u theta))
 
-  keep-kept : (theta : Scalar) → Kept (st .sizes) (keep st w rows theta)
+  keep-kept : (theta : Scalar) → Kept (st .sizes) (st .counts .question) (keep st w rows theta)
   unfolding keep shiftedStep
   keep-kept theta =
       or-refuse-kept st w t (shiftOf (st .moving) (landedAt st w .constraints)) _
@@ -381,17 +387,17 @@ module _ (st : State) (w : Memory) (t : AtWork st w) (rows : List Float) (r : An
       let v = withLanded w rows (shiftedStep (st .sizes .n) (w .step) d) in
       let u = landed-working (st .counts .corrections + 1) (shiftedStep (st .sizes .n) (w .step) d)
       (tidy-fill (t .step) 0 _ (st .sizes .n) (omega arith)) in
-      either-kept (st .sizes) (leb CORRECTIONS (st .counts .corrections + 1)) _ _ (judge-kept s v u theta)
+      either-kept (st .sizes) (st .counts .question) (leb CORRECTIONS (st .counts .corrections + 1)) _ _ (judge-kept s v u theta)
       (correct-kept s v u theta))
 
-  land-correction-kept : (theta : Scalar) → Kept (st .sizes) (landCorrection st w rows theta)
+  land-correction-kept : (theta : Scalar) → Kept (st .sizes) (st .counts .question) (landCorrection st w rows theta)
   unfolding landCorrection
   land-correction-kept theta =
       or-refuse-kept st w t (violationOf (rowsAt st rows .constraints)) _
       (violation-yields (rowsAt st rows .constraints))
       (λ new p.
       or-refuse-kept st w t (violationOf (landedAt st w .constraints)) _ (violation-yields (landedAt st w .constraints))
-      (λ old q. either-kept (st .sizes) (definitelyLess new old) _ _ (keep-kept theta) (judge-kept st w t theta)))
+      (λ old q. either-kept (st .sizes) (st .counts .question) (definitelyLess new old) _ _ (keep-kept theta) (judge-kept st w t theta)))
 
   -- ---- an accepted answer
 
@@ -409,13 +415,13 @@ module _ (st : State) (w : Memory) (t : AtWork st w) (rows : List Float) (r : An
         filter = tidy-zeros FILTER-LEN _;
       }
 
-  start-kept : Kept (st .sizes) (started st w rows)
+  start-kept : Kept (st .sizes) (st .counts .question) (started st w rows)
   unfolding started
   start-kept =
       iterate-kept (moves st (movingOf (st .sizes .n) (rowsAt st rows))) (withStart w rows)
       start-working
 
-  pub answered-kept : (k : Kind) → Kept (st .sizes) (answered k st w rows)
+  pub answered-kept : (k : Kind) → Kept (st .sizes) (st .counts .question) (answered k st w rows)
   answered-kept kind.Start = start-kept
   answered-kept kind.Trial =
       or-refuse-kept st w t (violationOf (standingAt st w .constraints)) _
@@ -424,7 +430,7 @@ module _ (st : State) (w : Memory) (t : AtWork st w) (rows : List Float) (r : An
       or-refuse-kept st w t (violationOf (standingAt st w .constraints)) _
       (violation-yields (standingAt st w .constraints)) (λ theta p. land-correction-kept theta)
 
-pub answered-none-kept : (st : State) (w : Memory) → AtWork st w → (k : Kind) → Kept (st .sizes) (answeredNone k st w)
+pub answered-none-kept : (st : State) (w : Memory) → AtWork st w → (k : Kind) → Kept (st .sizes) (st .counts .question) (answeredNone k st w)
 answered-none-kept st w t kind.Start = finish-kept st w t stop.Infeasible
 answered-none-kept st w t kind.Trial = turn-down-kept st w t why.Infeasible
 answered-none-kept st w t kind.Correction =

@@ -9,3 +9,4 @@ pub mod Decide
 pub mod Corrected
 pub mod Answered
 pub mod Demand
+pub mod Questions

@@ -1,9 +1,9 @@
 -- The calls of a run, whole: begin, reply with rows, reply none, and point. The checks go in the order of document 01's table.
 use Prim.Native.Nat.{ℕ, _*_, _+_}
-use mathlib.Core.Bool.{Bool, false, true, _&&_}
+use mathlib.Core.Bool.{Bool, false, true, _&&_, _||_}
 use mathlib.Core.List.{List, []}
 use mathlib.Core.Path.{_≡_}
-use lib.Dec.{leb, eqb}
+use lib.Dec.{T, leb, eqb}
 use lib.Ieee.{Float}
 use lib.ListN.{length, take, drop}
 use Rattle.interval.specs.Scalar.{pick}
@@ -48,6 +48,13 @@ abbrev pub refusedByCheck : Event → Bool
 refusedByCheck (event.Question k t s) = false
 refusedByCheck (event.Finish s i t n) = false
 refusedByCheck (event.Refused k) = leb k 4
+
+-- An accepted reply to the question of that number asks the next one, or the run is over: it finishes, or is refused by
+-- 5 or 6.
+abbrev pub Follows : ℕ → State → Event → Type 0
+Follows question st (event.Question k t s) = (k ≡ question + 1) × (st .counts .question ≡ k)
+Follows question st (event.Finish s i t n) = st .phase ≡ Over
+Follows question st (event.Refused k) = T (eqb k 5 || eqb k 6) × (st .phase ≡ Over)
 
 -- a check of the number k, and what follows
 abbrev pub checks : Bool → ℕ → (ℕ → AfterCall) → AfterCall → AfterCall

@@ -9,7 +9,7 @@ use lib.ListN.{length, getD}
 use Rattle.interval.specs.Scalar.{zero64}
 use Rattle.interval.specs.declared.Scalar.{Scalar}
 use Rattle.run.specs.Area.{SPARE-LEN, SIZES, usedIn, startOf}
-use Rattle.run.specs.Calls.{AfterCall, refusedByCheck, Accepted, beginOf, replyOf, replyNoneOf}
+use Rattle.run.specs.Calls.{AfterCall, refusedByCheck, Follows, Accepted, beginOf, replyOf, replyNoneOf}
 use Rattle.run.specs.Limits.{AREA}
 use Rattle.run.specs.declared.state.Sizes.{Sizes}
 use Rattle.run.specs.declared.state.State.{State}
@@ -27,6 +27,7 @@ pub record Replied (st : State) (a : List Float) (l : AfterCall) : Type 0 where
   pub sizes-kept : l .state .sizes ≡ st .sizes
   pub cleared : refusedByCheck (l .event) ≡ false → Cleared (l .state) (l .area)
   pub unchanged : refusedByCheck (l .event) ≡ true → (l .state ≡ st) × (l .area ≡ a)
+  pub follows : refusedByCheck (l .event) ≡ false → Follows (st .counts .question) (l .state) (l .event)
 
 -- demand 1 of the memory (document 01): what every call leaves, on all contents
 pub record Demand1 : Type 0 where

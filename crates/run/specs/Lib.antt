@@ -27,4 +27,5 @@ pub mod Pieces
 pub mod Calls
 pub mod Cleared
 pub mod Demand
+pub mod Questions
 pub mod program

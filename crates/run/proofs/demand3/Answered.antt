@@ -12,7 +12,8 @@ use lib.Ieee.{Float}
 use lib.ListN.{length, take, length-replicate}
 use Rattle.interval.specs.Scalar.{zero64}
 use Rattle.run.specs.Residuals.{violationOf, movingOf}
-use Rattle.run.specs.Area.{POINT-LEN, ROWS-LEN, CURVATURE-LEN, FILTER-LEN, Memory, memoryOf, withLanded, withStart}
+use Rattle.run.specs.Area.{POINT-LEN, ROWS-LEN, CURVATURE-LEN, FILTER-LEN, Memory, memoryOf, withLanded}
+use Rattle.run.specs.Area.{withStart}
 use Rattle.run.specs.Limits.{AREA}
 use Rattle.run.specs.Endings.{AfterSlots}
 use Rattle.run.specs.Area.{rowsAt, standingAt}
@@ -335,7 +336,8 @@ module _ (law : ExactLaws) (h : History) (r : Run) (sound : Sound (r .state))
       (C .landed-slot) in
       let L : Landing S (r .state) own (2 + n) =
       stayed-landing S (2 + n) k sound T refl agree (omega arith) long point refl slot (C .landed-point) in
-      let land : (step : List Float) → length step ≡ POINT-LEN → Landing S (landing (r .state) (n + 1)) (withLanded own xs step) (1 + (n + 1)) = λ step size.
+      let land : (step : List Float) → length step ≡ POINT-LEN
+      → Landing S (landing (r .state) (n + 1)) (withLanded own xs step) (1 + (n + 1)) = λ step size.
       subst (Landing S (landing (r .state) (n + 1)) (withLanded own xs step)) two
       (landed-landing S (2 + n) k sound T refl agree (omega arith) long point (n + 1) (omega arith) xs passed
       (asked-rows h xs q (sym asked)) step size) in

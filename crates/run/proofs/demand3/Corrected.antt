@@ -1,4 +1,5 @@
--- An accepted answer, from the question that it answers to the next one or the finish: where its point lands, and what corrections follow.
+-- An accepted answer, from the question that it answers to the next one or the finish: where its point lands, and what
+-- corrections follow.
 use Prim.Native.Nat.{ℕ, _+_, _≤_, _<_, zero-le}
 use mathlib.Core.Path.{_≡_, sym, _∙_, subst}
 use mathlib.Core.List.{List, _∷_}
@@ -60,13 +61,20 @@ asked-consistent S z k last mu w next e v =
       few-corrections = v .few-corrections;
     }
 
-below-landed : (S : CallContext) (st : State) (w : Memory) (since : ℕ) (L : Landing S st w since) (e : ℕ) → In e (st .counts .standing ∷ L .consistent .before) → e < st .counts .landed
-below-landed S st w since L e i = L .newer e (subst (In e) (sym (S .stood-is)) (subst (λ (s : ℕ). In e (s ∷ S .before)) (L .still) (subst (λ (b : List ℕ). In e (st .counts .standing ∷ b)) (L .still-before) i)))
+below-landed : (S : CallContext) (st : State) (w : Memory) (since : ℕ) (L : Landing S st w since) (e : ℕ)
+    → In e (st .counts .standing ∷ L .consistent .before) → e < st .counts .landed
+below-landed S st w since L e i =
+    L .newer e (subst (In e) (sym (S .stood-is))
+    (subst (λ (s : ℕ). In e (s ∷ S .before)) (L .still)
+    (subst (λ (b : List ℕ). In e (st .counts .standing ∷ b)) (L .still-before) i)))
 
-pub correct-after : (law : ExactLaws) (S : CallContext) (st : State) (w : Memory) → Landing S st w (1 + st .counts .corrections) → st .counts .corrections ≤ 3 → (theta : Scalar) → violationOf (standingAt st w .constraints) ≡ ok theta → After S (st .sizes) (correct st w theta)
+pub correct-after : (law : ExactLaws) (S : CallContext) (st : State) (w : Memory)
+    → Landing S st w (1 + st .counts .corrections) → st .counts .corrections ≤ 3 → (theta : Scalar)
+    → violationOf (standingAt st w .constraints) ≡ ok theta → After S (st .sizes) (correct st w theta)
 unfolding correct
 correct-after law S st w L few theta theta-is =
-    or-refuse-after S (st .sizes) st w (shiftFrom (st .moving) (landedAt st w .constraints) (w .landed)) _ (shifted-yields (st .moving) (landedAt st w .constraints) (w .landed))
+    or-refuse-after S (st .sizes) st w (shiftFrom (st .moving) (landedAt st w .constraints) (w .landed)) _
+    (shifted-yields (st .moving) (landedAt st w .constraints) (w .landed))
     (λ s. elim s [
       | to next ↦ λ e size.
           correction-after S st (withAsked w next) (S .history .mu)
@@ -78,34 +86,53 @@ correct-after law S st w L few theta theta-is =
 
 -- ---- where a point lands
 
-pub land-trial-after : (law : ExactLaws) (S : CallContext) (st : State) (w : Memory) (rows : List Float) → Landing S (landing st 0) (withLanded w rows (w .step)) 1 → (theta : Scalar) → violationOf (standingAt st w .constraints) ≡ ok theta → After S (st .sizes) (landTrial st w rows theta)
+pub land-trial-after : (law : ExactLaws) (S : CallContext) (st : State) (w : Memory) (rows : List Float)
+    → Landing S (landing st 0) (withLanded w rows (w .step)) 1 → (theta : Scalar)
+    → violationOf (standingAt st w .constraints) ≡ ok theta → After S (st .sizes) (landTrial st w rows theta)
 unfolding landTrial
 land-trial-after law S st w rows L theta theta-is =
     let t = landing st 0 in
     let v = withLanded w rows (w .step) in
-    or-refuse-after S (st .sizes) t v (violationOf (landedAt t v .constraints)) _ (violation-yields (landedAt t v .constraints))
-    (λ new e u. either-after S (st .sizes) (definitelyGreater new theta) (correct t v theta) (judge t v theta) (λ h. correct-after law S t v L zero-le theta theta-is) (λ h. judge-after law S t v 1 L (omega arith) theta theta-is))
+    or-refuse-after S (st .sizes) t v (violationOf (landedAt t v .constraints)) _
+    (violation-yields (landedAt t v .constraints))
+    (λ new e u. either-after S (st .sizes) (definitelyGreater new theta) (correct t v theta) (judge t v theta)
+    (λ h. correct-after law S t v L zero-le theta theta-is)
+    (λ h. judge-after law S t v 1 L (omega arith) theta theta-is))
 
-keep-after : (law : ExactLaws) (S : CallContext) (st : State) (w : Memory) (rows : List Float) → length (w .step) ≡ POINT-LEN → ((step : List Float) → length step ≡ POINT-LEN → Landing S (landing st (st .counts .corrections + 1)) (withLanded w rows step) (1 + (st .counts .corrections + 1))) → st .counts .corrections ≤ 3
-    → (theta : Scalar) → violationOf (standingAt st w .constraints) ≡ ok theta → After S (st .sizes) (keep st w rows theta)
+keep-after : (law : ExactLaws) (S : CallContext) (st : State) (w : Memory) (rows : List Float)
+    → length (w .step) ≡ POINT-LEN
+    → ((step : List Float) → length step ≡ POINT-LEN
+    → Landing S (landing st (st .counts .corrections + 1)) (withLanded w rows step) (1 + (st .counts .corrections + 1)))
+    → st .counts .corrections ≤ 3
+    → (theta : Scalar) → violationOf (standingAt st w .constraints) ≡ ok theta
+    → After S (st .sizes) (keep st w rows theta)
 unfolding keep shiftedStep
 keep-after law S st w rows size land few theta theta-is =
-    or-refuse-after S (st .sizes) st w (shiftOf (st .moving) (landedAt st w .constraints)) _ (shift-yields (st .moving) (landedAt st w .constraints))
+    or-refuse-after S (st .sizes) st w (shiftOf (st .moving) (landedAt st w .constraints)) _
+    (shift-yields (st .moving) (landedAt st w .constraints))
     (λ d e u.
     let t = landing st (st .counts .corrections + 1) in
     let v = withLanded w rows (shiftedStep (st .sizes .n) (w .step) d) in
     let L = land (shiftedStep (st .sizes .n) (w .step) d) (length-fillTo (w .step) 0 _ (st .sizes .n) ∙ size) in
     either-after S (st .sizes) (leb CORRECTIONS (st .counts .corrections + 1)) (judge t v theta) (correct t v theta)
     (λ h. judge-after law S t v (1 + (st .counts .corrections + 1)) L (omega arith) theta theta-is)
-    (λ h. let l = leb-false CORRECTIONS (st .counts .corrections + 1) h in correct-after law S t v L (omega arith) theta theta-is))
+    (λ h. let l = leb-false CORRECTIONS (st .counts .corrections + 1) h in
+    correct-after law S t v L (omega arith) theta theta-is))
 
-pub land-correction-after : (law : ExactLaws) (S : CallContext) (st : State) (w : Memory) (rows : List Float) → Landing S st w (2 + st .counts .corrections) → ((step : List Float) → length step ≡ POINT-LEN → Landing S (landing st (st .counts .corrections + 1)) (withLanded w rows step) (1 + (st .counts .corrections + 1))) → st .counts .corrections ≤ 3
-    → (theta : Scalar) → violationOf (standingAt st w .constraints) ≡ ok theta → After S (st .sizes) (landCorrection st w rows theta)
+pub land-correction-after : (law : ExactLaws) (S : CallContext) (st : State) (w : Memory) (rows : List Float)
+    → Landing S st w (2 + st .counts .corrections)
+    → ((step : List Float) → length step ≡ POINT-LEN
+    → Landing S (landing st (st .counts .corrections + 1)) (withLanded w rows step) (1 + (st .counts .corrections + 1)))
+    → st .counts .corrections ≤ 3
+    → (theta : Scalar) → violationOf (standingAt st w .constraints) ≡ ok theta
+    → After S (st .sizes) (landCorrection st w rows theta)
 unfolding landCorrection
 land-correction-after law S st w rows L land few theta theta-is =
-    or-refuse-after S (st .sizes) st w (violationOf (rowsAt st rows .constraints)) _ (violation-yields (rowsAt st rows .constraints))
+    or-refuse-after S (st .sizes) st w (violationOf (rowsAt st rows .constraints)) _
+    (violation-yields (rowsAt st rows .constraints))
     (λ new e u.
-    or-refuse-after S (st .sizes) st w (violationOf (landedAt st w .constraints)) _ (violation-yields (landedAt st w .constraints))
+    or-refuse-after S (st .sizes) st w (violationOf (landedAt st w .constraints)) _
+    (violation-yields (landedAt st w .constraints))
     (λ old d v.
     either-after S (st .sizes) (definitelyLess new old) (keep st w rows theta) (judge st w theta)
     (λ h. keep-after law S st w rows (L .consistent .sized .step-size) land few theta theta-is)

@@ -1,4 +1,5 @@
--- A landed point: taken, it stands with its rows and the filter gains the pair of the point it replaced; not taken, what stood still stands.
+-- A landed point: taken, it stands with its rows and the filter gains the pair of the point it replaced; not taken,
+-- what stood still stands.
 use Prim.Native.Nat.{ℕ, _+_, _*_, _≤_, _<_}
 use mathlib.Core.Bool.{Bool, true, false, not, _&&_, _||_}
 use mathlib.Core.Logic.{inl, inr, ⊎-elim, _≢_}
@@ -122,19 +123,27 @@ pairs-answered z rows filter (d ∷ es) p e (inr i) = pairs-answered z rows filt
 module _ (filter : List Float) (count : ℕ) (f theta : Scalar) (room : 4 * count + 3 < length filter) where
   filter-kept : (i : ℕ) → i < 2 * count → at (filterWith filter count f theta) i ≡ at filter i
   unfolding filterWith
-  filter-kept i h = at-put-other (put filter (2 * count) f) (2 * count + 1) i theta (λ e. omega arith) ∙ at-put-other filter (2 * count) i f (λ e. omega arith)
+  filter-kept i h =
+      at-put-other (put filter (2 * count) f) (2 * count + 1) i theta (λ e. omega arith)
+      ∙ at-put-other filter (2 * count) i f (λ e. omega arith)
 
   filter-sum : at (filterWith filter count f theta) (2 * count) ≡ f
   unfolding filterWith
-  filter-sum = at-put-other (put filter (2 * count) f) (2 * count + 1) (2 * count) theta (λ e. omega arith) ∙ at-put-same filter (2 * count) f (omega arith)
+  filter-sum =
+      at-put-other (put filter (2 * count) f) (2 * count + 1) (2 * count) theta (λ e. omega arith)
+      ∙ at-put-same filter (2 * count) f (omega arith)
 
   filter-violation : at (filterWith filter count f theta) (2 * count + 1) ≡ theta
   unfolding filterWith
-  filter-violation = at-put-same (put filter (2 * count) f) (2 * count + 1) theta (omega (arith, length-put filter (2 * count) f))
+  filter-violation =
+      at-put-same (put filter (2 * count) f) (2 * count + 1) theta (omega (arith, length-put filter (2 * count) f))
 
-module _ (S : CallContext) (st : State) (w : Memory) (since : ℕ) (L : Landing S st w since) (theta : Scalar) (theta-is : violationOf (standingAt st w .constraints) ≡ ok theta) where
+module _ (S : CallContext) (st : State) (w : Memory) (since : ℕ) (L : Landing S st w since) (theta : Scalar)
+    (theta-is : violationOf (standingAt st w .constraints) ≡ ok theta) where
   room : 4 * st .counts .iterations + 3 < length (w .filter)
-  room = let s = size-bounds (st .sizes) (L .consistent .sizes-fit) in let b = L .below-limit in omega (arith, L .consistent .sized .filter-size)
+  room =
+      let s = size-bounds (st .sizes) (L .consistent .sizes-fit) in let b = L .below-limit in
+      omega (arith, L .consistent .sized .filter-size)
 
   filter′ : List Float
   filter′ = filterWith (w .filter) (st .counts .iterations) (sumSquared (standingAt st w .sum)) theta
@@ -157,7 +166,8 @@ module _ (S : CallContext) (st : State) (w : Memory) (since : ℕ) (L : Landing 
               ∙ theta-is
               ∙ ap ok (sym (rw many (filter-violation (w .filter) it f theta room)));
         },
-        pairs-filter z (S .rows) (w .filter) (filterWith (w .filter) it f theta) (L .consistent .before) (λ i h. filter-kept (w .filter) it f theta room i (omega arith)) (L .consistent .stands .pairs),
+        pairs-filter z (S .rows) (w .filter) (filterWith (w .filter) it f theta) (L .consistent .before)
+            (λ i h. filter-kept (w .filter) it f theta room i (omega arith)) (L .consistent .stands .pairs),
       )
 
   taken-new : st .counts .landed ≢ S .history .standing
@@ -167,7 +177,8 @@ module _ (S : CallContext) (st : State) (w : Memory) (since : ℕ) (L : Landing 
       let h = L .newer k (subst (In k) (sym (S .stood-is)) (inl refl)) in
       omega arith
 
-  taken-below : (e : ℕ) → In e (st .counts .landed ∷ (st .counts .standing ∷ L .consistent .before)) → e ≤ st .counts .question
+  taken-below : (e : ℕ) → In e (st .counts .landed ∷ (st .counts .standing ∷ L .consistent .before))
+      → e ≤ st .counts .question
   unfolding In
   taken-below e (inl q) = let h = L .landed-asked in omega arith
   taken-below e (inr i) = L .consistent .below e i
@@ -249,7 +260,8 @@ module _ (S : CallContext) (st : State) (w : Memory) (since : ℕ) (L : Landing 
       next-mu-is mu third is-third ∙ ap nextMu (sym (L .mu-same)) in
       or-refuse-after S z st w
       (updateCurvature (z .n) (curvatureOf st w) (w .step) (standingAt st w) (landedAt st w) (w .multipliers)) _
-      (curvature-yields CURVATURE-LEN (z .n) (curvatureOf st w) (w .step) (standingAt st w) (landedAt st w) (w .multipliers)
+      (curvature-yields CURVATURE-LEN (z .n) (curvatureOf st w) (w .step) (standingAt st w) (landedAt st w)
+      (w .multipliers)
       curvature-long)
       (λ b u size.
       iterate-after S (standingOn st length (shrunk mu third) radius) (withTaken w b filter′) (shrunk mu third)
@@ -264,7 +276,9 @@ module _ (S : CallContext) (st : State) (w : Memory) (since : ℕ) (L : Landing 
 
 -- ---- the judgement
 
-module _ (law : ExactLaws) (S : CallContext) (st : State) (w : Memory) (since : ℕ) (L : Landing S st w since) (theta new : Scalar) (theta-is : violationOf (standingAt st w .constraints) ≡ ok theta) (new-is : violationOf (landedAt st w .constraints) ≡ ok new) (length : Scalar) where
+module _ (law : ExactLaws) (S : CallContext) (st : State) (w : Memory) (since : ℕ) (L : Landing S st w since)
+    (theta new : Scalar) (theta-is : violationOf (standingAt st w .constraints) ≡ ok theta)
+    (new-is : violationOf (landedAt st w .constraints) ≡ ok new) (length : Scalar) where
   z : Sizes
   z = st .sizes
 

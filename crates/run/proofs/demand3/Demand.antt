@@ -218,18 +218,20 @@ module _ (law : ExactLaws) (h : History) (r : Run) (v : Inv (r .state .sizes) h 
 
 -- ---- all calls
 
-call-step :
+pub call-step :
     (law : ExactLaws) (z : Sizes) (h : History) (r : Run) (c : Call) →
     Inv z h r →
     Allowed z c →
     isArithmetic (callResult r c .event) ≡ false →
-    Inv z (entered h r c (callResult r c)) (callResult r c .run) × Claim z h (entered h r c (callResult r c)) r (callResult r c)
+    Inv z (entered h r c (callResult r c)) (callResult r c .run)
+    × Claim z h (entered h r c (callResult r c)) r (callResult r c)
 call-step law z h r c v x q =
     let own : Inv (r .state .sizes) h r = subst (λ (y : Sizes). Inv y h r) (sym (v .sizes-are)) v in
     let allowed : Allowed (r .state .sizes) c = subst (λ (y : Sizes). Allowed y c) (sym (v .sizes-are)) x in
     subst
     (λ (y : Sizes).
-    Inv y (entered h r c (callResult r c)) (callResult r c .run) × Claim y h (entered h r c (callResult r c)) r (callResult r c))
+    Inv y (entered h r c (callResult r c)) (callResult r c .run)
+    × Claim y h (entered h r c (callResult r c)) r (callResult r c))
     (v .sizes-are) (call-kept law h r own c allowed q)
 
 along : (law : ExactLaws) (z : Sizes) (cs : List Call) (h : History) (r : Run) → Inv z h r → Along z h r cs
@@ -308,7 +310,7 @@ module _ (z : Sizes) (start : List Float) (max : Scalar) (fit : sizesFit z ≡ t
         };
       }
 
-begin-holds :
+pub begin-holds :
     (z : Sizes) (start : List Float) (max : Scalar) (a : List Float) →
     let b = beginOf z start max a in
     b .event ≡ event.Question 0 kind.Start 0 → Inv z (begun (runOf b)) (runOf b)

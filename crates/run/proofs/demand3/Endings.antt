@@ -14,7 +14,8 @@ use Rattle.interval.specs.Result.{Res, ok, refused}
 use Rattle.interval.specs.declared.Scalar.{Scalar}
 use Rattle.interval.specs.Scalar.{zero64, pick}
 use Rattle.linear.specs.Flat.{at}
-use Rattle.run.specs.Area.{POINT-LEN, ROWS-LEN, CURVATURE-LEN, FILTER-LEN, ASKED-AT, Memory, memoryOf, areaOf, onlyStanding}
+use Rattle.run.specs.Area.{POINT-LEN, ROWS-LEN, CURVATURE-LEN, FILTER-LEN, ASKED-AT, Memory, memoryOf, areaOf}
+use Rattle.run.specs.Area.{onlyStanding}
 use Rattle.run.specs.Area.{isTried, isCorrected}
 use Rattle.run.specs.Limits.{AREA}
 use Rattle.run.specs.Endings.{AfterSlots, finish, refuse, question, orRefuse}
@@ -87,7 +88,13 @@ use Rattle.run.proofs.demand3.Invariant.{
 pub sound-valid : (st : State) → Sound st → valid st ≡ true
 unfolding valid
 sound-valid st s =
-    rw (s .sizes-fit, le-leb _ _ (s .within), le-leb _ _ (s .few-turned), le-leb _ _ (s .few-asked), le-leb _ _ (s .few-corrections)) (s .phase-fits)
+    rw (
+      s .sizes-fit,
+      le-leb _ _ (s .within),
+      le-leb _ _ (s .few-turned),
+      le-leb _ _ (s .few-asked),
+      le-leb _ _ (s .few-corrections),
+    ) (s .phase-fits)
 
 -- what holds between two calls
 pub inv-between : (z : Sizes) (h : History) (r : Run) → Inv z h r → Between z h r
@@ -129,15 +136,19 @@ pairs-rows z rows rows′ f (e ∷ es) h p = (
 
 -- ---- one more than the other
 
-pub either-after : (S : CallContext) (z : Sizes) (b : Bool) (o o′ : AfterSlots) → (b ≡ true → After S z o) → (b ≡ false → After S z o′) → After S z (pick b o o′)
+pub either-after : (S : CallContext) (z : Sizes) (b : Bool) (o o′ : AfterSlots) → (b ≡ true → After S z o)
+    → (b ≡ false → After S z o′) → After S z (pick b o o′)
 either-after S z true o o′ h k = h refl
 either-after S z false o o′ h k = k refl
 
-pub refuse-after : (S : CallContext) (z : Sizes) (st : State) (w : Memory) (k : ℕ) → T (eqb k 5 || eqb k 6) → After S z (refuse st w k)
+pub refuse-after : (S : CallContext) (z : Sizes) (st : State) (w : Memory) (k : ℕ) → T (eqb k 5 || eqb k 6)
+    → After S z (refuse st w k)
 refuse-after S z st w k h e = clash (eqb k 5 || eqb k 6) h e
 
 -- what may be refused, and what follows it
-pub or-refuse-after : (S : CallContext) (z : Sizes) (st : State) (w : Memory) {A : Type 0} {P : A → Type 0} (x : Res A) (next : A → AfterSlots) → Yields P x → ((a : A) → x ≡ ok a → P a → After S z (next a)) → After S z (orRefuse st w x next)
+pub or-refuse-after : (S : CallContext) (z : Sizes) (st : State) (w : Memory) {A : Type 0} {P : A → Type 0} (x : Res A)
+    (next : A → AfterSlots) → Yields P x → ((a : A) → x ≡ ok a → P a → After S z (next a))
+    → After S z (orRefuse st w x next)
 or-refuse-after S z st w (ok a) next (gives p) h = h a refl p
 or-refuse-after S z st w (refused k) next (refuses p) h = refuse-after S z st w k p
 
@@ -229,7 +240,8 @@ landed-back :
     take (2 * st .sizes .n) (memoryOf st (areaOf w) .landed) ≡ take (2 * st .sizes .n) (w .landed)
 unfolding memoryOf
 landed-back st w sized n2 u =
-    used-part (areaOf w) 24 POINT-LEN (2 * st .sizes .n) (isCorrected (st .phase)) u (omega (arith, n2, area-long w sized))
+    used-part (areaOf w) 24 POINT-LEN (2 * st .sizes .n) (isCorrected (st .phase)) u
+    (omega (arith, n2, area-long w sized))
     ∙ landed-part w sized (2 * st .sizes .n) n2
 
 -- ---- a finish
@@ -413,7 +425,8 @@ module _ (S : CallContext) (st : State) (w : Memory) (k : Kind) (corrections sin
         count-bounds = asked-bounds n l;
         below-limit = below-limit;
         stands =
-            subst (λ (rows : ℕ → AnsweredRows). Stands z rows (st .counts .standing) (v .before) (memoryOf st′ (areaOf w)))
+            subst (λ (rows : ℕ → AnsweredRows). Stands z rows (st .counts .standing) (v .before)
+            (memoryOf st′ (areaOf w)))
             (sym rows-are) (record { slot = slot; pairs = pairs });
         asked-point = asked-back (sound-valid st′ sound);
       }

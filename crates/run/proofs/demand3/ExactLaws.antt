@@ -1,4 +1,5 @@
--- The laws of exact sums of squares that demand 3 rests on: of finite rows, each of the four definite answers of a judgement makes one exact sum lower.
+-- The laws of exact sums of squares that demand 3 rests on: of finite rows, each of the four definite answers of a
+-- judgement makes one exact sum lower.
 use Prim.Native.Nat.{ℕ}
 use mathlib.Core.Path.{_≡_}
 use mathlib.Core.List.{List}
@@ -41,7 +42,11 @@ pub record Good (z : Sizes) (xs : List Float) : Type 0 where
   pub sum-finite : FiniteRows (sumOf (z .n) (z .m) (z .s) xs)
 
 pub record ExactLaws : Type 0 where
-  pub change-falls : (e e′ : Rows) → e .count ≡ e′ .count → FiniteRows e → FiniteRows e′ → T (rises (sumChange e e′)) → Falls e e′
-  pub sum-less : (e e′ : Rows) → FiniteRows e → FiniteRows e′ → T (definitelyLess (sumSquared e′) (sumSquared e)) → Falls e e′
-  pub violation-falls : (e e′ : Rows) → FiniteRows e → FiniteRows e′ → (v v′ : Scalar) → violationOf e ≡ ok v → violationOf e′ ≡ ok v′ → T (rises (subOf v v′)) → Falls e e′
-  pub violation-less : (e e′ : Rows) → FiniteRows e → FiniteRows e′ → (v v′ : Scalar) → violationOf e ≡ ok v → violationOf e′ ≡ ok v′ → T (definitelyLess v′ v) → Falls e e′
+  pub change-falls : (e e′ : Rows) → e .count ≡ e′ .count → FiniteRows e → FiniteRows e′ → T (rises (sumChange e e′))
+      → Falls e e′
+  pub sum-less : (e e′ : Rows) → FiniteRows e → FiniteRows e′ → T (definitelyLess (sumSquared e′) (sumSquared e))
+      → Falls e e′
+  pub violation-falls : (e e′ : Rows) → FiniteRows e → FiniteRows e′ → (v v′ : Scalar) → violationOf e ≡ ok v
+      → violationOf e′ ≡ ok v′ → T (rises (subOf v v′)) → Falls e e′
+  pub violation-less : (e e′ : Rows) → FiniteRows e → FiniteRows e′ → (v v′ : Scalar) → violationOf e ≡ ok v
+      → violationOf e′ ≡ ok v′ → T (definitelyLess v′ v) → Falls e e′

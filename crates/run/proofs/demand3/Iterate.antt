@@ -1,4 +1,5 @@
--- From an answer to the next question or the finish: the search, a new iteration, and a step turned down. Each keeps what stands, and the bounds of turn-downs and questions.
+-- From an answer to the next question or the finish: the search, a new iteration, and a step turned down. Each keeps
+-- what stands, and the bounds of turn-downs and questions.
 use Prim.Native.Nat.{ℕ, suc, _+_, _*_, _≤_, _<_}
 use mathlib.Core.Bool.{Bool, true, false, not, _&&_}
 use mathlib.Core.Path.{_≡_, refl, sym, ap}

@@ -1,4 +1,5 @@
--- What a judgement says of the exact sums: a lower point is lower than each that stood, and an undecided one is undecided of the rows as they were answered.
+-- What a judgement says of the exact sums: a lower point is lower than each that stood, and an undecided one is
+-- undecided of the rows as they were answered.
 use Prim.Native.Nat.{ℕ}
 use mathlib.Core.Bool.{Bool, true, _&&_, _||_}
 use mathlib.Core.Logic.{inl, inr, ⊎-elim}
@@ -26,7 +27,8 @@ pub of-rows :
     (P : List Float → List Float → Type 0) {x y : AnsweredRows} {xs ys : List Float} →
     x ≡ hasRows xs → y ≡ hasRows ys → P xs ys → BothWith P x y
 of-rows P {x} {y} {xs} {ys} e e′ p =
-    subst (λ (g : AnsweredRows). BothWith P g y) (sym e) (subst (λ (g : AnsweredRows). BothWith P (hasRows xs) g) (sym e′) p)
+    subst (λ (g : AnsweredRows). BothWith P g y) (sym e)
+    (subst (λ (g : AnsweredRows). BothWith P (hasRows xs) g) (sym e′) p)
 
 -- the sum's rows and the constraints' of an answer
 abbrev pub sums : Sizes → List Float → Rows
@@ -35,7 +37,8 @@ sums z xs = sumOf (z .n) (z .m) (z .s) xs
 abbrev pub constraints : Sizes → List Float → Rows
 constraints z xs = constraintsOf (z .n) (z .m) xs
 
-module _ (law : ExactLaws) (z : Sizes) (xs ys : List Float) (gx : Good z xs) (gy : Good z ys) (theta theta′ : Scalar) (e : violationOf (constraints z xs) ≡ ok theta) (e′ : violationOf (constraints z ys) ≡ ok theta′) where
+module _ (law : ExactLaws) (z : Sizes) (xs ys : List Float) (gx : Good z xs) (gy : Good z ys) (theta theta′ : Scalar)
+    (e : violationOf (constraints z xs) ≡ ok theta) (e′ : violationOf (constraints z ys) ≡ ok theta′) where
   -- the sum change or the fall of the violation is definite
   pub lower-definite :
       (rises (sumChange (sums z xs) (sums z ys)) || rises (subOf theta theta′)) ≡ true → LowerRows z xs ys
@@ -43,7 +46,8 @@ module _ (law : ExactLaws) (z : Sizes) (xs ys : List Float) (gx : Good z xs) (gy
       let a = rises (sumChange (sums z xs) (sums z ys)) in
       let b = rises (subOf theta theta′) in
       ⊎-elim (λ r. inl (law .change-falls (sums z xs) (sums z ys) refl (gx .sum-finite) (gy .sum-finite) (yes r)))
-      (λ r. inr (law .violation-falls (constraints z xs) (constraints z ys) (gx .constraints-finite) (gy .constraints-finite) theta theta′ e e′ (yes r)))
+      (λ r. inr (law .violation-falls (constraints z xs) (constraints z ys) (gx .constraints-finite)
+      (gy .constraints-finite) theta theta′ e e′ (yes r)))
       (or-either a b h)
 
   -- f or the violation is definitely less
@@ -54,7 +58,8 @@ module _ (law : ExactLaws) (z : Sizes) (xs ys : List Float) (gx : Good z xs) (gy
       let a = definitelyLess (sumSquared (sums z ys)) (sumSquared (sums z xs)) in
       let b = definitelyLess theta′ theta in
       ⊎-elim (λ r. inl (law .sum-less (sums z xs) (sums z ys) (gx .sum-finite) (gy .sum-finite) (yes r)))
-      (λ r. inr (law .violation-less (constraints z xs) (constraints z ys) (gx .constraints-finite) (gy .constraints-finite) theta theta′ e e′ (yes r)))
+      (λ r. inr (law .violation-less (constraints z xs) (constraints z ys) (gx .constraints-finite)
+      (gy .constraints-finite) theta theta′ e e′ (yes r)))
       (or-either a b h)
 
   pub undecided-rows :
@@ -63,10 +68,18 @@ module _ (law : ExactLaws) (z : Sizes) (xs ys : List Float) (gx : Good z xs) (gy
   undecided-rows h =
       let a = indefinite (sumChange (sums z xs) (sums z ys)) in
       let b = indefinite (subOf theta theta′) in
-      record { before = theta; after = theta′; before-is = e; after-is = e′; sum-undecided = yes (and-left a b h); violation-undecided = yes (and-right a b h) }
+      record {
+        before = theta;
+        after = theta′;
+        before-is = e;
+        after-is = e′;
+        sum-undecided = yes (and-left a b h);
+        violation-undecided = yes (and-right a b h);
+      }
 
 -- against the points that stood before, by their pairs
-module _ (law : ExactLaws) (z : Sizes) (rows : ℕ → AnsweredRows) (filter : List Float) (y : AnsweredRows) (r : FittingRows z y)
+module _ (law : ExactLaws) (z : Sizes) (rows : ℕ → AnsweredRows) (filter : List Float) (y : AnsweredRows)
+    (r : FittingRows z y)
     (theta′ : Scalar) (e′ : violationOf (constraints z (r .rows)) ≡ ok theta′) where
   beats : List ℕ → Bool
   beats es = beatsTo filter (sumSquared (sums z (r .rows))) theta′ (length es)

@@ -43,7 +43,8 @@ returns-2 c =
     let fits = sym (read .before .before .numbers-fit .ensures) ∙ not-false _ (read .before .if1 .left) in
     rw (c .returned-after .ensures)
     (ap (afterExportOver (a .run)) (made .reply .ensures)
-    ∙ ap (λ (st : State). afterExportOver (a .run) (replyOf st (now (a .area)) (now (a .rows)))) (read .state-at .ensures)
+    ∙ ap (λ (st : State). afterExportOver (a .run) (replyOf st (now (a .area)) (now (a .rows))))
+    (read .state-at .ensures)
     ∙ sym (called _ _ _ fits))
 
 pub yadzvego-reply-spec : {M : Type 1} → statement M
