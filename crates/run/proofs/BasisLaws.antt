@@ -12,7 +12,7 @@ use lib.Seq.{take-at}
 use Rattle.interval.specs.declared.Scalar.{Scalar}
 use Rattle.interval.specs.Result.{Res, ok, refused}
 use Rattle.interval.specs.Scalar.{zeroS, pick, negOf, divOf, sqrtOf, sharpen, definitelyGreater}
-use Rattle.interval.proofs.Results.{ok-inj}
+use Rattle.interval.proofs.Results.{ok-inj, refused-ok}
 use Rattle.linear.specs.Answers.{numberOf, resultOf, doneOf}
 use Rattle.linear.specs.Choose.{chooseOf, sharpOf}
 use Rattle.linear.specs.Dot.{dotTo, minusTo}
@@ -34,9 +34,9 @@ use Rattle.run.specs.Problem.{Problem}
 use Rattle.run.specs.Basis.{Basis, Taken, noRows, packed, coefficientsIn, outsideAt, partOut, partsOut}
 use Rattle.run.specs.Basis.{gramStep, gramRow, extended, withDependent, rowStep, basisOf, orderAt}
 use Rattle.run.specs.Basis.{coefficientAt, correctionOf, multiplierStep, multipliersOf}
-use Rattle.run.specs.program.Basis.{basisBy, takenBy, problemBy, rankedOf}
-use Rattle.run.specs.declared.basis.Rank.{Rank}
-use Rattle.run.specs.declared.basis.Rank.the-variants as rank
+use Rattle.run.specs.program.Basis.{basisBy, takenBy, problemBy, rankedOf, withoutGram}
+use Rattle.run.specs.declared.results.CountResult.{CountResult}
+use Rattle.run.specs.declared.results.CountResult.the-variants as count
 use Rattle.run.specs.Vectors.{vector, row, column, entry, fillTo, minusScaled, unitAt, combinedTo, spreadTo}
 use Rattle.run.proofs.Sublists.{at-behind, along-behind, along-take}
 use Rattle.run.proofs.VectorLaws.{at-take, fill-ext}
@@ -195,9 +195,15 @@ rank-few P (suc n) e =
     omega (arith, rank-few P n e₁, rank-more P s n e₂)
 
 -- of the whole basis
-pub rank-small : (P : Problem) {b : Basis} → basisOf P ≡ ok b → b .rank ≤ P .m
+rank-read : (n : ℕ) (x : Res Basis) {b : Basis}
+    → ((b′ : Basis) → x ≡ ok b′ → b′ .rank ≤ n) → ok b ≡ withoutGram x → b .rank ≤ n
+rank-read n (ok b′) {b} h e =
+    let r : b .rank ≡ b′ .rank = ap (λ (b : Basis). b .rank) (ok-inj e) in omega (arith, r, h b′ refl)
+rank-read n (refused e) h q = absurd (refused-ok (sym q))
+
+pub rank-bound : (P : Problem) {b : Basis} → ok b ≡ withoutGram (basisOf P) → b .rank ≤ P .m
 unfolding basisOf
-rank-small P e = rank-few P (P .m) e
+rank-bound P e = rank-read (P .m) (basisOf P) (λ _ h. rank-few P (P .m) h) e
 
 -- ---- what is read of a problem and of a basis
 
@@ -210,20 +216,21 @@ unfolding basisOf rowStep coefficientsIn extended
 basis-reads P = refl
 
 -- one row more, or its refusal, from what the call gives
-module _ (P : Problem) (b : Basis) (i : ℕ) (q gram c w : List Float) (o : List ℕ) (x : Rank)
+module _ (P : Problem) (b : Basis) (i : ℕ) (q gram c w : List Float) (o : List ℕ) (x : CountResult)
     (passed : foldR (rowStep P) noRows i ≡ ok b) (step : rankedOf x q gram c w o ≡ rowStep (rowProblem (P .k) (P .wide) (P .jc)) b i) where
   step-is : rankedOf x q gram c w o ≡ rowStep P b i
   step-is = step ∙ row-reads P b i
 
-  pub rank-next : {s : ℕ} → x ≡ rank.Of s → s ≤ b .rank + 1
+  pub rank-next : {s : ℕ} → x ≡ count.Value s → s ≤ b .rank + 1
   rank-next e = rank-more P b i (sym (rw e at step-is))
 
-  pub rows-next : {s : ℕ} → x ≡ rank.Of s → foldR (rowStep P) noRows (i + 1) ≡ ok (basisBy s q gram c w o)
+  pub rows-next : {s : ℕ} → x ≡ count.Value s → foldR (rowStep P) noRows (i + 1) ≡ ok (basisBy s q gram c w o)
   rows-next e = turn (rowStep P) noRows i passed ∙ sym (rw e at step-is)
 
-  pub rows-refused : {r : LinearError} → i < P .m → x ≡ rank.Refused r → refused (numberOf r) ≡ basisOf P
+  pub rows-refused : {r : LinearError} → i < P .m → x ≡ count.Refused r
+      → refused (numberOf r) ≡ withoutGram (basisOf P)
   unfolding basisOf
-  rows-refused h e = sym (ends (rowStep P) noRows h passed (sym (rw e at step-is)))
+  rows-refused h e = ap withoutGram (sym (ends (rowStep P) noRows h passed (sym (rw e at step-is))))
 
 -- the correction, or its refusal, from what each call gives
 module _ (k m r : ℕ) (c : ℕ → Scalar) (q coefficients dependent : List Float) (order : List ℕ) {rows rhs : List Float} (y : List Float) (d : Done)

@@ -17,8 +17,6 @@ use Rattle.run.specs.Problem.{Problem}
 use Rattle.run.specs.Reduced.{Weights, weights, none, weightsOf, forceOf, reducedOf, againstOf}
 use Rattle.run.specs.Vectors.{matrix, row, combinedTo}
 use Rattle.run.specs.program.NullSpace.{directionsIn}
-use Rattle.run.specs.declared.null_space.Found.{Found}
-use Rattle.run.specs.declared.null_space.Found.the-variants as f
 use Rattle.run.specs.declared.reduced.WeightsEnd.{WeightsEnd}
 use Rattle.run.specs.declared.reduced.WeightsEnd.the-variants as a
 

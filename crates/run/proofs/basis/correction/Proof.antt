@@ -19,19 +19,22 @@ use borrow.Author.Needs.{needs}
 use Rattle.run.proofs.basis.correction.Statement.{statement}
 use Rattle.run.proofs.basis.correction.Tie as tie
 
-room : (s : tie.Start) → 2 * (s .args .m * s .args .r) ≤ 288
-room s = omega (arith, few (s .pre .1 .0) (s .pre .1 .1 .0))
+few-independent : (s : tie.Start) → s .args .shape .r ≤ 12
+few-independent s = let p = s .pre .few in omega (arith, p .rows, p .independent)
 
-high : (s : tie.Start) → 2 * s .args .m ≤ 24
-high s = omega (arith, s .pre .1 .0)
+room : (s : tie.Start) → 2 * (s .args .shape .m * s .args .shape .r) ≤ 288
+room s = omega (arith, few (s .pre .few .rows) (few-independent s))
 
-short : (s : tie.Start) → 2 * s .args .r ≤ 24
-short s = omega (arith, s .pre .1 .1 .0)
+high : (s : tie.Start) → 2 * s .args .shape .m ≤ 24
+high s = omega (arith, s .pre .few .rows)
+
+short : (s : tie.Start) → 2 * s .args .shape .r ≤ 24
+short s = omega (arith, few-independent s)
 
 -- the least squares
 solved : (k : tie.After-least-squares)
     → let a = k .before .before .before .before .before .before .before .before .before .before .before .before .before .before .before .before .args in
-    doneOf (k .least-squares .result) (k .least-squares .last .1 .1 .1 .1 .0) ≡ leastSquaresOf (a .m) (a .r) (k .before .before .before .before .before .before .before .before .coefficient-rows .last .1 .1 .1 .1 .0) (k .before .before .before .before .before .sides .last .1 .1 .1 .1 .1 .0)
+    doneOf (k .least-squares .result) (k .least-squares .last .1 .1 .1 .1 .0) ≡ leastSquaresOf (a .shape .m) (a .shape .r) (k .before .before .before .before .before .before .before .before .coefficient-rows .last .1 .1 .1 .1 .0) (k .before .before .before .before .before .sides .last .1 .1 .1 .1 .1 .0)
 solved k =
     let s = k .before .before .before .before .before .before .before .before .before .before .before .before .before .before .before .before in
     let a = s .args in
@@ -40,7 +43,7 @@ solved k =
     let y = k .before .before .before .before .before .sides .last .1 .1 .1 .1 .1 .0 in
     let lx = k .before .before .before .before .before .before .before .before .coefficient-rows .kept .1 .1 .1 .1 .0 in
     let ly = k .before .before .before .before .before .sides .kept .1 .1 .1 .1 .1 .0 in
-    least-squares-result (k .least-squares .result) (a .m) (a .r) x y _ (k .least-squares .last .1 .1 .1 .1 .0) (omega (arith, p .1 .0)) (omega (arith, p .1 .1 .0)) (lx ∙ length-take-le _ _ (room s)) (ly ∙ length-take-le _ _ (high s)) (length-take-le _ _ (short s)) (rw (front-kept _ x _ (room s) lx, front-kept _ y _ (high s) ly) at (k .least-squares .ensures))
+    least-squares-result (k .least-squares .result) (a .shape .m) (a .shape .r) x y _ (k .least-squares .last .1 .1 .1 .1 .0) (omega (arith, p .few .rows)) (omega (arith, few-independent s)) (lx ∙ length-take-le _ _ (room s)) (ly ∙ length-take-le _ _ (high s)) (length-take-le _ _ (short s)) (rw (front-kept _ x _ (room s) lx, front-kept _ y _ (high s) ly) at (k .least-squares .ensures))
 
 mul-s : tie.Need-mul-s
 mul-s c = omega (arith, room (c .before .before .before .before .before .before))
@@ -61,7 +64,7 @@ slice-aggregate-coefficient-rows : tie.Need-slice-aggregate-coefficient-rows
 slice-aggregate-coefficient-rows c = sym (length-take-le _ _ (room (c .before .before .before .before .before .before .before)))
 
 coefficient-rows-requires : tie.Need-coefficient-rows-requires
-coefficient-rows-requires c κs = let s = (c .before .before .before .before .before .before .before) in let p = s .pre in (p .1 .0, (p .1 .1 .0, length-take-le _ _ (room s)))
+coefficient-rows-requires c κs = let s = (c .before .before .before .before .before .before .before) in let p = s .pre in (p .few .rows, (few-independent s, length-take-le _ _ (room s)))
 
 array-borrow-prefix-rhs : tie.Need-array-borrow-prefix-rhs
 array-borrow-prefix-rhs c = search needs
@@ -70,7 +73,7 @@ slice-aggregate-sides : tie.Need-slice-aggregate-sides
 slice-aggregate-sides c = sym (length-take-le _ _ (high (c .before .before .before .before .before .before .before .before .before .before)))
 
 sides-requires : tie.Need-sides-requires
-sides-requires c κs = let s = (c .before .before .before .before .before .before .before .before .before .before) in let p = s .pre in (p .1 .0, (p .1 .1 .1 .0, length-take-le _ _ (high s)))
+sides-requires c κs = let s = (c .before .before .before .before .before .before .before .before .before .before) in let p = s .pre in (p .few .rows, (p .places, length-take-le _ _ (high s)))
 
 array-share-prefix-rows : tie.Need-array-share-prefix-rows
 array-share-prefix-rows c = front-room _ (c .before .before .before .before .coefficient-rows .last .1 .1 .1 .1 .0) _ (room (c .before .before .before .before .before .before .before .before .before .before .before .before)) (c .before .before .before .before .coefficient-rows .kept .1 .1 .1 .1 .0)
@@ -118,7 +121,7 @@ slice-aggregate-combine : tie.Need-slice-aggregate-combine
 slice-aggregate-combine c = sym (length-take-le _ _ (front-room _ (c .before .before .before .before .before .before .sharp .last .1 .1 .0) _ (short (c .before .before .before .before .before .before .before .before .before .before .before .before .before .before .before .before .before .before .before .before .before .before .before .before .before .before)) (c .before .before .before .before .before .before .sharp .kept .1 .1 .0)))
 
 combine-requires : tie.Need-combine-requires
-combine-requires c κs = let p = (c .before .before .before .before .before .before .before .before .before .before .before .before .before .before .before .before .before .before .before .before .before .before .before .before .before .before .before) .pre in (omega (arith, p .0), omega (arith, p .1 .1 .0))
+combine-requires c κs = let p = (c .before .before .before .before .before .before .before .before .before .before .before .before .before .before .before .before .before .before .before .before .before .before .before .before .before .before .before) in (omega (arith, p .pre .few .variables), omega (arith, few-independent p))
 
 same-length : tie.Need-same-length
 same-length c = search needs
@@ -133,10 +136,10 @@ returns c =
     let y = k .least-squares .last .1 .1 .1 .1 .0 in
     let ly = k .least-squares .kept .1 .1 .1 .1 .0 in
     let v = h .last .1 .1 .0 in
-    let w : v ≡ sharpOf y (a .r) = sharp-written (h .result) (a .r) y _ v (omega (arith, p .1 .1 .0)) (ly ∙ length-take-le _ _ (short s)) (length-take-le _ _ (short s)) (rw (front-kept _ y _ (short s) ly) at (h .ensures)) in
-    let z : c .before .before .before .before .before .before .before .clear .last .0 ≡ vector = c .before .before .before .before .before .before .before .clear .ensures ∙ ap zeros (p .1 .1 .1 .1) in
-    let d = c .before .before .combine .ensures ∙ ap (λ (x : List Float). combinedTo (a .k) x (a .q .now) (c .before .before .before .before .before .before .before .clear .last .0) (a .r)) (front-kept _ v _ (short s) (h .kept .1 .1 .0) ∙ w) ∙ ap (λ (x : List Float). combinedTo (a .k) (sharpOf y (a .r)) (a .q .now) x (a .r)) z in
-    correction-is (a .k) (a .m) (a .r) (valueAt (rowsIn (a .xs .now) (a .e))) (a .q .now) (a .coefficients .now) (a .dependent .now) (a .order .now) y (k .least-squares .result) (c .before .before .before .before .before .before .before .before .before .before .before .before .before .before .before .before .before .before .before .before .before .before .coefficient-rows .ensures) (c .before .before .before .before .before .before .before .before .before .before .before .before .before .before .before .before .before .before .before .sides .ensures) (solved k) d
+    let w : v ≡ sharpOf y (a .shape .r) = sharp-written (h .result) (a .shape .r) y _ v (omega (arith, few-independent s)) (ly ∙ length-take-le _ _ (short s)) (length-take-le _ _ (short s)) (rw (front-kept _ y _ (short s) ly) at (h .ensures)) in
+    let z : c .before .before .before .before .before .before .before .clear .last .0 ≡ vector = c .before .before .before .before .before .before .before .clear .ensures ∙ ap zeros (p .step) in
+    let d = c .before .before .combine .ensures ∙ ap (λ (x : List Float). combinedTo (a .shape .k) x (a .q .now) (c .before .before .before .before .before .before .before .clear .last .0) (a .shape .r)) (front-kept _ v _ (short s) (h .kept .1 .1 .0) ∙ w) ∙ ap (λ (x : List Float). combinedTo (a .shape .k) (sharpOf y (a .shape .r)) (a .q .now) x (a .shape .r)) z in
+    correction-is (a .shape .k) (a .shape .m) (a .shape .r) (valueAt (rowsIn (a .xs .now) (a .e))) (a .q .now) (a .coefficients .now) (a .dependent .now) (a .order .now) y (k .least-squares .result) (c .before .before .before .before .before .before .before .before .before .before .before .before .before .before .before .before .before .before .before .before .before .before .coefficient-rows .ensures) (c .before .before .before .before .before .before .before .before .before .before .before .before .before .before .before .before .before .before .before .sides .ensures) (solved k) d
 
 pub correction-spec : {M : Type 1} → statement M
 correction-spec =
