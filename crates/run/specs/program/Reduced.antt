@@ -50,4 +50,5 @@ addedTo P delta d none = none
 
 unfoldable pub freePart : Problem → List Float → Directions → Res Weights
 unfolding bind
-freePart P delta d = bind (solvedWith (d .count) (reducedOf P d) (againstOf P d (forceOf P delta))) (λ w. ok (addedTo P delta d w))
+freePart P delta d =
+    bind (solvedWith (d .count) (reducedOf P d) (againstOf P d (forceOf P delta))) (λ w. ok (addedTo P delta d w))

@@ -40,8 +40,12 @@ slice-aggregate-prepare-free-3 c = search needs
 
 prepare-free-requires : tie.Need-prepare-free-requires
 prepare-free-requires c κs =
-    let p = c .before .before .before .before .before .before .before .before .before .before .before .before .before .before .before .before .before .before .before .before .before .before .before .pre in
-    let b = c .before .before .before .before .before .before .before .before .before .before .before .before .before .basis in
+    let p =
+    c .before .before .before .before .before .before .before .before .before .before .before .before
+    .before .before .before .before .before .before .before .before .before .before .before .pre in
+    let b =
+    c .before .before .before .before .before .before .before .before .before .before .before .before
+    .before .basis in
     let r = c .before .before .before .before .before .before .r .given .1 in
     record {
       few = record { variables = p .0; rows = p .1 .0; independent = rank-bound _ (rw r at (b .ensures)) };
@@ -59,9 +63,15 @@ same-length-2 c = search needs
 
 returns : tie.Need-returns
 returns c =
-    let b = c .before .before .before .before .before .before .before .before .before .before .before .before .before .before .before .before .basis in
-    let f = c .before .before .prepare-free in
-    ((λ h g. kept-on _ _ _ _ _ (b .result) (b .ensures) (c .before .before .before .before .before .before .before .before .before .r .given .1) (f .ensures .0 h g)), f .ensures .1)
+    let b =
+    c .before .before .before .before .before .before .before .before .before .before .before .before
+    .before .before .before .before .basis in
+    let f = c .before .before .prepare-free in (
+      (λ h g. kept-on _ _ _ _ _ (b .result) (b .ensures)
+          (c .before .before .before .before .before .before .before .before .before .r .given .1)
+          (f .ensures .0 h g)),
+      f .ensures .1,
+    )
 
 enum-known-e : tie.Need-enum-known-e
 enum-known-e c = search needs
@@ -71,8 +81,10 @@ same-length-3 c = search needs
 
 returns-2 : tie.Need-returns-2
 returns-2 c =
-    let b = c .before .before .before .before .before .before .before .before .basis in
-    ((λ h g. kept-refused _ _ _ _ _ (b .result) (b .ensures) (c .before .e .given .1)), record { independent = omega arith; free = omega arith })
+    let b = c .before .before .before .before .before .before .before .before .basis in (
+      (λ h g. kept-refused _ _ _ _ _ (b .result) (b .ensures) (c .before .e .given .1)),
+      record { independent = omega arith; free = omega arith },
+    )
 
 pub prepare-kept-spec : {M : Type 1} → statement M
 prepare-kept-spec =
