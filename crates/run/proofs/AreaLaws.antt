@@ -1,4 +1,5 @@
--- The area as slots one behind the other: a run of numbers written over a slot takes its place, and reading a slot gives what it holds.
+-- The area as slots one behind the other: a run of numbers written over a slot takes its place, and reading a slot
+-- gives what it holds.
 use mathlib.Core.Bool.{Bool, true, false}
 use mathlib.Core.Path.{_≡_, refl, sym, ap, ap₂, subst, _∙_}
 use mathlib.Core.List.{List, [], _∷_, _++_, map, append-assoc, append-nil}
@@ -7,7 +8,8 @@ use native.Mathlib.Nat.{not-suc-le-zero, le-of-suc-le-suc, mul-le-mul, add-assoc
 use native.Mathlib.Numerals.{add-one}
 use native.Mathlib.Omega.{arith}
 use lib.Ieee.{Float, nan}
-use lib.ListN.{length, take, drop, getD, set, length-append, length-drop, length-set, length-replicate, length-map, List·getD-map, drop-of-length-le, replicate-append-replicate}
+use lib.ListN.{length, take, drop, getD, set, length-append, length-drop, length-set, length-replicate, length-map}
+use lib.ListN.{List·getD-map, drop-of-length-le, replicate-append-replicate}
 use lib.Seq.{paste, paste-zero, paste-suc, drop-paste, length-take-le, take-length, take-at, drop-at, drop-drop}
 use lib.Seq.{take-append-add, drop-append-add, getD-append-add, getD-drop, getD-take}
 use Rattle.interval.specs.declared.Scalar.{Scalar}
@@ -34,7 +36,8 @@ pub writing-none : (d : List Float) (at : ℕ) (s : List Float) → Writing d at
 writing-none d at s = record { upto = omega arith; long = refl; is = paste-zero d at s }
 
 module _ {d : List Float} {at : ℕ} {s : List Float} {i : ℕ} {a : List Float} where
-  pub writing-more : Writing d at s i a → at + length s ≤ length d → i < length s → Writing d at s (i + 1) (set a (at + i) (getD s i nan))
+  pub writing-more : Writing d at s i a → at + length s ≤ length d → i < length s
+      → Writing d at s (i + 1) (set a (at + i) (getD s i nan))
   writing-more w h l = record {
     upto = omega arith;
     long = simp length-set (w .long);
@@ -45,26 +48,33 @@ module _ {d : List Float} {at : ℕ} {s : List Float} {i : ℕ} {a : List Float}
   writing-all w l = let u = w .upto in let e : i ≡ length s = omega arith in w .is ∙ rw (e, take-length)
 
   -- a place behind all that is written is still as it was
-  pub writing-behind : Writing d at s i a → at + length s ≤ length d → (j : ℕ) → at + length s ≤ j → getD a j nan ≡ getD d j nan
+  pub writing-behind : Writing d at s i a → at + length s ≤ length d → (j : ℕ) → at + length s ≤ j
+      → getD a j nan ≡ getD d j nan
   writing-behind w h j l =
       let u = w .upto in
       let e : at + i + (j - (at + i)) ≡ j = omega arith in
       rw (w .is, ← e)
-      (sym (getD-drop (at + i) (paste d at s i) (j - (at + i)) nan) ∙ ap (λ (r : List Float). getD r (j - (at + i)) nan) (drop-paste d at s i (omega arith) u) ∙ getD-drop (at + i) d (j - (at + i)) nan)
+      (sym (getD-drop (at + i) (paste d at s i) (j - (at + i)) nan)
+      ∙ ap (λ (r : List Float). getD r (j - (at + i)) nan) (drop-paste d at s i (omega arith) u)
+      ∙ getD-drop (at + i) d (j - (at + i)) nan)
 
 -- numbers written to a place before them
 module _ (d : List Float) (from to count : ℕ) (fit : (to + count ≤ from) × (from + count ≤ length d)) where
   pub length-from : length (take count (drop from d)) ≡ count
   length-from = length-take-le count (drop from d) (simp length-drop (omega arith))
 
-  pub copying-more : {i : ℕ} {a : List Float} → Writing d to (take count (drop from d)) i a → i < count → Writing d to (take count (drop from d)) (i + 1) (set a (to + i) (getD a (from + i) nan))
+  pub copying-more : {i : ℕ} {a : List Float} → Writing d to (take count (drop from d)) i a → i < count
+      → Writing d to (take count (drop from d)) (i + 1) (set a (to + i) (getD a (from + i) nan))
   copying-more {i} {a} w h =
       let l = length-from in
-      let e : getD (take count (drop from d)) i nan ≡ getD a (from + i) nan = getD-take count (drop from d) i nan h ∙ getD-drop from d i nan ∙ sym (writing-behind w (omega arith) (from + i) (omega arith)) in
+      let e : getD (take count (drop from d)) i nan ≡ getD a (from + i) nan =
+      getD-take count (drop from d) i nan h ∙ getD-drop from d i nan
+      ∙ sym (writing-behind w (omega arith) (from + i) (omega arith)) in
       rw e at (writing-more w (omega arith) (omega arith))
 
 -- two runs, one right behind the other, are one run
-pub written-twice : (d s t : List Float) (at to : ℕ) → to ≡ at + length s → at + length s + length t ≤ length d → written (written d at s) to t ≡ written d at (s ++ t)
+pub written-twice : (d s t : List Float) (at to : ℕ) → to ≡ at + length s
+    → at + length s + length t ≤ length d → written (written d at s) to t ≡ written d at (s ++ t)
 written-twice d s t at to e h =
     let p : List Float = take at d ++ s in
     let q : List Float = drop (at + length s) d in
@@ -72,7 +82,8 @@ written-twice d s t at to e h =
     let et : take to (p ++ q) ≡ p = take-at p q to lp in
     let n : at + length s + length t ≡ at + length (s ++ t) = simp length-append (omega arith) in
     let ed : drop (to + length t) (p ++ q) ≡ drop (at + length (s ++ t)) d =
-    sym (drop-drop (length t) to (p ++ q)) ∙ ap (drop (length t)) (drop-at p q to lp) ∙ drop-drop (length t) (at + length s) d ∙ ap (λ (k : ℕ). drop k d) n in
+    sym (drop-drop (length t) to (p ++ q)) ∙ ap (drop (length t)) (drop-at p q to lp)
+    ∙ drop-drop (length t) (at + length s) d ∙ ap (λ (k : ℕ). drop k d) n in
     ap (λ (x : List Float). x ++ t ++ drop (to + length t) (p ++ q)) et
     ∙ ap (λ (x : List Float). p ++ t ++ x) ed
     ∙ ap (λ (x : List Float). x ++ drop (at + length (s ++ t)) d) (append-assoc (take at d) s t)
@@ -84,20 +95,24 @@ pub length-padded : (size : ℕ) (s : List Float) → length s ≤ size → leng
 length-padded size s h = simp (length-append, length-replicate) (omega arith)
 
 -- a run and +0 behind it are a slot
-pub slot-is : (a s : List Float) (base size : ℕ) {b c : List Float} → length s ≤ size → base + size ≤ length a → b ≡ written a base s → c ≡ written b (base + length s) (zeros (size - length s))
+pub slot-is : (a s : List Float) (base size : ℕ) {b c : List Float} → length s ≤ size → base + size ≤ length a
+    → b ≡ written a base s → c ≡ written b (base + length s) (zeros (size - length s))
     → c ≡ written a base (padded size s)
 slot-is a s base size {b} {c} h l e f =
     let z : length (zeros (size - length s)) ≡ size - length s = length-replicate _ _ in
     rw (f, e) (written-twice a s (zeros (size - length s)) base (base + length s) refl (omega arith))
 
 -- a part that is lent and comes back
-pub part-back : (a s : List Float) (base count : ℕ) → length s ≡ count → take base a ++ (s ++ drop count (drop base a)) ≡ written a base s
+pub part-back : (a s : List Float) (base count : ℕ) → length s ≡ count
+    → take base a ++ (s ++ drop count (drop base a)) ≡ written a base s
 part-back a s base count e = rw (e, drop-drop count base a) (sym (append-assoc (take base a) s (drop (base + count) a)))
 
-pub cleared-part : (a : List Float) (base n count : ℕ) {s : List Float} → count ≡ n → base + n ≤ length a → s ≡ zeros (length (take count (drop base a)))
+pub cleared-part : (a : List Float) (base n count : ℕ) {s : List Float} → count ≡ n → base + n ≤ length a
+    → s ≡ zeros (length (take count (drop base a)))
     → take base a ++ (s ++ drop count (drop base a)) ≡ written a base (zeros n)
 cleared-part a base n count {s} e h q =
-    let l : length (take count (drop base a)) ≡ n = length-take-le count (drop base a) (simp length-drop (omega arith)) ∙ e in
+    let l : length (take count (drop base a)) ≡ n =
+    length-take-le count (drop base a) (simp length-drop (omega arith)) ∙ e in
     let z : s ≡ zeros n = q ∙ ap zeros l in
     rw z (part-back a (zeros n) base count (length-replicate _ _ ∙ sym e))
 
@@ -105,11 +120,14 @@ cleared-part a base n count {s} e h q =
 written-behind : (x d : List Float) (m : ℕ) (s : List Float) → written (x ++ d) (length x + m) s ≡ x ++ written d m s
 written-behind x d m s =
     ap (λ (u : List Float). u ++ s ++ drop (length x + m + length s) (x ++ d)) (take-append-add x d m)
-    ∙ ap (λ (u : List Float). x ++ take m d ++ s ++ u) (ap (λ (k : ℕ). drop k (x ++ d)) (add-assoc (length x) m (length s)) ∙ drop-append-add x d (m + length s))
+    ∙ ap (λ (u : List Float). x ++ take m d ++ s ++ u)
+    (ap (λ (k : ℕ). drop k (x ++ d)) (add-assoc (length x) m (length s)) ∙ drop-append-add x d (m + length s))
     ∙ simp append-assoc
 
-written-past : (x d : List Float) (base m : ℕ) (s : List Float) → length x ≡ base → written (x ++ d) (base + m) s ≡ x ++ written d m s
-written-past x d base m s e = subst (λ (i : ℕ). written (x ++ d) (i + m) s ≡ x ++ written d m s) e (written-behind x d m s)
+written-past : (x d : List Float) (base m : ℕ) (s : List Float) → length x ≡ base
+    → written (x ++ d) (base + m) s ≡ x ++ written d m s
+written-past x d base m s e =
+    subst (λ (i : ℕ). written (x ++ d) (i + m) s ≡ x ++ written d m s) e (written-behind x d m s)
 
 written-whole : (d s : List Float) → length s ≡ length d → written d 0 s ≡ s
 written-whole d s e = let h : length d ≤ 0 + length s = omega arith in rw (drop-of-length-le d h) (append-nil s)
@@ -131,18 +149,25 @@ start-cons n ns (suc k) = let e = start-cons n ns k in rw e (add-assoc n (startO
 
 module _ (e : List Float) where
   -- a run that covers part k takes its place
-  write-part : (ls : List (List Float)) (k : ℕ) (s : List Float) → k < length ls → length s ≡ length (getD ls k []) → written (joined ls e) (startOf (map length ls) k) s ≡ joined (set ls k s) e
+  write-part : (ls : List (List Float)) (k : ℕ) (s : List Float) → k < length ls
+      → length s ≡ length (getD ls k []) → written (joined ls e) (startOf (map length ls) k) s ≡ joined (set ls k s) e
   unfolding startOf
   write-part [] k s h l = absurd (not-suc-le-zero h)
   write-part (x ∷ ls) zero s h l = written-first x (joined ls e) s l
   write-part (x ∷ ls) (suc k) s h l =
-      rw (start-cons (length x) (map length ls) k, ← write-part ls k s (le-of-suc-le-suc h) l) (written-behind x (joined ls e) (startOf (map length ls) k) s)
+      rw (start-cons (length x) (map length ls) k, ← write-part ls k s (le-of-suc-le-suc h) l)
+      (written-behind x (joined ls e) (startOf (map length ls) k) s)
 
-  read-part : (ls : List (List Float)) (k : ℕ) → k < length ls → take (length (getD ls k [])) (drop (startOf (map length ls) k) (joined ls e)) ≡ getD ls k []
+  read-part : (ls : List (List Float)) (k : ℕ) → k < length ls
+      → take (length (getD ls k [])) (drop (startOf (map length ls) k) (joined ls e)) ≡ getD ls k []
   unfolding startOf
   read-part [] k h = absurd (not-suc-le-zero h)
   read-part (x ∷ ls) zero h = take-at x (joined ls e) (length x) refl
-  read-part (x ∷ ls) (suc k) h = rw (start-cons (length x) (map length ls) k, drop-append-add x (joined ls e) (startOf (map length ls) k)) (read-part ls k (le-of-suc-le-suc h))
+  read-part (x ∷ ls) (suc k) h =
+      rw (
+        start-cons (length x) (map length ls) k,
+        drop-append-add x (joined ls e) (startOf (map length ls) k),
+      ) (read-part ls k (le-of-suc-le-suc h))
 
 -- the end behind all parts
 read-end : (ls : List (List Float)) (e : List Float) (j : ℕ) (d : Float)
@@ -161,7 +186,8 @@ drop-end (x ∷ ls) e =
     let n = startOf (map length ls) (length ls) in
     rw (start-cons (length x) (map length ls) (length ls), drop-append-add x (joined ls e) n) (drop-end ls e)
 
-lengths-set : (ls : List (List Float)) (k : ℕ) (s : List Float) → map length (set ls k s) ≡ set (map length ls) k (length s)
+lengths-set : (ls : List (List Float)) (k : ℕ) (s : List Float)
+    → map length (set ls k s) ≡ set (map length ls) k (length s)
 lengths-set [] k s = refl
 lengths-set (x ∷ ls) zero s = refl
 lengths-set (x ∷ ls) (suc k) s = ap (λ (r : List ℕ). length x ∷ r) (lengths-set ls k s)
@@ -194,7 +220,8 @@ module _ {ls : List (List Float)} {a : List Float} (h : Slots ls a) where
   slot-length k = sym (List·getD-map (length {A = Float}) ls k []) ∙ ap (λ (ns : List ℕ). getD ns k 0) (h .sized)
 
   -- a run over slot k takes its place
-  pub wrote : (k : ℕ) (s : List Float) {b : List Float} → k < 9 → length s ≡ getD SIZES k 0 → b ≡ written a (startOf SIZES k) s → Slots (set ls k s) b
+  pub wrote : (k : ℕ) (s : List Float) {b : List Float} → k < 9 → length s ≡ getD SIZES k 0
+      → b ≡ written a (startOf SIZES k) s → Slots (set ls k s) b
   wrote k s {b} l e q = record {
     sized = lengths-set ls k s ∙ rw (h .sized, e) (set-same SIZES k);
     is = q ∙ rw (h .is, ← h .sized) (write-part (zeros SPARE-LEN) ls k s (slot-there k l) (e ∙ sym (slot-length k)));
@@ -205,12 +232,18 @@ module _ {ls : List (List Float)} {a : List Float} (h : Slots ls a) where
   slot-read k l = rw (← slot-length k, h .is, ← h .sized) (read-part (zeros SPARE-LEN) ls k (slot-there k l))
 
   -- slot j over slot i
-  pub copied : (i j : ℕ) {b : List Float} → i < 9 → j < 9 → getD SIZES j 0 ≡ getD SIZES i 0 → b ≡ written a (startOf SIZES i) (take (getD SIZES j 0) (drop (startOf SIZES j) a)) → Slots (set ls i (getD ls j [])) b
-  copied i j {b} li lj e q = wrote i (getD ls j []) li (slot-length j ∙ e) (q ∙ ap (λ (s : List Float). written a (startOf SIZES i) s) (slot-read j lj))
+  pub copied : (i j : ℕ) {b : List Float} → i < 9 → j < 9 → getD SIZES j 0 ≡ getD SIZES i 0
+      → b ≡ written a (startOf SIZES i) (take (getD SIZES j 0) (drop (startOf SIZES j) a))
+      → Slots (set ls i (getD ls j [])) b
+  copied i j {b} li lj e q =
+      wrote i (getD ls j []) li (slot-length j ∙ e)
+      (q ∙ ap (λ (s : List Float). written a (startOf SIZES i) s) (slot-read j lj))
 
-pub length-filter : (filter : List Float) (count : ℕ) (f theta : Scalar) → length (filterWith filter count f theta) ≡ length filter
+pub length-filter : (filter : List Float) (count : ℕ) (f theta : Scalar)
+    → length (filterWith filter count f theta) ≡ length filter
 unfolding filterWith
-length-filter filter count f theta = length-put (put filter (2 * count) f) (2 * count + 1) theta ∙ length-put filter (2 * count) f
+length-filter filter count f theta =
+    length-put (put filter (2 * count) f) (2 * count + 1) theta ∙ length-put filter (2 * count) f
 
 -- ---- slots that are clear
 
@@ -231,7 +264,9 @@ all-clear e = record { sized = clear-lengths SIZES; is = e ∙ sym (clear-joined
 
 length-joined : (ls : List (List Float)) (e : List Float) → length (joined ls e) ≡ total (map length ls) + length e
 length-joined [] e = omega arith
-length-joined (x ∷ ls) e = length-append x (joined ls e) ∙ rw (length-joined ls e) (sym (add-assoc (length x) (total (map length ls)) (length e)))
+length-joined (x ∷ ls) e =
+    length-append x (joined ls e)
+    ∙ rw (length-joined ls e) (sym (add-assoc (length x) (total (map length ls)) (length e)))
 
 module _ {ls : List (List Float)} {a : List Float} (h : Slots ls a) where
   pub slots-length : length a ≡ 8000
@@ -269,7 +304,8 @@ start-upto ns k n l =
     let e : (n - (k + 1)) + (k + 1) ≡ n = omega arith in
     omega (arith, start-more ns k, rw e at (start-later ns (k + 1) (n - (k + 1))))
 
-length-kept : (a : List Float) (base size u : ℕ) → u ≤ size → base + size ≤ length a → length (padded size (take u (drop base a))) ≡ size
+length-kept : (a : List Float) (base size u : ℕ) → u ≤ size → base + size ≤ length a
+    → length (padded size (take u (drop base a))) ≡ size
 length-kept a base size u h l =
     let k : length (take u (drop base a)) ≡ u = length-take-le u (drop base a) (simp length-drop (omega arith)) in
     length-append (take u (drop base a)) _ ∙ rw (k, length-replicate) (omega arith)
@@ -297,9 +333,13 @@ module _ (sizes used : List ℕ) (d : List Float) (fit : Fitting sizes used d) w
       let u = start-upto sizes k (length sizes) h in
       let i = fit .inside in
       length-append (clearedTo sizes used d k) _
-      ∙ rw (length-tidied k (omega arith), length-kept d (startOf sizes k) (getD sizes k 0) (getD used k 0) (fit .below k h) (omega arith))
+      ∙ rw (
+        length-tidied k (omega arith),
+        length-kept d (startOf sizes k) (getD sizes k 0) (getD used k 0) (fit .below k h) (omega arith),
+      )
 
-  pub tidied-more : {k base : ℕ} {a b : List Float} → Tidying sizes used d k base a → k < length sizes → b ≡ written a (base + getD used k 0) (zeros (getD sizes k 0 - getD used k 0))
+  pub tidied-more : {k base : ℕ} {a b : List Float} → Tidying sizes used d k base a → k < length sizes
+      → b ≡ written a (base + getD used k 0) (zeros (getD sizes k 0 - getD used k 0))
       → Tidying sizes used d (k + 1) (base + getD sizes k 0) b
   unfolding clearedTo startOf
   tidied-more {k} {base} {a} {b} t h q =
@@ -316,7 +356,8 @@ module _ (sizes used : List ℕ) (d : List Float) (fit : Fitting sizes used d) w
       let lf : length f ≡ base = length-tidied k (omega arith) ∙ m in
       let lu : length (take u r) ≡ u = length-take-le u r (simp length-drop (omega arith)) in
       let e : base + (u + length z) ≡ base + n = omega arith in
-      let g : drop (u + length z) r ≡ drop (base + n) d = drop-drop (u + length z) base d ∙ ap (λ (i : ℕ). drop i d) e in
+      let g : drop (u + length z) r ≡ drop (base + n) d =
+      drop-drop (u + length z) base d ∙ ap (λ (i : ℕ). drop i d) e in
       let i : b ≡ f ++ p ++ drop (base + n) d =
       q ∙ ap (λ (x : List Float). written x (base + u) z) (t .is) ∙ written-past f r base u z lf
       ∙ ap (λ (x : List Float). f ++ (take u r ++ z ++ x)) g
@@ -329,11 +370,13 @@ module _ (sizes used : List ℕ) (d : List Float) (fit : Fitting sizes used d) w
         is = rw (add-one, m) i;
       }
 
-  pub tidied-whole : {k base : ℕ} {a : List Float} → Tidying sizes used d k base a → k ≡ length sizes → a ≡ clearedTo sizes used d (length sizes) ++ drop (startOf sizes (length sizes)) d
+  pub tidied-whole : {k base : ℕ} {a : List Float} → Tidying sizes used d k base a → k ≡ length sizes
+      → a ≡ clearedTo sizes used d (length sizes) ++ drop (startOf sizes (length sizes)) d
   tidied-whole {k} t e = rw (← e) (t .is ∙ ap (λ (b : ℕ). clearedTo sizes used d k ++ drop b d) (t .begins))
 
   -- and the end behind all slots
-  pub tidied-end : (n : ℕ) {a b : List Float} → startOf sizes (length sizes) + n ≡ length d → a ≡ clearedTo sizes used d (length sizes) ++ drop (startOf sizes (length sizes)) d
+  pub tidied-end : (n : ℕ) {a b : List Float} → startOf sizes (length sizes) + n ≡ length d
+      → a ≡ clearedTo sizes used d (length sizes) ++ drop (startOf sizes (length sizes)) d
       → b ≡ written a (startOf sizes (length sizes)) (zeros n) → b ≡ clearedTo sizes used d (length sizes) ++ zeros n
   tidied-end n {a} {b} e ea q =
       let s = startOf sizes (length sizes) in
@@ -364,7 +407,9 @@ pick-below false h = omega arith
 pub cons-eq : {n m : ℕ} {ns ms : List ℕ} → n ≡ m → ns ≡ ms → n ∷ ns ≡ m ∷ ms
 cons-eq p q = rw (p, q)
 
-regroup : (a b c d e f g h i z : List Float) → [] ++ a ++ b ++ c ++ d ++ e ++ f ++ g ++ h ++ i ++ z ≡ a ++ (b ++ (c ++ (d ++ (e ++ (f ++ (g ++ (h ++ (i ++ z))))))))
+regroup : (a b c d e f g h i z : List Float)
+    → [] ++ a ++ b ++ c ++ d ++ e ++ f ++ g ++ h ++ i ++ z
+    ≡ a ++ (b ++ (c ++ (d ++ (e ++ (f ++ (g ++ (h ++ (i ++ z))))))))
 regroup a b c d e f g h i z = simp append-assoc
 
 module _ (z : Sizes) {iterations : ℕ} (l : Limits z iterations) where
@@ -384,8 +429,25 @@ module _ (st : State) (l : Limits (st .sizes) (st .counts .iterations)) where
       let entries : 2 * (st .sizes .n * st .sizes .n) ≤ 288 = omega (arith, entries-fit (st .sizes) l) in
       let pairs : 4 * st .counts .iterations ≤ 800 = omega (arith, l .iterations-fit) in
       let tried = isTried (st .phase) in
-      let corrected = isCorrected (st .phase) in
-      (point, (pick-below corrected point, (pick-below (isOpen (st .phase)) point, (pick-below tried rows, (pick-below corrected rows, (pick-below tried point, (pick-below tried multipliers, (pick-below tried entries, (pick-below tried pairs, tt)))))))))
+      let corrected = isCorrected (st .phase) in (
+        point,
+        (
+          pick-below corrected point,
+          (
+            pick-below (isOpen (st .phase)) point,
+            (
+              pick-below tried rows,
+              (
+                pick-below corrected rows,
+                (
+                  pick-below tried point,
+                  (pick-below tried multipliers, (pick-below tried entries, (pick-below tried pairs, tt))),
+                ),
+              ),
+            ),
+          ),
+        ),
+      )
 
   module _ (a : List Float) (long : length a ≡ 8000) where
     pub used-fit : Fitting SIZES (usedIn st) a
@@ -396,7 +458,9 @@ module _ (st : State) (l : Limits (st .sizes) (st .counts .iterations)) where
     unfolding memoryOf
     memory-sized =
         let u = used-below in
-        let k : (base size count : ℕ) → count ≤ size → base + size ≤ 8000 → length (padded size (take count (drop base a))) ≡ size = λ base size count h i. length-kept a base size count h (omega arith) in
+        let k : (base size count : ℕ) → count ≤ size → base + size ≤ 8000
+        → length (padded size (take count (drop base a)))
+        ≡ size = λ base size count h i. length-kept a base size count h (omega arith) in
         cons-eq (k 0 24 _ (u .0) (omega arith))
         (cons-eq (k 24 24 _ (u .1 .0) (omega arith))
         (cons-eq (k 48 24 _ (u .1 .1 .0) (omega arith))
@@ -404,10 +468,17 @@ module _ (st : State) (l : Limits (st .sizes) (st .counts .iterations)) where
         (cons-eq (k 1008 936 _ (u .1 .1 .1 .1 .0) (omega arith))
         (cons-eq (k 1944 24 _ (u .1 .1 .1 .1 .1 .0) (omega arith))
         (cons-eq (k 1968 24 _ (u .1 .1 .1 .1 .1 .1 .0) (omega arith))
-        (cons-eq (k 1992 288 _ (u .1 .1 .1 .1 .1 .1 .1 .0) (omega arith)) (cons-eq (k 2280 800 _ (u .1 .1 .1 .1 .1 .1 .1 .1 .0) (omega arith)) refl))))))))
+        (cons-eq (k 1992 288 _ (u .1 .1 .1 .1 .1 .1 .1 .0) (omega arith))
+        (cons-eq (k 2280 800 _ (u .1 .1 .1 .1 .1 .1 .1 .1 .0) (omega arith)) refl))))))))
 
-    pub memory-holds : {b : List Float} → b ≡ clearedTo SIZES (usedIn st) a 9 ++ zeros SPARE-LEN → Holds (memoryOf st a) b
+    pub memory-holds : {b : List Float} → b ≡ clearedTo SIZES (usedIn st) a 9 ++ zeros SPARE-LEN
+        → Holds (memoryOf st a) b
     unfolding clearedTo startOf memoryOf areaOf
     memory-holds e =
         let w = memoryOf st a in
-        record { sized = memory-sized; is = e ∙ regroup (w .standing) (w .landed) (w .asked) (w .standingRows) (w .landedRows) (w .step) (w .multipliers) (w .curvature) (w .filter) (zeros SPARE-LEN) }
+        record {
+          sized = memory-sized;
+          is = e
+              ∙ regroup (w .standing) (w .landed) (w .asked) (w .standingRows) (w .landedRows) (w .step)
+              (w .multipliers) (w .curvature) (w .filter) (zeros SPARE-LEN);
+        }

@@ -18,7 +18,8 @@ use Rattle.linear.proofs.Lists.{at-append}
 use Rattle.run.specs.Rows.{rowNumbers, valueAt, constraintsOf, sumOf}
 use Rattle.run.specs.Residuals.{linearizedAt, squaredOf, sumSquared, violationOf}
 use Rattle.run.specs.Judgement.{sumChange}
-use Rattle.run.specs.Area.{POINT-LEN, ROWS-LEN, CURVATURE-LEN, FILTER-LEN, ASKED-AT, SIZES, Memory, areaOf, memoryOf, startOf}
+use Rattle.run.specs.Area.{POINT-LEN, ROWS-LEN, CURVATURE-LEN, FILTER-LEN, ASKED-AT, SIZES, Memory, areaOf}
+use Rattle.run.specs.Area.{memoryOf, startOf}
 use Rattle.run.specs.Area.{padded, usedOf, isTried, isCorrected, isOpen}
 use Rattle.run.specs.Limits.{AREA}
 use Rattle.run.specs.program.Area.{Holds, slotsOf}
@@ -42,8 +43,11 @@ curvature-fits z f = omega (arith, few {m = z .n} {n = z .n} (f .n) (f .n))
 pub at-padded : (size : ℕ) (xs : List Float) (i : ℕ) → 2 * i + 1 < length xs → at (padded size xs) i ≡ at xs i
 at-padded size xs i h = at-append xs (zeros (size - length xs)) i h
 
-length-used : (a : List Float) (base size : ℕ) (inUse : Bool) (count : ℕ) → count ≤ size → length (usedOf a base size inUse count) ≡ size
-length-used a base size inUse count h = length-padded size (take (pick inUse count 0) (drop base a)) (omega (arith, length-take (pick inUse count 0) (drop base a), at-most inUse))
+length-used : (a : List Float) (base size : ℕ) (inUse : Bool) (count : ℕ) → count ≤ size
+    → length (usedOf a base size inUse count) ≡ size
+length-used a base size inUse count h =
+    length-padded size (take (pick inUse count 0) (drop base a))
+    (omega (arith, length-take (pick inUse count 0) (drop base a), at-most inUse))
   where
     at-most : (b : Bool) → pick b count 0 ≤ size
     at-most true = h
@@ -61,7 +65,8 @@ pub record Sized (w : Memory) : Type 0 where
   pub filter-size : length (w .filter) ≡ FILTER-LEN
 
 -- what a call reads has the slots' sizes, whatever the area
-pub read-sized : (st : State) (a : List Float) → SizeBounds (st .sizes) → st .counts .iterations ≤ st .sizes .limit → Sized (memoryOf st a)
+pub read-sized : (st : State) (a : List Float) → SizeBounds (st .sizes)
+    → st .counts .iterations ≤ st .sizes .limit → Sized (memoryOf st a)
 unfolding memoryOf
 read-sized st a f h =
     let z = st .sizes in
@@ -87,12 +92,22 @@ read-sized st a f h =
 module _ (w : Memory) (f : Sized w) where
   held : Holds w (areaOf w)
   held =
-      let points = cons-eq (f .step-size) (cons-eq (f .multipliers-size) (cons-eq (f .curvature-size) (cons-eq (f .filter-size) refl))) in
-      record { sized = cons-eq (f .standing-size) (cons-eq (f .landed-size) (cons-eq (f .asked-size) (cons-eq (f .standing-rows-size) (cons-eq (f .landed-rows-size) points)))); is = refl }
+      let points =
+      cons-eq (f .step-size)
+      (cons-eq (f .multipliers-size) (cons-eq (f .curvature-size) (cons-eq (f .filter-size) refl))) in
+      record {
+        sized = cons-eq (f .standing-size)
+            (cons-eq (f .landed-size)
+            (cons-eq (f .asked-size) (cons-eq (f .standing-rows-size) (cons-eq (f .landed-rows-size) points))));
+        is = refl;
+      }
 
   -- the first c numbers of slot k
-  slot-part : (k c : ℕ) → k < 9 → c ≤ getD SIZES k 0 → take c (drop (startOf SIZES k) (areaOf w)) ≡ take c (getD (slotsOf w) k [])
-  slot-part k c l h = sym (take-take c (getD SIZES k 0) (drop (startOf SIZES k) (areaOf w)) h) ∙ ap (take c) (slot-read (slots-of held) k l)
+  slot-part : (k c : ℕ) → k < 9 → c ≤ getD SIZES k 0
+      → take c (drop (startOf SIZES k) (areaOf w)) ≡ take c (getD (slotsOf w) k [])
+  slot-part k c l h =
+      sym (take-take c (getD SIZES k 0) (drop (startOf SIZES k) (areaOf w)) h)
+      ∙ ap (take c) (slot-read (slots-of held) k l)
 
   pub area-long : length (areaOf w) ≡ AREA
   area-long = slots-length (slots-of held)
@@ -125,59 +140,86 @@ module _ (st : State) (w : Memory) (f : Sized w) (small : SizeBounds (st .sizes)
   count : ℕ
   count = rowNumbers (st .sizes .n) (st .sizes .m) (st .sizes .s)
 
-  read-rows : (a r : List Float) (base : ℕ) (inUse : Bool) (xs : List Float) → inUse ≡ true → length xs ≡ count → r ≡ padded ROWS-LEN xs → take count (drop base a) ≡ take count r → usedOf a base ROWS-LEN inUse count ≡ padded ROWS-LEN xs
+  read-rows : (a r : List Float) (base : ℕ) (inUse : Bool) (xs : List Float) → inUse ≡ true
+      → length xs ≡ count → r ≡ padded ROWS-LEN xs → take count (drop base a) ≡ take count r
+      → usedOf a base ROWS-LEN inUse count ≡ padded ROWS-LEN xs
   read-rows a r base inUse xs u e p q = rw (u, q, p, take-at xs (zeros (ROWS-LEN - length xs)) count e)
 
-  pub standing-rows-back : isTried (st .phase) ≡ true → (xs : List Float) → length xs ≡ rowNumbers (st .sizes .n) (st .sizes .m) (st .sizes .s) → w .standingRows ≡ padded ROWS-LEN xs → memoryOf st (areaOf w) .standingRows ≡ padded ROWS-LEN xs
+  pub standing-rows-back : isTried (st .phase) ≡ true → (xs : List Float)
+      → length xs ≡ rowNumbers (st .sizes .n) (st .sizes .m) (st .sizes .s)
+      → w .standingRows ≡ padded ROWS-LEN xs → memoryOf st (areaOf w) .standingRows ≡ padded ROWS-LEN xs
   unfolding memoryOf count startOf
-  standing-rows-back u xs e p = read-rows (areaOf w) (w .standingRows) 72 (isTried (st .phase)) xs u e p (slot-part w f 3 count (omega arith) (rows-fit (st .sizes) small))
+  standing-rows-back u xs e p =
+      read-rows (areaOf w) (w .standingRows) 72 (isTried (st .phase)) xs u e p
+      (slot-part w f 3 count (omega arith) (rows-fit (st .sizes) small))
 
-  pub landed-rows-back : isCorrected (st .phase) ≡ true → (xs : List Float) → length xs ≡ rowNumbers (st .sizes .n) (st .sizes .m) (st .sizes .s) → w .landedRows ≡ padded ROWS-LEN xs → memoryOf st (areaOf w) .landedRows ≡ padded ROWS-LEN xs
+  pub landed-rows-back : isCorrected (st .phase) ≡ true → (xs : List Float)
+      → length xs ≡ rowNumbers (st .sizes .n) (st .sizes .m) (st .sizes .s)
+      → w .landedRows ≡ padded ROWS-LEN xs → memoryOf st (areaOf w) .landedRows ≡ padded ROWS-LEN xs
   unfolding memoryOf count startOf
-  landed-rows-back u xs e p = read-rows (areaOf w) (w .landedRows) 1008 (isCorrected (st .phase)) xs u e p (slot-part w f 4 count (omega arith) (rows-fit (st .sizes) small))
+  landed-rows-back u xs e p =
+      read-rows (areaOf w) (w .landedRows) 1008 (isCorrected (st .phase)) xs u e p
+      (slot-part w f 4 count (omega arith) (rows-fit (st .sizes) small))
 
   -- the pairs of the filter that are in use
-  pub filter-back : isTried (st .phase) ≡ true → st .counts .iterations ≤ st .sizes .limit → (i : ℕ) → i < 2 * st .counts .iterations → at (memoryOf st (areaOf w) .filter) i ≡ at (w .filter) i
+  pub filter-back : isTried (st .phase) ≡ true → st .counts .iterations ≤ st .sizes .limit → (i : ℕ)
+      → i < 2 * st .counts .iterations → at (memoryOf st (areaOf w) .filter) i ≡ at (w .filter) i
   unfolding memoryOf startOf
   filter-back u h i k =
       let m = 2 * st .counts .iterations in
       let c : 4 * st .counts .iterations ≡ 2 * m = omega arith in
       let l : 2 * m ≤ length (w .filter) = omega (arith, f .filter-size, small .limit) in
-      let e : usedOf (areaOf w) 2280 FILTER-LEN (isTried (st .phase)) (4 * st .counts .iterations) ≡ padded FILTER-LEN (take (2 * m) (w .filter)) = rw (u, c, slot-part w f 8 (2 * m) (omega arith) (omega (arith, small .limit))) in
-      ap (λ (l : List Float). at l i) e ∙ at-padded FILTER-LEN (take (2 * m) (w .filter)) i (omega (arith, length-take (2 * m) (w .filter))) ∙ at-take (w .filter) m i k l
+      let e : usedOf (areaOf w) 2280 FILTER-LEN (isTried (st .phase)) (4 * st .counts .iterations)
+      ≡ padded FILTER-LEN (take (2 * m) (w .filter)) =
+      rw (u, c, slot-part w f 8 (2 * m) (omega arith) (omega (arith, small .limit))) in
+      ap (λ (l : List Float). at l i) e
+      ∙ at-padded FILTER-LEN (take (2 * m) (w .filter)) i (omega (arith, length-take (2 * m) (w .filter)))
+      ∙ at-take (w .filter) m i k l
 
 -- ---- rows with +0 behind them
 
 module _ (z : Sizes) (xs : List Float) (e : length xs ≡ rowNumbers (z .n) (z .m) (z .s)) where
-  pub constraints-agree : Agree (valueAt (constraintsOf (z .n) (z .m) (padded ROWS-LEN xs))) (valueAt (constraintsOf (z .n) (z .m) xs)) (z .m)
+  pub constraints-agree : Agree (valueAt (constraintsOf (z .n) (z .m) (padded ROWS-LEN xs)))
+      (valueAt (constraintsOf (z .n) (z .m) xs)) (z .m)
   constraints-agree i h =
       at-padded ROWS-LEN xs (0 + i) (omega (arith, mul-le-mul-left {m = 1} {n = z .n + 1} (z .m + z .s) (omega arith)))
 
-  pub sum-agrees : Agree (valueAt (sumOf (z .n) (z .m) (z .s) (padded ROWS-LEN xs))) (valueAt (sumOf (z .n) (z .m) (z .s) xs)) (z .s)
+  pub sum-agrees : Agree (valueAt (sumOf (z .n) (z .m) (z .s) (padded ROWS-LEN xs)))
+      (valueAt (sumOf (z .n) (z .m) (z .s) xs)) (z .s)
   sum-agrees i h =
       at-padded ROWS-LEN xs (z .m * (z .n + 1) + i)
       (omega (arith, add-mul (z .m) (z .s) (z .n + 1), mul-le-mul-left {m = 1} {n = z .n + 1} (z .s) (omega arith)))
 
-  pub violation-padded : violationOf (constraintsOf (z .n) (z .m) (padded ROWS-LEN xs)) ≡ violationOf (constraintsOf (z .n) (z .m) xs)
+  pub violation-padded : violationOf (constraintsOf (z .n) (z .m) (padded ROWS-LEN xs))
+      ≡ violationOf (constraintsOf (z .n) (z .m) xs)
   unfolding violationOf
-  violation-padded = normOf-ext (valueAt (constraintsOf (z .n) (z .m) (padded ROWS-LEN xs))) (valueAt (constraintsOf (z .n) (z .m) xs)) (z .m) constraints-agree
+  violation-padded =
+      normOf-ext (valueAt (constraintsOf (z .n) (z .m) (padded ROWS-LEN xs)))
+      (valueAt (constraintsOf (z .n) (z .m) xs)) (z .m) constraints-agree
 
-  pub squared-padded : sumSquared (sumOf (z .n) (z .m) (z .s) (padded ROWS-LEN xs)) ≡ sumSquared (sumOf (z .n) (z .m) (z .s) xs)
+  pub squared-padded : sumSquared (sumOf (z .n) (z .m) (z .s) (padded ROWS-LEN xs))
+      ≡ sumSquared (sumOf (z .n) (z .m) (z .s) xs)
   unfolding squaredOf linearizedAt plusTo
   squared-padded =
       let d = sumOf (z .n) (z .m) (z .s) (padded ROWS-LEN xs) in
       let b = sumOf (z .n) (z .m) (z .s) xs in
-      let same : Agree (linearizedAt d (d .list) 0) (linearizedAt b (b .list) 0) (z .s) = λ i h. ap (λ (v : Scalar). addOf v zeroS) (sum-agrees i h) in
-      dotTo-ext (linearizedAt d (d .list) 0) (linearizedAt b (b .list) 0) (linearizedAt d (d .list) 0) (linearizedAt b (b .list) 0) (z .s) same same
+      let same : Agree (linearizedAt d (d .list) 0) (linearizedAt b (b .list) 0) (z .s) =
+      λ i h. ap (λ (v : Scalar). addOf v zeroS) (sum-agrees i h) in
+      dotTo-ext (linearizedAt d (d .list) 0) (linearizedAt b (b .list) 0) (linearizedAt d (d .list) 0)
+      (linearizedAt b (b .list) 0) (z .s) same same
 
-pub change-padded : (z : Sizes) (xs ys : List Float) → length xs ≡ rowNumbers (z .n) (z .m) (z .s) → length ys ≡ rowNumbers (z .n) (z .m) (z .s)
-    → sumChange (sumOf (z .n) (z .m) (z .s) (padded ROWS-LEN xs)) (sumOf (z .n) (z .m) (z .s) (padded ROWS-LEN ys)) ≡ sumChange (sumOf (z .n) (z .m) (z .s) xs) (sumOf (z .n) (z .m) (z .s) ys)
+pub change-padded : (z : Sizes) (xs ys : List Float) → length xs ≡ rowNumbers (z .n) (z .m) (z .s)
+    → length ys ≡ rowNumbers (z .n) (z .m) (z .s)
+    → sumChange (sumOf (z .n) (z .m) (z .s) (padded ROWS-LEN xs))
+    (sumOf (z .n) (z .m) (z .s) (padded ROWS-LEN ys))
+    ≡ sumChange (sumOf (z .n) (z .m) (z .s) xs) (sumOf (z .n) (z .m) (z .s) ys)
 unfolding sumChange
 change-padded z xs ys p q =
     let d = valueAt (sumOf (z .n) (z .m) (z .s) (padded ROWS-LEN xs)) in
     let d′ = valueAt (sumOf (z .n) (z .m) (z .s) (padded ROWS-LEN ys)) in
     let b = valueAt (sumOf (z .n) (z .m) (z .s) xs) in
     let b′ = valueAt (sumOf (z .n) (z .m) (z .s) ys) in
-    dotTo-ext (λ i. subOf (d i) (d′ i)) (λ i. subOf (b i) (b′ i)) (λ i. addOf (d i) (d′ i)) (λ i. addOf (b i) (b′ i)) (z .s)
+    dotTo-ext (λ i. subOf (d i) (d′ i)) (λ i. subOf (b i) (b′ i)) (λ i. addOf (d i) (d′ i))
+    (λ i. addOf (b i) (b′ i)) (z .s)
     (λ i h. ap₂ subOf (sum-agrees z xs p i h) (sum-agrees z ys q i h))
     (λ i h. ap₂ addOf (sum-agrees z xs p i h) (sum-agrees z ys q i h))

@@ -1,4 +1,5 @@
--- What the checks tell: the bounds of a run that passes number 4's test, and a reply where its checks refuse it and where they accept it.
+-- What the checks tell: the bounds of a run that passes number 4's test, and a reply where its checks refuse it and
+-- where they accept it.
 use Prim.Native.Nat.{ℕ, _+_, _*_, _<_, _≤_}
 use mathlib.Core.Bool.{Bool, true, false, _&&_}
 use mathlib.Core.List.{List, [], _∷_}
@@ -69,13 +70,15 @@ module _ (st : State) where
   not-positive kind.Trial e = sym (and-false (ltb (st .counts .iterations) (st .sizes .limit)) e)
   not-positive kind.Correction e = sym (and-false (ltb (st .counts .iterations) (st .sizes .limit)) e)
 
-  pub past-start : (k : Kind) → OneOf (1 ∷ (2 ∷ [])) (tagOf the-kind k) → isPositive (st .search .mu) ≡ true → ltb (st .counts .iterations) (st .sizes .limit) ≡ phaseFits st (Open k)
+  pub past-start : (k : Kind) → OneOf (1 ∷ (2 ∷ [])) (tagOf the-kind k) → isPositive (st .search .mu) ≡ true
+      → ltb (st .counts .iterations) (st .sizes .limit) ≡ phaseFits st (Open k)
   past-start kind.Start o e = absurd (⊎-elim (λ i. omega (arith, i)) (λ i. omega (arith, i)) o)
   past-start kind.Trial o e = sym (and-true (ltb (st .counts .iterations) (st .sizes .limit)) e)
   past-start kind.Correction o e = sym (and-true (ltb (st .counts .iterations) (st .sizes .limit)) e)
 
   -- where the sizes and the counts fit, the phase decides
-  pub phase-decides : {r : Bool} → sizesFit (st .sizes) ≡ true → countsFit st ≡ true → r ≡ phaseFits st (st .phase) → r ≡ valid st
+  pub phase-decides : {r : Bool} → sizesFit (st .sizes) ≡ true → countsFit st ≡ true
+      → r ≡ phaseFits st (st .phase) → r ≡ valid st
   unfolding valid
   phase-decides a b e = rw (a, b) e
 
@@ -114,7 +117,8 @@ module _ (st : State) where
   pub open-mu : (k : Kind) → valid st ≡ true → st .phase ≡ Open k → isPositive (st .search .mu) ≡ true
   open-mu k v e = mu-in k (ap (phaseFits st) (sym e) ∙ bounds st v .phase)
 
-  below : ltb (st .counts .iterations) (st .sizes .limit) && isPositive (st .search .mu) ≡ true → st .counts .iterations < st .sizes .limit
+  below : ltb (st .counts .iterations) (st .sizes .limit) && isPositive (st .search .mu) ≡ true
+      → st .counts .iterations < st .sizes .limit
   below e = ltb-true _ _ (both (ltb (st .counts .iterations) (st .sizes .limit)) _ e .0)
 
   -- and with a trial or a correction open iterations are below the limit
@@ -144,7 +148,8 @@ refuse-accept : {A : Type 0} {j : ℕ} {k : Kind} → Refuse j ≡ Accept k → 
 refuse-accept e = let z : _≡_ {A = ℕ} 0 1 = cc in absurd (omega arith)
 
 -- a check that is passed
-passed : (b : Bool) (next : Checked) (j : ℕ) {k : Kind} → pick b next (Refuse j) ≡ Accept k → (b ≡ true) × (next ≡ Accept k)
+passed : (b : Bool) (next : Checked) (j : ℕ) {k : Kind} → pick b next (Refuse j) ≡ Accept k
+    → (b ≡ true) × (next ≡ Accept k)
 passed true next j e = (refl, e)
 passed false next j e = refuse-accept e
 
@@ -161,7 +166,8 @@ pub record Accepted (st : State) (area : ℕ) (k : Kind) : Type 0 where
 module _ (st : State) (area : ℕ) (k : Kind) where
   open-accepted : (p : Phase) → checkOpen area p ≡ Accept k → (p ≡ Open k) × (area ≡ AREA)
   open-accepted Over x = refuse-accept x
-  open-accepted (Open j) x = let b = passed (eqb area AREA) (Accept j) 2 x in (ap Open (ap kindIn (b .1)), eqb-true _ _ (b .0))
+  open-accepted (Open j) x =
+      let b = passed (eqb area AREA) (Accept j) 2 x in (ap Open (ap kindIn (b .1)), eqb-true _ _ (b .0))
 
   pub accepted : checkOf st area ≡ Accept k → Accepted st area k
   unfolding checkOf
@@ -180,7 +186,8 @@ pub record AcceptedRows (st : State) (area : ℕ) (rows : List Float) (k : Kind)
   pub inside : allInDomain rows ((st .sizes .m + st .sizes .s) * (st .sizes .n + 1)) ≡ true
 
 module _ (st : State) (area : ℕ) (rows : List Float) (k : Kind) where
-  then-accepted : (d : Checked) → checkOf st area ≡ d → thenRows (st .sizes) rows d ≡ Accept k → AcceptedRows st area rows k
+  then-accepted : (d : Checked) → checkOf st area ≡ d → thenRows (st .sizes) rows d ≡ Accept k
+      → AcceptedRows st area rows k
   then-accepted (Refuse j) h x = refuse-accept x
   then-accepted (Accept j) h x =
       let b = passed (eqb (length rows) (rowNumbers (st .sizes .n) (st .sizes .m) (st .sizes .s))) _ 2 x in
@@ -202,7 +209,9 @@ module _ (st : State) (a : List Float) where
   unfolding replyNoneOf checkOf
   none-checked = first (valid st)
     where
-      area-checked : (k : Kind) (b : Bool) → checks b 2 (unchanged st a) (inArea (answeredNone k st (memoryOf st a))) ≡ afterNone (pick b (Accept k) (Refuse 2))
+      area-checked : (k : Kind) (b : Bool)
+          → checks b 2 (unchanged st a) (inArea (answeredNone k st (memoryOf st a)))
+          ≡ afterNone (pick b (Accept k) (Refuse 2))
       area-checked k true = refl
       area-checked k false = refl
 
@@ -210,14 +219,16 @@ module _ (st : State) (a : List Float) where
       opened Over = refl
       opened (Open k) = area-checked k (eqb (length a) AREA)
 
-      first : (b : Bool) → checks b 4 (unchanged st a) (noneOpen st a (st .phase)) ≡ afterNone (pick b (checkOpen (length a) (st .phase)) (Refuse 4))
+      first : (b : Bool) → checks b 4 (unchanged st a) (noneOpen st a (st .phase))
+          ≡ afterNone (pick b (checkOpen (length a) (st .phase)) (Refuse 4))
       first true = opened (st .phase)
       first false = refl
 
   pub none-refused : (k : ℕ) → checkOf st (length a) ≡ Refuse k → replyNoneOf st a ≡ unchanged st a k
   none-refused k e = none-checked ∙ ap afterNone e
 
-  pub none-accepted : (k : Kind) → checkOf st (length a) ≡ Accept k → replyNoneOf st a ≡ inArea (answeredNone k st (memoryOf st a))
+  pub none-accepted : (k : Kind) → checkOf st (length a) ≡ Accept k
+      → replyNoneOf st a ≡ inArea (answeredNone k st (memoryOf st a))
   none-accepted k e = none-checked ∙ ap afterNone e
 
 module _ (st : State) (a rows : List Float) where
@@ -229,20 +240,29 @@ module _ (st : State) (a rows : List Float) where
   unfolding replyOf checkOf checkRowsOf
   rows-checked = first (valid st)
     where
-      inside : (k : Kind) (d : Bool) → checks d 3 (unchanged st a) (inArea (answered k st (memoryOf st a) rows)) ≡ afterRows (pick d (Accept k) (Refuse 3))
+      inside : (k : Kind) (d : Bool)
+          → checks d 3 (unchanged st a) (inArea (answered k st (memoryOf st a) rows))
+          ≡ afterRows (pick d (Accept k) (Refuse 3))
       inside k true = refl
       inside k false = refl
 
-      full : (k : Kind) (c d : Bool) → checks c 2 (unchanged st a) (checks d 3 (unchanged st a) (inArea (answered k st (memoryOf st a) rows))) ≡ afterRows (pick c (pick d (Accept k) (Refuse 3)) (Refuse 2))
+      full : (k : Kind) (c d : Bool)
+          → checks c 2 (unchanged st a)
+          (checks d 3 (unchanged st a) (inArea (answered k st (memoryOf st a) rows)))
+          ≡ afterRows (pick c (pick d (Accept k) (Refuse 3)) (Refuse 2))
       full k true d = inside k d
       full k false d = refl
 
-      whole : (k : Kind) (b c d : Bool) (r : Checked) → afterRows r ≡ checks c 2 (unchanged st a) (checks d 3 (unchanged st a) (inArea (answered k st (memoryOf st a) rows)))
-          → checks (b && c) 2 (unchanged st a) (checks d 3 (unchanged st a) (inArea (answered k st (memoryOf st a) rows))) ≡ afterRows (pick b r (Refuse 2))
+      whole : (k : Kind) (b c d : Bool) (r : Checked)
+          → afterRows r ≡ checks c 2 (unchanged st a)
+          (checks d 3 (unchanged st a) (inArea (answered k st (memoryOf st a) rows)))
+          → checks (b && c) 2 (unchanged st a)
+          (checks d 3 (unchanged st a) (inArea (answered k st (memoryOf st a) rows))) ≡ afterRows (pick b r (Refuse 2))
       whole k true c d r e = sym e
       whole k false c d r e = refl
 
-      open-is : (k : Kind) (b : Bool) → thenRows (st .sizes) rows (pick b (Accept k) (Refuse 2)) ≡ pick b (rowsCheck (st .sizes) rows k) (Refuse 2)
+      open-is : (k : Kind) (b : Bool)
+          → thenRows (st .sizes) rows (pick b (Accept k) (Refuse 2)) ≡ pick b (rowsCheck (st .sizes) rows k) (Refuse 2)
       open-is k true = refl
       open-is k false = refl
 
@@ -255,12 +275,14 @@ module _ (st : State) (a rows : List Float) where
           whole k (eqb (length a) AREA) c d (rowsCheck z rows k) (sym (full k c d))
           ∙ ap afterRows (sym (open-is k (eqb (length a) AREA)))
 
-      first : (b : Bool) → checks b 4 (unchanged st a) (replyOpen st a rows (st .phase)) ≡ afterRows (thenRows (st .sizes) rows (pick b (checkOpen (length a) (st .phase)) (Refuse 4)))
+      first : (b : Bool) → checks b 4 (unchanged st a) (replyOpen st a rows (st .phase))
+          ≡ afterRows (thenRows (st .sizes) rows (pick b (checkOpen (length a) (st .phase)) (Refuse 4)))
       first true = opened (st .phase)
       first false = refl
 
   pub rows-refused : (k : ℕ) → checkRowsOf st (length a) rows ≡ Refuse k → replyOf st a rows ≡ unchanged st a k
   rows-refused k e = rows-checked ∙ ap afterRows e
 
-  pub rows-accepted : (k : Kind) → checkRowsOf st (length a) rows ≡ Accept k → replyOf st a rows ≡ inArea (answered k st (memoryOf st a) rows)
+  pub rows-accepted : (k : Kind) → checkRowsOf st (length a) rows ≡ Accept k
+      → replyOf st a rows ≡ inArea (answered k st (memoryOf st a) rows)
   rows-accepted k e = rows-checked ∙ ap afterRows e

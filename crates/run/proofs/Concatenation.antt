@@ -13,8 +13,10 @@ use Rattle.run.proofs.AreaLaws.{written-twice, length-clear}
 use Rattle.run.proofs.EndingLaws.{written-all}
 
 -- one more list, right behind those that are written
-pub behind : (d s t : List Float) (at : ℕ) {a b : List Float} → a ≡ written d 0 s → at ≡ length s → length s + length t ≤ length d → b ≡ written a at t → b ≡ written d 0 (s ++ t)
-behind d s t at e l h f = f ∙ ap (λ (x : List Float). written x at t) e ∙ written-twice d s t 0 at (omega (arith, l)) (omega (arith, h))
+pub behind : (d s t : List Float) (at : ℕ) {a b : List Float} → a ≡ written d 0 s → at ≡ length s
+    → length s + length t ≤ length d → b ≡ written a at t → b ≡ written d 0 (s ++ t)
+behind d s t at e l h f =
+    f ∙ ap (λ (x : List Float). written x at t) e ∙ written-twice d s t 0 at (omega (arith, l)) (omega (arith, h))
 
 pub length-both : (s t : List Float) {n m : ℕ} → length s ≡ n → length t ≡ m → length (s ++ t) ≡ n + m
 length-both s t e f = length-append s t ∙ rw (e, f)
@@ -23,11 +25,14 @@ take-whole : (s : List Float) {n : ℕ} → length s ≡ n → take n s ≡ s
 take-whole s e = rw e at (take-length s)
 
 -- a part that is lent and comes back leaves the length
-pub length-lent : (a s : List Float) (base count : ℕ) → length s ≡ count → base + count ≤ length a → length (take base a ++ (s ++ drop count (drop base a))) ≡ length a
+pub length-lent : (a s : List Float) (base count : ℕ) → length s ≡ count → base + count ≤ length a
+    → length (take base a ++ (s ++ drop count (drop base a))) ≡ length a
 length-lent a s base count e h =
     let l : length (take base a) ≡ base = length-take-le base a (omega arith) in
-    let m : length (drop count (drop base a)) ≡ length a - base - count = length-drop count (drop base a) ∙ ap (λ (n : ℕ). n - count) (length-drop base a) in
-    length-append (take base a) (s ++ drop count (drop base a)) ∙ omega (arith, l, m, e, h, length-append s (drop count (drop base a)))
+    let m : length (drop count (drop base a)) ≡ length a - base - count =
+    length-drop count (drop base a) ∙ ap (λ (n : ℕ). n - count) (length-drop base a) in
+    length-append (take base a) (s ++ drop count (drop base a))
+    ∙ omega (arith, l, m, e, h, length-append s (drop count (drop base a)))
 
 -- three lists in one of 336, and four in one of 888
 module _ (a u d g : List Float) (lu : length u ≡ 288) (ld : length d ≡ 24) (lg : length g ≡ 24) where
@@ -42,7 +47,9 @@ module _ (a u d g : List Float) (lu : length u ≡ 288) (ld : length d ≡ 24) (
     second-of-three = rw after-first (take-at d g 24 ld)
 
     pub third-of-three : take 24 (drop 312 a) ≡ g
-    third-of-three = let s : drop 312 a ≡ g = sym (drop-drop 24 288 a) ∙ ap (drop 24) after-first ∙ drop-at d g 24 ld in rw s (take-whole g lg)
+    third-of-three =
+        let s : drop 312 a ≡ g = sym (drop-drop 24 288 a) ∙ ap (drop 24) after-first ∙ drop-at d g 24 ld in
+        rw s (take-whole g lg)
 
 module _ (a q c d : List Float) (lq : length q ≡ 288) (lc : length c ≡ 288) (ld : length d ≡ 24) where
   three-long : length ((q ++ c) ++ d) ≡ 600
@@ -67,8 +74,10 @@ module _ (a q c d : List Float) (lq : length q ≡ 288) (lc : length c ≡ 288) 
         let r : drop 600 (zeros 888) ≡ zeros 288 = ap (drop 600) (sym both) ∙ part in
         rw (w, drop-at s (drop 600 a) 600 three-long, e, r) (take-whole (zeros 288) (length-clear 288))
 
-module _ (a q c d z : List Float) (lq : length q ≡ 288) (lc : length c ≡ 288) (ld : length d ≡ 24) (lz : length z ≡ 288) where
-  pub four-written : {a₁ a₂ a₃ a₄ : List Float} → length a ≡ 888 → a₁ ≡ written a 0 q → a₂ ≡ written a₁ 288 c → a₃ ≡ written a₂ 576 d → a₄ ≡ written a₃ 600 z → a₄ ≡ q ++ (c ++ (d ++ z))
+module _ (a q c d z : List Float) (lq : length q ≡ 288) (lc : length c ≡ 288) (ld : length d ≡ 24)
+    (lz : length z ≡ 288) where
+  pub four-written : {a₁ a₂ a₃ a₄ : List Float} → length a ≡ 888 → a₁ ≡ written a 0 q → a₂ ≡ written a₁ 288 c
+      → a₃ ≡ written a₂ 576 d → a₄ ≡ written a₃ 600 z → a₄ ≡ q ++ (c ++ (d ++ z))
   four-written la e₁ e₂ e₃ e₄ =
       let l₃ : length ((q ++ c) ++ d) ≡ 600 = three-long a q c d lq lc ld in
       let l₄ : length (((q ++ c) ++ d) ++ z) ≡ 888 = length-both ((q ++ c) ++ d) z l₃ lz in
@@ -95,4 +104,6 @@ module _ (a q c d z : List Float) (lq : length q ≡ 288) (lc : length c ≡ 288
     third-of-four = rw behind-second (take-at d z 24 ld)
 
     pub fourth-of-four : take 288 (drop 600 a) ≡ z
-    fourth-of-four = let s : drop 600 a ≡ z = sym (drop-drop 24 576 a) ∙ ap (drop 24) behind-second ∙ drop-at d z 24 ld in rw s (take-whole z lz)
+    fourth-of-four =
+        let s : drop 600 a ≡ z = sym (drop-drop 24 576 a) ∙ ap (drop 24) behind-second ∙ drop-at d z 24 ld in
+        rw s (take-whole z lz)

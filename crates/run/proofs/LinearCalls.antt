@@ -1,4 +1,5 @@
--- Calls of linear with counts up to 24 and slices of the right lengths: the checks pass, so how a call ended, with what it wrote, is the result.
+-- Calls of linear with counts up to 24 and slices of the right lengths: the checks pass, so how a call ended, with what
+-- it wrote, is the result.
 use Prim.Native.Nat.{ℕ, _*_, _≤_}
 use mathlib.Core.Bool.{Bool}
 use mathlib.Core.Path.{_≡_, ap}
@@ -20,33 +21,45 @@ use Rattle.linear.specs.Calls.{blank, sharpReply, choleskyReply, solveReply, le
 use Rattle.linear.proofs.Replied.{done-is}
 
 module _ (r : Done) where
-  pub sharp-result : (n : ℕ) (v out x : List Float) → n ≤ 24 → length v ≡ 2 * n → length out ≡ 2 * n → replied r x ≡ sharpReply n v out → doneOf r x ≡ ok (sharpOf v n)
+  pub sharp-result : (n : ℕ) (v out x : List Float) → n ≤ 24 → length v ≡ 2 * n → length out ≡ 2 * n
+      → replied r x ≡ sharpReply n v out → doneOf r x ≡ ok (sharpOf v n)
   unfolding sharpReply
   sharp-result n v out x h p q e = done-is r x (zeros (2 * n)) _ (rw (le-leb _ _ h, eq-eqb _ _ p, eq-eqb _ _ q) at e)
 
   -- it never refuses
-  pub sharp-written : (n : ℕ) (v out x : List Float) → n ≤ 24 → length v ≡ 2 * n → length out ≡ 2 * n → replied r x ≡ sharpReply n v out → x ≡ sharpOf v n
+  pub sharp-written : (n : ℕ) (v out x : List Float) → n ≤ 24 → length v ≡ 2 * n → length out ≡ 2 * n
+      → replied r x ≡ sharpReply n v out → x ≡ sharpOf v n
   unfolding sharpReply
   sharp-written n v out x h p q e =
-      let w : replied r x ≡ replyOf (zeros (2 * n)) (ok (sharpOf v n)) = rw (le-leb _ _ h, eq-eqb _ _ p, eq-eqb _ _ q) at e in
+      let w : replied r x ≡ replyOf (zeros (2 * n)) (ok (sharpOf v n)) =
+      rw (le-leb _ _ h, eq-eqb _ _ p, eq-eqb _ _ q) at e in
       ap (λ (y : Reply (List Float)). y .out) w
 
-  pub cholesky-result : (n : ℕ) (a : List Float) (f x : Factor) → n ≤ 24 → length a ≡ 2 * (n * n) → length (f .l) ≡ 2 * (n * n) → length (f .left-out) ≡ n → replied r x ≡ choleskyReply n a f → doneOf r x ≡ choleskyOf n a
+  pub cholesky-result : (n : ℕ) (a : List Float) (f x : Factor) → n ≤ 24 → length a ≡ 2 * (n * n)
+      → length (f .l) ≡ 2 * (n * n) → length (f .left-out) ≡ n → replied r x ≡ choleskyReply n a f
+      → doneOf r x ≡ choleskyOf n a
   unfolding choleskyReply
-  cholesky-result n a f x h p q s e = done-is r x (blank n) _ (rw (le-leb _ _ h, eq-eqb _ _ p, eq-eqb _ _ q, eq-eqb _ _ s) at e)
+  cholesky-result n a f x h p q s e =
+      done-is r x (blank n) _ (rw (le-leb _ _ h, eq-eqb _ _ p, eq-eqb _ _ q, eq-eqb _ _ s) at e)
 
   pub solve-result : (n : ℕ) (l : List Float) (left : List Bool) (b y x : List Float)
-      → n ≤ 24 → length l ≡ 2 * (n * n) → length left ≡ n → length b ≡ 2 * n → length y ≡ 2 * n → replied r x ≡ solveReply n l left b y → doneOf r x ≡ solveOf n l left b
+      → n ≤ 24 → length l ≡ 2 * (n * n) → length left ≡ n → length b ≡ 2 * n → length y ≡ 2 * n
+      → replied r x ≡ solveReply n l left b y → doneOf r x ≡ solveOf n l left b
   unfolding solveReply
-  solve-result n l left b y x h p q s t e = done-is r x (zeros (2 * n)) _ (rw (le-leb _ _ h, eq-eqb _ _ p, eq-eqb _ _ q, eq-eqb _ _ s, eq-eqb _ _ t) at e)
+  solve-result n l left b y x h p q s t e =
+      done-is r x (zeros (2 * n)) _ (rw (le-leb _ _ h, eq-eqb _ _ p, eq-eqb _ _ q, eq-eqb _ _ s, eq-eqb _ _ t) at e)
 
   pub least-squares-result : (m k : ℕ) (rows rhs y x : List Float)
-      → m ≤ 24 → k ≤ 24 → length rows ≡ 2 * (m * k) → length rhs ≡ 2 * m → length y ≡ 2 * k → replied r x ≡ leastSquaresReply m k rows rhs y → doneOf r x ≡ leastSquaresOf m k rows rhs
+      → m ≤ 24 → k ≤ 24 → length rows ≡ 2 * (m * k) → length rhs ≡ 2 * m → length y ≡ 2 * k
+      → replied r x ≡ leastSquaresReply m k rows rhs y → doneOf r x ≡ leastSquaresOf m k rows rhs
   unfolding leastSquaresReply
-  least-squares-result m k rows rhs y x h i p q s e = done-is r x (zeros (2 * k)) _ (rw (le-leb _ _ h, le-leb _ _ i, eq-eqb _ _ p, eq-eqb _ _ q, eq-eqb _ _ s) at e)
+  least-squares-result m k rows rhs y x h i p q s e =
+      done-is r x (zeros (2 * k)) _ (rw (le-leb _ _ h, le-leb _ _ i, eq-eqb _ _ p, eq-eqb _ _ q, eq-eqb _ _ s) at e)
 
   pub minus-solved-result : (m n : ℕ) (jc rhs from y x : List Float)
       → m ≤ 24 → n ≤ 24 → length jc ≡ 2 * (m * n) → length rhs ≡ 2 * m → length from ≡ 2 * n → length y ≡ 2 * n
       → replied r x ≡ minusSolvedReply m n jc rhs from y → doneOf r x ≡ minusSolvedOf m n jc rhs from
   unfolding minusSolvedReply
-  minus-solved-result m n jc rhs from y x h i p q s t e = done-is r x (zeros (2 * n)) _ (rw (le-leb _ _ h, le-leb _ _ i, eq-eqb _ _ p, eq-eqb _ _ q, eq-eqb _ _ s, eq-eqb _ _ t) at e)
+  minus-solved-result m n jc rhs from y x h i p q s t e =
+      done-is r x (zeros (2 * n)) _
+      (rw (le-leb _ _ h, le-leb _ _ i, eq-eqb _ _ p, eq-eqb _ _ q, eq-eqb _ _ s, eq-eqb _ _ t) at e)

@@ -47,7 +47,8 @@ as-weights e = rw e
 
 -- the weights from a factor that was found; left′ is the front of the array of its marks
 module _ (t : ℕ) (a rhs : List Float) (f : Factor) {r : Done} {left′ : List Bool} {marked : Bool}
-    (h : r ≡ done.Finished) (ef : doneOf r f ≡ choleskyOf t a) (size : length (f .left-out) ≡ t) (kept : left′ ≡ f .left-out) (em : marked ≡ anyTo (λ i. getD left′ i false) (length left′)) where
+    (h : r ≡ done.Finished) (ef : doneOf r f ≡ choleskyOf t a) (size : length (f .left-out) ≡ t)
+    (kept : left′ ≡ f .left-out) (em : marked ≡ anyTo (λ i. getD left′ i false) (length left′)) where
   marks : marked ≡ anyTo (λ i. getD (f .left-out) i false) t
   marks = rw (kept, size) at em
 
@@ -69,13 +70,16 @@ module _ (t : ℕ) (a rhs : List Float) (f : Factor) {r : Done} {left′ : List 
     weights-refused k = rw (← factored, ← marks, e, ← es, k)
 
 -- the weights where the factor is refused
-pub unfactored : (t : ℕ) (a rhs : List Float) {r : Done} (f : Factor) {n : LinearError} → r ≡ done.Refused n → doneOf r f ≡ choleskyOf t a → refused (numberOf n) ≡ solvedWith t a rhs
+pub unfactored : (t : ℕ) (a rhs : List Float) {r : Done} (f : Factor) {n : LinearError} → r ≡ done.Refused n
+    → doneOf r f ≡ choleskyOf t a → refused (numberOf n) ≡ solvedWith t a rhs
 unfolding solvedWith bind
 unfactored t a rhs f h e = rw (← e, h)
 
 -- a solve of which l′ and left′ are the fronts of the arrays that the factor was written to
-pub solve-fronts : (r : Done) (n : ℕ) (l : List Float) (left : List Bool) (b y x : List Float) {l′ : List Float} {left′ : List Bool}
-    → n ≤ 24 → length l ≡ 2 * (n * n) → length left ≡ n → length b ≡ 2 * n → length y ≡ 2 * n → l′ ≡ l → left′ ≡ left → replied r x ≡ solveReply n l′ left′ b y → doneOf r x ≡ solveOf n l left b
+pub solve-fronts : (r : Done) (n : ℕ) (l : List Float) (left : List Bool) (b y x : List Float)
+    {l′ : List Float} {left′ : List Bool}
+    → n ≤ 24 → length l ≡ 2 * (n * n) → length left ≡ n → length b ≡ 2 * n → length y ≡ 2 * n → l′ ≡ l
+    → left′ ≡ left → replied r x ≡ solveReply n l′ left′ b y → doneOf r x ≡ solveOf n l left b
 solve-fronts r n l left b y x h ll lf lb ly kl kf e = solve-result r n l left b y x h ll lf lb ly (rw (kl, kf) at e)
 
 -- the weights for a reduced matrix, from its lower triangle
@@ -94,7 +98,8 @@ module _ (k count : ℕ) (h z : List Float) where
       → a ≡ listTo (λ p. lowerAt k z hz (p / count) (p % count)) (count * count)
       → rhs ≡ listTo (λ t. chooseOf (negOf (dotTo (row z t) (at force) k))) count
       → a′ ≡ a → r ≡ solvedWith count a′ rhs
-      → r ≡ solvedWith count (reducedOf (curved k h vector) (spanned count z)) (againstOf (curved k h vector) (spanned count z) force)
+      → r ≡ solvedWith count (reducedOf (curved k h vector) (spanned count z))
+      (againstOf (curved k h vector) (spanned count z) force)
   unfolding reducedOf againstOf
   weighed-front force {hz} {a} {a′} {rhs} eh ea eb ka er =
       er ∙ rw (ka, ea) (lower-solved k count z hz rhs ∙ rw (eh, eb))
@@ -102,13 +107,17 @@ module _ (k count : ℕ) (h z : List Float) where
   -- the step from the weights
   pub parted : (g delta : List Float) {f : List Float} {x : Res Weights}
       → f ≡ forceOf (curved k h g) delta
-      → x ≡ solvedWith count (reducedOf (curved k h vector) (spanned count z)) (againstOf (curved k h vector) (spanned count z) f)
-      → bind x (λ w. ok (addedTo (curved k h g) delta (spanned count z) w)) ≡ freePart (curved k h g) delta (spanned count z)
+      → x ≡ solvedWith count (reducedOf (curved k h vector) (spanned count z))
+      (againstOf (curved k h vector) (spanned count z) f)
+      → bind x (λ w. ok (addedTo (curved k h g) delta (spanned count z) w))
+      ≡ freePart (curved k h g) delta (spanned count z)
   unfolding freePart reducedOf againstOf
   parted g delta ef ex = rw (ex, ef)
 
 -- an end that is not the first variant: no weights, so no part along Z, whatever the slice holds
-pub unparted : (end : WeightsEnd) (w delta : List Float) (P : Problem) (d : Directions) → OneOf (1 ∷ (2 ∷ [])) (tagOf the-type end) → alongOf end delta ≡ bind (alongOf end w) (λ u. ok (addedTo P delta d u))
+pub unparted : (end : WeightsEnd) (w delta : List Float) (P : Problem) (d : Directions)
+    → OneOf (1 ∷ (2 ∷ [])) (tagOf the-type end)
+    → alongOf end delta ≡ bind (alongOf end w) (λ u. ok (addedTo P delta d u))
 unfolding bind
 unparted a.Found w delta P d k = absurd (⊎-elim (λ e. omega (arith, e)) (λ e. omega (arith, e)) k)
 unparted a.NotPositive w delta P d k = refl
@@ -117,7 +126,8 @@ unparted (a.Refused e) w delta P d k = refl
 -- the weights, added: w′ is the front of the array that they were written to
 pub parted-with : (k count : ℕ) (h z g delta : List Float) {f w w′ delta′ : List Float} {end : WeightsEnd}
     → f ≡ forceOf (curved k h g) delta
-    → alongOf end w ≡ solvedWith count (reducedOf (curved k h vector) (spanned count z)) (againstOf (curved k h vector) (spanned count z) f)
+    → alongOf end w ≡ solvedWith count (reducedOf (curved k h vector) (spanned count z))
+    (againstOf (curved k h vector) (spanned count z) f)
     → end ≡ a.Found → w′ ≡ w → delta′ ≡ combinedTo k w′ z delta count
     → alongOf end delta′ ≡ freePart (curved k h g) delta (spanned count z)
 unfolding bind

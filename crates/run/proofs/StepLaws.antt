@@ -21,24 +21,22 @@ use Rattle.run.specs.Rows.{Evaluation}
 use Rattle.run.specs.Problem.{Kept, keptTo, Problem, problemOf}
 use Rattle.run.specs.program.Problem.{problemIn, dampedBy, dampedFrom, gradientIn}
 use Rattle.run.specs.Basis.{Basis, basisOf, correctionOf, multiplierStep, multipliersOf}
-use Rattle.run.specs.program.Basis.{basisBy, problemBy, rankedOf}
-use Rattle.run.specs.declared.basis.Rank.{Rank}
-use Rattle.run.specs.declared.basis.Rank.the-variants as rank
+use Rattle.run.specs.program.Basis.{basisBy, problemBy, rankedOf, bare, withoutGram}
+use Rattle.run.specs.declared.results.CountResult.{CountResult}
+use Rattle.run.specs.declared.results.CountResult.the-variants as count
 use Rattle.run.specs.declared.step.StepEnd.{StepEnd}
 use Rattle.run.specs.declared.step.StepEnd.the-variants as end
 use Rattle.run.specs.declared.step.Prepared.{Prepared}
 use Rattle.run.specs.declared.step.Prepared.the-variants as prepared
-use Rattle.run.specs.declared.null_space.Found.{Found}
-use Rattle.run.specs.declared.null_space.Found.the-variants as found
 use Rattle.run.specs.NullSpace.{Directions, directionsOf}
 use Rattle.run.specs.program.NullSpace.{spanOf, foundOf}
 use Rattle.run.specs.Step.{Stepped, notPositive, steppedBy, alongZ, freeStep, keptStep, spreadStep, stepOf}
 use Rattle.run.specs.Reduced.{forceOf, pullOf, reducedOf, againstOf, Weights, weights, none, weightsOf}
 use Rattle.run.specs.program.Reduced.{curved, spanned, solvedWith, addedTo, freePart}
 use Rattle.run.specs.program.Step.{withMultipliers, endOf, spreadEnd, basisFor, stepFromCorrection, stepFromBasis}
-use Rattle.run.specs.program.Step.{testedStep, rankOf, Few, readyOf, readyStep, stepFromFactors, dampedStep}
+use Rattle.run.specs.program.Step.{testedStep, Few, readyOf, readyStep, stepFromFactors, dampedStep}
 use Rattle.run.specs.program.Step.{preparedStep}
-use Rattle.run.proofs.BasisLaws.{basis-reads, rank-small}
+use Rattle.run.proofs.BasisLaws.{basis-reads}
 use Rattle.run.proofs.NullSpaceLaws.{directions-few}
 use Rattle.run.proofs.VectorLaws.{at-rows-behind, at-clear, all-behind}
 use Rattle.run.proofs.Concatenation.{first-of-four, second-of-four, third-of-four, fourth-of-four}
@@ -142,15 +140,13 @@ module _ (P : Problem) where
   plain = problemIn (P .k) (P .m) (P .c) [] [] (P .h) (P .g)
 
   module _ (b : Basis) where
-    abbrev bare : Basis
-    bare = basisBy (b .rank) (b .q) [] (b .coefficients) (b .dependent) (b .order)
-
-    all-read : (x : Res (List Float)) → bind x (λ delta. stepFromCorrection plain bare delta) ≡ bind x (λ delta. stepFromCorrection P b delta)
+    all-read : (x : Res (List Float))
+        → bind x (λ delta. stepFromCorrection plain (bare b) delta) ≡ bind x (λ delta. stepFromCorrection P b delta)
     unfolding bind
-    all-read (ok delta) = sym (corrected-read plain bare delta) ∙ corrected-read P b delta
+    all-read (ok delta) = sym (corrected-read plain (bare b) delta) ∙ corrected-read P b delta
     all-read (refused e) = refl
 
-    based-read : stepFromBasis plain bare ≡ stepFromBasis P b
+    based-read : stepFromBasis plain (bare b) ≡ stepFromBasis P b
     unfolding stepFromBasis correctionOf
     based-read = all-read (correctionOf P b)
 
@@ -158,27 +154,32 @@ module _ (P : Problem) where
   unfolding keptStep stepFromBasis stepFromCorrection
   kept-by = refl
 
-  module _ (q gram coefficients dependent : List Float) (order : List ℕ) where
-    each-based : (x : Rank) → bind (rankedOf x q [] coefficients dependent order) (stepFromBasis plain) ≡ bind (rankedOf x q gram coefficients dependent order) (λ b. stepFromBasis P b)
+  each-based : (x : Res Basis) → bind (withoutGram x) (stepFromBasis plain) ≡ bind x (λ b. stepFromBasis P b)
+  unfolding bind
+  each-based (ok b) = based-read b
+  each-based (refused e) = refl
+
+  module _ (q coefficients dependent : List Float) (order : List ℕ) (x : CountResult)
+      (e
+      : rankedOf x q [] coefficients dependent order
+      ≡ withoutGram (basisOf (problemBy (P .k) (P .m) (λ _. zeroS) (P .wide) (P .jc)))) where
+    kept-based : {y : Res Stepped}
+        → y ≡ bind (rankedOf x q [] coefficients dependent order) (stepFromBasis plain) → y ≡ keptStep P
+    kept-based ey =
+        ey
+        ∙ ap (λ z. bind z (stepFromBasis plain)) e
+        ∙ each-based (basisOf (problemBy (P .k) (P .m) (λ _. zeroS) (P .wide) (P .jc)))
+        ∙ ap (λ z. bind z (λ b. stepFromBasis P b)) (basis-reads P)
+        ∙ sym kept-by
+
+    pub kept-on : {r : ℕ} {y : Res Stepped} → x ≡ count.Value r
+        → y ≡ stepFromBasis plain (basisBy r q [] coefficients dependent order) → y ≡ keptStep P
     unfolding bind
-    each-based (rank.Of r) = based-read (basisBy r q gram coefficients dependent order)
-    each-based (rank.Refused e) = refl
+    kept-on ex ey = kept-based (rw ex ey)
 
-    module _ (x : Rank) (e : rankedOf x q gram coefficients dependent order ≡ basisOf (problemBy (P .k) (P .m) (λ _. zeroS) (P .wide) (P .jc))) where
-      kept-based : {y : Res Stepped} → y ≡ bind (rankedOf x q [] coefficients dependent order) (stepFromBasis plain) → y ≡ keptStep P
-      kept-based ey = ey ∙ each-based x ∙ ap (λ z. bind z (λ b. stepFromBasis P b)) (e ∙ basis-reads P) ∙ sym kept-by
-
-      pub kept-on : {r : ℕ} {y : Res Stepped} → x ≡ rank.Of r → y ≡ stepFromBasis plain (basisBy r q [] coefficients dependent order) → y ≡ keptStep P
-      unfolding bind
-      kept-on ex ey = kept-based (rw ex ey)
-
-      pub kept-refused : {o : LinearError} → x ≡ rank.Refused o → refused (numberOf o) ≡ keptStep P
-      unfolding bind
-      kept-refused ex = kept-based (rw ex)
-
-pub rank-bound : (P : Problem) (q gram coefficients dependent : List Float) (order : List ℕ) (x : Rank) → rankedOf x q gram coefficients dependent order ≡ basisOf P → rankOf x ≤ P .m
-rank-bound P q gram coefficients dependent order (rank.Of r) e = rank-small P (sym e)
-rank-bound P q gram coefficients dependent order (rank.Refused x) e = omega arith
+    pub kept-refused : {o : LinearError} → x ≡ count.Refused o → refused (numberOf o) ≡ keptStep P
+    unfolding bind
+    kept-refused ex = kept-based (rw ex)
 
 -- ---- what no damping changes
 
@@ -190,15 +191,15 @@ framed-is x P order frame q c delta z lq lc ld lz e =
 
 -- the step from it, as the correction and the directions ended
 module _ (P : Problem) (b : Basis) (delta z : List Float) where
-  ready-is : (d : Done) (f : Found) → doneOf d delta ≡ correctionOf P b
+  ready-is : (d : Done) (f : CountResult) → doneOf d delta ≡ correctionOf P b
       → foundOf f z ≡ spanOf (directionsOf (P .k) (b .rank) (b .q))
       → readyStep (readyOf d f (b .rank)) (curved (P .k) (P .h) (P .g)) (b .q) (b .coefficients) (b .order) delta z ≡ stepFromBasis P b
   unfolding bind
-  ready-is done.Finished (found.Of count) ec ef = based-on P b ec (corrected-by P b delta ef)
-  ready-is done.Finished (found.Refused e) ec ef = based-on P b ec (corrected-by P b delta ef)
+  ready-is done.Finished (count.Value free) ec ef = based-on P b ec (corrected-by P b delta ef)
+  ready-is done.Finished (count.Refused e) ec ef = based-on P b ec (corrected-by P b delta ef)
   ready-is (done.Refused e) f ec ef = based-refused P b ec
 
-  pub ready-framed : {x : Prepared} (frame : List Float) (d : Done) (f : Found) → length (b .q) ≡ 288 → length (b .coefficients) ≡ 288 → length delta ≡ 24 → length z ≡ 288 → frame ≡ b .q ++ (b .coefficients ++ (delta ++ z))
+  pub ready-framed : {x : Prepared} (frame : List Float) (d : Done) (f : CountResult) → length (b .q) ≡ 288 → length (b .coefficients) ≡ 288 → length delta ≡ 24 → length z ≡ 288 → frame ≡ b .q ++ (b .coefficients ++ (delta ++ z))
       → x ≡ readyOf d f (b .rank) → doneOf d delta ≡ correctionOf P b → foundOf f z ≡ spanOf (directionsOf (P .k) (b .rank) (b .q)) → stepFromFactors x (curved (P .k) (P .h) (P .g)) (b .order) frame ≡ stepFromBasis P b
   ready-framed {x} frame d f lq lc ld lz e ex ec ef =
       framed-is x (curved (P .k) (P .h) (P .g)) (b .order) frame (b .q) (b .coefficients) delta z lq lc ld lz e
@@ -207,12 +208,12 @@ module _ (P : Problem) (b : Basis) (delta z : List Float) where
 
 -- at most twelve of each
 module _ (k r : ℕ) (q z : List Float) (hk : k ≤ 12) (hr : r ≤ 12) where
-  few-found : (d : Done) (f : Found) → foundOf f z ≡ spanOf (directionsOf k r q) → Few (readyOf d f r)
-  few-found done.Finished (found.Of count) e = record { independent = hr; free = omega (arith, directions-few k r q e, hk) }
-  few-found done.Finished (found.Refused o) e = record { independent = omega arith; free = omega arith }
+  few-found : (d : Done) (f : CountResult) → foundOf f z ≡ spanOf (directionsOf k r q) → Few (readyOf d f r)
+  few-found done.Finished (count.Value free) e = record { independent = hr; free = omega (arith, directions-few k r q e, hk) }
+  few-found done.Finished (count.Refused o) e = record { independent = omega arith; free = omega arith }
   few-found (done.Refused o) f e = record { independent = omega arith; free = omega arith }
 
-  pub ready-few : {x : Prepared} (d : Done) (f : Found)
+  pub ready-few : {x : Prepared} (d : Done) (f : CountResult)
       → x ≡ readyOf d f r → foundOf f z ≡ spanOf (directionsOf k r q) → Few x
   ready-few d f ex e = rw ex (few-found d f e)
 

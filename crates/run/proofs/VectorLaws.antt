@@ -1,4 +1,5 @@
--- What a loop that fills places of a list leaves: one place more, what other places hold, and its first scalars as a list. And loops that ask all or any.
+-- What a loop that fills places of a list leaves: one place more, what other places hold, and its first scalars as a
+-- list. And loops that ask all or any.
 use Prim.Native.Nat.{ℕ, zero, suc, _+_, _*_, _-_, _<_, _≤_}
 use mathlib.Core.Bool.{Bool, true, false, and-true}
 use mathlib.Core.Logic.{⊎-elim, _≢_}
@@ -36,7 +37,8 @@ module _ (xs : List Float) (base : ℕ) (f : ℕ → Scalar) where
   at-fill-in (suc k) i h l =
       ⊎-elim
       (λ e. rw e (at-put-same (fillTo xs base f k) (base + k) (f k) (omega (arith, length-fillTo k))))
-      (λ m. at-put-other (fillTo xs base f k) (base + k) (base + i) (f k) (λ e. omega arith) ∙ at-fill-in k i m (omega arith))
+      (λ m. at-put-other (fillTo xs base f k) (base + k) (base + i) (f k) (λ e. omega arith)
+      ∙ at-fill-in k i m (omega arith))
       (eq-or-lt-of-le (le-of-suc-le-suc h))
 
   pub fill-ext : (g : ℕ → Scalar) (k : ℕ) → Agree f g k → fillTo xs base f k ≡ fillTo xs base g k
@@ -58,7 +60,8 @@ module _ (xs : List Float) (f : ℕ → Scalar) where
   fill-none = refl
 
   -- one turn of a loop that stores f 0, f 1, .. from the start on
-  pub fill-first : {s : List Float} {v : Scalar} (i : ℕ) → s ≡ fillTo xs 0 f i → v ≡ f i → put s i v ≡ fillTo xs 0 f (i + 1)
+  pub fill-first : {s : List Float} {v : Scalar} (i : ℕ) → s ≡ fillTo xs 0 f i → v ≡ f i
+      → put s i v ≡ fillTo xs 0 f (i + 1)
   fill-first i es ev = let m : 0 + i ≡ i = omega arith in rw m at (fill-turn xs 0 f i es ev)
 
   -- the place that is filled next is as it was
@@ -92,16 +95,25 @@ at-take xs m i h l =
     let k′ : 2 * i + 1 < length xs = omega arith in
     let h₀ : 2 * i < 2 * m = omega arith in
     let h₁ : 2 * i + 1 < 2 * m = omega arith in
-    rw (at-inside (take (2 * m) xs) i (lt-ltb _ _ k), at-inside xs i (lt-ltb _ _ k′), getD-take (2 * m) xs (2 * i) nan h₀, getD-take (2 * m) xs (2 * i + 1) nan h₁)
+    rw (
+      at-inside (take (2 * m) xs) i (lt-ltb _ _ k),
+      at-inside xs i (lt-ltb _ _ k′),
+      getD-take (2 * m) xs (2 * i) nan h₀,
+      getD-take (2 * m) xs (2 * i + 1) nan h₁,
+    )
 
-pub norm-part : (xs : List Float) (m : ℕ) → m ≤ 24 → 2 * m ≤ length xs → normReply m (take (2 * m) xs) ≡ normOf (at xs) m
+pub norm-part : (xs : List Float) (m : ℕ) → m ≤ 24 → 2 * m ≤ length xs
+    → normReply m (take (2 * m) xs) ≡ normOf (at xs) m
 unfolding normReply
-norm-part xs m h l = rw (le-leb m 24 h, eq-eqb _ _ (length-take-le (2 * m) xs l)) (normOf-ext (at (take (2 * m) xs)) (at xs) m (λ i k. at-take xs m i k l))
+norm-part xs m h l =
+    rw (le-leb m 24 h, eq-eqb _ _ (length-take-le (2 * m) xs l))
+    (normOf-ext (at (take (2 * m) xs)) (at xs) m (λ i k. at-take xs m i k l))
 
 pub prefix-list : (xs : List Float) (m : ℕ) → 2 * m ≤ length xs → take (2 * m) xs ≡ listTo (at xs) m
 prefix-list xs m l = is-listTo (at xs) m (take (2 * m) xs) (length-take-le (2 * m) xs l) (λ i h. at-take xs m i h l)
 
-pub fill-rows-turn : (xs : List Float) (f : ℕ → ℕ → Scalar) (k i : ℕ) {s : List Float} → s ≡ fillRows xs f k i → fillTo s (12 * i) (f i) k ≡ fillRows xs f k (i + 1)
+pub fill-rows-turn : (xs : List Float) (f : ℕ → ℕ → Scalar) (k i : ℕ) {s : List Float} → s ≡ fillRows xs f k i
+    → fillTo s (12 * i) (f i) k ≡ fillRows xs f k (i + 1)
 unfolding fillRows
 fill-rows-turn xs f k i es = rw (es, add-one)
 
@@ -110,11 +122,13 @@ unfolding fillRows
 length-fillRows xs f k zero = refl
 length-fillRows xs f k (suc i) = length-fillTo (fillRows xs f k i) (12 * i) (f i) k ∙ length-fillRows xs f k i
 
-pub fill-rows-ext : (xs : List Float) (f g : ℕ → ℕ → Scalar) (k i : ℕ) → ((t j : ℕ) → t < i → j < k → f t j ≡ g t j) → fillRows xs f k i ≡ fillRows xs g k i
+pub fill-rows-ext : (xs : List Float) (f g : ℕ → ℕ → Scalar) (k i : ℕ)
+    → ((t j : ℕ) → t < i → j < k → f t j ≡ g t j) → fillRows xs f k i ≡ fillRows xs g k i
 unfolding fillRows
 fill-rows-ext xs f g k zero h = refl
 fill-rows-ext xs f g k (suc i) h =
-    rw (fill-rows-ext xs f g k i (λ t j l. h t j (omega arith))) (fill-ext (fillRows xs g k i) (12 * i) (f i) (g i) k (λ j l. h i j (lt-suc-self i) l))
+    rw (fill-rows-ext xs f g k i (λ t j l. h t j (omega arith)))
+    (fill-ext (fillRows xs g k i) (12 * i) (f i) (g i) k (λ j l. h i j (lt-suc-self i) l))
 
 -- one behind them
 pub at-rows-behind : (xs : List Float) (f : ℕ → ℕ → Scalar) (k r p : ℕ) → k ≤ 12 → 12 * r ≤ p →
@@ -136,13 +150,15 @@ at-clear n i h =
     )
 
 -- an entry of the first rows
-pub at-fill-rows : (xs : List Float) (f : ℕ → ℕ → Scalar) (k r i j : ℕ) → k ≤ 12 → i < r → j < k → 24 * r ≤ length xs → at (fillRows xs f k r) (12 * i + j) ≡ f i j
+pub at-fill-rows : (xs : List Float) (f : ℕ → ℕ → Scalar) (k r i j : ℕ) → k ≤ 12 → i < r → j < k
+    → 24 * r ≤ length xs → at (fillRows xs f k r) (12 * i + j) ≡ f i j
 unfolding fillRows
 at-fill-rows xs f k zero i j hk hi hj l = absurd (not-suc-le-zero hi)
 at-fill-rows xs f k (suc r) i j hk hi hj l =
     ⊎-elim
     (λ e. rw e (at-fill-in (fillRows xs f k r) (12 * r) (f r) k j hj (omega (arith, length-fillRows xs f k r))))
-    (λ m. at-fill-other (fillRows xs f k r) (12 * r) (f r) k (12 * i + j) (λ t h e. omega arith) ∙ at-fill-rows xs f k r i j hk m hj (omega arith))
+    (λ m. at-fill-other (fillRows xs f k r) (12 * r) (f r) k (12 * i + j) (λ t h e. omega arith)
+    ∙ at-fill-rows xs f k r i j hk m hj (omega arith))
     (eq-or-lt-of-le (le-of-suc-le-suc hi))
 
 -- where what is stored goes through g: so does what is read at a place p of which that holds at the start

@@ -225,7 +225,8 @@ withTaken w curvature filter = record {
 }
 
 abbrev pub SIZES : List ℕ
-SIZES = POINT-LEN ∷ (POINT-LEN ∷ (POINT-LEN ∷ (ROWS-LEN ∷ (ROWS-LEN ∷ (POINT-LEN ∷ (POINT-LEN ∷ (CURVATURE-LEN ∷ (FILTER-LEN ∷ []))))))))
+SIZES =
+    POINT-LEN ∷ POINT-LEN ∷ POINT-LEN ∷ ROWS-LEN ∷ ROWS-LEN ∷ POINT-LEN ∷ POINT-LEN ∷ CURVATURE-LEN ∷ FILTER-LEN ∷ []
 
 -- how many numbers of each slot are in use
 abbrev pub usedIn : State → List ℕ

@@ -1,4 +1,5 @@
--- An orthonormal basis Q of the constraints' rows, by modified Gram-Schmidt, and each row's coefficients in it. Whether a row is independent of those before it is asked of the unsharpened rows.
+-- An orthonormal basis Q of the constraints' rows, by modified Gram-Schmidt, and each row's coefficients in it. Whether
+-- a row is independent of those before it is asked of the unsharpened rows.
 use Prim.Native.Nat.{ℕ, _*_, _/_, _%_, _+_, zero, suc, _-_}
 use mathlib.Core.Bool.{false}
 use mathlib.Core.List.{List}
@@ -19,8 +20,9 @@ use Rattle.run.specs.Problem.{Problem}
 use Rattle.run.specs.Vectors.{matrix, entry, row, column, minusScaled, vector, fillTo, unitAt, combinedTo}
 use Rattle.run.specs.Vectors.{spreadTo}
 
--- of the rows so far: `rank` vectors in q, the factor of their Gram matrix, the coefficients of the rows they came from, those of the other rows; order has from place 0 on which rows came into
--- the basis, and from place 12 on which did not
+-- of the rows so far: `rank` vectors in q, the factor of their Gram matrix, the coefficients of the rows they came
+-- from, those of the other rows; order has from place 0 on which rows came into the basis, and from place 12 on which
+-- did not
 pub record Basis : Type 0 where
   pub rank : ℕ
   pub q : List Float
@@ -30,7 +32,8 @@ pub record Basis : Type 0 where
   pub order : List ℕ
 
 abbrev pub noRows : Basis
-noRows = record { rank = 0; q = matrix; gram = matrix; coefficients = matrix; dependent = matrix; order = replicate 24 0 }
+noRows =
+    record { rank = 0; q = matrix; gram = matrix; coefficients = matrix; dependent = matrix; order = replicate 24 0 }
 
 -- the first r rows and columns of a matrix, packed
 abbrev pub packed : ℕ → List Float → List Float
@@ -64,23 +67,37 @@ partsOut k r q t (suc j) = partOut k r q (partsOut k r q t j) j
 
 -- row r of the Gram factor: its entry j, from those before it, and its diagonal
 unfoldable pub gramStep : ℕ → ℕ → List Float → List Float → ℕ → Res (List Float)
-gramStep k r q gram j = storeR gram (12 * r + j) (divOf (minusTo (row gram r) (row gram j) (dotTo (row q r) (row q j) k) j) (entry gram j j))
+gramStep k r q gram j =
+    storeR gram (12 * r + j)
+    (divOf (minusTo (row gram r) (row gram j) (dotTo (row q r) (row q j) k) j) (entry gram j j))
 
 unfoldable pub gramRow : ℕ → ℕ → List Float → List Float → Res (List Float)
 unfolding bind foldR
-gramRow k r q gram = bind (foldR (gramStep k r q) gram r) (λ g. storeR g (12 * r + r) (sqrtOf (minusTo (row g r) (row g r) (dotTo (row q r) (row q r) k) r)))
+gramRow k r q gram =
+    bind (foldR (gramStep k r q) gram r)
+    (λ g. storeR g (12 * r + r) (sqrtOf (minusTo (row g r) (row g r) (dotTo (row q r) (row q r) k) r)))
 
 -- row i as the newest vector
 unfoldable pub extended : Problem → Basis → ℕ → Res Basis
 unfolding bind
 extended P b i =
     let r = b .rank in
-    let t = partsOut (P .k) r (b .q) (record { v = fillTo vector 0 (row (P .jc) i) (P .k); coefficients = b .coefficients }) r in
+    let t =
+    partsOut (P .k) r (b .q)
+    (record { v = fillTo vector 0 (row (P .jc) i) (P .k); coefficients = b .coefficients }) r in
     bind (normOf (at (t .v)) (P .k))
     (λ l.
     let q = fillTo (b .q) (12 * r) (unitAt (along (t .v) 0 1) (sharpen l)) (P .k) in
     bind (gramRow (P .k) r q (b .gram))
-    (λ gram. ok (record { rank = r + 1; q = q; gram = gram; coefficients = put (t .coefficients) (12 * r + r) (sharpen l); dependent = b .dependent; order = set (b .order) r i })))
+    (λ gram. ok
+    (record {
+      rank = r + 1;
+      q = q;
+      gram = gram;
+      coefficients = put (t .coefficients) (12 * r + r) (sharpen l);
+      dependent = b .dependent;
+      order = set (b .order) r i;
+    })))
 
 -- a row that says nothing new: its coefficients a, chosen
 abbrev pub withDependent : Basis → ℕ → List Float → Basis
@@ -97,7 +114,10 @@ withDependent b i a =
 
 unfoldable pub rowStep : Problem → Basis → ℕ → Res Basis
 unfolding bind
-rowStep P b i = bind (coefficientsIn P b i) (λ a. bind (normOf (outsideAt P b i a) (P .k)) (λ l. pick (definitelyGreater l zeroS) (extended P b i) (ok (withDependent b i a))))
+rowStep P b i =
+    bind (coefficientsIn P b i)
+    (λ a. bind (normOf (outsideAt P b i a) (P .k))
+    (λ l. pick (definitelyGreater l zeroS) (extended P b i) (ok (withDependent b i a))))
 
 unfoldable pub basisOf : Problem → Res Basis
 unfolding foldR
@@ -127,9 +147,12 @@ unfoldable pub multiplierStep : ℕ → Basis → List Float → List Float → 
 unfolding bind
 multiplierStep k b pull byRow u =
     let t = b .rank - 1 - u in
-    bind (divOf (minusTo (along (b .coefficients) (12 * (t + 1) + t) 12) (along byRow (t + 1) 1) (dotTo (row (b .q) t) (at pull) k) u) (entry (b .coefficients) t t))
+    bind (divOf
+    (minusTo (along (b .coefficients) (12 * (t + 1) + t) 12) (along byRow (t + 1) 1)
+    (dotTo (row (b .q) t) (at pull) k) u) (entry (b .coefficients) t t))
     (λ v. ok (put byRow t (chooseOf v)))
 
 unfoldable pub multipliersOf : ℕ → Basis → List Float → Res (List Float)
 unfolding bind foldR
-multipliersOf k b pull = bind (foldR (multiplierStep k b pull) vector (b .rank)) (λ byRow. ok (spreadTo (b .order) byRow (b .rank)))
+multipliersOf k b pull =
+    bind (foldR (multiplierStep k b pull) vector (b .rank)) (λ byRow. ok (spreadTo (b .order) byRow (b .rank)))

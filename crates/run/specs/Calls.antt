@@ -1,4 +1,5 @@
--- The calls of a run, whole: begin, reply with rows, reply none, and point. The checks go in the order of document 01's table.
+-- The calls of a run, whole: begin, reply with rows, reply none, and point. The checks go in the order of document 01's
+-- table.
 use Prim.Native.Nat.{ℕ, _*_, _+_}
 use mathlib.Core.Bool.{Bool, false, true, _&&_, _||_}
 use mathlib.Core.List.{List, []}
@@ -67,11 +68,20 @@ beginOf z start max a =
     checks (sizesFit z) 1 back
     (checks (eqb (length start) (2 * z .n) && eqb (length a) AREA) 2 back
     (checks (allInDomain start (z .n) && stepFits max) 3 back
-    (record { state = stateWith z firstMu max (Open kind.Start); event = event.Question 0 kind.Start 0; area = areaOf (begunMemory start) })))
+    (record {
+      state = stateWith z firstMu max (Open kind.Start);
+      event = event.Question 0 kind.Start 0;
+      area = areaOf (begunMemory start);
+    })))
 
 -- begun: the first question
 abbrev pub begunOf : Sizes → List Float → Scalar → AfterCall
-begunOf z start max = record { state = stateWith z firstMu max (Open kind.Start); event = event.Question 0 kind.Start 0; area = areaOf (begunMemory start) }
+begunOf z start max =
+    record {
+      state = stateWith z firstMu max (Open kind.Start);
+      event = event.Question 0 kind.Start 0;
+      area = areaOf (begunMemory start);
+    }
 
 -- a begin that is accepted asks question 0, which is the start's
 abbrev pub Accepted : AfterCall → Type 0
@@ -85,7 +95,8 @@ replyOpen st a rows (Open k) =
     let z = st .sizes in
     let count = rowNumbers (z .n) (z .m) (z .s) in
     checks (eqb (length a) AREA && eqb (length rows) count) 2 (unchanged st a)
-    (checks (allInDomain rows ((z .m + z .s) * (z .n + 1))) 3 (unchanged st a) (inArea (answered k st (memoryOf st a) rows)))
+    (checks (allInDomain rows ((z .m + z .s) * (z .n + 1))) 3 (unchanged st a)
+    (inArea (answered k st (memoryOf st a) rows)))
 
 unfoldable pub replyOf : State → List Float → List Float → AfterCall
 replyOf st a rows = checks (valid st) 4 (unchanged st a) (replyOpen st a rows (st .phase))

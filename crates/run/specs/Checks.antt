@@ -8,7 +8,8 @@ use Rattle.interval.specs.Scalar.{zeroS, definitelyGreater}
 use Rattle.interval.specs.Scaling.{isPositive}
 use Rattle.interval.specs.declared.Scalar.{Scalar}
 use Rattle.linear.specs.Flat.{at}
-use Rattle.run.specs.Limits.{VARIABLES, CONSTRAINTS, SUM-ROWS, ITERATIONS, TURN-DOWNS, QUESTIONS, CORRECTIONS, MOST}
+use Rattle.run.specs.Limits.{VARIABLES, CONSTRAINTS, SUM-ROWS, ITERATIONS, TURN-DOWNS, QUESTIONS, CORRECTIONS}
+use Rattle.run.specs.Limits.{MOST}
 use Rattle.run.specs.Vectors.{allTo}
 use Rattle.run.specs.declared.state.Kind.the-variants as kind
 use Rattle.run.specs.declared.state.Phase.{Phase}

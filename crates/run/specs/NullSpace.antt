@@ -1,4 +1,5 @@
--- Z, an orthonormal basis of what the constraints leave free: the unit directions with what is left of them after Q, taken one at a time by the longest remainder.
+-- Z, an orthonormal basis of what the constraints leave free: the unit directions with what is left of them after Q,
+-- taken one at a time by the longest remainder.
 use Prim.Native.Nat.{ℕ, _*_, zero, suc, _+_, _-_}
 use mathlib.Core.List.{List}
 use lib.Ieee.{Float}
@@ -33,10 +34,13 @@ withoutTo k z t left (suc p) = partOff k z t (withoutTo k z t left p) p
 abbrev pub squareOf : ℕ → List Float → ℕ → Scalar
 squareOf k left p = dotTo (row left p) (row left p) k
 
--- the longest of the remainders 0 to p: the choice changes only for one that is definitely longer than the choice so far
+-- the longest of the remainders 0 to p: the choice changes only for one that is definitely longer than the choice so
+-- far
 unfoldable pub longestTo : ℕ → List Float → ℕ → ℕ
 longestTo k left zero = 0
-longestTo k left (suc p) = let best = longestTo k left p in pick (definitelyGreater (squareOf k left (suc p)) (squareOf k left best)) (suc p) best
+longestTo k left (suc p) =
+    let best = longestTo k left p in
+    pick (definitelyGreater (squareOf k left (suc p)) (squareOf k left best)) (suc p) best
 
 pub record Directions : Type 0 where
   pub count : ℕ
@@ -55,7 +59,8 @@ takeLongest k d =
     bind (sqrtOf (squareOf k (d .left) best))
     (λ l.
     let z = fillTo (d .z) (12 * d .count) (unitAt (row (d .left) best) (sharpen l)) k in
-    ok (pick (definitelyGreater (sharpen l) zeroS) (more (record { count = d .count + 1; z = z; left = withoutTo k z (d .count) (d .left) k })) enough))
+    ok (pick (definitelyGreater (sharpen l) zeroS)
+    (more (record { count = d .count + 1; z = z; left = withoutTo k z (d .count) (d .left) k })) enough))
 
 abbrev pub goOn : (Directions → Res Directions) → Directions → More → Res Directions
 goOn on d (more d′) = on d′

@@ -45,4 +45,6 @@ pub data Weights : Type 0 where
 
 unfoldable pub weightsOf : ℕ → Factor → List Float → Res Weights
 unfolding bind
-weightsOf t f rhs = pick (anyTo (λ i. getD (f .left-out) i false) t) (ok none) (bind (solveOf t (f .l) (f .left-out) rhs) (λ w. ok (weights (sharpOf w t))))
+weightsOf t f rhs =
+    pick (anyTo (λ i. getD (f .left-out) i false) t) (ok none)
+    (bind (solveOf t (f .l) (f .left-out) rhs) (λ w. ok (weights (sharpOf w t))))

@@ -15,3 +15,8 @@ truthOf (truth.Refused e) = refused (numberOf e)
 abbrev pub countOf : CountResult → Res ℕ
 countOf (count.Value n) = ok n
 countOf (count.Refused e) = refused (numberOf e)
+
+-- what follows from a value, where there is one
+abbrev pub mapR : {A B : Type 0} → (A → B) → Res A → Res B
+mapR f (ok a) = ok (f a)
+mapR f (refused e) = refused e

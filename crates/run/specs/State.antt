@@ -18,38 +18,117 @@ use Rattle.run.specs.declared.state.Sizes.{Sizes}
 use Rattle.run.specs.declared.state.State.{State}
 
 abbrev pub rejectedFor : Search → Rejection → Search
-rejectedFor x r = record { mu = x .mu; radius = x .radius; «turned_down» = x .«turned_down»; first = x .first; plain = x .plain; rejected = r }
+rejectedFor x r =
+    record {
+      mu = x .mu;
+      radius = x .radius;
+      «turned_down» = x .«turned_down»;
+      first = x .first;
+      plain = x .plain;
+      rejected = r;
+    }
 
 abbrev pub withRadius : Search → Scalar → Search
-withRadius x radius = record { mu = x .mu; radius = radius; «turned_down» = x .«turned_down»; first = x .first; plain = x .plain; rejected = x .rejected }
+withRadius x radius =
+    record {
+      mu = x .mu;
+      radius = radius;
+      «turned_down» = x .«turned_down»;
+      first = x .first;
+      plain = x .plain;
+      rejected = x .rejected;
+    }
 
 -- the retry without the curvature learned: a turn-down, first and mu kept
 abbrev pub retried : Search → Search
-retried x = record { mu = x .mu; radius = x .radius; «turned_down» = x .«turned_down» + 1; first = x .first; plain = true; rejected = x .rejected }
+retried x =
+    record {
+      mu = x .mu;
+      radius = x .radius;
+      «turned_down» = x .«turned_down» + 1;
+      first = x .first;
+      plain = true;
+      rejected = x .rejected;
+    }
 
 -- a new iteration's
 abbrev pub anew : Search → Scalar → Scalar → Search
-anew x mu radius = record { mu = mu; radius = radius; «turned_down» = x .«turned_down»; first = true; plain = false; rejected = why.NoneYet }
+anew x mu radius =
+    record {
+      mu = mu;
+      radius = radius;
+      «turned_down» = x .«turned_down»;
+      first = true;
+      plain = false;
+      rejected = why.NoneYet;
+    }
 
 -- ---- the state, changed in one part
 
 abbrev pub searching : State → Search → State
-searching st x = record { sizes = st .sizes; counts = st .counts; search = x; trial = st .trial; «max_step» = st .«max_step»; last = st .last; phase = st .phase; moving = st .moving }
+searching st x =
+    record {
+      sizes = st .sizes;
+      counts = st .counts;
+      search = x;
+      trial = st .trial;
+      «max_step» = st .«max_step»;
+      last = st .last;
+      phase = st .phase;
+      moving = st .moving;
+    }
 
 abbrev pub counting : State → Counts → State
-counting st c = record { sizes = st .sizes; counts = c; search = st .search; trial = st .trial; «max_step» = st .«max_step»; last = st .last; phase = st .phase; moving = st .moving }
+counting st c =
+    record {
+      sizes = st .sizes;
+      counts = c;
+      search = st .search;
+      trial = st .trial;
+      «max_step» = st .«max_step»;
+      last = st .last;
+      phase = st .phase;
+      moving = st .moving;
+    }
 
 abbrev pub over : State → State
-over st = record { sizes = st .sizes; counts = st .counts; search = st .search; trial = st .trial; «max_step» = st .«max_step»; last = st .last; phase = Over; moving = st .moving }
+over st =
+    record {
+      sizes = st .sizes;
+      counts = st .counts;
+      search = st .search;
+      trial = st .trial;
+      «max_step» = st .«max_step»;
+      last = st .last;
+      phase = Over;
+      moving = st .moving;
+    }
 
 abbrev pub moves : State → List Bool → State
-moves st moving = record { sizes = st .sizes; counts = st .counts; search = st .search; trial = st .trial; «max_step» = st .«max_step»; last = st .last; phase = st .phase; moving = moving }
+moves st moving =
+    record {
+      sizes = st .sizes;
+      counts = st .counts;
+      search = st .search;
+      trial = st .trial;
+      «max_step» = st .«max_step»;
+      last = st .last;
+      phase = st .phase;
+      moving = moving;
+    }
 
 -- the next question, of that kind and after so many corrections
 abbrev pub asking : State → Kind → ℕ → State
 asking st k corrections = record {
   sizes = st .sizes;
-  counts = record { iterations = st .counts .iterations; question = st .counts .question + 1; standing = st .counts .standing; landed = st .counts .landed; corrections = corrections };
+  counts =
+      record {
+        iterations = st .counts .iterations;
+        question = st .counts .question + 1;
+        standing = st .counts .standing;
+        landed = st .counts .landed;
+        corrections = corrections;
+      };
   search = st .search;
   trial = st .trial;
   «max_step» = st .«max_step»;
@@ -61,7 +140,14 @@ asking st k corrections = record {
 -- the open question's point landed, after so many corrections
 abbrev pub landing : State → ℕ → State
 landing st corrections =
-    counting st (record { iterations = st .counts .iterations; question = st .counts .question; standing = st .counts .standing; landed = st .counts .question; corrections = corrections })
+    counting st
+    (record {
+      iterations = st .counts .iterations;
+      question = st .counts .question;
+      standing = st .counts .standing;
+      landed = st .counts .question;
+      corrections = corrections;
+    })
 
 -- a search left with a trial
 abbrev pub trying : State → Search → Trial → State
@@ -80,7 +166,14 @@ trying st x t = record {
 abbrev pub standingOn : State → Scalar → Scalar → Scalar → State
 standingOn st length mu radius = record {
   sizes = st .sizes;
-  counts = record { iterations = st .counts .iterations + 1; question = st .counts .question; standing = st .counts .landed; landed = st .counts .landed; corrections = st .counts .corrections };
+  counts =
+      record {
+        iterations = st .counts .iterations + 1;
+        question = st .counts .question;
+        standing = st .counts .landed;
+        landed = st .counts .landed;
+        corrections = st .counts .corrections;
+      };
   search = anew (st .search) mu radius;
   trial = st .trial;
   «max_step» = st .«max_step»;

@@ -1,5 +1,5 @@
--- Vectors of 12 scalars and matrices with rows of 12, as the definitions of a step use them, a point moved by a step, and
--- whether two points are told apart (geop's `Euclidean`).
+-- Vectors of 12 scalars and matrices with rows of 12, as the definitions of a step use them, a point moved by a step,
+-- and whether two points are told apart (geop's `Euclidean`).
 use Prim.Native.Nat.{ℕ, _*_, _+_, zero, suc}
 use mathlib.Core.Bool.{Bool, true, _&&_, false, _||_}
 use mathlib.Core.List.{List}
@@ -62,7 +62,8 @@ unitAt v length p = chooseOf (orZero (divOf (v p) length))
 -- d and the first rows of a matrix, each times its weight, chosen after each
 unfoldable pub combinedTo : ℕ → List Float → List Float → List Float → ℕ → List Float
 combinedTo k weights rows d zero = d
-combinedTo k weights rows d (suc t) = minusScaled (combinedTo k weights rows d t) 0 (negOf (at weights t)) rows (12 * t) k
+combinedTo k weights rows d (suc t) =
+    minusScaled (combinedTo k weights rows d t) 0 (negOf (at weights t)) rows (12 * t) k
 
 -- the first scalars of `from`, each at the place that the list names, into a vector
 unfoldable pub spreadTo : List ℕ → List Float → ℕ → List Float

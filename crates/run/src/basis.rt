@@ -16,11 +16,13 @@ ghost use Rattle.linear.specs.Norm.{normOf};
 ghost use Rattle.linear.specs.Results.{foldR, bind};
 ghost use Rattle.linear.specs.Substitution.{storeR, solveOf};
 ghost use Rattle.run.specs.Limits.{VARIABLES, CONSTRAINTS};
-ghost use Rattle.run.specs.Basis.{packed, partsOut, gramStep, gramRow, extended, Basis, rowStep, noRows};
+ghost use Rattle.run.specs.Basis.{packed, partsOut, gramStep, gramRow, extended, Basis, rowStep};
 ghost use Rattle.run.specs.Basis.{basisOf, coefficientAt, orderAt, correctionOf, multiplierStep, multipliersOf};
 ghost use Rattle.run.specs.Rows.{rowsIn, valueAt};
 ghost use Rattle.run.specs.Vectors.{entry, row, column, fillTo};
-ghost use Rattle.run.specs.program.Basis.{takenBy, basisBy, rankedOf, problemBy};
+ghost use Rattle.run.specs.program.Basis.{takenBy, basisBy, rankedOf, problemBy, withoutGram};
+ghost use Rattle.run.specs.program.Basis.{NextRow, FreshBasis, ForCorrection};
+use crate::results::CountResult;
 use crate::rows::RowSet;
 use crate::rows::value_of;
 use crate::vectors::combine;
@@ -41,10 +43,12 @@ use linear::put;
 use linear::row_dot;
 use linear::two_minus;
 
-// How many rows are in the basis, or the refusal met on the way.
-pub enum Rank {
-    Of(usize),
-    Refused(LinearError),
+// How many rows of the constraints there are, over how many variables, and how many of them are independent: of m rows
+// over k variables, r.
+pub struct Shape {
+    pub k: usize,
+    pub m: usize,
+    pub r: usize,
 }
 
 // The first coefficient behind Q.
@@ -215,15 +219,17 @@ fn row_of(k: usize, i: usize, jc: &[f64], v: &mut [f64])
 // ---- one row after the other
 
 // The rank, or the refusal of the newest vector's row of the Gram factor.
-fn ranked(d: Done, r: usize) -> Rank
-    ensures { λ x. ⌜ ((q gram coefficients dependent : List Float) (order : List ℕ) → rankedOf x q gram coefficients dependent order ≡ doneOf d (basisBy r q gram coefficients dependent order)) ⌝ }
+fn ranked(d: Done, r: usize) -> CountResult
+    ensures { λ x. ⌜ ((q gram coefficients dependent : List Float) (order : List ℕ)
+        → rankedOf x q gram coefficients dependent order
+        ≡ doneOf d (basisBy r q gram coefficients dependent order)) ⌝ }
 {
     match d {
         Done::Finished => {
-            return Rank::Of(r);
+            return CountResult::Value(r);
         }
         Done::Refused(e) => {
-            return Rank::Refused(e);
+            return CountResult::Refused(e);
         }
     }
 }
@@ -237,9 +243,12 @@ fn add_row(
     q: &mut [f64],
     gram: &mut [f64],
     coefficients: &mut [f64],
-) -> Rank
-    requires { ⌜ (k ≤ VARIABLES) × ((r ≤ i) × (i < 12)) ⌝ }
-    ensures { λ x. ⌜ ((w : List Float) (o : List ℕ) → rankedOf x (now (q .exit)) (now (gram .exit)) (now (coefficients .exit)) w (set o r i) ≡ extended (problemBy k 0 (λ _. zeroS) [] (now (jc .entry))) (basisBy r (now (q .entry)) (now (gram .entry)) (now (coefficients .entry)) w o) i) ⌝ }
+) -> CountResult
+    requires { ⌜ (k ≤ VARIABLES) × ((r ≤ i) × (i < CONSTRAINTS)) ⌝ }
+    ensures { λ x. ⌜ ((w : List Float) (o : List ℕ)
+        → rankedOf x (now (q .exit)) (now (gram .exit)) (now (coefficients .exit)) w (set o r i)
+        ≡ extended (problemBy k 0 (λ _. zeroS) [] (now (jc .entry)))
+        (basisBy r (now (q .entry)) (now (gram .entry)) (now (coefficients .entry)) w o) i) ⌝ }
 {
     let mut v = [0.0; 24];
     row_of(k, i, jc, &mut v);
@@ -252,7 +261,7 @@ fn add_row(
             return ranked(gram_row(k, r, q, gram), r + 1);
         }
         Answer::Refused(e) => {
-            return Rank::Refused(e);
+            return CountResult::Refused(e);
         }
     }
 }
@@ -292,11 +301,9 @@ fn measure(
     }
 }
 
-// Row i: into the basis, or its coefficients in it among those of the dependent rows.
+// The row behind the first m, row m: into the basis, or its coefficients in it among those of the dependent rows.
 fn next_row(
-    k: usize,
-    r: usize,
-    i: usize,
+    passed: Shape,
     wide: &[f64],
     jc: &[f64],
     q: &mut [f64],
@@ -304,10 +311,17 @@ fn next_row(
     coefficients: &mut [f64],
     dependent: &mut [f64],
     order: &mut [usize],
-) -> Rank
-    requires { ⌜ (k ≤ VARIABLES) × ((r ≤ i) × ((i < 12) × (length (now order) ≡ 24))) ⌝ }
-    ensures { λ x. ⌜ rankedOf x (now (q .exit)) (now (gram .exit)) (now (coefficients .exit)) (now (dependent .exit)) (now (order .exit)) ≡ rowStep (problemBy k 0 (λ _. zeroS) (now (wide .entry)) (now (jc .entry))) (basisBy r (now (q .entry)) (now (gram .entry)) (now (coefficients .entry)) (now (dependent .entry)) (now (order .entry))) i ⌝ }
+) -> CountResult
+    requires { ⌜ NextRow passed (length (now order)) ⌝ }
+    ensures { λ x. ⌜ rankedOf x (now (q .exit)) (now (gram .exit)) (now (coefficients .exit)) (now (dependent .exit))
+        (now (order .exit))
+        ≡ rowStep (problemBy (passed .k) 0 (λ _. zeroS) (now (wide .entry)) (now (jc .entry)))
+        (basisBy (passed .r) (now (q .entry)) (now (gram .entry)) (now (coefficients .entry))
+        (now (dependent .entry)) (now (order .entry))) (passed .m) ⌝ }
 {
+    let k = passed.k;
+    let i = passed.m;
+    let r = passed.r;
     let mut a = [0.0; 24];
     match measure(k, r, i, wide, q, gram, &mut a) {
         Answer::Value(l) => {
@@ -318,41 +332,52 @@ fn next_row(
             let d = i - r;
             order[12 + d] = i;
             chosen_at(r, &a, dependent, 12 * d);
-            return Rank::Of(r);
+            return CountResult::Value(r);
         }
         Answer::Refused(e) => {
-            return Rank::Refused(e);
+            return CountResult::Refused(e);
         }
     }
 }
 
-// The basis of m rows, from clear slices.
+// The basis of m rows, from clear slices. The Gram factor only serves the rows that follow, so no caller sees it.
 pub fn basis(
     k: usize,
     m: usize,
     wide: &[f64],
     jc: &[f64],
     q: &mut [f64],
-    gram: &mut [f64],
     coefficients: &mut [f64],
     dependent: &mut [f64],
     order: &mut [usize],
-) -> Rank
-    requires { ⌜ (k ≤ VARIABLES) × ((m ≤ CONSTRAINTS) × (basisBy 0 (now q) (now gram) (now coefficients) (now dependent) (now order) ≡ noRows)) ⌝ }
-    ensures { λ x. ⌜ rankedOf x (now (q .exit)) (now (gram .exit)) (now (coefficients .exit)) (now (dependent .exit)) (now (order .exit)) ≡ basisOf (problemBy k m (λ _. zeroS) (now (wide .entry)) (now (jc .entry))) ⌝ }
+) -> CountResult
+    requires { ⌜ FreshBasis k m (now q) (now coefficients) (now dependent) (now order) ⌝ }
+    ensures { λ x. ⌜ rankedOf x (now (q .exit)) [] (now (coefficients .exit)) (now (dependent .exit))
+        (now (order .exit))
+        ≡ withoutGram (basisOf (problemBy k m (λ _. zeroS) (now (wide .entry)) (now (jc .entry)))) ⌝ }
 {
+    let mut gram = [0.0; 288];
     let mut r = 0;
     for i in 0..m {
-        match next_row(k, r, i, wide, jc, q, gram, coefficients, dependent, order) {
-            Rank::Of(s) => {
+        match next_row(
+            Shape { k, m: i, r },
+            wide,
+            jc,
+            q,
+            &mut gram,
+            coefficients,
+            dependent,
+            order,
+        ) {
+            CountResult::Value(s) => {
                 r = s;
             }
-            Rank::Refused(e) => {
-                return Rank::Refused(e);
+            CountResult::Refused(e) => {
+                return CountResult::Refused(e);
             }
         }
     }
-    Rank::Of(r)
+    CountResult::Value(r)
 }
 
 // ---- the least-squares correction of every row
@@ -405,11 +430,10 @@ fn sides(m: usize, r: usize, order: &[usize], xs: &[f64], e: RowSet, rhs: &mut [
     }
 }
 
-// The least-squares correction of every row, for the constraint values in xs. Where it is refused, what delta holds has no meaning.
+// The least-squares correction of every row, for the constraint values in xs. Where it is refused, what delta holds has
+// no meaning.
 pub fn correction(
-    k: usize,
-    m: usize,
-    r: usize,
+    shape: Shape,
     q: &[f64],
     coefficients: &[f64],
     dependent: &[f64],
@@ -418,9 +442,15 @@ pub fn correction(
     e: RowSet,
     delta: &mut [f64],
 ) -> Done
-    requires { ⌜ (k ≤ VARIABLES) × ((m ≤ CONSTRAINTS) × ((r ≤ CONSTRAINTS) × ((length (now order) ≡ 24) × (length (now delta) ≡ 24)))) ⌝ }
-    ensures { λ d. ⌜ doneOf d (now (delta .exit)) ≡ correctionOf (problemBy k m (valueAt (rowsIn (now (xs .entry)) e)) [] []) (basisBy r (now (q .entry)) [] (now (coefficients .entry)) (now (dependent .entry)) (now (order .entry))) ⌝ }
+    requires { ⌜ ForCorrection shape (length (now order)) (length (now delta)) ⌝ }
+    ensures { λ d. ⌜ doneOf d (now (delta .exit))
+        ≡ correctionOf (problemBy (shape .k) (shape .m) (valueAt (rowsIn (now (xs .entry)) e)) [] [])
+        (basisBy (shape .r) (now (q .entry)) [] (now (coefficients .entry)) (now (dependent .entry))
+        (now (order .entry))) ⌝ }
 {
+    let k = shape.k;
+    let m = shape.m;
+    let r = shape.r;
     let s = 2 * (m * r);
     let u = 2 * m;
     let w = 2 * r;

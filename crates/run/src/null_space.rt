@@ -7,6 +7,7 @@ ghost use Rattle.run.specs.NullSpace.{partOff, leftAfter, remaindersTo, 
 ghost use Rattle.run.specs.NullSpace.{directionsOf};
 ghost use Rattle.run.specs.Vectors.{matrix};
 ghost use Rattle.run.specs.program.NullSpace.{longestIn, directionsIn, spanOf, nextOf, foundOf};
+use crate::results::CountResult;
 use crate::vectors::unit;
 use interval::Scalar;
 use interval::ScalarResult;
@@ -27,12 +28,6 @@ pub struct Remainder {
 pub enum Next {
     Taken,
     Enough,
-    Refused(LinearError),
-}
-
-// How many directions there are.
-pub enum Found {
-    Of(usize),
     Refused(LinearError),
 }
 
@@ -180,7 +175,13 @@ fn less(k: usize, r: usize) -> usize
 }
 
 // Z, from the first r rows of Q over k variables, into a clear matrix; `left` is scratch, clear too.
-pub fn free_directions(k: usize, r: usize, q: &[f64], z: &mut [f64], left: &mut [f64]) -> Found
+pub fn free_directions(
+    k: usize,
+    r: usize,
+    q: &[f64],
+    z: &mut [f64],
+    left: &mut [f64],
+) -> CountResult
     requires { ⌜ (k ≤ VARIABLES) × ((r ≤ CONSTRAINTS) × ((now z ≡ matrix) × (now left ≡ matrix))) ⌝ }
     ensures { λ d. ⌜ foundOf d (now (z .exit)) ≡ spanOf (directionsOf k r (now (q .entry))) ⌝ }
 {
@@ -190,12 +191,12 @@ pub fn free_directions(k: usize, r: usize, q: &[f64], z: &mut [f64], left: &mut 
         match take_longest(k, count, most, z, left) {
             Next::Taken => {}
             Next::Enough => {
-                return Found::Of(count);
+                return CountResult::Value(count);
             }
             Next::Refused(e) => {
-                return Found::Refused(e);
+                return CountResult::Refused(e);
             }
         }
     }
-    Found::Of(most)
+    CountResult::Value(most)
 }

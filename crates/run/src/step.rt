@@ -12,17 +12,16 @@ ghost use Rattle.run.specs.Reduced.{pullOf};
 ghost use Rattle.run.specs.Rows.{rowsIn, valueAt, evaluationOf};
 ghost use Rattle.run.specs.Step.{freeStep, keptStep, stepOf};
 ghost use Rattle.run.specs.Vectors.{vector, allFinite};
-ghost use Rattle.run.specs.program.Basis.{basisBy};
+ghost use Rattle.run.specs.program.Basis.{basisBy, ForPreparing};
 ghost use Rattle.run.specs.program.Problem.{problemIn};
 ghost use Rattle.run.specs.program.Reduced.{curved, spanned};
 ghost use Rattle.run.specs.program.Step.{endOf, withMultipliers, basisFor, readyOf, stepFromBasis, Few, stepFromFactors};
 ghost use Rattle.run.specs.program.Step.{PreparedFor, dampedStep, PreparedSizes, preparedStep};
 use crate::area::write;
-use crate::basis::Rank;
+use crate::basis::Shape;
 use crate::basis::basis;
 use crate::basis::correction;
 use crate::basis::multipliers;
-use crate::null_space::Found;
 use crate::null_space::free_directions;
 use crate::problem::damped;
 use crate::problem::keep;
@@ -30,6 +29,7 @@ use crate::problem::problem;
 use crate::reduced::WeightsEnd;
 use crate::reduced::free_part;
 use crate::reduced::pull;
+use crate::results::CountResult;
 use crate::rows::RowSet;
 use crate::rows::constraints;
 use crate::vectors::all_finite;
@@ -122,15 +122,15 @@ fn free_step(
 // ---- what no damping changes
 
 // What was prepared with r independent rows, or the first refusal.
-fn ready(end: Done, found: Found, r: usize) -> Prepared
+fn ready(end: Done, found: CountResult, r: usize) -> Prepared
     ensures { λ x. ⌜ x ≡ readyOf end found r ⌝ }
 {
     match end {
         Done::Finished => match found {
-            Found::Of(count) => {
+            CountResult::Value(count) => {
                 return Prepared::Ready(r, count);
             }
-            Found::Refused(e) => {
+            CountResult::Refused(e) => {
                 return Prepared::Refused(e);
             }
         },
@@ -143,9 +143,7 @@ fn ready(end: Done, found: Found, r: usize) -> Prepared
 // A frame, clear at first, from the basis on: Q, the coefficients, the correction and the free directions, one behind
 // the other.
 fn prepare_free(
-    k: usize,
-    m: usize,
-    r: usize,
+    shape: Shape,
     q: &[f64],
     coefficients: &[f64],
     dependent: &[f64],
@@ -154,16 +152,19 @@ fn prepare_free(
     c: RowSet,
     frame: &mut [f64],
 ) -> Prepared
-    requires { ⌜ (k ≤ VARIABLES) × ((m ≤ CONSTRAINTS) × ((r ≤ CONSTRAINTS) × ((length (now q) ≡ 288) × ((length (now coefficients) ≡ 288) × ((length (now order) ≡ 24) × (now frame ≡ zeros 888)))))) ⌝ }
-    ensures { λ x. ⌜ ((h g : List Float) → stepFromFactors x (curved k h g) (now (order .entry)) (now (frame .exit)) ≡ stepFromBasis (problemIn k m (valueAt (rowsIn (now (xs .entry)) c)) [] [] h g) (basisBy r (now (q .entry)) [] (now (coefficients .entry)) (now (dependent .entry)) (now (order .entry)))) × Few x ⌝ }
+    requires { ⌜ ForPreparing shape (length (now q)) (length (now coefficients)) (length (now order)) (now frame) ⌝ }
+    ensures { λ x. ⌜ ((h g : List Float)
+        → stepFromFactors x (curved (shape .k) h g) (now (order .entry)) (now (frame .exit))
+        ≡ stepFromBasis (problemIn (shape .k) (shape .m) (valueAt (rowsIn (now (xs .entry)) c)) [] [] h g)
+        (basisBy (shape .r) (now (q .entry)) [] (now (coefficients .entry)) (now (dependent .entry))
+        (now (order .entry))))
+        × Few x ⌝ }
 {
     let mut left = [0.0; 288];
     write(frame, 0, q);
     write(frame, COEFFICIENTS, coefficients);
     let end = correction(
-        k,
-        m,
-        r,
+        shape,
         q,
         coefficients,
         dependent,
@@ -172,8 +173,14 @@ fn prepare_free(
         c,
         &mut frame[CORRECTION..DIRECTIONS],
     );
-    let found = free_directions(k, r, q, &mut frame[DIRECTIONS..FRAME], &mut left);
-    ready(end, found, r)
+    let found = free_directions(
+        shape.k,
+        shape.r,
+        q,
+        &mut frame[DIRECTIONS..FRAME],
+        &mut left,
+    );
+    ready(end, found, shape.r)
 }
 
 // The basis, and what follows from it, for the constraint values in xs.
@@ -188,10 +195,12 @@ fn prepare_kept(
     frame: &mut [f64],
 ) -> Prepared
     requires { ⌜ (k ≤ VARIABLES) × ((m ≤ CONSTRAINTS) × ((now order ≡ replicate 24 0) × (now frame ≡ zeros 888))) ⌝ }
-    ensures { λ x. ⌜ ((h g : List Float) → stepFromFactors x (curved k h g) (now (order .exit)) (now (frame .exit)) ≡ keptStep (problemIn k m (valueAt (rowsIn (now (xs .entry)) c)) (now (wide .entry)) (now (jc .entry)) h g)) × Few x ⌝ }
+    ensures { λ x. ⌜ ((h g : List Float)
+        → stepFromFactors x (curved k h g) (now (order .exit)) (now (frame .exit))
+        ≡ keptStep (problemIn k m (valueAt (rowsIn (now (xs .entry)) c)) (now (wide .entry)) (now (jc .entry)) h g))
+        × Few x ⌝ }
 {
     let mut q = [0.0; 288];
-    let mut gram = [0.0; 288];
     let mut coefficients = [0.0; 288];
     let mut dependent = [0.0; 288];
     match basis(
@@ -200,15 +209,15 @@ fn prepare_kept(
         wide,
         jc,
         &mut q,
-        &mut gram,
         &mut coefficients,
         &mut dependent,
         order,
     ) {
-        Rank::Of(r) => {
-            return prepare_free(k, m, r, &q, &coefficients, &dependent, order, xs, c, frame);
+        CountResult::Value(r) => {
+            let shape = Shape { k, m, r };
+            return prepare_free(shape, &q, &coefficients, &dependent, order, xs, c, frame);
         }
-        Rank::Refused(e) => {
+        CountResult::Refused(e) => {
             return Prepared::Refused(e);
         }
     }

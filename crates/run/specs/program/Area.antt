@@ -26,7 +26,10 @@ written a base s = take base a ++ s ++ drop (base + length s) a
 -- the slots in order, and how many numbers each has
 abbrev pub slotsOf : Memory → List (List Float)
 slotsOf w =
-    w .standing ∷ (w .landed ∷ (w .asked ∷ (w .standingRows ∷ (w .landedRows ∷ (w .step ∷ (w .multipliers ∷ (w .curvature ∷ (w .filter ∷ []))))))))
+    w .standing
+    ∷ (w .landed
+    ∷ (w .asked
+    ∷ (w .standingRows ∷ (w .landedRows ∷ (w .step ∷ (w .multipliers ∷ (w .curvature ∷ (w .filter ∷ []))))))))
 
 -- an area that holds w, each list of its slot's length
 pub record Holds (w : Memory) (a : List Float) : Type 0 where
@@ -41,7 +44,8 @@ pub record SlotRead (size : ℕ) (slot : Memory → List Float) (a xs : List Flo
 -- the first k slots, each with so many numbers of an area and +0 behind
 unfoldable pub clearedTo : List ℕ → List ℕ → List Float → ℕ → List Float
 clearedTo sizes used a zero = []
-clearedTo sizes used a (suc k) = clearedTo sizes used a k ++ padded (getD sizes k 0) (take (getD used k 0) (drop (startOf sizes k) a))
+clearedTo sizes used a (suc k) =
+    clearedTo sizes used a k ++ padded (getD sizes k 0) (take (getD used k 0) (drop (startOf sizes k) a))
 
 -- a list of a slot's length, of which only the first places may be other than +0; beyond the list +0 is read
 pub record ZeroBehind (size used : ℕ) (xs : List Float) : Type 0 where
@@ -83,12 +87,14 @@ abbrev pub Working : State → Memory → List Float → Type 0
 Working st w a = Uses (allUsed (st .sizes) (st .counts .iterations)) w a
 
 -- and the violation of the standing point, or its refusal, worked out already
-pub record WithStanding (z : Sizes) (iterations : ℕ) (standing : Res Scalar) (w : Memory) (a : List Float) : Type 0 where
+pub record WithStanding (z : Sizes) (iterations : ℕ) (standing : Res Scalar) (w : Memory)
+    (a : List Float) : Type 0 where
   pub uses : Uses (allUsed z iterations) w a
   pub standing-is : standing ≡ violationOf (constraintsOf (z .n) (z .m) (w .standingRows))
 
 -- and that of the landed point
-pub record WithViolations (z : Sizes) (iterations : ℕ) (theta : Scalar) (landed : Res Scalar) (w : Memory) (a : List Float) :
+pub record WithViolations (z : Sizes) (iterations : ℕ) (theta : Scalar) (landed : Res Scalar) (w : Memory)
+    (a : List Float) :
     Type 0 where
   pub measured : WithStanding z iterations (ok theta) w a
   pub landed-is : landed ≡ violationOf (constraintsOf (z .n) (z .m) (w .landedRows))

@@ -1,19 +1,31 @@
--- For private functions: a basis by its parts, as the program stores it, and what its functions answer.
-use Prim.Native.Nat.{ℕ}
+-- For private functions: a basis by its parts, as the program stores it, and what its functions are given and answer.
+use Prim.Native.Nat.{ℕ, _≤_, _<_}
 use mathlib.Core.List.{List, []}
+use mathlib.Core.Path.{_≡_}
 use lib.Ieee.{Float}
-use Rattle.interval.specs.Result.{Res, ok, refused}
+use Rattle.interval.specs.Result.{Res}
 use Rattle.interval.specs.declared.Scalar.{Scalar}
-use Rattle.linear.specs.Answers.{numberOf}
-use Rattle.run.specs.Basis.{Basis, Taken}
+use Rattle.linear.specs.Flat.{zeros}
+use Rattle.run.specs.Basis.{Basis, Taken, noRows}
+use Rattle.run.specs.Limits.{VARIABLES, CONSTRAINTS}
 use Rattle.run.specs.Problem.{Problem}
-use Rattle.run.specs.declared.basis.Rank.{Rank}
-use Rattle.run.specs.declared.basis.Rank.the-variants as rank
+use Rattle.run.specs.Results.{countOf, mapR}
+use Rattle.run.specs.Vectors.{matrix}
+use Rattle.run.specs.declared.basis.Shape.{Shape}
+use Rattle.run.specs.declared.results.CountResult.{CountResult}
 
 -- ---- by their parts, as the functions have them
 
 abbrev pub basisBy : ℕ → List Float → List Float → List Float → List Float → List ℕ → Basis
-basisBy rank q gram coefficients dependent order = record { rank = rank; q = q; gram = gram; coefficients = coefficients; dependent = dependent; order = order }
+basisBy rank q gram coefficients dependent order =
+    record {
+      rank = rank;
+      q = q;
+      gram = gram;
+      coefficients = coefficients;
+      dependent = dependent;
+      order = order;
+    }
 
 abbrev pub takenBy : List Float → List Float → Taken
 takenBy v coefficients = record { v = v; coefficients = coefficients }
@@ -23,6 +35,47 @@ abbrev pub problemBy : ℕ → ℕ → (ℕ → Scalar) → List Float → List 
 problemBy k m c wide jc = record { k = k; m = m; c = c; wide = wide; jc = jc; h = []; g = [] }
 
 -- what is written, or the refusal
-abbrev pub rankedOf : Rank → List Float → List Float → List Float → List Float → List ℕ → Res Basis
-rankedOf (rank.Of r) q gram coefficients dependent order = ok (basisBy r q gram coefficients dependent order)
-rankedOf (rank.Refused e) q gram coefficients dependent order = refused (numberOf e)
+abbrev pub rankedOf : CountResult → List Float → List Float → List Float → List Float → List ℕ → Res Basis
+rankedOf x q gram coefficients dependent order =
+    mapR (λ r. basisBy r q gram coefficients dependent order) (countOf x)
+
+-- what is read of a basis once all its rows are passed: all but the Gram factor
+abbrev pub bare : Basis → Basis
+bare b = basisBy (b .rank) (b .q) [] (b .coefficients) (b .dependent) (b .order)
+
+abbrev pub withoutGram : Res Basis → Res Basis
+withoutGram x = mapR bare x
+
+-- ---- what they are given
+
+-- few variables and few rows, of which some are independent
+pub record FewRows (s : Shape) : Type 0 where
+  pub variables : s .k ≤ VARIABLES
+  pub rows : s .m ≤ CONSTRAINTS
+  pub independent : s .r ≤ s .m
+
+-- a row is still to come, and the order has a place for it
+pub record NextRow (s : Shape) (order : ℕ) : Type 0 where
+  pub variables : s .k ≤ VARIABLES
+  pub independent : s .r ≤ s .m
+  pub row : s .m < CONSTRAINTS
+  pub places : order ≡ 24
+
+-- m rows are to come, and what is written of them is clear
+pub record FreshBasis (k m : ℕ) (q coefficients dependent : List Float) (order : List ℕ) : Type 0 where
+  pub variables : k ≤ VARIABLES
+  pub rows : m ≤ CONSTRAINTS
+  pub clear : basisBy 0 q matrix coefficients dependent order ≡ noRows
+
+pub record ForCorrection (s : Shape) (order delta : ℕ) : Type 0 where
+  pub few : FewRows s
+  pub places : order ≡ 24
+  pub step : delta ≡ 24
+
+-- a basis to copy, and a clear frame to copy it into
+pub record ForPreparing (s : Shape) (q coefficients order : ℕ) (frame : List Float) : Type 0 where
+  pub few : FewRows s
+  pub vectors : q ≡ 288
+  pub by-row : coefficients ≡ 288
+  pub places : order ≡ 24
+  pub clear : frame ≡ zeros 888

@@ -1,4 +1,5 @@
--- For private functions: the checks of a reply, the number that refuses it or the kind of the question that is answered.
+-- For private functions: the checks of a reply, the number that refuses it or the kind of the question that is
+-- answered.
 use Prim.Native.Nat.{ℕ, _+_, _*_}
 use mathlib.Core.List.{List}
 use lib.Dec.{eqb}
@@ -28,7 +29,8 @@ checkOf st area = pick (valid st) (checkOpen area (st .phase)) (Refuse 4)
 
 abbrev pub rowsCheck : Sizes → List Float → Kind → Checked
 rowsCheck z rows k =
-    pick (eqb (length rows) (rowNumbers (z .n) (z .m) (z .s))) (pick (allInDomain rows ((z .m + z .s) * (z .n + 1))) (Accept k) (Refuse 3)) (Refuse 2)
+    pick (eqb (length rows) (rowNumbers (z .n) (z .m) (z .s)))
+    (pick (allInDomain rows ((z .m + z .s) * (z .n + 1))) (Accept k) (Refuse 3)) (Refuse 2)
 
 abbrev pub thenRows : Sizes → List Float → Checked → Checked
 thenRows z rows (Refuse k) = Refuse k

@@ -6,12 +6,12 @@ use Rattle.interval.specs.Result.{Res, ok, refused}
 use Rattle.linear.specs.Answers.{numberOf}
 use Rattle.linear.specs.Results.{bind}
 use Rattle.run.specs.NullSpace.{Directions, squareOf, longestTo, directionsTo}
+use Rattle.run.specs.Results.{countOf, mapR}
 use Rattle.run.specs.Vectors.{matrix}
-use Rattle.run.specs.declared.null_space.Found.{Found}
-use Rattle.run.specs.declared.null_space.Found.the-variants as f
 use Rattle.run.specs.declared.null_space.Next.{Next}
 use Rattle.run.specs.declared.null_space.Next.the-variants as n
 use Rattle.run.specs.declared.null_space.Remainder.{Remainder}
+use Rattle.run.specs.declared.results.CountResult.{CountResult}
 
 -- ---- what the program keeps and answers
 
@@ -33,6 +33,5 @@ nextOf k t n.Taken count z left = spanOf (directionsTo k t (directionsIn (count 
 nextOf k t n.Enough count z left = ok (directionsIn count z matrix)
 nextOf k t (n.Refused e) count z left = refused (numberOf e)
 
-abbrev pub foundOf : Found → List Float → Res Directions
-foundOf (f.Of count) z = ok (directionsIn count z matrix)
-foundOf (f.Refused e) z = refused (numberOf e)
+abbrev pub foundOf : CountResult → List Float → Res Directions
+foundOf x z = mapR (λ count. directionsIn count z matrix) (countOf x)

@@ -17,8 +17,6 @@ use Rattle.run.specs.Problem.{Problem}
 use Rattle.run.specs.Reduced.{Weights, weights, none, weightsOf, forceOf, reducedOf, againstOf}
 use Rattle.run.specs.Vectors.{matrix, row, combinedTo}
 use Rattle.run.specs.program.NullSpace.{directionsIn}
-use Rattle.run.specs.declared.null_space.Found.{Found}
-use Rattle.run.specs.declared.null_space.Found.the-variants as f
 use Rattle.run.specs.declared.reduced.WeightsEnd.{WeightsEnd}
 use Rattle.run.specs.declared.reduced.WeightsEnd.the-variants as a
 
@@ -52,4 +50,5 @@ addedTo P delta d none = none
 
 unfoldable pub freePart : Problem → List Float → Directions → Res Weights
 unfolding bind
-freePart P delta d = bind (solvedWith (d .count) (reducedOf P d) (againstOf P d (forceOf P delta))) (λ w. ok (addedTo P delta d w))
+freePart P delta d =
+    bind (solvedWith (d .count) (reducedOf P d) (againstOf P d (forceOf P delta))) (λ w. ok (addedTo P delta d w))

@@ -20,10 +20,8 @@ use Rattle.run.specs.Step.{Step, Stepped, found, notPositive, spreadStep
 use Rattle.run.specs.Vectors.{matrix, allFinite}
 use Rattle.run.specs.program.Problem.{dampedFrom, gradientIn}
 use Rattle.run.specs.program.Reduced.{spanned, curved}
-use Rattle.run.specs.declared.basis.Rank.{Rank}
-use Rattle.run.specs.declared.basis.Rank.the-variants as rank
-use Rattle.run.specs.declared.null_space.Found.{Found}
-use Rattle.run.specs.declared.null_space.Found.the-variants as f
+use Rattle.run.specs.declared.results.CountResult.{CountResult}
+use Rattle.run.specs.declared.results.CountResult.the-variants as count
 use Rattle.run.specs.declared.step.Prepared.{Prepared}
 use Rattle.run.specs.declared.step.Prepared.the-variants as p
 use Rattle.run.specs.declared.step.StepEnd.{StepEnd}
@@ -64,11 +62,6 @@ stepFromBasis P b = bind (correctionOf P b) (λ delta. stepFromCorrection P b de
 unfoldable pub testedStep : Problem → Res Stepped
 testedStep P = pick (allFinite (P .h) 144) (keptStep P) (ok notPositive)
 
--- how many rows are in the basis
-abbrev pub rankOf : Rank → ℕ
-rankOf (rank.Of r) = r
-rankOf (rank.Refused e) = 0
-
 -- ---- what no damping changes
 
 -- how many rows are in the basis, and how many directions are free
@@ -86,9 +79,9 @@ pub record Few (x : Prepared) : Type 0 where
   pub free : freeIn x ≤ 12
 
 -- how the preparation ends with r independent rows, where the correction and then the directions ended so
-abbrev pub readyOf : Done → Found → ℕ → Prepared
-readyOf done.Finished (f.Of count) r = p.Ready r count
-readyOf done.Finished (f.Refused e) r = p.Refused e
+abbrev pub readyOf : Done → CountResult → ℕ → Prepared
+readyOf done.Finished (count.Value free) r = p.Ready r free
+readyOf done.Finished (count.Refused e) r = p.Refused e
 readyOf (done.Refused e) x r = p.Refused e
 
 -- the step over the kept variables from it, for the curvature and the gradient of a problem

@@ -28,7 +28,10 @@ same-length : tie.Need-same-length
 same-length c = search needs
 
 returns : tie.Need-returns
-returns c = let a = c .before .before .before .before .before .args in cleared-part (a .area .now) (a .base) (a .count) (a .base + a .count - a .base) (omega arith) (omega arith) (c .before .before .clear .ensures)
+returns c =
+    let a = c .before .before .before .before .before .args in
+    cleared-part (a .area .now) (a .base) (a .count) (a .base + a .count - a .base) (omega arith)
+    (omega arith) (c .before .before .clear .ensures)
 
 pub clear-from-spec : {M : Type 1} → statement M
 clear-from-spec =

@@ -25,14 +25,25 @@ clear-unused-slots-requires : tie.Need-clear-unused-slots-requires
 unfolding startOf
 clear-unused-slots-requires c κs =
     let s = c .before .before .before .before .before in
-    let f = used-fit (s .args .st) (s .pre .1) (s .args .area .now) (s .pre .0) in
-    (ap length (c .before .before .before .in-use .ensures), (f .inside, λ j h. subst (λ (us : List ℕ). getD us j 0 ≤ getD SIZES j 0) (sym (c .before .before .before .in-use .ensures)) (f .below j h)))
+    let f = used-fit (s .args .st) (s .pre .1) (s .args .area .now) (s .pre .0) in (
+      ap length (c .before .before .before .in-use .ensures),
+      (
+        f .inside,
+        λ j h. subst (λ (us : List ℕ). getD us j 0 ≤ getD SIZES j 0)
+            (sym (c .before .before .before .in-use .ensures)) (f .below j h),
+      ),
+    )
 
 sub-clear-from : tie.Need-sub-clear-from
 sub-clear-from c = search needs
 
 clear-from-requires : tie.Need-clear-from-requires
-clear-from-requires c κs = omega (arith, c .before .before .before .clear-unused-slots .kept, c .before .before .before .before .before .before .before .before .before .pre .0)
+clear-from-requires c κs =
+    omega (
+      arith,
+      c .before .before .before .clear-unused-slots .kept,
+      c .before .before .before .before .before .before .before .before .before .pre .0,
+    )
 
 same-length : tie.Need-same-length
 same-length c = search needs
@@ -43,8 +54,11 @@ returns c =
     let s = c .before .before .before .before .before .before .before .before .before .before .before .before in
     let a = s .args .area .now in
     let l = s .pre .1 in
-    let e : c .before .before .before .before .before .before .clear-unused-slots .last .0 ≡ clearedTo SIZES (usedIn (s .args .st)) a 9 ++ drop 3080 a =
-    c .before .before .before .before .before .before .clear-unused-slots .ensures ∙ ap (λ (us : List ℕ). clearedTo SIZES us a 9 ++ drop 3080 a) (c .before .before .before .before .before .before .before .before .before .before .in-use .ensures) in
+    let e : c .before .before .before .before .before .before .clear-unused-slots .last .0
+    ≡ clearedTo SIZES (usedIn (s .args .st)) a 9 ++ drop 3080 a =
+    c .before .before .before .before .before .before .clear-unused-slots .ensures
+    ∙ ap (λ (us : List ℕ). clearedTo SIZES us a 9 ++ drop 3080 a)
+    (c .before .before .before .before .before .before .before .before .before .before .in-use .ensures) in
     let k = memory-holds (s .args .st) l a (s .pre .0)
     (tidied-end SIZES (usedIn (s .args .st)) a (used-fit (s .args .st) l a (s .pre .0)) 4920 (omega (arith, s .pre .0))
     e (c .before .before .clear-from .ensures)) in

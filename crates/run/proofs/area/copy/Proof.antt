@@ -41,13 +41,19 @@ loop-less : tie.Need-loop-less Inv-loop μ-loop
 loop-less c = search needs
 
 loop-again : tie.Need-loop-again Inv-loop μ-loop
-loop-again c = let a = c .before .before .before .args in copying-more (a .area .now) (a .from) (a .to) (a .count) (c .before .before .before .pre) (c .before .before .loop .inv) (omega arith)
+loop-again c =
+    let a = c .before .before .before .args in
+    copying-more (a .area .now) (a .from) (a .to) (a .count) (c .before .before .before .pre)
+    (c .before .before .loop .inv) (omega arith)
 
 same-length : tie.Need-same-length Inv-loop μ-loop
 same-length c = search needs
 
 returns : tie.Need-returns Inv-loop μ-loop
-returns c = let a = c .before .before .args in writing-all (c .before .loop .inv) (omega (arith, length-from (a .area .now) (a .from) (a .to) (a .count) (c .before .before .pre)))
+returns c =
+    let a = c .before .before .args in
+    writing-all (c .before .loop .inv)
+    (omega (arith, length-from (a .area .now) (a .from) (a .to) (a .count) (c .before .before .pre)))
 
 pub copy-spec : {M : Type 1} → statement M
 copy-spec =

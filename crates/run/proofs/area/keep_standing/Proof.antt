@@ -160,7 +160,8 @@ same-length c =
           .before .before .before .before .before .before .before .before .before .before .before .before .clear-from2
           .kept,
       c .before .before .before .before .before .before .before .before .before .before .before .before .before .before
-          .before .before .before .before .before .before .before .before .before .before .before .before .before .before
+          .before .before .before .before .before .before .before .before .before .before .before .before
+          .before .before
           .before .before .clear-from .kept,
     )
 

@@ -21,7 +21,10 @@ same-length : tie.Need-same-length
 same-length c = search needs
 
 returns : tie.Need-returns
-returns c = let a = c .before .before .before .before .before .before .before .before .before .before .args in slot-is (a .area .now) (a .src .now) (a .base) (a .size) (omega arith) (omega arith) (c .before .before .before .before .before .before .write .ensures) (c .before .before .clear-from .ensures)
+returns c =
+    let a = c .before .before .before .before .before .before .before .before .before .before .args in
+    slot-is (a .area .now) (a .src .now) (a .base) (a .size) (omega arith) (omega arith)
+    (c .before .before .before .before .before .before .write .ensures) (c .before .before .clear-from .ensures)
 
 pub slot-spec : {M : Type 1} → statement M
 slot-spec =

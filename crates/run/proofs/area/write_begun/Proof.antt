@@ -23,10 +23,23 @@ same-length c = search needs
 returns : tie.Need-returns
 unfolding startOf
 returns c =
-    let a = c .before .before .before .before .before .before .before .before .before .before .before .before .before .before .args in
-    let l = length-padded 24 (a .start .now) (c .before .before .before .before .before .before .before .before .before .before .before .before .before .before .pre .1) in
-    let h = wrote (all-clear (c .before .before .before .before .before .before .before .before .before .before .clear .ensures ∙ ap zeros (c .before .before .before .before .before .before .before .before .before .before .before .before .before .before .pre .0))) 0 (padded 24 (a .start .now)) (omega arith) l (c .before .before .before .before .before .before .slot .ensures) in
-    holds-of (begunMemory (a .start .now)) (wrote h 2 (padded 24 (a .start .now)) (omega arith) l (c .before .before .slot2 .ensures))
+    let a =
+    c .before .before .before .before .before .before .before .before .before .before .before .before
+    .before .before .args in
+    let l =
+    length-padded 24 (a .start .now)
+    (c .before .before .before .before .before .before .before .before .before .before .before .before
+    .before .before .pre .1) in
+    let h =
+    wrote
+    (all-clear
+    (c .before .before .before .before .before .before .before .before .before .before .clear .ensures
+    ∙ ap zeros
+    (c .before .before .before .before .before .before .before .before .before .before .before .before
+    .before .before .pre .0))) 0 (padded 24 (a .start .now)) (omega arith) l
+    (c .before .before .before .before .before .before .slot .ensures) in
+    holds-of (begunMemory (a .start .now))
+    (wrote h 2 (padded 24 (a .start .now)) (omega arith) l (c .before .before .slot2 .ensures))
 
 pub write-begun-spec : {M : Type 1} → statement M
 write-begun-spec = tie.close (tie.spec clear-requires slot-requires slot-requires-2 same-length returns)

@@ -21,7 +21,9 @@ returns : tie.Need-returns
 unfolding startOf
 returns c w h t =
     let a = c .before .before .before .before .before .before .before .before .before .before .args in
-    let h₁ = copied (slots-of h) 1 2 (omega arith) (omega arith) refl (c .before .before .before .before .before .before .copy .ensures) in
+    let h₁ =
+    copied (slots-of h) 1 2 (omega arith) (omega arith) refl
+    (c .before .before .before .before .before .before .copy .ensures) in
     holds-of (withLanded w (a .rows .now) (w .step))
     (wrote-first h₁ 4 (omega arith) (a .rows .now)
     (c .before .before .before .before .before .before .before .before .before .before .pre .1) t

@@ -32,7 +32,11 @@ same-length : tie.Need-same-length
 same-length c = search needs
 
 returns : tie.Need-returns
-returns c = c .before .before .write .ensures ∙ ap (λ (x : List Float). written (c .before .before .before .before .before .before .before .before .before .before .before .before .args .area .now) 48 x) (c .before .before .before .before .before .before .moved .ensures)
+returns c =
+    c .before .before .write .ensures
+    ∙ ap (λ (x : List Float). written
+    (c .before .before .before .before .before .before .before .before .before .before .before .before .args
+    .area .now) 48 x) (c .before .before .before .before .before .before .moved .ensures)
 
 pub write-next-spec : {M : Type 1} → statement M
 write-next-spec =

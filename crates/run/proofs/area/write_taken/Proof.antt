@@ -8,7 +8,8 @@ use lib.ListN.{length, take}
 use Rattle.run.specs.Area.{startOf, withTaken}
 use Rattle.run.specs.program.Area.{written}
 use Rattle.run.specs.Filter.{filterWith}
-use Rattle.run.proofs.AreaLaws.{slots-of, holds-of, wrote, copied, slot-read, slot-length, part-back, length-filter}
+use Rattle.run.proofs.AreaLaws.{slots-of, holds-of, wrote, copied, slot-read, slot-length, part-back}
+use Rattle.run.proofs.AreaLaws.{length-filter}
 use Rattle.run.proofs.AreaLaws.{room}
 use Rattle.run.proofs.EndingLaws.{cut-length}
 use Rattle.run.proofs.ZeroBehind.{few-rows, rows-as, copied-first, wrote-used}

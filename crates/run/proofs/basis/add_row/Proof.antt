@@ -25,8 +25,12 @@ slice-aggregate-norm-of c = search needs
 
 norm-of-requires : tie.Need-norm-of-requires
 norm-of-requires c κs =
-    let p = (c .before .before .before .before .before .before .before .before .before .before .before .before .before .before .before) .pre in
-    let l : length (c .before .before .before .before .before .before .before .before .before .row-of .last .1 .1 .1 .0) ≡ 24 = c .before .before .before .before .before .before .before .before .before .row-of .kept .1 .1 .1 .0 in
+    let p =
+    (c .before .before .before .before .before .before .before .before .before .before .before .before
+    .before .before .before) .pre in
+    let l : length
+    (c .before .before .before .before .before .before .before .before .before .row-of .last .1 .1 .1 .0)
+    ≡ 24 = c .before .before .before .before .before .before .before .before .before .row-of .kept .1 .1 .1 .0 in
     (omega (arith, p .0), omega (arith, c .before .before .before .before .parts-out .kept .1 .1 .1 .0, l, p .0))
 
 enum-known-l : tie.Need-enum-known-l
@@ -42,22 +46,62 @@ mul-unit : tie.Need-mul-unit
 mul-unit c = search needs
 
 unit-requires : tie.Need-unit-requires
-unit-requires c κs = let p = (c .before .before .before .before .before .before .before .before .before .before .before .before .before .before .before .before .before .before .before .before .before .before) .pre in (omega arith, (omega (arith, p .1 .0, p .1 .1), omega (arith, p .0)))
+unit-requires c κs =
+    let p =
+    (c .before .before .before .before .before .before .before .before .before .before .before .before .before
+    .before .before .before .before .before .before .before .before .before) .pre in
+    (omega arith, (omega (arith, p .1 .0, p .1 .1), omega (arith, p .0)))
 
 mul-put : tie.Need-mul-put
-mul-put c = omega (arith, (c .before .before .before .before .before .before .before .before .before .before .before .before .before .before .before .before .before .before .before .before .before .before .before .before .before .before) .pre .1 .0, (c .before .before .before .before .before .before .before .before .before .before .before .before .before .before .before .before .before .before .before .before .before .before .before .before .before .before) .pre .1 .1)
+mul-put c =
+    omega (
+      arith,
+      (c .before .before .before .before .before .before .before .before .before .before .before .before .before
+          .before .before .before .before .before .before .before .before .before .before .before .before .before)
+          .pre .1 .0,
+      (c .before .before .before .before .before .before .before .before .before .before .before .before .before
+          .before .before .before .before .before .before .before .before .before .before .before .before
+          .before) .pre .1 .1,
+    )
 
 add-put : tie.Need-add-put
-add-put c = omega (arith, (c .before .before .before .before .before .before .before .before .before .before .before .before .before .before .before .before .before .before .before .before .before .before .before .before .before .before) .pre .1 .0, (c .before .before .before .before .before .before .before .before .before .before .before .before .before .before .before .before .before .before .before .before .before .before .before .before .before .before) .pre .1 .1)
+add-put c =
+    omega (
+      arith,
+      (c .before .before .before .before .before .before .before .before .before .before .before .before .before
+          .before .before .before .before .before .before .before .before .before .before .before .before .before)
+          .pre .1 .0,
+      (c .before .before .before .before .before .before .before .before .before .before .before .before .before
+          .before .before .before .before .before .before .before .before .before .before .before .before
+          .before) .pre .1 .1,
+    )
 
 put-requires : tie.Need-put-requires
 put-requires c κs = search needs
 
 gram-row-requires : tie.Need-gram-row-requires
-gram-row-requires c κs = omega (arith, (c .before .before .before .before .before .before .before .before .before .before .before .before .before .before .before .before .before .before .before .before .before .before .before .before .before .before .before .before .before .before .before) .pre .1 .0, (c .before .before .before .before .before .before .before .before .before .before .before .before .before .before .before .before .before .before .before .before .before .before .before .before .before .before .before .before .before .before .before) .pre .1 .1)
+gram-row-requires c κs =
+    omega (
+      arith,
+      (c .before .before .before .before .before .before .before .before .before .before .before .before .before
+          .before .before .before .before .before .before .before .before .before .before .before .before .before
+          .before .before .before .before .before) .pre .1 .0,
+      (c .before .before .before .before .before .before .before .before .before .before .before .before .before
+          .before .before .before .before .before .before .before .before .before .before .before .before .before
+          .before .before .before .before .before) .pre .1 .1,
+    )
 
 add-ranked : tie.Need-add-ranked
-add-ranked c = omega (arith, (c .before .before .before .before .before .before .before .before .before .before .before .before .before .before .before .before .before .before .before .before .before .before .before .before .before .before .before .before .before .before .before .before .before .before) .pre .1 .0, (c .before .before .before .before .before .before .before .before .before .before .before .before .before .before .before .before .before .before .before .before .before .before .before .before .before .before .before .before .before .before .before .before .before .before) .pre .1 .1)
+add-ranked c =
+    omega (
+      arith,
+      (c .before .before .before .before .before .before .before .before .before .before .before .before .before
+          .before .before .before .before .before .before .before .before .before .before .before .before .before
+          .before .before .before .before .before .before .before .before) .pre .1 .0,
+      (c .before .before .before .before .before .before .before .before .before .before .before .before .before
+          .before .before .before .before .before .before .before .before .before .before .before .before .before
+          .before .before .before .before .before .before .before .before) .pre .1 .1,
+    )
 
 ranked-requires : tie.Need-ranked-requires
 ranked-requires c κs = search needs
@@ -74,11 +118,32 @@ same-length-3 c = search needs
 returns : tie.Need-returns
 unfolding ofBits
 returns c =
-    let a = (c .before .before .before .before .before .before .before .before .before .before .before .before .before .before .before .before .before .before .before .before .before .before .before .before .before .before .before .before .before .before .before .before .before .before .before) .args in
-    let p = c .before .before .before .before .before .before .before .before .before .before .before .before .before .before .before .before .before .before .before .before .before .before .before .before .parts-out in
-    let k = c .before .before .before .before .before .before .before .before .before .before .before .before .before .before .before .before .before .before .before .norm-of in
+    let a =
+    (c .before .before .before .before .before .before .before .before .before .before .before .before
+    .before .before .before .before .before .before .before .before .before .before .before .before
+    .before .before .before .before .before .before .before .before .before .before .before) .args in
+    let p =
+    c .before .before .before .before .before .before .before .before .before .before .before .before
+    .before .before .before .before .before .before .before .before .before .before .before .before .parts-out in
+    let k =
+    c .before .before .before .before .before .before .before .before .before .before .before .before
+    .before .before .before .before .before .before .before .norm-of in
     let g = c .before .before .before .gram-row in
-    λ w o. c .ranked .ensures _ _ _ w (set o (a .r) (a .i)) ∙ new-added (a .k) (a .r) (a .i) (a .jc .now) (a .q .now) (a .gram .now) (a .coefficients .now) w o (c .before .before .before .before .before .before .before .before .before .before .before .before .before .before .before .before .before .before .before .before .before .before .before .before .before .before .before .before .before .row-of .last .1 .1 .1 .0) (p .last .1 .1 .1 .0) (p .last .1 .1 .1 .1 .0) (k .result) (c .before .before .before .before .before .before .before .before .before .before .before .before .before .before .before .before .before .before .before .before .before .before .before .before .before .before .before .before .before .row-of .ensures) (p .ensures) (k .ensures) (g .last .1 .1 .1 .0) (g .result) (c .before .before .before .before .before .before .before .before .before .before .before .before .before .before .before .before .before .l .given .1) (c .before .before .before .before .before .before .before .before .before .before .before .before .before .before .before .sharpen .ensures) (c .before .before .before .before .before .before .before .before .before .before .before .before .unit .ensures) (c .before .before .before .before .before .before .before .before .put .ensures) (g .ensures)
+    λ w o. c .ranked .ensures _ _ _ w (set o (a .r) (a .i))
+    ∙ new-added (a .k) (a .r) (a .i) (a .jc .now) (a .q .now) (a .gram .now) (a .coefficients .now) w o
+    (c .before .before .before .before .before .before .before .before .before .before .before .before .before
+    .before .before .before .before .before .before .before .before .before .before .before .before .before
+    .before .before .before .row-of .last .1 .1 .1 .0) (p .last .1 .1 .1 .0) (p .last .1 .1 .1 .1 .0)
+    (k .result)
+    (c .before .before .before .before .before .before .before .before .before .before .before .before .before
+    .before .before .before .before .before .before .before .before .before .before .before .before .before
+    .before .before .before .row-of .ensures) (p .ensures) (k .ensures) (g .last .1 .1 .1 .0) (g .result)
+    (c .before .before .before .before .before .before .before .before .before .before .before .before .before
+    .before .before .before .before .l .given .1)
+    (c .before .before .before .before .before .before .before .before .before .before .before .before .before
+    .before .before .sharpen .ensures)
+    (c .before .before .before .before .before .before .before .before .before .before .before .before .unit
+    .ensures) (c .before .before .before .before .before .before .before .before .put .ensures) (g .ensures)
 
 enum-known-e : tie.Need-enum-known-e
 enum-known-e c = search needs
@@ -92,10 +157,16 @@ same-length-5 c = search needs
 returns-2 : tie.Need-returns-2
 unfolding ofBits
 returns-2 c =
-    let a = (c .before .before .before .before .before .before .before .before .before .before .before .before .before .before .before .before .before .before .before) .args in
+    let a =
+    (c .before .before .before .before .before .before .before .before .before .before .before .before
+    .before .before .before .before .before .before .before) .args in
     let p = c .before .before .before .before .before .before .before .before .parts-out in
     let k = c .before .before .before .norm-of in
-    λ w o. new-refused (a .k) (a .r) (a .i) (a .jc .now) (a .q .now) (a .gram .now) (a .coefficients .now) w o (c .before .before .before .before .before .before .before .before .before .before .before .before .before .row-of .last .1 .1 .1 .0) (p .last .1 .1 .1 .0) (p .last .1 .1 .1 .1 .0) (k .result) (c .before .before .before .before .before .before .before .before .before .before .before .before .before .row-of .ensures) (p .ensures) (k .ensures) (c .before .e .given .1)
+    λ w o. new-refused (a .k) (a .r) (a .i) (a .jc .now) (a .q .now) (a .gram .now) (a .coefficients .now) w o
+    (c .before .before .before .before .before .before .before .before .before .before .before .before .before
+    .row-of .last .1 .1 .1 .0) (p .last .1 .1 .1 .0) (p .last .1 .1 .1 .1 .0) (k .result)
+    (c .before .before .before .before .before .before .before .before .before .before .before .before .before
+    .row-of .ensures) (p .ensures) (k .ensures) (c .before .e .given .1)
 
 pub add-row-spec : {M : Type 1} → statement M
 add-row-spec =

@@ -41,8 +41,15 @@ loop-less c = search needs
 
 loop-again : tie.Need-loop-again Inv-loop μ-loop
 loop-again c =
-    let a = c .before .before .before .before .before .before .before .before .before .before .args in
-    (search needs, search needs, c .before .before .put .ensures ∙ fill-turn (a .to .now) (a .t0) (λ p. chooseOf (at (a .a .now) p)) (c .before .before .before .before .before .before .before .loop .j) (c .before .before .before .before .before .before .before .loop .inv .2) (c .before .before .before .choose .ensures ∙ ap chooseOf (c .before .before .before .before .at .ensures)))
+    let a = c .before .before .before .before .before .before .before .before .before .before .args in (
+      search needs,
+      search needs,
+      c .before .before .put .ensures
+          ∙ fill-turn (a .to .now) (a .t0) (λ p. chooseOf (at (a .a .now) p))
+          (c .before .before .before .before .before .before .before .loop .j)
+          (c .before .before .before .before .before .before .before .loop .inv .2)
+          (c .before .before .before .choose .ensures ∙ ap chooseOf (c .before .before .before .before .at .ensures)),
+    )
 
 same-length : tie.Need-same-length Inv-loop μ-loop
 same-length c = search needs

@@ -23,7 +23,8 @@ abbrev packedAt : ℕ → List Float → List Float → ℕ → Scalar
 packedAt r coefficients dependent p = coefficientAt (basisBy r [] [] coefficients dependent []) (p / r) (p % r)
 
 abbrev Inv-loop : tie.InvT-loop
-Inv-loop m r coefficients dependent rows₀ n p₀ rows p = (p ≤ n) × (length rows ≡ length rows₀) × (rows ≡ listTo (packedAt r coefficients dependent) p ++ drop (2 * p) rows₀)
+Inv-loop m r coefficients dependent rows₀ n p₀ rows p =
+    (p ≤ n) × (length rows ≡ length rows₀) × (rows ≡ listTo (packedAt r coefficients dependent) p ++ drop (2 * p) rows₀)
 
 abbrev μ-loop : tie.MeasureT-loop
 μ-loop m r coefficients dependent rows₀ n p₀ rows p = n - p
@@ -48,8 +49,10 @@ rem-coefficient-at c =
 
 coefficient-at-requires : tie.Need-coefficient-at-requires Inv-loop μ-loop
 coefficient-at-requires c κs =
-    let s = c .before .before .before .before .before .before in
-    (omega (arith, s .pre .0, packed-row (s .args .m) (s .args .r) (c .before .loop-test .taken)), omega (arith, s .pre .1 .0, packed-column (s .args .m) (s .args .r) (c .before .loop-test .taken)))
+    let s = c .before .before .before .before .before .before in (
+      omega (arith, s .pre .0, packed-row (s .args .m) (s .args .r) (c .before .loop-test .taken)),
+      omega (arith, s .pre .1 .0, packed-column (s .args .m) (s .args .r) (c .before .loop-test .taken)),
+    )
 
 put-requires : tie.Need-put-requires Inv-loop μ-loop
 put-requires c κs = search needs
@@ -66,8 +69,18 @@ loop-again : tie.Need-loop-again Inv-loop μ-loop
 loop-again c =
     let s = c .before .before .before .before .before .before .before .before .before .before in
     let a = s .args in
-    let e = rw (c .before .before .before .before .before .before .loop .inv .2, c .before .before .before .coefficient-at .ensures) at (c .before .before .put .ensures) in
-    (search needs, search needs, e ∙ listTo-more (packedAt (a .r) (a .coefficients .now) (a .dependent .now)) (c .before .before .before .before .before .before .loop .p) (a .rows .now) (omega (arith, s .pre .1 .1, c .before .before .before .before .before .loop-test .taken)))
+    let e =
+    rw (
+      c .before .before .before .before .before .before .loop .inv .2,
+      c .before .before .before .coefficient-at .ensures,
+    ) at (c .before .before .put .ensures) in (
+      search needs,
+      search needs,
+      e
+          ∙ listTo-more (packedAt (a .r) (a .coefficients .now) (a .dependent .now))
+          (c .before .before .before .before .before .before .loop .p) (a .rows .now)
+          (omega (arith, s .pre .1 .1, c .before .before .before .before .before .loop-test .taken)),
+    )
 
 same-length : tie.Need-same-length Inv-loop μ-loop
 same-length c = search needs
@@ -77,7 +90,8 @@ returns c =
     let s = c .before .before .before .before .before in
     let a = s .args in
     let e = rw (le-antisymm (c .before .loop .inv .0) (c .loop-test .left)) at (c .before .loop .inv .2) in
-    e ∙ listTo-all (packedAt (a .r) (a .coefficients .now) (a .dependent .now)) (a .m * a .r) (a .rows .now) (s .pre .1 .1)
+    e ∙ listTo-all (packedAt (a .r) (a .coefficients .now) (a .dependent .now)) (a .m * a .r) (a .rows .now)
+    (s .pre .1 .1)
 
 pub coefficient-rows-spec : {M : Type 1} → statement M
 coefficient-rows-spec =

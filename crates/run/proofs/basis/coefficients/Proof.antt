@@ -1,4 +1,5 @@
--- `coefficients` meets its contract: the parts of the arrays have the lengths asked, the solve is the definition's, and the part of a is its start.
+-- `coefficients` meets its contract: the parts of the arrays have the lengths asked, the solve is the definition's, and
+-- the part of a is its start.
 use mathlib.Core.Path.{_≡_, sym, _∙_}
 use mathlib.Core.Bool.{false}
 use Prim.Native.Nat.{_*_, _≤_}
@@ -41,34 +42,61 @@ array-borrow-prefix-b : tie.Need-array-borrow-prefix-b
 array-borrow-prefix-b c = search needs
 
 slice-aggregate-projections : tie.Need-slice-aggregate-projections
-slice-aggregate-projections c = sym (length-take-le _ _ (short (c .before .before .before .before .before .before .before .before)))
+slice-aggregate-projections c =
+    sym (length-take-le _ _ (short (c .before .before .before .before .before .before .before .before)))
 
 projections-requires : tie.Need-projections-requires
-projections-requires c κs = let s = (c .before .before .before .before .before .before .before .before) in (s .pre .0, (s .pre .1 .0, length-take-le _ _ (short s)))
+projections-requires c κs =
+    let s = (c .before .before .before .before .before .before .before .before) in
+    (s .pre .0, (s .pre .1 .0, length-take-le _ _ (short s)))
 
 array-share-prefix-l : tie.Need-array-share-prefix-l
-array-share-prefix-l c = front-room _ (c .before .before .before .before .pack .last .1 .1 .0) _ (room (c .before .before .before .before .before .before .before .before .before .before)) (c .before .before .before .before .pack .kept .1 .1 .0)
+array-share-prefix-l c =
+    front-room _ (c .before .before .before .before .pack .last .1 .1 .0) _
+    (room (c .before .before .before .before .before .before .before .before .before .before))
+    (c .before .before .before .before .pack .kept .1 .1 .0)
 
 slice-aggregate-solve-cholesky : tie.Need-slice-aggregate-solve-cholesky
-slice-aggregate-solve-cholesky c = sym (length-take-le _ _ (front-room _ (c .before .before .before .before .before .pack .last .1 .1 .0) _ (room (c .before .before .before .before .before .before .before .before .before .before .before)) (c .before .before .before .before .before .pack .kept .1 .1 .0)))
+slice-aggregate-solve-cholesky c =
+    sym (length-take-le _ _
+    (front-room _ (c .before .before .before .before .before .pack .last .1 .1 .0) _
+    (room (c .before .before .before .before .before .before .before .before .before .before .before))
+    (c .before .before .before .before .before .pack .kept .1 .1 .0)))
 
 array-share-prefix-none : tie.Need-array-share-prefix-none
 array-share-prefix-none c = search needs
 
 slice-aggregate-solve-cholesky-2 : tie.Need-slice-aggregate-solve-cholesky-2
-slice-aggregate-solve-cholesky-2 c = sym (length-take-le _ _ ((c .before .before .before .before .before .before .before .before .before .before .before .before) .pre .0))
+slice-aggregate-solve-cholesky-2 c =
+    sym (length-take-le _ _
+    ((c .before .before .before .before .before .before .before .before .before .before .before .before) .pre .0))
 
 array-share-prefix-b : tie.Need-array-share-prefix-b
-array-share-prefix-b c = front-room _ (c .before .before .before .projections .last .1 .1 .1 .1 .1 .0) _ (short (c .before .before .before .before .before .before .before .before .before .before .before .before)) (c .before .before .before .projections .kept .1 .1 .1 .1 .1 .0)
+array-share-prefix-b c =
+    front-room _ (c .before .before .before .projections .last .1 .1 .1 .1 .1 .0) _
+    (short
+    (c .before .before .before .before .before .before .before .before .before .before .before .before))
+    (c .before .before .before .projections .kept .1 .1 .1 .1 .1 .0)
 
 slice-aggregate-solve-cholesky-3 : tie.Need-slice-aggregate-solve-cholesky-3
-slice-aggregate-solve-cholesky-3 c = sym (length-take-le _ _ (front-room _ (c .before .before .before .before .projections .last .1 .1 .1 .1 .1 .0) _ (short (c .before .before .before .before .before .before .before .before .before .before .before .before .before)) (c .before .before .before .before .projections .kept .1 .1 .1 .1 .1 .0)))
+slice-aggregate-solve-cholesky-3 c =
+    sym (length-take-le _ _
+    (front-room _ (c .before .before .before .before .projections .last .1 .1 .1 .1 .1 .0) _
+    (short
+    (c .before .before .before .before .before .before .before .before .before .before .before .before
+    .before)) (c .before .before .before .before .projections .kept .1 .1 .1 .1 .1 .0)))
 
 slice-relend-prefix-solve-cholesky : tie.Need-slice-relend-prefix-solve-cholesky
 slice-relend-prefix-solve-cholesky c = search needs
 
 slice-aggregate-solve-cholesky-4 : tie.Need-slice-aggregate-solve-cholesky-4
-slice-aggregate-solve-cholesky-4 c = sym (length-take-le _ _ (omega (arith, (c .before .before .before .before .before .before .before .before .before .before .before .before .before .before) .pre)))
+slice-aggregate-solve-cholesky-4 c =
+    sym (length-take-le _ _
+    (omega (
+      arith,
+      (c .before .before .before .before .before .before .before .before .before .before .before .before .before
+          .before) .pre,
+    )))
 
 solve-cholesky-requires : tie.Need-solve-cholesky-requires
 solve-cholesky-requires c κs = tt
@@ -78,17 +106,35 @@ same-length c = search needs
 
 returns : tie.Need-returns
 returns c =
-    let s = (c .before .before .before .before .before .before .before .before .before .before .before .before .before .before .before .before .before) in
+    let s =
+    (c .before .before .before .before .before .before .before .before .before .before .before .before
+    .before .before .before .before .before) in
     let p = s .pre in
     let a = s .args in
     let x = c .before .before .solve-cholesky in
-    let l = c .before .before .before .before .before .before .before .before .before .before .before .pack .last .1 .1 .0 in
-    let kl = c .before .before .before .before .before .before .before .before .before .before .before .pack .kept .1 .1 .0 in
+    let l =
+    c .before .before .before .before .before .before .before .before .before .before .before .pack .last
+    .1 .1 .0 in
+    let kl =
+    c .before .before .before .before .before .before .before .before .before .before .before .pack .kept
+    .1 .1 .0 in
     let b = c .before .before .before .before .before .before .before .before .projections .last .1 .1 .1 .1 .1 .0 in
     let kb = c .before .before .before .before .before .before .before .before .projections .kept .1 .1 .1 .1 .1 .0 in
     let h = length-take-le (2 * a .r) (a .a .now) (omega (arith, p .0, p .1 .1)) in
-    rw (take-at (x .last .1 .1 .1 .1 .0) _ (2 * a .r) (x .kept .1 .1 .1 .1 .0 ∙ h), ← c .before .before .before .before .before .before .before .before .before .before .before .pack .ensures, ← c .before .before .before .before .before .before .before .before .projections .ensures)
-    (solve-result (x .result) (a .r) l (replicate (a .r) false) b _ (x .last .1 .1 .1 .1 .0) (omega (arith, p .0)) (kl ∙ length-take-le _ _ (room s)) (length-replicate (a .r) false) (kb ∙ length-take-le _ _ (short s)) h (rw (front-kept _ l _ (room s) kl, front-kept _ b _ (short s) kb, take-replicate (a .r) 12 false (p .0)) at (x .ensures)))
+    rw (
+      take-at (x .last .1 .1 .1 .1 .0) _ (2 * a .r) (x .kept .1 .1 .1 .1 .0 ∙ h),
+      ← c .before .before .before .before .before .before .before .before .before .before .before .pack
+          .ensures,
+      ← c .before .before .before .before .before .before .before .before .projections .ensures,
+    )
+    (solve-result (x .result) (a .r) l (replicate (a .r) false) b _ (x .last .1 .1 .1 .1 .0)
+    (omega (arith, p .0)) (kl ∙ length-take-le _ _ (room s)) (length-replicate (a .r) false)
+    (kb ∙ length-take-le _ _ (short s)) h
+    (rw (
+      front-kept _ l _ (room s) kl,
+      front-kept _ b _ (short s) kb,
+      take-replicate (a .r) 12 false (p .0),
+    ) at (x .ensures)))
 
 pub coefficients-spec : {M : Type 1} → statement M
 coefficients-spec =

@@ -34,7 +34,10 @@ same-length : tie.Need-same-length Inv-loop μ-loop
 same-length c = search needs
 
 returns : tie.Need-returns Inv-loop μ-loop
-returns c = broke-off _ _ _ (c .before .before .before .before .before .before .before .loop-test .taken) (c .before .before .before .before .before .before .before .before .loop .inv .2) (c .before .before .before .before .before .gram-entry .ensures) (c .before .e .given .1)
+returns c =
+    broke-off _ _ _ (c .before .before .before .before .before .before .before .loop-test .taken)
+    (c .before .before .before .before .before .before .before .before .loop .inv .2)
+    (c .before .before .before .before .before .gram-entry .ensures) (c .before .e .given .1)
 
 add-j : tie.Need-add-j Inv-loop μ-loop
 add-j c = search needs
@@ -43,7 +46,12 @@ loop-less : tie.Need-loop-less Inv-loop μ-loop
 loop-less c = search needs
 
 loop-again : tie.Need-loop-again Inv-loop μ-loop
-loop-again c = (search needs, search needs, went-on _ _ (c .before .before .before .before .before .before .before .loop .inv .2) (c .before .before .before .before .gram-entry .ensures) (c .enum-told .given .1))
+loop-again c = (
+  search needs,
+  search needs,
+  went-on _ _ (c .before .before .before .before .before .before .before .loop .inv .2)
+      (c .before .before .before .before .gram-entry .ensures) (c .enum-told .given .1),
+)
 
 same-length-2 : tie.Need-same-length-2 Inv-loop μ-loop
 same-length-2 c = search needs

@@ -1,4 +1,5 @@
--- `measure` meets its contract: the length of the places that were filled, which read only the coefficients that were solved for.
+-- `measure` meets its contract: the length of the places that were filled, which read only the coefficients that were
+-- solved for.
 use mathlib.Core.Path.{sym, ap, _∙_}
 use Prim.Native.Nat.{ℕ, _*_, _≤_}
 use native.Mathlib.Omega.{arith}
@@ -38,14 +39,27 @@ same-length c = search needs
 
 returns : tie.Need-returns
 returns c =
-    let s = (c .before .before .before .before .before .before .before .before .before .before .before .before .before .before .before .before) in
+    let s =
+    (c .before .before .before .before .before .before .before .before .before .before .before .before
+    .before .before .before .before) in
     let a = s .args in
-    let x = c .before .before .before .before .before .before .before .before .before .before .coefficients .last .1 .1 .1 .1 .1 .1 .0 in
-    let e = rw (c .before .before .before .before .before .before .enum-told .given .1) at (c .before .before .before .before .before .before .before .before .before .before .coefficients .ensures) in
+    let x =
+    c .before .before .before .before .before .before .before .before .before .before .coefficients .last
+    .1 .1 .1 .1 .1 .1 .0 in
+    let e =
+    rw (c .before .before .before .before .before .before .enum-told .given .1) at (c .before .before
+    .before .before .before .before .before .before .before .before .coefficients .ensures) in
     let g : ℕ → Scalar = λ j. minusTo (at x) (column (a .q .now) j) (entry (a .wide .now) (a .i) j) (a .r) in
     let h : 2 * a .k ≤ 24 = omega (arith, s .pre .0) in
     let l = rw (c .before .before .before .outside .ensures) at (c .norm-of .ensures) ∙ norm-fill _ g (a .k) h in
-    λ f. ap (λ z. bind z (f (take (2 * a .r) x))) (l ∙ left-take (a .k) (a .r) (a .i) (a .wide .now) (a .q .now) x (omega (arith, c .before .before .before .before .before .before .before .before .before .before .coefficients .kept, s .pre .1 .0, s .pre .1 .1 .1))) ∙ sym (bind-ok _ (sym e))
+    λ f. ap (λ z. bind z (f (take (2 * a .r) x)))
+    (l ∙ left-take (a .k) (a .r) (a .i) (a .wide .now) (a .q .now) x
+    (omega (
+      arith,
+      c .before .before .before .before .before .before .before .before .before .before .coefficients .kept,
+      s .pre .1 .0,
+      s .pre .1 .1 .1,
+    ))) ∙ sym (bind-ok _ (sym e))
 
 enum-known-e : tie.Need-enum-known-e
 enum-known-e c = search needs

@@ -29,7 +29,8 @@ unfolding multiplierStep ofBits
 returns c =
     let a = c .before .before .before .before .before .before .before .before .before .before .before .before .args in
     let m = c .before .before .before .before .before .before .multipliers-by-row in
-    multipliers-is (a .k) (basisBy (a .r) (a .q .now) [] (drop 288 (a .q .now)) [] (a .order .now)) (a .pull .now) (m .last .1 .1 .1 .1 .0) (m .result) (m .ensures) (c .before .before .spread .ensures)
+    multipliers-is (a .k) (basisBy (a .r) (a .q .now) [] (drop 288 (a .q .now)) [] (a .order .now))
+    (a .pull .now) (m .last .1 .1 .1 .1 .0) (m .result) (m .ensures) (c .before .before .spread .ensures)
 
 pub multipliers-spec : {M : Type 1} → statement M
 multipliers-spec =

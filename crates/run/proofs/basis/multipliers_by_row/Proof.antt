@@ -14,7 +14,9 @@ use Rattle.run.proofs.basis.multipliers_by_row.Statement.{statement}
 use Rattle.run.proofs.basis.multipliers_by_row.Tie as tie
 
 abbrev Inv-loop : tie.InvT-loop
-Inv-loop k r q pull by-row₀ u₀ by-row u = (u ≤ r) × (length by-row ≡ length by-row₀) × (foldR (multiplierStep k (basisBy r q [] (drop 288 q) [] []) pull) by-row₀ u ≡ ok by-row)
+Inv-loop k r q pull by-row₀ u₀ by-row u =
+    (u ≤ r) × (length by-row ≡ length by-row₀)
+    × (foldR (multiplierStep k (basisBy r q [] (drop 288 q) [] []) pull) by-row₀ u ≡ ok by-row)
 
 abbrev μ-loop : tie.MeasureT-loop
 μ-loop k r q pull by-row₀ u₀ by-row u = r - u
@@ -36,7 +38,10 @@ same-length : tie.Need-same-length Inv-loop μ-loop
 same-length c = search needs
 
 returns : tie.Need-returns Inv-loop μ-loop
-returns c = broke-off _ _ _ (c .before .before .before .before .before .before .before .loop-test .taken) (c .before .before .before .before .before .before .before .before .loop .inv .2) (c .before .before .before .before .before .multiplier .ensures) (c .before .e .given .1)
+returns c =
+    broke-off _ _ _ (c .before .before .before .before .before .before .before .loop-test .taken)
+    (c .before .before .before .before .before .before .before .before .loop .inv .2)
+    (c .before .before .before .before .before .multiplier .ensures) (c .before .e .given .1)
 
 add-u : tie.Need-add-u Inv-loop μ-loop
 add-u c = search needs
@@ -45,7 +50,12 @@ loop-less : tie.Need-loop-less Inv-loop μ-loop
 loop-less c = search needs
 
 loop-again : tie.Need-loop-again Inv-loop μ-loop
-loop-again c = (search needs, search needs, went-on _ _ (c .before .before .before .before .before .before .before .loop .inv .2) (c .before .before .before .before .multiplier .ensures) (c .enum-told .given .1))
+loop-again c = (
+  search needs,
+  search needs,
+  went-on _ _ (c .before .before .before .before .before .before .before .loop .inv .2)
+      (c .before .before .before .before .multiplier .ensures) (c .enum-told .given .1),
+)
 
 same-length-2 : tie.Need-same-length-2 Inv-loop μ-loop
 same-length-2 c = search needs

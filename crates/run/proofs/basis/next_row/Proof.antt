@@ -13,7 +13,9 @@ slice-aggregate-measure : tie.Need-slice-aggregate-measure
 slice-aggregate-measure c = search needs
 
 measure-requires : tie.Need-measure-requires
-measure-requires c κs = let p = c .before .before .before .before .before .before .before .before .before .before .pre in (p .0, (omega (arith, p .1 .0, p .1 .1 .0), (p .1 .1 .0, refl)))
+measure-requires c κs =
+    let p = c .before .before .before .before .before .before .before .before .before .before .pre in
+    (p .variables, (omega (arith, p .independent, p .row), (p .row, refl)))
 
 enum-known-l : tie.Need-enum-known-l
 enum-known-l c = search needs
@@ -45,9 +47,22 @@ same-length-4 c = search needs
 returns : tie.Need-returns
 unfolding ofBits
 returns c =
-    let a = c .before .before .before .before .before .before .before .before .before .before .before .before .before .before .before .before .before .before .before .before .before .before .before .before .before .before .before .args in
-    let k = c .before .before .before .before .before .before .before .before .before .before .before .before .before .before .before .before .measure in
-    row-new (a .k) (a .r) (a .i) (a .wide .now) (a .jc .now) (a .q .now) (a .gram .now) (a .coefficients .now) (a .dependent .now) (a .order .now) (k .result) (take (2 * a .r) (k .last .1 .1 .1 .1 .1 .1 .0)) (k .ensures) (c .before .before .before .before .before .before .before .before .before .before .before .before .before .l .given .1) (c .before .before .before .before .before .before .before .before .before .before .before .definitely-greater .ensures) (c .before .before .before .before .before .before .before .before .before .before .if1 .taken) (c .before .before .before .before .before .before .add-row .ensures (a .dependent .now) (a .order .now))
+    let a =
+    c .before .before .before .before .before .before .before .before .before .before .before .before
+    .before .before .before .before .before .before .before .before .before .before .before .before
+    .before .before .before .args in
+    let k =
+    c .before .before .before .before .before .before .before .before .before .before .before .before
+    .before .before .before .before .measure in
+    row-new (a .passed .k) (a .passed .r) (a .passed .m) (a .wide .now) (a .jc .now) (a .q .now)
+    (a .gram .now) (a .coefficients .now) (a .dependent .now) (a .order .now) (k .result)
+    (take (2 * a .passed .r) (k .last .1 .1 .1 .1 .1 .1 .0)) (k .ensures)
+    (c .before .before .before .before .before .before .before .before .before .before .before .before .before
+    .l .given .1)
+    (c .before .before .before .before .before .before .before .before .before .before .before
+    .definitely-greater .ensures)
+    (c .before .before .before .before .before .before .before .before .before .before .if1 .taken)
+    (c .before .before .before .before .before .before .add-row .ensures (a .dependent .now) (a .order .now))
 
 sub-d : tie.Need-sub-d
 sub-d c = search needs
@@ -85,12 +100,19 @@ same-length-8 c = search needs
 returns-2 : tie.Need-returns-2
 unfolding ofBits
 returns-2 c =
-    let s = c .before .before .before .before .before .before .before .before .before .before .before .before .before .before .before .before .before .before .before .before .before .before in
+    let s =
+    c .before .before .before .before .before .before .before .before .before .before .before .before
+    .before .before .before .before .before .before .before .before .before .before in
     let a = s .args in
     let k = c .before .before .before .before .before .before .before .before .before .before .before .measure in
     let x = k .last .1 .1 .1 .1 .1 .1 .0 in
     let l : length x ≡ 24 = k .kept .1 .1 .1 .1 .1 .1 .0 in
-    row-dependent (a .k) (a .r) (a .i) (a .wide .now) (a .jc .now) (a .q .now) (a .gram .now) (a .coefficients .now) (a .dependent .now) (a .order .now) (k .result) (take (2 * a .r) x) (k .ensures) x refl (omega (arith, l, s .pre .1 .0, s .pre .1 .1 .0)) (c .before .before .before .before .before .before .before .before .l .given .1) (c .before .before .before .before .before .before .definitely-greater .ensures) (c .before .before .before .before .before .if1 .left) (c .before .before .chosen-at .ensures)
+    row-dependent (a .passed .k) (a .passed .r) (a .passed .m) (a .wide .now) (a .jc .now) (a .q .now)
+    (a .gram .now) (a .coefficients .now) (a .dependent .now) (a .order .now) (k .result)
+    (take (2 * a .passed .r) x) (k .ensures) x refl (omega (arith, l, s .pre .independent, s .pre .row))
+    (c .before .before .before .before .before .before .before .before .l .given .1)
+    (c .before .before .before .before .before .before .definitely-greater .ensures)
+    (c .before .before .before .before .before .if1 .left) (c .before .before .chosen-at .ensures)
 
 enum-known-e : tie.Need-enum-known-e
 enum-known-e c = search needs
@@ -103,9 +125,13 @@ same-length-10 c = search needs
 
 returns-3 : tie.Need-returns-3
 returns-3 c =
-    let a = c .before .before .before .before .before .before .before .before .before .before .before .before .before .before .before .args in
+    let a =
+    c .before .before .before .before .before .before .before .before .before .before .before .before
+    .before .before .before .args in
     let k = c .before .before .before .before .measure in
-    row-refused (a .k) (a .r) (a .i) (a .wide .now) (a .jc .now) (a .q .now) (a .gram .now) (a .coefficients .now) (a .dependent .now) (a .order .now) (k .result) (take (2 * a .r) (k .last .1 .1 .1 .1 .1 .1 .0)) (k .ensures) (c .before .e .given .1)
+    row-refused (a .passed .k) (a .passed .r) (a .passed .m) (a .wide .now) (a .jc .now) (a .q .now)
+    (a .gram .now) (a .coefficients .now) (a .dependent .now) (a .order .now) (k .result)
+    (take (2 * a .passed .r) (k .last .1 .1 .1 .1 .1 .1 .0)) (k .ensures) (c .before .e .given .1)
 
 pub next-row-spec : {M : Type 1} → statement M
 next-row-spec =

@@ -17,7 +17,8 @@ use Rattle.run.proofs.basis.pack.Statement.{statement}
 use Rattle.run.proofs.basis.pack.Tie as tie
 
 abbrev Inv-loop : tie.InvT-loop
-Inv-loop r a to₀ n p₀ to p = (p ≤ n) × (length to ≡ length to₀) × (to ≡ listTo (λ j. entry a (j / r) (j % r)) p ++ drop (2 * p) to₀)
+Inv-loop r a to₀ n p₀ to p =
+    (p ≤ n) × (length to ≡ length to₀) × (to ≡ listTo (λ j. entry a (j / r) (j % r)) p ++ drop (2 * p) to₀)
 
 abbrev μ-loop : tie.MeasureT-loop
 μ-loop r a to₀ n p₀ to p = n - p
@@ -46,7 +47,12 @@ rem-at c =
 add-at : tie.Need-add-at Inv-loop μ-loop
 add-at c =
     let s = c .before .before .before .before .before in
-    omega (arith, s .pre .0, packed-row (s .args .r) (s .args .r) (c .before .loop-test .taken), packed-column (s .args .r) (s .args .r) (c .before .loop-test .taken))
+    omega (
+      arith,
+      s .pre .0,
+      packed-row (s .args .r) (s .args .r) (c .before .loop-test .taken),
+      packed-column (s .args .r) (s .args .r) (c .before .loop-test .taken),
+    )
 
 at-requires : tie.Need-at-requires Inv-loop μ-loop
 at-requires c κs = search needs
@@ -67,8 +73,17 @@ loop-again c =
     let s = c .before .before .before .before .before .before .before .before .before in
     let a = s .args in
     let f : ℕ → Scalar = λ j. entry (a .a .now) (j / a .r) (j % a .r) in
-    let e = rw (c .before .before .before .before .before .before .loop .inv .2, c .before .before .before .at .ensures) at (c .before .before .put .ensures) in
-    (search needs, search needs, e ∙ listTo-more f (c .before .before .before .before .before .before .loop .p) (a .to .now) (omega (arith, s .pre .1, c .before .before .before .before .before .loop-test .taken)))
+    let e =
+    rw (
+      c .before .before .before .before .before .before .loop .inv .2,
+      c .before .before .before .at .ensures,
+    ) at (c .before .before .put .ensures) in (
+      search needs,
+      search needs,
+      e
+          ∙ listTo-more f (c .before .before .before .before .before .before .loop .p) (a .to .now)
+          (omega (arith, s .pre .1, c .before .before .before .before .before .loop-test .taken)),
+    )
 
 same-length : tie.Need-same-length Inv-loop μ-loop
 same-length c = search needs

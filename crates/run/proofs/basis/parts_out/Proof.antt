@@ -11,7 +11,9 @@ use Rattle.run.proofs.basis.parts_out.Statement.{statement}
 use Rattle.run.proofs.basis.parts_out.Tie as tie
 
 abbrev Inv-loop : tie.InvT-loop
-Inv-loop k r q v₀ coefficients₀ j₀ v coefficients j = (j ≤ r) × (length v ≡ length v₀) × (length coefficients ≡ length coefficients₀) × (takenBy v coefficients ≡ partsOut k r q (takenBy v₀ coefficients₀) j)
+Inv-loop k r q v₀ coefficients₀ j₀ v coefficients j =
+    (j ≤ r) × (length v ≡ length v₀) × (length coefficients ≡ length coefficients₀)
+    × (takenBy v coefficients ≡ partsOut k r q (takenBy v₀ coefficients₀) j)
 
 abbrev μ-loop : tie.MeasureT-loop
 μ-loop k r q v₀ coefficients₀ j₀ v coefficients j = r - j
@@ -52,7 +54,9 @@ loop-less c = search needs
 
 loop-again : tie.Need-loop-again Inv-loop μ-loop
 loop-again c =
-    let a = c .before .before .before .before .before .before .before .before .before .before .before .before .before .before .before .before .args in
+    let a =
+    c .before .before .before .before .before .before .before .before .before .before .before .before
+    .before .before .before .before .args in
     let l = c .before .before .before .before .before .before .before .before .before .before .before .before .loop in (
       search needs,
       search needs,

@@ -15,7 +15,8 @@ use Rattle.run.proofs.basis.projections.Statement.{statement}
 use Rattle.run.proofs.basis.projections.Tie as tie
 
 abbrev Inv-loop : tie.InvT-loop
-Inv-loop k r i wide q b₀ j₀ b j = (j ≤ r) × (length b ≡ length b₀) × (b ≡ listTo (λ t. dotTo (row wide i) (row q t) k) j ++ drop (2 * j) b₀)
+Inv-loop k r i wide q b₀ j₀ b j =
+    (j ≤ r) × (length b ≡ length b₀) × (b ≡ listTo (λ t. dotTo (row wide i) (row q t) k) j ++ drop (2 * j) b₀)
 
 abbrev μ-loop : tie.MeasureT-loop
 μ-loop k r i wide q b₀ j₀ b j = r - j
@@ -50,8 +51,13 @@ loop-again c =
       c .before .before .before .before .before .before .loop .inv .2,
       c .before .before .before .row-dot
           .ensures,
-    ) at (c .before .before .put .ensures) in
-    (search needs, search needs, e ∙ listTo-more f (c .before .before .before .before .before .before .loop .j) (a .b .now) (omega (arith, s .pre .1 .1, c .before .before .before .before .before .loop-test .taken)))
+    ) at (c .before .before .put .ensures) in (
+      search needs,
+      search needs,
+      e
+          ∙ listTo-more f (c .before .before .before .before .before .before .loop .j) (a .b .now)
+          (omega (arith, s .pre .1 .1, c .before .before .before .before .before .loop-test .taken)),
+    )
 
 same-length : tie.Need-same-length Inv-loop μ-loop
 same-length c = search needs

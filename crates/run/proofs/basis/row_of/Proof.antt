@@ -40,8 +40,16 @@ loop-less c = search needs
 
 loop-again : tie.Need-loop-again Inv-loop μ-loop
 loop-again c =
-    let a = c .before .before .before .before .before .before .before .before .before .args in
-    (search needs, search needs, c .before .before .put .ensures ∙ fill-first (a .v .now) (row (a .jc .now) (a .i)) (c .before .before .before .before .before .before .loop .p) (c .before .before .before .before .before .before .loop .inv .2) (c .before .before .before .at .ensures ∙ sym (along-row (a .jc .now) (12 * a .i) (c .before .before .before .before .before .before .loop .p))))
+    let a = c .before .before .before .before .before .before .before .before .before .args in (
+      search needs,
+      search needs,
+      c .before .before .put .ensures
+          ∙ fill-first (a .v .now) (row (a .jc .now) (a .i))
+          (c .before .before .before .before .before .before .loop .p)
+          (c .before .before .before .before .before .before .loop .inv .2)
+          (c .before .before .before .at .ensures
+          ∙ sym (along-row (a .jc .now) (12 * a .i) (c .before .before .before .before .before .before .loop .p))),
+    )
 
 same-length : tie.Need-same-length Inv-loop μ-loop
 same-length c = search needs

@@ -21,11 +21,14 @@ use Rattle.run.proofs.basis.sides.Tie as tie
 abbrev sideAt : ℕ → List ℕ → Rows → ℕ → Scalar
 sideAt r order e t = negOf (chooseOf (valueAt e (orderAt (basisBy r [] [] [] [] order) t)))
 
-side : (r : ℕ) (order : List ℕ) (e : Rows) (t : ℕ) {o : ℕ} {c d v : Scalar} → o ≡ orderAt (basisBy r [] [] [] [] order) t → c ≡ valueAt e o → d ≡ chooseOf c → v ≡ negOf d → v ≡ sideAt r order e t
+side : (r : ℕ) (order : List ℕ) (e : Rows) (t : ℕ) {o : ℕ} {c d v : Scalar}
+    → o ≡ orderAt (basisBy r [] [] [] [] order) t → c ≡ valueAt e o → d ≡ chooseOf c → v ≡ negOf d
+    → v ≡ sideAt r order e t
 side r order e t eo ec ed ev = rw (ev, ed, ec, eo)
 
 abbrev Inv-loop : tie.InvT-loop
-Inv-loop m r order xs e rhs₀ t₀ rhs t = (t ≤ m) × (length rhs ≡ length rhs₀) × (rhs ≡ listTo (sideAt r order (rowsIn xs e)) t ++ drop (2 * t) rhs₀)
+Inv-loop m r order xs e rhs₀ t₀ rhs t =
+    (t ≤ m) × (length rhs ≡ length rhs₀) × (rhs ≡ listTo (sideAt r order (rowsIn xs e)) t ++ drop (2 * t) rhs₀)
 
 abbrev μ-loop : tie.MeasureT-loop
 μ-loop m r order xs e rhs₀ t₀ rhs t = m - t
@@ -58,9 +61,25 @@ loop-again : tie.Need-loop-again Inv-loop μ-loop
 loop-again c =
     let s = c .before .before .before .before .before .before .before .before .before .before .before .before .before in
     let a = s .args in
-    let v = side (a .r) (a .order .now) (rowsIn (a .xs .now) (a .e)) (c .before .before .before .before .before .before .before .before .before .loop .t) (c .before .before .before .before .before .before .before .order-at .ensures) (c .before .before .before .before .before .before .value-of .ensures) (c .before .before .before .before .choose .ensures) (c .before .before .before .neg .ensures .value) in
-    let e = rw (c .before .before .before .before .before .before .before .before .before .loop .inv .2, v) at (c .before .before .put .ensures) in
-    (search needs, search needs, e ∙ listTo-more (sideAt (a .r) (a .order .now) (rowsIn (a .xs .now) (a .e))) (c .before .before .before .before .before .before .before .before .before .loop .t) (a .rhs .now) (omega (arith, s .pre .1 .1, c .before .before .before .before .before .before .before .before .loop-test .taken)))
+    let v =
+    side (a .r) (a .order .now) (rowsIn (a .xs .now) (a .e))
+    (c .before .before .before .before .before .before .before .before .before .loop .t)
+    (c .before .before .before .before .before .before .before .order-at .ensures)
+    (c .before .before .before .before .before .before .value-of .ensures)
+    (c .before .before .before .before .choose .ensures) (c .before .before .before .neg .ensures .value) in
+    let e =
+    rw (
+      c .before .before .before .before .before .before .before .before .before .loop .inv .2,
+      v,
+    ) at (c .before .before .put .ensures) in (
+      search needs,
+      search needs,
+      e
+          ∙ listTo-more (sideAt (a .r) (a .order .now) (rowsIn (a .xs .now) (a .e)))
+          (c .before .before .before .before .before .before .before .before .before .loop .t) (a .rhs .now)
+          (omega
+          (arith, s .pre .1 .1, c .before .before .before .before .before .before .before .before .loop-test .taken)),
+    )
 
 same-length : tie.Need-same-length Inv-loop μ-loop
 same-length c = search needs

@@ -23,7 +23,11 @@ same-length c = search needs
 
 returns : tie.Need-returns
 unfolding bind
-returns c = rw (c .before .before .before .before .before .before .q .given .1, ← c .before .before .before .choose .ensures) (ap ok (c .before .before .put .ensures))
+returns c =
+    rw (
+      c .before .before .before .before .before .before .q .given .1,
+      ← c .before .before .before .choose .ensures,
+    ) (ap ok (c .before .before .put .ensures))
 
 returns-2 : tie.Need-returns-2
 unfolding bind

@@ -20,7 +20,9 @@ use Rattle.run.proofs.calls.begin.Statement.{statement}
 use Rattle.run.proofs.calls.begin.Tie as tie
 
 -- a run that has begun, of equal parts
-begun : {z : Sizes} {mu max : Scalar} {st : State} {a : List Float} (start : List Float) → st ≡ stateWith z mu max (Open kind.Start) → mu ≡ firstMu → a ≡ areaOf (begunMemory start) → afterCall (record { state = st; event = event.Question 0 kind.Start 0 }) a ≡ begunOf z start max
+begun : {z : Sizes} {mu max : Scalar} {st : State} {a : List Float} (start : List Float)
+    → st ≡ stateWith z mu max (Open kind.Start) → mu ≡ firstMu → a ≡ areaOf (begunMemory start)
+    → afterCall (record { state = st; event = event.Question 0 kind.Start 0 }) a ≡ begunOf z start max
 begun start es em ea = rw (es, em, ea)
 
 refusal-requires : tie.Need-refusal-requires
@@ -33,12 +35,14 @@ returns : tie.Need-returns
 returns c =
     let a = c .before .before .before .before .before .args in
     ap (λ (r : Returned). afterCall r (now (a .area))) (c .not-begun .ensures)
-    ∙ begin-refused (record { n = a .n; m = a .m; s = a .s; limit = a .limit }) (now (a .start)) (a .max-step) (now (a .area)) (c .before .before .refusal .ensures) (c .before .if1 .taken)
+    ∙ begin-refused (record { n = a .n; m = a .m; s = a .s; limit = a .limit }) (now (a .start)) (a .max-step)
+    (now (a .area)) (c .before .before .refusal .ensures) (c .before .if1 .taken)
 
 write-begun-requires : tie.Need-write-begun-requires
 write-begun-requires c κs =
     let a = c .before .before .before .before .before .args in
-    begin-lengths (record { n = a .n; m = a .m; s = a .s; limit = a .limit }) (now (a .start)) (a .max-step) (now (a .area)) (c .before .before .refusal .ensures) (c .before .if1 .left)
+    begin-lengths (record { n = a .n; m = a .m; s = a .s; limit = a .limit }) (now (a .start)) (a .max-step)
+    (now (a .area)) (c .before .before .refusal .ensures) (c .before .if1 .left)
 
 first-damping-requires : tie.Need-first-damping-requires
 first-damping-requires c κs = search needs
@@ -53,8 +57,11 @@ returns-2 : tie.Need-returns-2
 returns-2 c =
     let a = c .before .before .before .before .before .before .before .before .before .before .args in
     let z : Sizes = record { n = a .n; m = a .m; s = a .s; limit = a .limit } in
-    begun (now (a .start)) (c .state-with .ensures) (c .before .first-damping .ensures) (c .before .before .before .before .write-begun .ensures .is)
-    ∙ begin-passed z (now (a .start)) (a .max-step) (now (a .area)) (c .before .before .before .before .before .before .before .refusal .ensures) (c .before .before .before .before .before .before .if1 .left)
+    begun (now (a .start)) (c .state-with .ensures) (c .before .first-damping .ensures)
+    (c .before .before .before .before .write-begun .ensures .is)
+    ∙ begin-passed z (now (a .start)) (a .max-step) (now (a .area))
+    (c .before .before .before .before .before .before .before .refusal .ensures)
+    (c .before .before .before .before .before .before .if1 .left)
 
 pub begin-spec : {M : Type 1} → statement M
 begin-spec =

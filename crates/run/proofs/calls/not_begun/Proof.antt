@@ -13,7 +13,9 @@ state-with-requires c κs = search needs
 
 returns : tie.Need-returns
 unfolding ofBits
-returns c = ap {B = Returned} (λ (st : State). record { state = st; event = event.Refused (c .before .args .number) }) (c .state-with .ensures)
+returns c =
+    ap {B = Returned} (λ (st : State). record { state = st; event = event.Refused (c .before .args .number) })
+    (c .state-with .ensures)
 
 pub not-begun-spec : {M : Type 1} → statement M
 not-begun-spec = tie.close (tie.spec state-with-requires returns)

@@ -20,16 +20,31 @@ slice-aggregate-result : tie.Need-slice-aggregate-result
 slice-aggregate-result c = search needs
 
 returns : tie.Need-returns
-returns c = point-none (c .before .before .before .before .args .st) (now (c .before .before .before .before .args .area)) (rw (sym (c .before .before .valid .ensures) ∙ not-true _ (c .before .if1 .taken)))
+returns c =
+    point-none (c .before .before .before .before .args .st)
+    (now (c .before .before .before .before .args .area))
+    (rw (sym (c .before .before .valid .ensures) ∙ not-true _ (c .before .if1 .taken)))
 
 slice-aggregate-result-2 : tie.Need-slice-aggregate-result-2
 slice-aggregate-result-2 c = search needs
 
 returns-2 : tie.Need-returns-2
-returns-2 c = point-none (c .before .before .before .before .before .args .st) (now (c .before .before .before .before .before .args .area)) (rw (sym (c .before .before .before .valid .ensures) ∙ not-false _ (c .before .before .if1 .left), ne-eqb _ _ (c .before .if2 .taken)))
+returns-2 c =
+    point-none (c .before .before .before .before .before .args .st)
+    (now (c .before .before .before .before .before .args .area))
+    (rw (
+      sym (c .before .before .before .valid .ensures)
+          ∙ not-false _ (c .before .before .if1 .left),
+      ne-eqb _ _ (c .before .if2 .taken),
+    ))
 
 mul-q : tie.Need-mul-q
-mul-q c = omega (arith, bounds (c .before .before .before .before .before .args .st) (sym (c .before .before .before .valid .ensures) ∙ not-false _ (c .before .before .if1 .left)) .sizes .n)
+mul-q c =
+    omega (
+      arith,
+      bounds (c .before .before .before .before .before .args .st)
+          (sym (c .before .before .before .valid .ensures) ∙ not-false _ (c .before .before .if1 .left)) .sizes .n,
+    )
 
 enum-told : tie.Need-enum-told
 enum-told c = search needs
@@ -40,16 +55,32 @@ enum-told-2 c = search needs
 slice-aggregate-result-3 : tie.Need-slice-aggregate-result-3
 slice-aggregate-result-3 c =
     let a = c .before .before .before .before .before .before .before .before .args in
-    let h : 2 * a .st .sizes .n ≤ length (now (a .area)) = omega (arith, c .before .before .before .before .if2 .left, bounds (a .st) (sym (c .before .before .before .before .before .before .valid .ensures) ∙ not-false _ (c .before .before .before .before .before .if1 .left)) .sizes .n) in
+    let h : 2 * a .st .sizes .n ≤ length (now (a .area)) =
+    omega (
+      arith,
+      c .before .before .before .before .if2 .left,
+      bounds (a .st)
+          (sym (c .before .before .before .before .before .before .valid .ensures)
+          ∙ not-false _ (c .before .before .before .before .before .if1 .left)) .sizes .n,
+    ) in
     sym (length-take-le _ _ h)
 
 returns-3 : tie.Need-returns-3
 returns-3 c =
     let a = c .before .before .before .before .before .before .before .before .args in
-    point-at (a .st) (now (a .area)) Over (2 * a .st .sizes .n) (sym (c .before .before .before .before .before .before .valid .ensures) ∙ not-false _ (c .before .before .before .before .before .if1 .left)) (c .before .before .before .before .if2 .left) (c .before .enum-told2 .given .1) refl
+    point-at (a .st) (now (a .area)) Over (2 * a .st .sizes .n)
+    (sym (c .before .before .before .before .before .before .valid .ensures)
+    ∙ not-false _ (c .before .before .before .before .before .if1 .left))
+    (c .before .before .before .before .if2 .left) (c .before .enum-told2 .given .1) refl
 
 add-result : tie.Need-add-result
-add-result c = omega (arith, bounds (c .before .before .before .before .before .before .before .args .st) (sym (c .before .before .before .before .before .valid .ensures) ∙ not-false _ (c .before .before .before .before .if1 .left)) .sizes .n)
+add-result c =
+    omega (
+      arith,
+      bounds (c .before .before .before .before .before .before .before .args .st)
+          (sym (c .before .before .before .before .before .valid .ensures)
+          ∙ not-false _ (c .before .before .before .before .if1 .left)) .sizes .n,
+    )
 
 sub-result : tie.Need-sub-result
 sub-result c = search needs
@@ -58,13 +89,23 @@ part-result-start : tie.Need-part-result-start
 part-result-start c = search needs
 
 part-result-end : tie.Need-part-result-end
-part-result-end c = omega (arith, c .before .before .before .if2 .left, bounds (c .before .before .before .before .before .before .before .args .st) (sym (c .before .before .before .before .before .valid .ensures) ∙ not-false _ (c .before .before .before .before .if1 .left)) .sizes .n)
+part-result-end c =
+    omega (
+      arith,
+      c .before .before .before .if2 .left,
+      bounds (c .before .before .before .before .before .before .before .args .st)
+          (sym (c .before .before .before .before .before .valid .ensures)
+          ∙ not-false _ (c .before .before .before .before .if1 .left)) .sizes .n,
+    )
 
 returns-4 : tie.Need-returns-4
 returns-4 c =
     let a = c .before .before .before .before .before .before .before .before .args in
     let e : 48 + 2 * a .st .sizes .n - 48 ≡ 2 * a .st .sizes .n = omega arith in
-    point-at (a .st) (now (a .area)) _ _ (sym (c .before .before .before .before .before .before .valid .ensures) ∙ not-false _ (c .before .before .before .before .before .if1 .left)) (c .before .before .before .before .if2 .left) (c .before .enum-told .given .1) e
+    point-at (a .st) (now (a .area)) _ _
+    (sym (c .before .before .before .before .before .before .valid .ensures)
+    ∙ not-false _ (c .before .before .before .before .before .if1 .left))
+    (c .before .before .before .before .if2 .left) (c .before .enum-told .given .1) e
 
 pub point-spec : {M : Type 1} → statement M
 point-spec =

@@ -1,4 +1,5 @@
--- `reply` meets its contract: what the check refuses is left as it was, and what it accepts is answered over the tidied area.
+-- `reply` meets its contract: what the check refuses is left as it was, and what it accepts is answered over the tidied
+-- area.
 use mathlib.Core.Path.{sym, _∙_}
 use native.Mathlib.Omega.{arith}
 use lib.ListN.{length}
@@ -20,19 +21,27 @@ enum-known-number : tie.Need-enum-known-number
 enum-known-number c = search needs
 
 returns : tie.Need-returns
-returns c = let a = c .before .before .before .before .before .before .args in sym (rows-refused (a .st) (a .area .now) (a .rows .now) _ (sym (c .before .before .before .check-rows .ensures) ∙ c .before .number .given .1))
+returns c =
+    let a = c .before .before .before .before .before .before .args in
+    sym (rows-refused (a .st) (a .area .now) (a .rows .now) _
+    (sym (c .before .before .before .check-rows .ensures) ∙ c .before .number .given .1))
 
 clear-unused-requires : tie.Need-clear-unused-requires
 clear-unused-requires c κs =
     let a = c .before .before .before .before .before .before .before .args in
-    let r = accepted-rows (a .st) (length (a .area .now)) (a .rows .now) _ (sym (c .before .before .before .before .check-rows .ensures) ∙ c .before .before .kind .given .1) .reply in
+    let r =
+    accepted-rows (a .st) (length (a .area .now)) (a .rows .now) _
+    (sym (c .before .before .before .before .check-rows .ensures) ∙ c .before .before .kind .given .1) .reply in
     let b = reply-bounded (a .st) _ (r .run) (r .opened) in
     (r .whole, limits-of b)
 
 answered-requires : tie.Need-answered-requires
 answered-requires c κs =
     let a = c .before .before .before .before .before .before .before .before .before .before .before .args in
-    let w = accepted-rows (a .st) (length (a .area .now)) (a .rows .now) _ (sym (c .before .before .before .before .before .before .before .before .check-rows .ensures) ∙ c .before .before .before .before .before .before .kind .given .1) in
+    let w =
+    accepted-rows (a .st) (length (a .area .now)) (a .rows .now) _
+    (sym (c .before .before .before .before .before .before .before .before .check-rows .ensures)
+    ∙ c .before .before .before .before .before .before .kind .given .1) in
     let v = w .reply .run in (
       omega (arith, c .before .before .before .clear-unused .kept, w .reply .whole),
       (

@@ -1,4 +1,5 @@
--- `reply_none` meets its contract: what the check refuses is left as it was, and what it accepts is answered over the tidied area.
+-- `reply_none` meets its contract: what the check refuses is left as it was, and what it accepts is answered over the
+-- tidied area.
 use mathlib.Core.Path.{sym, _∙_}
 use native.Mathlib.Omega.{arith}
 use lib.ListN.{length}
@@ -20,27 +21,39 @@ enum-known-number : tie.Need-enum-known-number
 enum-known-number c = search needs
 
 returns : tie.Need-returns
-returns c = let a = c .before .before .before .before .before .args in sym (none-refused (a .st) (a .area .now) _ (sym (c .before .before .before .check .ensures) ∙ c .before .number .given .1))
+returns c =
+    let a = c .before .before .before .before .before .args in
+    sym (none-refused (a .st) (a .area .now) _
+    (sym (c .before .before .before .check .ensures) ∙ c .before .number .given .1))
 
 clear-unused-requires : tie.Need-clear-unused-requires
 clear-unused-requires c κs =
     let a = c .before .before .before .before .before .before .args in
-    let r = accepted (a .st) (length (a .area .now)) _ (sym (c .before .before .before .before .check .ensures) ∙ c .before .before .kind .given .1) in
+    let r =
+    accepted (a .st) (length (a .area .now)) _
+    (sym (c .before .before .before .before .check .ensures) ∙ c .before .before .kind .given .1) in
     let b = reply-bounded (a .st) _ (r .run) (r .opened) in
     (r .whole, limits-of b)
 
 answered-none-requires : tie.Need-answered-none-requires
 answered-none-requires c κs =
     let a = c .before .before .before .before .before .before .before .before .before .before .args in
-    let r = accepted (a .st) (length (a .area .now)) _ (sym (c .before .before .before .before .before .before .before .before .check .ensures) ∙ c .before .before .before .before .before .before .kind .given .1) in
-    (omega (arith, c .before .before .before .clear-unused .kept, r .whole), (reply-bounded (a .st) _ (r .run) (r .opened), reply-phase (a .st) _ (r .run) (r .opened)))
+    let r =
+    accepted (a .st) (length (a .area .now)) _
+    (sym (c .before .before .before .before .before .before .before .before .check .ensures)
+    ∙ c .before .before .before .before .before .before .kind .given .1) in (
+      omega (arith, c .before .before .before .clear-unused .kept, r .whole),
+      (reply-bounded (a .st) _ (r .run) (r .opened), reply-phase (a .st) _ (r .run) (r .opened)),
+    )
 
 same-length : tie.Need-same-length
 same-length c = search needs
 
 returns-2 : tie.Need-returns-2
 returns-2 c =
-    let a = c .before .before .before .before .before .before .before .before .before .before .before .before .before .args in
+    let a =
+    c .before .before .before .before .before .before .before .before .before .before .before .before
+    .before .args in
     leaves-left _ _ _ (c .before .before .answered-none .ensures (memoryOf (a .st) (a .area .now))
     (works (a .st) (c .before .before .before .before .before .before .clear-unused .ensures))) ∙ sym
     (none-accepted (a .st) (a .area .now) _ (sym

@@ -21,15 +21,32 @@ enum-told c = search needs
 
 returns-2 : tie.Need-returns-2
 unfolding checkOf
-returns-2 c = rw (sym (c .before .before .before .valid .ensures) ∙ not-false _ (c .before .before .if1 .left), c .enum-told .given .1)
+returns-2 c =
+    rw (
+      sym (c .before .before .before .valid .ensures)
+          ∙ not-false _ (c .before .before .if1 .left),
+      c .enum-told .given .1,
+    )
 
 returns-3 : tie.Need-returns-3
 unfolding checkOf
-returns-3 c = rw (sym (c .before .before .before .before .before .valid .ensures) ∙ not-false _ (c .before .before .before .before .if1 .left), c .before .before .phase .given .1, ne-eqb _ _ (c .if2 .taken))
+returns-3 c =
+    rw (
+      sym (c .before .before .before .before .before .valid .ensures)
+          ∙ not-false _ (c .before .before .before .before .if1 .left),
+      c .before .before .phase .given .1,
+      ne-eqb _ _ (c .if2 .taken),
+    )
 
 returns-4 : tie.Need-returns-4
 unfolding checkOf
-returns-4 c = rw (sym (c .before .before .before .before .before .valid .ensures) ∙ not-false _ (c .before .before .before .before .if1 .left), c .before .before .phase .given .1, eq-eqb _ _ (c .if2 .left))
+returns-4 c =
+    rw (
+      sym (c .before .before .before .before .before .valid .ensures)
+          ∙ not-false _ (c .before .before .before .before .if1 .left),
+      c .before .before .phase .given .1,
+      eq-eqb _ _ (c .if2 .left),
+    )
 
 pub check-spec : {M : Type 1} → statement M
 check-spec =

@@ -17,11 +17,23 @@ definitely-greater-requires c κs = search needs
 
 returns-2 : tie.Need-returns-2
 unfolding ofBits
-returns-2 c = rw (sym (c .before .before .before .is-finite .ensures) ∙ not-false _ (c .before .before .if1 .left), sym (c .before .definitely-greater .ensures) ∙ not-true _ (c .if2 .taken))
+returns-2 c =
+    rw (
+      sym (c .before .before .before .is-finite .ensures)
+          ∙ not-false _ (c .before .before .if1 .left),
+      sym (c .before .definitely-greater .ensures)
+          ∙ not-true _ (c .if2 .taken),
+    )
 
 returns-3 : tie.Need-returns-3
 unfolding ofBits
-returns-3 c = rw (sym (c .before .before .before .before .is-finite .ensures) ∙ not-false _ (c .before .before .before .if1 .left), sym (c .before .before .definitely-greater .ensures) ∙ not-false _ (c .before .if2 .left))
+returns-3 c =
+    rw (
+      sym (c .before .before .before .before .is-finite .ensures)
+          ∙ not-false _ (c .before .before .before .if1 .left),
+      sym (c .before .before .definitely-greater .ensures)
+          ∙ not-false _ (c .before .if2 .left),
+    )
 
 pub is-positive-spec : {M : Type 1} → statement M
 is-positive-spec =

@@ -1,4 +1,5 @@
--- `free_directions` meets its contract: the directions start from clear slices and the remainders, and what is still to be taken from here is what was to be taken at first.
+-- `free_directions` meets its contract: the directions start from clear slices and the remainders, and what is still to
+-- be taken from here is what was to be taken at first.
 use mathlib.Core.Path.{_≡_, sym, _∙_}
 use Prim.Native.Nat.{_≤_, _-_}
 use native.Mathlib.Nat.{le-antisymm}
@@ -13,7 +14,8 @@ use Rattle.run.proofs.null_space.free_directions.Tie as tie
 
 abbrev Inv-loop : tie.InvT-loop
 Inv-loop k r q z₀ left₀ most count₀ z left count =
-    (count ≤ most) × (length z ≡ length z₀) × (length left ≡ length left₀) × (spanOf (directionsTo k (most - count) (directionsIn count z left)) ≡ spanOf (directionsOf k r q)) × (most ≤ 12)
+    (count ≤ most) × (length z ≡ length z₀) × (length left ≡ length left₀)
+    × (spanOf (directionsTo k (most - count) (directionsIn count z left)) ≡ spanOf (directionsOf k r q)) × (most ≤ 12)
 
 abbrev μ-loop : tie.MeasureT-loop
 μ-loop k r q z₀ left₀ most count₀ z left count = most - count
@@ -29,8 +31,13 @@ unfolding directionsOf
 loop-holds c =
     let s = c .before .before .before .before .before .before .before .before in
     let l = c .before .before .before .before .less in
-    let m : l .result - 0 ≡ l .result = omega arith in
-    (search needs, search needs, search needs, rw (m, ← c .before .before .remainders .ensures, ← s .pre .1 .1 .0, ← l .ensures), omega (arith, l .ensures, s .pre .0))
+    let m : l .result - 0 ≡ l .result = omega arith in (
+      search needs,
+      search needs,
+      search needs,
+      rw (m, ← c .before .before .remainders .ensures, ← s .pre .1 .1 .0, ← l .ensures),
+      omega (arith, l .ensures, s .pre .0),
+    )
 
 take-longest-requires : tie.Need-take-longest-requires Inv-loop μ-loop
 take-longest-requires c κs = search needs
@@ -49,7 +56,8 @@ same-length-2 c = search needs
 
 returns : tie.Need-returns Inv-loop μ-loop
 returns c =
-    let e = rw (c .enum-told2 .given .1) at (c .before .before .before .before .before .before .take-longest .ensures) in
+    let e =
+    rw (c .enum-told2 .given .1) at (c .before .before .before .before .before .before .take-longest .ensures) in
     e ∙ c .before .before .before .before .before .before .before .before .before .before .loop .inv .3
 
 enum-known-e : tie.Need-enum-known-e Inv-loop μ-loop
@@ -63,7 +71,9 @@ same-length-4 c = search needs
 
 returns-2 : tie.Need-returns-2 Inv-loop μ-loop
 returns-2 c =
-    let e = rw (c .before .e .given .1) at (c .before .before .before .before .before .before .before .take-longest .ensures) in
+    let e =
+    rw (c .before .e .given .1) at (c .before .before .before .before .before .before .before
+    .take-longest .ensures) in
     e ∙ c .before .before .before .before .before .before .before .before .before .before .before .loop .inv .3
 
 add-count : tie.Need-add-count Inv-loop μ-loop
@@ -74,8 +84,15 @@ loop-less c = search needs
 
 loop-again : tie.Need-loop-again Inv-loop μ-loop
 loop-again c =
-    let e = rw (c .enum-told .given .1) at (c .before .before .before .before .before .before .take-longest .ensures) in
-    (search needs, search needs, search needs, e ∙ c .before .before .before .before .before .before .before .before .before .before .loop .inv .3, c .before .before .before .before .before .before .before .before .before .before .loop .inv .4)
+    let l = c .before .before .before .before .before .before .before .before .before .before .loop in
+    let k = c .before .before .before .before .before .before in
+    let e = rw (c .enum-told .given .1) at (k .take-longest .ensures) in (
+      search needs,
+      search needs,
+      search needs,
+      e ∙ l .inv .3,
+      l .inv .4,
+    )
 
 same-length-5 : tie.Need-same-length-5 Inv-loop μ-loop
 same-length-5 c = search needs

@@ -29,7 +29,9 @@ loop-less : tie.Need-loop-less Inv-loop μ-loop
 loop-less c = search needs
 
 loop-again : tie.Need-loop-again Inv-loop μ-loop
-loop-again c = let l = c .before .before .before .before .before .loop in (search needs, search needs, c .before .before .part-off .ensures ∙ after-turn _ _ _ _ (l .t) (l .inv .2))
+loop-again c =
+    let l = c .before .before .before .before .before .loop in
+    (search needs, search needs, c .before .before .part-off .ensures ∙ after-turn _ _ _ _ (l .t) (l .inv .2))
 
 same-length : tie.Need-same-length Inv-loop μ-loop
 same-length c = search needs

@@ -36,13 +36,17 @@ loop-less c = search needs
 
 loop-again : tie.Need-loop-again Inv-loop μ-loop
 loop-again c =
-    let l = c .before .before .before .loop in
-    (omega arith, omega arith, longest-turn _ _ (l .p) (l .inv .0) (l .inv .2) (c .before .square2 .ensures) (c .longer .ensures))
+    let l = c .before .before .before .loop in (
+      omega arith,
+      omega arith,
+      longest-turn _ _ (l .p) (l .inv .0) (l .inv .2) (c .before .square2 .ensures) (c .longer .ensures),
+    )
 
 returns : tie.Need-returns Inv-loop μ-loop
 returns c =
     let l = c .before .loop in
-    let m : l .p - 1 ≡ c .before .before .before .before .args .k - 1 = omega (arith, l .inv .0, l .inv .1, c .loop-test .left) in
+    let m : l .p - 1 ≡ c .before .before .before .before .args .k - 1 =
+    omega (arith, l .inv .0, l .inv .1, c .loop-test .left) in
     rw m at (l .inv .2)
 
 pub longest-spec : {M : Type 1} → statement M

@@ -3,7 +3,8 @@ use mathlib.Core.Path.{_≡_}
 use Prim.Native.Nat.{suc, _+_, _-_, _<_}
 use native.Mathlib.Omega.{arith}
 use lib.Ieee.{ofBits}
-use Rattle.run.proofs.NullSpaceLaws.{longest-place, longest-root, longest-low, turn-refused, turn-last, turn-on, turn-full}
+use Rattle.run.proofs.NullSpaceLaws.{longest-place, longest-root, longest-low, turn-refused, turn-last, turn-on}
+use Rattle.run.proofs.NullSpaceLaws.{turn-full}
 use borrow.Author.Needs.{needs}
 use Rattle.run.proofs.null_space.take_longest.Statement.{statement}
 use Rattle.run.proofs.null_space.take_longest.Tie as tie
@@ -14,7 +15,14 @@ after s = omega (arith, s .pre .1 .0)
 
 -- the remainder's row
 near : (k : tie.After-longest) → k .longest .result .place < 12
-near k = let s = k .before .before .before .before in omega (arith, s .pre .0, longest-place _ _ _ (k .longest .ensures), longest-low (s .args .k) (s .args .left .now) (s .args .k - 1))
+near k =
+    let s = k .before .before .before .before in
+    omega (
+      arith,
+      s .pre .0,
+      longest-place _ _ _ (k .longest .ensures),
+      longest-low (s .args .k) (s .args .left .now) (s .args .k - 1),
+    )
 
 longest-requires : tie.Need-longest-requires
 longest-requires c κs = search needs
@@ -38,7 +46,21 @@ mul-unit-2 : tie.Need-mul-unit-2
 mul-unit-2 c = search needs
 
 unit-requires : tie.Need-unit-requires
-unit-requires c κs = (omega (arith, near (c .before .before .before .before .before .before .before .before .before .before)), (omega (arith, (c .before .before .before .before .before .before .before .before .before .before .before .before .before .before) .pre), omega (arith, (c .before .before .before .before .before .before .before .before .before .before .before .before .before .before) .pre)))
+unit-requires c κs = (
+  omega (arith, near (c .before .before .before .before .before .before .before .before .before .before)),
+  (
+    omega (
+      arith,
+      (c .before .before .before .before .before .before .before .before .before .before .before .before .before
+          .before) .pre,
+    ),
+    omega (
+      arith,
+      (c .before .before .before .before .before .before .before .before .before .before .before .before .before
+          .before) .pre,
+    ),
+  ),
+)
 
 add-if2 : tie.Need-add-if2
 add-if2 c = search needs
@@ -52,9 +74,21 @@ same-length-2 c = search needs
 returns : tie.Need-returns
 unfolding ofBits
 returns c =
-    let b = c .before .before .before .before .before .before .before .before .before .before .before .before .before .before .longest .ensures in
-    let r = rw (c .before .before .before .before .before .before .before .before .before .before .before .l .given .1) at (c .before .before .before .before .before .before .before .before .before .before .before .before .before .sqrt .ensures .value) in
-    turn-full _ _ (after (c .before .before .before .before .before .before .before .before .before .before .before .before .before .before .before .before .before .before)) (longest-place _ _ _ b) (longest-root _ _ _ b r) (c .before .before .before .before .before .before .before .before .before .sharpen .ensures) (c .before .before .before .before .before .before .before .before .definitely-greater .ensures) (c .before .before .before .before .before .before .before .if1 .taken) (c .before .before .before .unit .ensures) _ (omega (arith, c .if2 .taken))
+    let b =
+    c .before .before .before .before .before .before .before .before .before .before .before .before
+    .before .before .longest .ensures in
+    let r =
+    rw (c .before .before .before .before .before .before .before .before .before .before .before .l
+    .given .1) at (c .before .before .before .before .before .before .before .before .before .before
+    .before .before .before .sqrt .ensures .value) in
+    turn-full _ _
+    (after
+    (c .before .before .before .before .before .before .before .before .before .before .before .before .before
+    .before .before .before .before .before)) (longest-place _ _ _ b) (longest-root _ _ _ b r)
+    (c .before .before .before .before .before .before .before .before .before .sharpen .ensures)
+    (c .before .before .before .before .before .before .before .before .definitely-greater .ensures)
+    (c .before .before .before .before .before .before .before .if1 .taken)
+    (c .before .before .before .unit .ensures) _ (omega (arith, c .if2 .taken))
 
 without-requires : tie.Need-without-requires
 without-requires c κs = search needs
@@ -68,9 +102,26 @@ same-length-4 c = search needs
 returns-2 : tie.Need-returns-2
 unfolding ofBits
 returns-2 c =
-    let b = c .before .before .before .before .before .before .before .before .before .before .before .before .before .before .before .before .before .before .before .longest .ensures in
-    let r = rw (c .before .before .before .before .before .before .before .before .before .before .before .before .before .before .before .before .l .given .1) at (c .before .before .before .before .before .before .before .before .before .before .before .before .before .before .before .before .before .before .sqrt .ensures .value) in
-    turn-on _ _ (after (c .before .before .before .before .before .before .before .before .before .before .before .before .before .before .before .before .before .before .before .before .before .before .before)) (longest-place _ _ _ b) (longest-root _ _ _ b r) (c .before .before .before .before .before .before .before .before .before .before .before .before .before .before .sharpen .ensures) (c .before .before .before .before .before .before .before .before .before .before .before .before .before .definitely-greater .ensures) (c .before .before .before .before .before .before .before .before .before .before .before .before .if1 .taken) (c .before .before .before .before .before .before .before .before .unit .ensures) (c .before .before .without .ensures)
+    let b =
+    c .before .before .before .before .before .before .before .before .before .before .before .before
+    .before .before .before .before .before .before .before .longest .ensures in
+    let r =
+    rw (c .before .before .before .before .before .before .before .before .before .before .before .before
+    .before .before .before .before .l .given .1) at (c .before .before .before .before .before .before
+    .before .before .before .before .before .before .before .before .before .before .before .before .sqrt
+    .ensures .value) in
+    turn-on _ _
+    (after
+    (c .before .before .before .before .before .before .before .before .before .before .before .before .before
+    .before .before .before .before .before .before .before .before .before .before)) (longest-place _ _ _ b)
+    (longest-root _ _ _ b r)
+    (c .before .before .before .before .before .before .before .before .before .before .before .before .before
+    .before .sharpen .ensures)
+    (c .before .before .before .before .before .before .before .before .before .before .before .before .before
+    .definitely-greater .ensures)
+    (c .before .before .before .before .before .before .before .before .before .before .before .before .if1
+    .taken) (c .before .before .before .before .before .before .before .before .unit .ensures)
+    (c .before .before .without .ensures)
 
 same-length-5 : tie.Need-same-length-5
 same-length-5 c = search needs
@@ -79,8 +130,13 @@ returns-3 : tie.Need-returns-3
 unfolding ofBits
 returns-3 c =
     let b = c .before .before .before .before .before .before .before .longest .ensures in
-    let r = rw (c .before .before .before .before .l .given .1) at (c .before .before .before .before .before .before .sqrt .ensures .value) in
-    turn-last _ _ (after (c .before .before .before .before .before .before .before .before .before .before .before)) (longest-place _ _ _ b) (longest-root _ _ _ b r) (c .before .before .sharpen .ensures) (c .before .definitely-greater .ensures) (c .if1 .left)
+    let r =
+    rw (c .before .before .before .before .l .given .1) at (c .before .before .before .before .before
+    .before .sqrt .ensures .value) in
+    turn-last _ _
+    (after (c .before .before .before .before .before .before .before .before .before .before .before))
+    (longest-place _ _ _ b) (longest-root _ _ _ b r) (c .before .before .sharpen .ensures)
+    (c .before .definitely-greater .ensures) (c .if1 .left)
 
 enum-known-e : tie.Need-enum-known-e
 enum-known-e c = search needs
@@ -92,7 +148,8 @@ returns-4 : tie.Need-returns-4
 returns-4 c =
     let b = c .before .before .before .before .longest .ensures in
     let r = rw (c .before .e .given .1) at (c .before .before .before .sqrt .ensures .value) in
-    turn-refused _ _ (after (c .before .before .before .before .before .before .before .before)) (longest-place _ _ _ b) (longest-root _ _ _ b r)
+    turn-refused _ _ (after (c .before .before .before .before .before .before .before .before))
+    (longest-place _ _ _ b) (longest-root _ _ _ b r)
 
 pub take-longest-spec : {M : Type 1} → statement M
 take-longest-spec =

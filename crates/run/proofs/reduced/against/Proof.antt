@@ -18,7 +18,9 @@ use Rattle.run.proofs.reduced.against.Statement.{statement}
 use Rattle.run.proofs.reduced.against.Tie as tie
 
 abbrev Inv-loop : tie.InvT-loop
-Inv-loop k count z force out₀ t₀ out t = (t ≤ count) × (length out ≡ length out₀) × (out ≡ listTo (λ j. chooseOf (negOf (dotTo (row z j) (at force) k))) t ++ drop (2 * t) out₀)
+Inv-loop k count z force out₀ t₀ out t =
+    (t ≤ count) × (length out ≡ length out₀)
+    × (out ≡ listTo (λ j. chooseOf (negOf (dotTo (row z j) (at force) k))) t ++ drop (2 * t) out₀)
 
 abbrev μ-loop : tie.MeasureT-loop
 μ-loop k count z force out₀ t₀ out t = count - t
@@ -58,8 +60,17 @@ loop-again c =
       ← c .before .before .before .before .neg .ensures .value,
     ) (c .before
     .before .before .choose .ensures) in
-    let e = rw (l .inv .2, v) at (c .before .before .put .ensures) in
-    (search needs, search needs, e ∙ listTo-more f (l .t) (a .out .now) (omega (arith, c .before .before .before .before .before .before .before .before .before .before .before .before .pre, c .before .before .before .before .before .before .before .loop-test .taken)))
+    let e = rw (l .inv .2, v) at (c .before .before .put .ensures) in (
+      search needs,
+      search needs,
+      e
+          ∙ listTo-more f (l .t) (a .out .now)
+          (omega (
+            arith,
+            c .before .before .before .before .before .before .before .before .before .before .before .before .pre,
+            c .before .before .before .before .before .before .before .loop-test .taken,
+          )),
+    )
 
 same-length : tie.Need-same-length Inv-loop μ-loop
 same-length c = search needs
@@ -68,7 +79,8 @@ returns : tie.Need-returns Inv-loop μ-loop
 returns c =
     let a = c .before .before .before .before .before .args in
     let e = rw (le-antisymm (c .before .loop .inv .0) (c .loop-test .left)) at (c .before .loop .inv .2) in
-    e ∙ listTo-all (λ j. chooseOf (negOf (dotTo (row (a .z .now) j) (at (a .force .now)) (a .k)))) (a .count) (a .out .now) (c .before .before .before .before .before .pre .1)
+    e ∙ listTo-all (λ j. chooseOf (negOf (dotTo (row (a .z .now) j) (at (a .force .now)) (a .k)))) (a .count)
+    (a .out .now) (c .before .before .before .before .before .pre .1)
 
 pub against-spec : {M : Type 1} → statement M
 against-spec =

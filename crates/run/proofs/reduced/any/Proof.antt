@@ -24,7 +24,9 @@ shared-slice-read-if1 : tie.Need-shared-slice-read-if1 Inv-loop μ-loop
 shared-slice-read-if1 c = search needs
 
 returns : tie.Need-returns Inv-loop μ-loop
-returns c = sym (any-broke _ (c .before .before .before .loop .i) _ (omega arith) (c .before .before .before .loop .inv .2) (c .if1 .taken))
+returns c =
+    sym (any-broke _ (c .before .before .before .loop .i) _ (omega arith)
+    (c .before .before .before .loop .inv .2) (c .if1 .taken))
 
 add-i : tie.Need-add-i Inv-loop μ-loop
 add-i c = search needs
@@ -33,12 +35,17 @@ loop-less : tie.Need-loop-less Inv-loop μ-loop
 loop-less c = search needs
 
 loop-again : tie.Need-loop-again Inv-loop μ-loop
-loop-again c = (search needs, search needs, any-turn _ (c .before .before .before .loop .i) (c .before .before .before .loop .inv .2) (c .if1 .left))
+loop-again c = (
+  search needs,
+  search needs,
+  any-turn _ (c .before .before .before .loop .i) (c .before .before .before .loop .inv .2) (c .if1 .left),
+)
 
 returns-2 : tie.Need-returns-2 Inv-loop μ-loop
 returns-2 c =
     let l = c .before .loop in
-    let m : l .i ≡ length (c .before .before .args .marks .now) = omega (arith, l .inv .0, l .inv .1, c .loop-test .left) in
+    let m : l .i ≡ length (c .before .before .args .marks .now) =
+    omega (arith, l .inv .0, l .inv .1, c .loop-test .left) in
     sym (rw m at (l .inv .2))
 
 pub any-spec : {M : Type 1} → statement M

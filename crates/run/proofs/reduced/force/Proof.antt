@@ -15,7 +15,9 @@ use Rattle.run.proofs.reduced.force.Statement.{statement}
 use Rattle.run.proofs.reduced.force.Tie as tie
 
 abbrev Inv-loop : tie.InvT-loop
-Inv-loop k h g v out₀ i₀ out i = (i ≤ k) × (length out ≡ length out₀) × (out ≡ fillTo vector 0 (λ j. chooseOf (addOf (at g j) (hTimesAt (curved k h g) (at v) j))) i)
+Inv-loop k h g v out₀ i₀ out i =
+    (i ≤ k) × (length out ≡ length out₀)
+    × (out ≡ fillTo vector 0 (λ j. chooseOf (addOf (at g j) (hTimesAt (curved k h g) (at v) j))) i)
 
 abbrev μ-loop : tie.MeasureT-loop
 μ-loop k h g v out₀ i₀ out i = k - i
@@ -40,8 +42,13 @@ loop-less c = search needs
 
 loop-again : tie.Need-loop-again Inv-loop μ-loop
 loop-again c =
-    let l = c .before .before .before .before .before .before .before .loop in
-    (search needs, search needs, c .before .before .put .ensures ∙ fill-first _ _ (l .i) (l .inv .2) (rw (← c .before .before .before .before .slope-at .ensures) (c .before .before .before .choose .ensures)))
+    let l = c .before .before .before .before .before .before .before .loop in (
+      search needs,
+      search needs,
+      c .before .before .put .ensures
+          ∙ fill-first _ _ (l .i) (l .inv .2)
+          (rw (← c .before .before .before .before .slope-at .ensures) (c .before .before .before .choose .ensures)),
+    )
 
 same-length : tie.Need-same-length Inv-loop μ-loop
 same-length c = search needs
@@ -51,4 +58,7 @@ unfolding forceOf
 returns c = rw (le-antisymm (c .before .loop .inv .0) (c .loop-test .left)) at (c .before .loop .inv .2)
 
 pub force-spec : {M : Type 1} → statement M
-force-spec = tie.close (tie.spec Inv-loop μ-loop loop-holds slope-at-requires choose-requires put-requires add-i loop-less loop-again same-length returns)
+force-spec =
+    tie.close
+    (tie.spec Inv-loop μ-loop loop-holds slope-at-requires choose-requires put-requires add-i loop-less
+    loop-again same-length returns)

@@ -30,10 +30,13 @@ array-borrow-prefix-w : tie.Need-array-borrow-prefix-w
 array-borrow-prefix-w c = search needs
 
 slice-aggregate-weigh-2 : tie.Need-slice-aggregate-weigh-2
-slice-aggregate-weigh-2 c = sym (length-take-le _ _ (short (c .before .before .before .before .before .before .before .before .before .before)))
+slice-aggregate-weigh-2 c =
+    sym (length-take-le _ _ (short (c .before .before .before .before .before .before .before .before .before .before)))
 
 weigh-requires : tie.Need-weigh-requires
-weigh-requires c κs = let s = c .before .before .before .before .before .before .before .before .before .before in (s .pre .0, (s .pre .1, length-take-le _ _ (short s)))
+weigh-requires c κs =
+    let s = c .before .before .before .before .before .before .before .before .before .before in
+    (s .pre .0, (s .pre .1, length-take-le _ _ (short s)))
 
 enum-told : tie.Need-enum-told
 enum-told c = search needs
@@ -42,13 +45,25 @@ same-length : tie.Need-same-length
 same-length c = search needs
 
 returns : tie.Need-returns
-returns c = unparted (c .before .before .weigh .result) _ _ _ _ (c .match .keys2) ∙ parted _ _ _ _ _ _ (c .before .before .before .before .before .before .force .ensures) (c .before .before .weigh .ensures)
+returns c =
+    unparted (c .before .before .weigh .result) _ _ _ _ (c .match .keys2)
+    ∙ parted _ _ _ _ _ _ (c .before .before .before .before .before .before .force .ensures)
+    (c .before .before .weigh .ensures)
 
 array-share-prefix-w : tie.Need-array-share-prefix-w
-array-share-prefix-w c = front-room _ (c .before .before .before .weigh .last .1 .1 .1 .1 .1 .0) _ (short (c .before .before .before .before .before .before .before .before .before .before .before .before .before .before)) (c .before .before .before .weigh .kept .1 .1 .1 .1 .1 .0)
+array-share-prefix-w c =
+    front-room _ (c .before .before .before .weigh .last .1 .1 .1 .1 .1 .0) _
+    (short
+    (c .before .before .before .before .before .before .before .before .before .before .before .before .before
+    .before)) (c .before .before .before .weigh .kept .1 .1 .1 .1 .1 .0)
 
 slice-aggregate-combine : tie.Need-slice-aggregate-combine
-slice-aggregate-combine c = sym (length-take-le _ _ (front-room _ (c .before .before .before .before .weigh .last .1 .1 .1 .1 .1 .0) _ (short (c .before .before .before .before .before .before .before .before .before .before .before .before .before .before .before)) (c .before .before .before .before .weigh .kept .1 .1 .1 .1 .1 .0)))
+slice-aggregate-combine c =
+    sym (length-take-le _ _
+    (front-room _ (c .before .before .before .before .weigh .last .1 .1 .1 .1 .1 .0) _
+    (short
+    (c .before .before .before .before .before .before .before .before .before .before .before .before .before
+    .before .before)) (c .before .before .before .before .weigh .kept .1 .1 .1 .1 .1 .0)))
 
 combine-requires : tie.Need-combine-requires
 combine-requires c κs = search needs
@@ -57,7 +72,18 @@ same-length-2 : tie.Need-same-length-2
 same-length-2 c = search needs
 
 returns-2 : tie.Need-returns-2
-returns-2 c = parted-with _ _ _ _ _ _ (c .before .before .before .before .before .before .before .before .before .before .before .before .force .ensures) (c .before .before .before .before .before .before .before .before .weigh .ensures) (c .before .before .before .before .before .enum-told .given .1) (front-kept _ (c .before .before .before .before .before .before .before .before .weigh .last .1 .1 .1 .1 .1 .0) _ (short (c .before .before .before .before .before .before .before .before .before .before .before .before .before .before .before .before .before .before .before)) (c .before .before .before .before .before .before .before .before .weigh .kept .1 .1 .1 .1 .1 .0)) (c .before .before .combine .ensures)
+returns-2 c =
+    parted-with _ _ _ _ _ _
+    (c .before .before .before .before .before .before .before .before .before .before .before .before .force
+    .ensures) (c .before .before .before .before .before .before .before .before .weigh .ensures)
+    (c .before .before .before .before .before .enum-told .given .1)
+    (front-kept _
+    (c .before .before .before .before .before .before .before .before .weigh .last .1 .1 .1 .1 .1 .0) _
+    (short
+    (c .before .before .before .before .before .before .before .before .before .before .before .before .before
+    .before .before .before .before .before .before))
+    (c .before .before .before .before .before .before .before .before .weigh .kept .1 .1 .1 .1 .1 .0))
+    (c .before .before .combine .ensures)
 
 pub free-part-spec : {M : Type 1} → statement M
 free-part-spec =

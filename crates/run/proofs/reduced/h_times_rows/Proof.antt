@@ -12,7 +12,8 @@ use Rattle.run.proofs.reduced.h_times_rows.Statement.{statement}
 use Rattle.run.proofs.reduced.h_times_rows.Tie as tie
 
 abbrev Inv-loop : tie.InvT-loop
-Inv-loop k count h z hz₀ t₀ hz t = (t ≤ count) × (length hz ≡ length hz₀) × (hz ≡ fillRows matrix (λ s i. chooseOf (dotTo (row h i) (row z s) k)) k t)
+Inv-loop k count h z hz₀ t₀ hz t =
+    (t ≤ count) × (length hz ≡ length hz₀) × (hz ≡ fillRows matrix (λ s i. chooseOf (dotTo (row h i) (row z s) k)) k t)
 
 abbrev μ-loop : tie.MeasureT-loop
 μ-loop k count h z hz₀ t₀ hz t = count - t
@@ -31,7 +32,9 @@ loop-less : tie.Need-loop-less Inv-loop μ-loop
 loop-less c = search needs
 
 loop-again : tie.Need-loop-again Inv-loop μ-loop
-loop-again c = let l = c .before .before .before .before .before .loop in (search needs, search needs, c .before .before .h-times-row .ensures ∙ fill-rows-turn _ _ _ (l .t) (l .inv .2))
+loop-again c =
+    let l = c .before .before .before .before .before .loop in
+    (search needs, search needs, c .before .before .h-times-row .ensures ∙ fill-rows-turn _ _ _ (l .t) (l .inv .2))
 
 same-length : tie.Need-same-length Inv-loop μ-loop
 same-length c = search needs
@@ -40,4 +43,5 @@ returns : tie.Need-returns Inv-loop μ-loop
 returns c = rw (le-antisymm (c .before .loop .inv .0) (c .loop-test .left)) at (c .before .loop .inv .2)
 
 pub h-times-rows-spec : {M : Type 1} → statement M
-h-times-rows-spec = tie.close (tie.spec Inv-loop μ-loop loop-holds h-times-row-requires add-t loop-less loop-again same-length returns)
+h-times-rows-spec =
+    tie.close (tie.spec Inv-loop μ-loop loop-holds h-times-row-requires add-t loop-less loop-again same-length returns)

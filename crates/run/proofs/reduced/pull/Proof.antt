@@ -16,7 +16,9 @@ use Rattle.run.proofs.reduced.pull.Statement.{statement}
 use Rattle.run.proofs.reduced.pull.Tie as tie
 
 abbrev Inv-loop : tie.InvT-loop
-Inv-loop k h g v out₀ i₀ out i = (i ≤ k) × (length out ≡ length out₀) × (out ≡ fillTo vector 0 (λ j. chooseOf (negOf (addOf (at g j) (hTimesAt (curved k h g) (at v) j)))) i)
+Inv-loop k h g v out₀ i₀ out i =
+    (i ≤ k) × (length out ≡ length out₀)
+    × (out ≡ fillTo vector 0 (λ j. chooseOf (negOf (addOf (at g j) (hTimesAt (curved k h g) (at v) j)))) i)
 
 abbrev μ-loop : tie.MeasureT-loop
 μ-loop k h g v out₀ i₀ out i = k - i
@@ -45,8 +47,14 @@ loop-less c = search needs
 
 loop-again : tie.Need-loop-again Inv-loop μ-loop
 loop-again c =
-    let l = c .before .before .before .before .before .before .before .before .loop in
-    (search needs, search needs, c .before .before .put .ensures ∙ fill-first _ _ (l .i) (l .inv .2) (negated (c .before .before .before .before .before .slope-at .ensures) (c .before .before .before .before .neg .ensures .value) (c .before .before .before .choose .ensures)))
+    let l = c .before .before .before .before .before .before .before .before .loop in (
+      search needs,
+      search needs,
+      c .before .before .put .ensures
+          ∙ fill-first _ _ (l .i) (l .inv .2)
+          (negated (c .before .before .before .before .before .slope-at .ensures)
+          (c .before .before .before .before .neg .ensures .value) (c .before .before .before .choose .ensures)),
+    )
 
 same-length : tie.Need-same-length Inv-loop μ-loop
 same-length c = search needs

@@ -16,23 +16,34 @@ use Rattle.run.proofs.reduced.reduced.Statement.{statement}
 use Rattle.run.proofs.reduced.reduced.Tie as tie
 
 abbrev Inv-loop : tie.InvT-loop
-Inv-loop k count z hz out₀ q p₀ out p = (p ≤ q) × (length out ≡ length out₀) × (out ≡ listTo (λ j. lowerAt k z hz (j / count) (j % count)) p ++ drop (2 * p) out₀)
+Inv-loop k count z hz out₀ q p₀ out p =
+    (p ≤ q) × (length out ≡ length out₀)
+    × (out ≡ listTo (λ j. lowerAt k z hz (j / count) (j % count)) p ++ drop (2 * p) out₀)
 
 abbrev μ-loop : tie.MeasureT-loop
 μ-loop k count z hz out₀ q p₀ out p = q - p
 
 mul-q : tie.Need-mul-q Inv-loop μ-loop
-mul-q c = omega (arith, few {m = c .before .before .before .args .count} {n = c .before .before .before .args .count} (c .before .before .before .pre .0) (c .before .before .before .pre .0))
+mul-q c =
+    omega (
+      arith,
+      few {m = c .before .before .before .args .count} {n = c .before .before .before .args .count}
+          (c .before .before .before .pre .0) (c .before .before .before .pre .0),
+    )
 
 loop-holds : tie.Need-loop-holds Inv-loop μ-loop
 loop-holds c = (search needs, search needs, sym (listTo-none _ _))
 
 -- the count is not 0, since there is a place
 div-reduced-at : tie.Need-div-reduced-at Inv-loop μ-loop
-div-reduced-at c = square-positive (c .before .before .before .before .before .before .args .count) {p = c .before .before .loop .p} (c .before .loop-test .taken)
+div-reduced-at c =
+    square-positive (c .before .before .before .before .before .before .args .count)
+    {p = c .before .before .loop .p} (c .before .loop-test .taken)
 
 rem-reduced-at : tie.Need-rem-reduced-at Inv-loop μ-loop
-rem-reduced-at c = square-positive (c .before .before .before .before .before .before .args .count) {p = c .before .before .loop .p} (c .before .loop-test .taken)
+rem-reduced-at c =
+    square-positive (c .before .before .before .before .before .before .args .count)
+    {p = c .before .before .loop .p} (c .before .loop-test .taken)
 
 reduced-at-requires : tie.Need-reduced-at-requires Inv-loop μ-loop
 reduced-at-requires c κs =
@@ -66,7 +77,8 @@ returns c =
     let s = c .before .before .before .before .before in
     let a = s .args in
     let e = rw (le-antisymm (c .before .loop .inv .0) (c .loop-test .left)) at (c .before .loop .inv .2) in
-    e ∙ listTo-all (λ j. lowerAt (a .k) (a .z .now) (a .hz .now) (j / a .count) (j % a .count)) (a .count * a .count) (a .out .now) (s .pre .1)
+    e ∙ listTo-all (λ j. lowerAt (a .k) (a .z .now) (a .hz .now) (j / a .count) (j % a .count))
+    (a .count * a .count) (a .out .now) (s .pre .1)
 
 pub reduced-spec : {M : Type 1} → statement M
 reduced-spec =

@@ -14,7 +14,8 @@ add-requires : tie.Need-add-requires
 add-requires c κs = search needs
 
 returns : tie.Need-returns
-returns c = rw (← c .before .before .at .ensures, ← rw along-start at (c .before .h-times-at .ensures)) (c .add .ensures .value)
+returns c =
+    rw (← c .before .before .at .ensures, ← rw along-start at (c .before .h-times-at .ensures)) (c .add .ensures .value)
 
 pub slope-at-spec : {M : Type 1} → statement M
 slope-at-spec = tie.close (tie.spec at-requires h-times-at-requires add-requires returns)

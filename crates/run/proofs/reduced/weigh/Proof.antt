@@ -1,4 +1,5 @@
--- `weigh` meets its contract: the part of the array has the length asked, and the weights are solved for from what the calls before wrote.
+-- `weigh` meets its contract: the part of the array has the length asked, and the weights are solved for from what the
+-- calls before wrote.
 use mathlib.Core.Path.{refl, sym, _∙_}
 use Prim.Native.Nat.{_*_, _≤_}
 use native.Mathlib.Omega.{arith}
@@ -34,31 +35,66 @@ array-borrow-prefix-a : tie.Need-array-borrow-prefix-a
 array-borrow-prefix-a c = room (c .before .before .before .before .before .before .before .before)
 
 slice-aggregate-reduced-2 : tie.Need-slice-aggregate-reduced-2
-slice-aggregate-reduced-2 c = sym (length-take-le _ _ (room (c .before .before .before .before .before .before .before .before .before)))
+slice-aggregate-reduced-2 c =
+    sym (length-take-le _ _ (room (c .before .before .before .before .before .before .before .before .before)))
 
 reduced-requires : tie.Need-reduced-requires
-reduced-requires c κs = let s = c .before .before .before .before .before .before .before .before .before in (s .pre .1 .0, length-take-le _ _ (room s))
+reduced-requires c κs =
+    let s = c .before .before .before .before .before .before .before .before .before in
+    (s .pre .1 .0, length-take-le _ _ (room s))
 
 against-requires : tie.Need-against-requires
-against-requires c κs = c .before .before .before .before .before .before .before .before .before .before .before .before .pre .1
+against-requires c κs =
+    c .before .before .before .before .before .before .before .before .before .before .before .before .pre .1
 
 array-share-prefix-a : tie.Need-array-share-prefix-a
-array-share-prefix-a c = front-room _ (c .before .before .before .before .before .reduced .last .1 .1 .1 .1 .0) _ (room (c .before .before .before .before .before .before .before .before .before .before .before .before .before .before .before)) (c .before .before .before .before .before .reduced .kept .1 .1 .1 .1 .0)
+array-share-prefix-a c =
+    front-room _ (c .before .before .before .before .before .reduced .last .1 .1 .1 .1 .0) _
+    (room
+    (c .before .before .before .before .before .before .before .before .before .before .before .before .before
+    .before .before)) (c .before .before .before .before .before .reduced .kept .1 .1 .1 .1 .0)
 
 slice-aggregate-weights-for : tie.Need-slice-aggregate-weights-for
-slice-aggregate-weights-for c = sym (length-take-le _ _ (front-room _ (c .before .before .before .before .before .before .reduced .last .1 .1 .1 .1 .0) _ (room (c .before .before .before .before .before .before .before .before .before .before .before .before .before .before .before .before)) (c .before .before .before .before .before .before .reduced .kept .1 .1 .1 .1 .0)))
+slice-aggregate-weights-for c =
+    sym (length-take-le _ _
+    (front-room _ (c .before .before .before .before .before .before .reduced .last .1 .1 .1 .1 .0) _
+    (room
+    (c .before .before .before .before .before .before .before .before .before .before .before .before .before
+    .before .before .before)) (c .before .before .before .before .before .before .reduced .kept .1 .1 .1 .1 .0)))
 
 weights-for-requires : tie.Need-weights-for-requires
 weights-for-requires c κs =
-    let s = c .before .before .before .before .before .before .before .before .before .before .before .before .before .before .before .before .before in
-    let p = s .pre in
-    (p .1 .0, (length-take-le _ _ (front-room _ (c .before .before .before .before .before .before .before .reduced .last .1 .1 .1 .1 .0) _ (room s) (c .before .before .before .before .before .before .before .reduced .kept .1 .1 .1 .1 .0)), c .before .before .before .before .against .kept .1 .1 .1 .1 .0 ∙ p .1 .1))
+    let s =
+    c .before .before .before .before .before .before .before .before .before .before .before .before
+    .before .before .before .before .before in
+    let p = s .pre in (
+      p .1 .0,
+      (
+        length-take-le _ _
+            (front-room _ (c .before .before .before .before .before .before .before .reduced .last .1 .1 .1 .1 .0) _
+            (room s) (c .before .before .before .before .before .before .before .reduced .kept .1 .1 .1 .1 .0)),
+        c .before .before .before .before .against .kept .1 .1 .1 .1 .0 ∙ p .1 .1,
+      ),
+    )
 
 same-length : tie.Need-same-length
 same-length c = search needs
 
 returns : tie.Need-returns
-returns c = weighed-front _ _ _ _ _ (c .before .before .before .before .before .before .before .before .before .before .before .before .before .before .h-times-rows .ensures) (c .before .before .before .before .before .before .before .before .before .before .reduced .ensures) (c .before .before .before .before .before .before .before .against .ensures) (front-kept _ (c .before .before .before .before .before .before .before .before .before .before .reduced .last .1 .1 .1 .1 .0) _ (room (c .before .before .before .before .before .before .before .before .before .before .before .before .before .before .before .before .before .before .before .before)) (c .before .before .before .before .before .before .before .before .before .before .reduced .kept .1 .1 .1 .1 .0)) (c .before .before .weights-for .ensures)
+returns c =
+    weighed-front _ _ _ _ _
+    (c .before .before .before .before .before .before .before .before .before .before .before .before .before
+    .before .h-times-rows .ensures)
+    (c .before .before .before .before .before .before .before .before .before .before .reduced .ensures)
+    (c .before .before .before .before .before .before .before .against .ensures)
+    (front-kept _
+    (c .before .before .before .before .before .before .before .before .before .before .reduced .last .1 .1 .1
+    .1 .0) _
+    (room
+    (c .before .before .before .before .before .before .before .before .before .before .before .before .before
+    .before .before .before .before .before .before .before))
+    (c .before .before .before .before .before .before .before .before .before .before .reduced .kept .1 .1 .1
+    .1 .0)) (c .before .before .weights-for .ensures)
 
 pub weigh-spec : {M : Type 1} → statement M
 weigh-spec =

@@ -1,4 +1,5 @@
--- `weights_for` meets its contract: the parts of the arrays have the lengths asked, and the factor decides, then its marks, then the solve.
+-- `weights_for` meets its contract: the parts of the arrays have the lengths asked, and the factor decides, then its
+-- marks, then the solve.
 use mathlib.Core.Path.{_≡_, sym, _∙_}
 use Prim.Native.Nat.{_*_, _≤_}
 use native.Mathlib.Omega.{arith}
@@ -21,17 +22,39 @@ short : (s : tie.Start) → 2 * s .args .t ≤ 24
 short s = omega (arith, s .pre .0)
 
 -- the factor: the checks pass
-ended : (k : tie.After-cholesky) → let a = k .before .before .before .before .before .args in let l = k .cholesky .last .1 .1 in doneOf (k .cholesky .result) (factorOf (l .0) (l .1 .0)) ≡ choleskyOf (a .t) (a .a .now)
-ended k = let s = k .before .before .before .before .before in cholesky-result (k .cholesky .result) _ _ _ _ (omega (arith, s .pre .0)) (s .pre .1 .0) (length-take-le _ _ (room s)) (length-take-le _ _ (s .pre .0)) (k .cholesky .ensures)
+ended : (k : tie.After-cholesky)
+    → let a = k .before .before .before .before .before .args in
+    let l = k .cholesky .last .1 .1 in
+    doneOf (k .cholesky .result) (factorOf (l .0) (l .1 .0)) ≡ choleskyOf (a .t) (a .a .now)
+ended k =
+    let s = k .before .before .before .before .before in
+    cholesky-result (k .cholesky .result) _ _ _ _ (omega (arith, s .pre .0)) (s .pre .1 .0)
+    (length-take-le _ _ (room s)) (length-take-le _ _ (s .pre .0)) (k .cholesky .ensures)
 
 -- the solve: the checks pass
-done : (k : tie.After-solve-cholesky) → let a = k .before .before .before .before .before .before .before .before .before .before .before .before .before .before .before .before .args in let f = k .before .before .before .before .before .before .before .before .before .before .before .cholesky .last .1 .1 in doneOf (k .solve-cholesky .result) (k .solve-cholesky .last .1 .1 .1 .1 .0) ≡ solveOf (a .t) (f .0) (f .1 .0) (a .w .now)
+done : (k : tie.After-solve-cholesky)
+    → let a =
+    k .before .before .before .before .before .before .before .before .before .before .before .before .before
+    .before .before .before .args in
+    let f =
+    k .before .before .before .before .before .before .before .before .before .before .before .cholesky .last .1 .1 in
+    doneOf (k .solve-cholesky .result) (k .solve-cholesky .last .1 .1 .1 .1 .0)
+    ≡ solveOf (a .t) (f .0) (f .1 .0) (a .w .now)
 done k =
-    let s = k .before .before .before .before .before .before .before .before .before .before .before .before .before .before .before .before in
+    let s =
+    k .before .before .before .before .before .before .before .before .before .before .before .before
+    .before .before .before .before in
     let p = s .pre in
-    let f = k .before .before .before .before .before .before .before .before .before .before .before .cholesky .last .1 .1 in
-    let g = k .before .before .before .before .before .before .before .before .before .before .before .cholesky .kept .1 .1 in
-    solve-fronts (k .solve-cholesky .result) (s .args .t) (f .0) (f .1 .0) (s .args .w .now) _ (k .solve-cholesky .last .1 .1 .1 .1 .0) (omega (arith, p .0)) (g .0 ∙ length-take-le _ _ (room s)) (g .1 .0 ∙ length-take-le _ _ (p .0)) (p .1 .1) (length-take-le _ _ (short s)) (front-kept _ (f .0) _ (room s) (g .0)) (front-kept _ (f .1 .0) _ (p .0) (g .1 .0)) (k .solve-cholesky .ensures)
+    let f =
+    k .before .before .before .before .before .before .before .before .before .before .before .cholesky
+    .last .1 .1 in
+    let g =
+    k .before .before .before .before .before .before .before .before .before .before .before .cholesky
+    .kept .1 .1 in
+    solve-fronts (k .solve-cholesky .result) (s .args .t) (f .0) (f .1 .0) (s .args .w .now) _
+    (k .solve-cholesky .last .1 .1 .1 .1 .0) (omega (arith, p .0)) (g .0 ∙ length-take-le _ _ (room s))
+    (g .1 .0 ∙ length-take-le _ _ (p .0)) (p .1 .1) (length-take-le _ _ (short s))
+    (front-kept _ (f .0) _ (room s) (g .0)) (front-kept _ (f .1 .0) _ (p .0) (g .1 .0)) (k .solve-cholesky .ensures)
 
 mul-q : tie.Need-mul-q
 mul-q c = search needs
@@ -61,16 +84,26 @@ enum-known-e : tie.Need-enum-known-e
 enum-known-e c = search needs
 
 returns : tie.Need-returns
-returns c = let a = c .before .before .before .before .before .before .before .before .before .before .args in unfactored (a .t) (a .a .now) (a .w .now) _ (c .before .e .given .1) (ended (c .before .before .before .before .before))
+returns c =
+    let a = c .before .before .before .before .before .before .before .before .before .before .args in
+    unfactored (a .t) (a .a .now) (a .w .now) _ (c .before .e .given .1)
+    (ended (c .before .before .before .before .before))
 
 enum-told : tie.Need-enum-told
 enum-told c = search needs
 
 array-share-prefix-left-out : tie.Need-array-share-prefix-left-out
-array-share-prefix-left-out c = front-room _ (c .before .before .before .before .cholesky .last .1 .1 .1 .0) _ (c .before .before .before .before .before .before .before .before .before .pre .0) (c .before .before .before .before .cholesky .kept .1 .1 .1 .0)
+array-share-prefix-left-out c =
+    front-room _ (c .before .before .before .before .cholesky .last .1 .1 .1 .0) _
+    (c .before .before .before .before .before .before .before .before .before .pre .0)
+    (c .before .before .before .before .cholesky .kept .1 .1 .1 .0)
 
 slice-aggregate-marks : tie.Need-slice-aggregate-marks
-slice-aggregate-marks c = sym (length-take-le _ _ (front-room _ (c .before .before .before .before .before .cholesky .last .1 .1 .1 .0) _ (c .before .before .before .before .before .before .before .before .before .before .pre .0) (c .before .before .before .before .before .cholesky .kept .1 .1 .1 .0)))
+slice-aggregate-marks c =
+    sym (length-take-le _ _
+    (front-room _ (c .before .before .before .before .before .cholesky .last .1 .1 .1 .0) _
+    (c .before .before .before .before .before .before .before .before .before .before .pre .0)
+    (c .before .before .before .before .before .cholesky .kept .1 .1 .1 .0)))
 
 any-requires : tie.Need-any-requires
 any-requires c κs = search needs
@@ -83,19 +116,33 @@ returns-2 c =
     let g = c .before .before .before .before .before .before .before .cholesky .kept .1 .1 in
     let n = g .1 .0 ∙ length-take-le _ _ (s .pre .0) in
     let m = front-kept _ (f .1 .0) _ (s .pre .0) (g .1 .0) in
-    weights-none (a .t) (a .a .now) (a .w .now) (factorOf (f .0) (f .1 .0)) (c .before .before .before .enum-told .given .1) (ended (c .before .before .before .before .before .before .before)) n m (c .before .any .ensures) (c .if1 .taken)
+    weights-none (a .t) (a .a .now) (a .w .now) (factorOf (f .0) (f .1 .0))
+    (c .before .before .before .enum-told .given .1)
+    (ended (c .before .before .before .before .before .before .before)) n m (c .before .any .ensures) (c .if1 .taken)
 
 array-share-prefix-l : tie.Need-array-share-prefix-l
-array-share-prefix-l c = front-room _ (c .before .before .before .before .before .before .before .cholesky .last .1 .1 .0) _ (room (c .before .before .before .before .before .before .before .before .before .before .before .before)) (c .before .before .before .before .before .before .before .cholesky .kept .1 .1 .0)
+array-share-prefix-l c =
+    front-room _ (c .before .before .before .before .before .before .before .cholesky .last .1 .1 .0) _
+    (room (c .before .before .before .before .before .before .before .before .before .before .before .before))
+    (c .before .before .before .before .before .before .before .cholesky .kept .1 .1 .0)
 
 slice-aggregate-solve-cholesky : tie.Need-slice-aggregate-solve-cholesky
-slice-aggregate-solve-cholesky c = sym (length-take-le _ _ (front-room _ (c .before .before .before .before .before .before .before .before .cholesky .last .1 .1 .0) _ (room (c .before .before .before .before .before .before .before .before .before .before .before .before .before)) (c .before .before .before .before .before .before .before .before .cholesky .kept .1 .1 .0)))
+slice-aggregate-solve-cholesky c =
+    sym (length-take-le _ _
+    (front-room _ (c .before .before .before .before .before .before .before .before .cholesky .last .1 .1 .0)
+    _ (room
+    (c .before .before .before .before .before .before .before .before .before .before .before .before
+    .before)) (c .before .before .before .before .before .before .before .before .cholesky .kept .1 .1 .0)))
 
 array-borrow-prefix-x : tie.Need-array-borrow-prefix-x
 array-borrow-prefix-x c = search needs
 
 slice-aggregate-solve-cholesky-2 : tie.Need-slice-aggregate-solve-cholesky-2
-slice-aggregate-solve-cholesky-2 c = sym (length-take-le _ _ (short (c .before .before .before .before .before .before .before .before .before .before .before .before .before .before .before)))
+slice-aggregate-solve-cholesky-2 c =
+    sym (length-take-le _ _
+    (short
+    (c .before .before .before .before .before .before .before .before .before .before .before .before .before
+    .before .before)))
 
 solve-cholesky-requires : tie.Need-solve-cholesky-requires
 solve-cholesky-requires c κs = tt
@@ -108,22 +155,46 @@ same-length c = search needs
 
 returns-3 : tie.Need-returns-3
 returns-3 c =
-    let s = c .before .before .before .before .before .before .before .before .before .before .before .before .before .before .before .before .before .before .before .before in
+    let s =
+    c .before .before .before .before .before .before .before .before .before .before .before .before
+    .before .before .before .before .before .before .before .before in
     let a = s .args in
-    let f = c .before .before .before .before .before .before .before .before .before .before .before .before .before .before .before .cholesky .last .1 .1 in
-    let g = c .before .before .before .before .before .before .before .before .before .before .before .before .before .before .before .cholesky .kept .1 .1 in
+    let f =
+    c .before .before .before .before .before .before .before .before .before .before .before .before
+    .before .before .before .cholesky .last .1 .1 in
+    let g =
+    c .before .before .before .before .before .before .before .before .before .before .before .before
+    .before .before .before .cholesky .kept .1 .1 in
     let n = g .1 .0 ∙ length-take-le _ _ (s .pre .0) in
     let m = front-kept _ (f .1 .0) _ (s .pre .0) (g .1 .0) in
-    weights-refused (a .t) (a .a .now) (a .w .now) (factorOf (f .0) (f .1 .0)) (c .before .before .before .before .before .before .before .before .before .before .before .enum-told .given .1) (ended (c .before .before .before .before .before .before .before .before .before .before .before .before .before .before .before)) n m (c .before .before .before .before .before .before .before .before .before .any .ensures) _ (c .before .before .before .before .before .before .before .before .if1 .left) (done (c .before .before .before .before)) (c .before .e2 .given .1)
+    weights-refused (a .t) (a .a .now) (a .w .now) (factorOf (f .0) (f .1 .0))
+    (c .before .before .before .before .before .before .before .before .before .before .before .enum-told
+    .given .1)
+    (ended
+    (c .before .before .before .before .before .before .before .before .before .before .before .before .before
+    .before .before)) n m
+    (c .before .before .before .before .before .before .before .before .before .any .ensures) _
+    (c .before .before .before .before .before .before .before .before .if1 .left)
+    (done (c .before .before .before .before)) (c .before .e2 .given .1)
 
 enum-told-2 : tie.Need-enum-told-2
 enum-told-2 c = search needs
 
 array-share-prefix-x : tie.Need-array-share-prefix-x
-array-share-prefix-x c = front-room _ (c .before .before .before .solve-cholesky .last .1 .1 .1 .1 .0) _ (short (c .before .before .before .before .before .before .before .before .before .before .before .before .before .before .before .before .before .before .before)) (c .before .before .before .solve-cholesky .kept .1 .1 .1 .1 .0)
+array-share-prefix-x c =
+    front-room _ (c .before .before .before .solve-cholesky .last .1 .1 .1 .1 .0) _
+    (short
+    (c .before .before .before .before .before .before .before .before .before .before .before .before .before
+    .before .before .before .before .before .before)) (c .before .before .before .solve-cholesky .kept .1 .1 .1 .1 .0)
 
 slice-aggregate-sharp : tie.Need-slice-aggregate-sharp
-slice-aggregate-sharp c = sym (length-take-le _ _ (front-room _ (c .before .before .before .before .solve-cholesky .last .1 .1 .1 .1 .0) _ (short (c .before .before .before .before .before .before .before .before .before .before .before .before .before .before .before .before .before .before .before .before)) (c .before .before .before .before .solve-cholesky .kept .1 .1 .1 .1 .0)))
+slice-aggregate-sharp c =
+    sym (length-take-le _ _
+    (front-room _ (c .before .before .before .before .solve-cholesky .last .1 .1 .1 .1 .0) _
+    (short
+    (c .before .before .before .before .before .before .before .before .before .before .before .before .before
+    .before .before .before .before .before .before .before))
+    (c .before .before .before .before .solve-cholesky .kept .1 .1 .1 .1 .0)))
 
 sharp-requires : tie.Need-sharp-requires
 sharp-requires c κs = tt
@@ -133,16 +204,36 @@ same-length-2 c = search needs
 
 returns-4 : tie.Need-returns-4
 returns-4 c =
-    let s = c .before .before .before .before .before .before .before .before .before .before .before .before .before .before .before .before .before .before .before .before .before .before .before .before in
+    let s =
+    c .before .before .before .before .before .before .before .before .before .before .before .before
+    .before .before .before .before .before .before .before .before .before .before .before .before in
     let a = s .args in
-    let f = c .before .before .before .before .before .before .before .before .before .before .before .before .before .before .before .before .before .before .before .cholesky .last .1 .1 in
-    let g = c .before .before .before .before .before .before .before .before .before .before .before .before .before .before .before .before .before .before .before .cholesky .kept .1 .1 in
+    let f =
+    c .before .before .before .before .before .before .before .before .before .before .before .before
+    .before .before .before .before .before .before .before .cholesky .last .1 .1 in
+    let g =
+    c .before .before .before .before .before .before .before .before .before .before .before .before
+    .before .before .before .before .before .before .before .cholesky .kept .1 .1 in
     let n = g .1 .0 ∙ length-take-le _ _ (s .pre .0) in
     let m = front-kept _ (f .1 .0) _ (s .pre .0) (g .1 .0) in
     let x = c .before .before .before .before .before .before .before .before .solve-cholesky .last .1 .1 .1 .1 .0 in
     let kx = c .before .before .before .before .before .before .before .before .solve-cholesky .kept .1 .1 .1 .1 .0 in
-    let v = sharp-written (c .before .before .sharp .result) (a .t) x (a .w .now) (c .before .before .sharp .last .1 .1 .0) (omega (arith, s .pre .0)) (kx ∙ length-take-le _ _ (short s)) (s .pre .1 .1) (rw (front-kept _ x _ (short s) kx) at (c .before .before .sharp .ensures)) in
-    weights-solved (a .t) (a .a .now) (a .w .now) (factorOf (f .0) (f .1 .0)) (c .before .before .before .before .before .before .before .before .before .before .before .before .before .before .before .enum-told .given .1) (ended (c .before .before .before .before .before .before .before .before .before .before .before .before .before .before .before .before .before .before .before)) n m (c .before .before .before .before .before .before .before .before .before .before .before .before .before .any .ensures) _ (c .before .before .before .before .before .before .before .before .before .before .before .before .if1 .left) (done (c .before .before .before .before .before .before .before .before)) (c .before .before .before .before .before .enum-told2 .given .1) v
+    let v =
+    sharp-written (c .before .before .sharp .result) (a .t) x (a .w .now)
+    (c .before .before .sharp .last .1 .1 .0) (omega (arith, s .pre .0))
+    (kx ∙ length-take-le _ _ (short s)) (s .pre .1 .1)
+    (rw (front-kept _ x _ (short s) kx) at (c .before .before .sharp .ensures)) in
+    weights-solved (a .t) (a .a .now) (a .w .now) (factorOf (f .0) (f .1 .0))
+    (c .before .before .before .before .before .before .before .before .before .before .before .before .before
+    .before .before .enum-told .given .1)
+    (ended
+    (c .before .before .before .before .before .before .before .before .before .before .before .before .before
+    .before .before .before .before .before .before)) n m
+    (c .before .before .before .before .before .before .before .before .before .before .before .before .before
+    .any .ensures) _
+    (c .before .before .before .before .before .before .before .before .before .before .before .before .if1
+    .left) (done (c .before .before .before .before .before .before .before .before))
+    (c .before .before .before .before .before .enum-told2 .given .1) v
 
 pub weights-for-spec : {M : Type 1} → statement M
 weights-for-spec =

@@ -7,10 +7,13 @@ use Rattle.run.proofs.rows.slope_at.Statement.{statement}
 use Rattle.run.proofs.rows.slope_at.Tie as tie
 
 mul-along : tie.Need-mul-along
-mul-along c = let s = c .before in omega (arith, row-near {i = s .args .i} {n = s .args .n} (s .pre .1 .1) (s .pre .1 .0))
+mul-along c =
+    let s = c .before in omega (arith, row-near {i = s .args .i} {n = s .args .n} (s .pre .1 .1) (s .pre .1 .0))
 
 add-along : tie.Need-add-along
-add-along c = let s = c .before in omega (arith, row-near {i = s .args .i} {n = s .args .n} (s .pre .1 .1) (s .pre .1 .0), s .pre .0)
+add-along c =
+    let s = c .before in
+    omega (arith, row-near {i = s .args .i} {n = s .args .n} (s .pre .1 .1) (s .pre .1 .0), s .pre .0)
 
 along-requires : tie.Need-along-requires
 along-requires c κs = tt

@@ -1,5 +1,7 @@
--- `prepare_free` meets its contract: Q and the coefficients are copied, the correction and the directions are written behind them, and how these two ended decides.
+-- `prepare_free` meets its contract: Q and the coefficients are copied, the correction and the directions are written
+-- behind them, and how these two ended decides.
 use mathlib.Core.Path.{_≡_, refl, ap, _∙_}
+use Prim.Native.Nat.{_≤_}
 use native.Mathlib.Omega.{arith}
 use mathlib.Core.List.{[], _++_}
 use lib.Ieee.{ofBits}
@@ -16,24 +18,41 @@ use borrow.Author.Needs.{needs}
 use Rattle.run.proofs.step.prepare_free.Statement.{statement}
 use Rattle.run.proofs.step.prepare_free.Tie as tie
 
+few-independent : (s : tie.Start) → s .args .shape .r ≤ 12
+few-independent s = let p = s .pre .few in omega (arith, p .rows, p .independent)
+
 clear-long : (s : tie.Start) → length (s .args .frame .now) ≡ 888
-clear-long s = ap length (s .pre .1 .1 .1 .1 .1 .1) ∙ length-clear 888
+clear-long s = ap length (s .pre .clear) ∙ length-clear 888
 
 -- the frame before the correction is written in it, and the correction
 copied : (k : tie.After-correction) → length (k .before .before .before .before .write2 .last .0) ≡ 888
-copied k = k .before .before .before .before .write2 .kept .0 ∙ k .before .before .before .before .before .before .before .before .write .kept .0 ∙ clear-long (k .before .before .before .before .before .before .before .before .before .before .before .before .before .before .before .before)
+copied k =
+    k .before .before .before .before .write2 .kept .0
+    ∙ k .before .before .before .before .before .before .before .before .write .kept .0
+    ∙ clear-long
+    (k .before .before .before .before .before .before .before .before .before .before .before .before .before
+    .before .before .before)
 
-corrected : (k : tie.After-correction) → length (k .correction .last .1 .1 .1 .1 .1 .1 .1 .1 .1 .0) ≡ 24
-corrected k = k .correction .kept .1 .1 .1 .1 .1 .1 .1 .1 .1 .0 ∙ cut-length 24 576 (k .before .before .before .before .write2 .last .0) (omega (arith, copied k))
+corrected : (k : tie.After-correction) → length (k .correction .last .1 .1 .1 .1 .1 .1 .1 .0) ≡ 24
+corrected k =
+    k .correction .kept .1 .1 .1 .1 .1 .1 .1 .0
+    ∙ cut-length 24 576 (k .before .before .before .before .write2 .last .0) (omega (arith, copied k))
 
-whole : (k : tie.After-correction) → let a = k .before .before .before .before .write2 .last .0 in length (take 576 a ++ (k .correction .last .1 .1 .1 .1 .1 .1 .1 .1 .1 .0 ++ drop 24 (drop 576 a))) ≡ 888
-whole k = length-lent (k .before .before .before .before .write2 .last .0) (k .correction .last .1 .1 .1 .1 .1 .1 .1 .1 .1 .0) 576 24 (corrected k) (omega (arith, copied k)) ∙ copied k
+whole : (k : tie.After-correction)
+    → let a = k .before .before .before .before .write2 .last .0 in
+    length (take 576 a ++ (k .correction .last .1 .1 .1 .1 .1 .1 .1 .0 ++ drop 24 (drop 576 a))) ≡ 888
+whole k =
+    length-lent (k .before .before .before .before .write2 .last .0)
+    (k .correction .last .1 .1 .1 .1 .1 .1 .1 .0) 576 24 (corrected k) (omega (arith, copied k)) ∙ copied k
 
 write-requires : tie.Need-write-requires
-write-requires c κs = let s = c .before .before .before .before .before .before .before in omega (arith, clear-long s, s .pre .1 .1 .1 .0)
+write-requires c κs =
+    let s = c .before .before .before .before .before .before .before in omega (arith, clear-long s, s .pre .vectors)
 
 write-requires-2 : tie.Need-write-requires-2
-write-requires-2 c κs = let s = c .before .before .before .before .before .before .before .before .before .before .before in omega (arith, clear-long s, c .before .before .before .write .kept .0, s .pre .1 .1 .1 .1 .0)
+write-requires-2 c κs =
+    let s = c .before .before .before .before .before .before .before .before .before .before .before in
+    omega (arith, clear-long s, c .before .before .before .write .kept .0, s .pre .by-row)
 
 sub-correction : tie.Need-sub-correction
 sub-correction c = search needs
@@ -42,7 +61,15 @@ part-correction-start : tie.Need-part-correction-start
 part-correction-start c = search needs
 
 part-correction-end : tie.Need-part-correction-end
-part-correction-end c = omega (arith, clear-long (c .before .before .before .before .before .before .before .before .before .before .before .before .before .before), c .before .before .before .before .before .before .write .kept .0, c .before .before .write2 .kept .0)
+part-correction-end c =
+    omega (
+      arith,
+      clear-long
+          (c .before .before .before .before .before .before .before .before .before .before .before .before .before
+          .before),
+      c .before .before .before .before .before .before .write .kept .0,
+      c .before .before .write2 .kept .0,
+    )
 
 correction-requires : tie.Need-correction-requires
 correction-requires c κs = search needs
@@ -63,15 +90,19 @@ free-directions-requires : tie.Need-free-directions-requires
 unfolding ofBits
 free-directions-requires c κs =
     let k = c .before .before .before .before in
-    let s = c .before .before .before .before .before .before .before .before .before .before .before .before .before .before .before .before .before .before .before .before in
+    let s =
+    c .before .before .before .before .before .before .before .before .before .before .before .before
+    .before .before .before .before .before .before .before .before in
     let p = s .pre in
     let x = k .before .before .before .before .write2 .last .0 in
-    let t = k .correction .last .1 .1 .1 .1 .1 .1 .1 .1 .1 .0 in
+    let t = k .correction .last .1 .1 .1 .1 .1 .1 .1 .0 in
     let a = s .args in
     let one = k .before .before .before .before .before .before .before .before .write .ensures in
     let two = k .before .before .before .before .write2 .ensures in
-    let e = fourth-clear (a .frame .now) (a .q .now) (a .coefficients .now) t (p .1 .1 .1 .0) (p .1 .1 .1 .1 .0) (corrected k) one two (part-back x t 576 24 (corrected k)) (p .1 .1 .1 .1 .1 .1) in
-    (p .0, (p .1 .1 .0, (e, refl)))
+    let e =
+    fourth-clear (a .frame .now) (a .q .now) (a .coefficients .now) t (p .vectors) (p .by-row)
+    (corrected k) one two (part-back x t 576 24 (corrected k)) (p .clear) in
+    (p .few .variables, (few-independent s, (e, refl)))
 
 ready-requires : tie.Need-ready-requires
 ready-requires c κs = search needs
@@ -81,22 +112,36 @@ same-length c = search needs
 
 returns : tie.Need-returns
 returns c =
-    let s = c .before .before .before .before .before .before .before .before .before .before .before .before .before .before .before .before .before .before .before .before .before .before .before .before .before in
+    let s =
+    c .before .before .before .before .before .before .before .before .before .before .before .before
+    .before .before .before .before .before .before .before .before .before .before .before .before .before in
     let a = s .args in
     let p = s .pre in
     let k = c .before .before .before .before .before .before .before .before .before in
-    let x = c .before .before .before .before .before .before .before .before .before .before .before .before .before .write2 .last .0 in
-    let t = k .correction .last .1 .1 .1 .1 .1 .1 .1 .1 .1 .0 in
+    let x =
+    c .before .before .before .before .before .before .before .before .before .before .before .before
+    .before .write2 .last .0 in
+    let t = k .correction .last .1 .1 .1 .1 .1 .1 .1 .0 in
     let y = take 576 x ++ (t ++ drop 24 (drop 576 x)) in
     let z = c .before .before .before .before .free-directions .last .1 .1 .1 .0 in
-    let lz : length z ≡ 288 = c .before .before .before .before .free-directions .kept .1 .1 .1 .0 ∙ cut-length 288 600 y (omega (arith, whole k)) in
-    let e = four-written (a .frame .now) (a .q .now) (a .coefficients .now) t z (p .1 .1 .1 .0) (p .1 .1 .1 .1 .0) (corrected k) lz (clear-long s) (c .before .before .before .before .before .before .before .before .before .before .before .before .before .before .before .before .before .write .ensures) (c .before .before .before .before .before .before .before .before .before .before .before .before .before .write2 .ensures) (part-back x t 576 24 (corrected k)) (part-back y z 600 288 lz) in
+    let lz : length z ≡ 288 =
+    c .before .before .before .before .free-directions .kept .1 .1 .1 .0
+    ∙ cut-length 288 600 y (omega (arith, whole k)) in
+    let e =
+    four-written (a .frame .now) (a .q .now) (a .coefficients .now) t z (p .vectors) (p .by-row)
+    (corrected k) lz (clear-long s)
+    (c .before .before .before .before .before .before .before .before .before .before .before .before
+    .before .before .before .before .before .write .ensures)
+    (c .before .before .before .before .before .before .before .before .before .before .before .before
+    .before .write2 .ensures) (part-back x t 576 24 (corrected k)) (part-back y z 600 288 lz) in
     let f = c .before .before .before .before .free-directions in
-    let b = basisBy (a .r) (a .q .now) [] (a .coefficients .now) (a .dependent .now) (a .order .now) in (
+    let b = basisBy (a .shape .r) (a .q .now) [] (a .coefficients .now) (a .dependent .now) (a .order .now) in (
       (λ h g.
-          let Q = problemIn (a .k) (a .m) (valueAt (rowsIn (a .xs .now) (a .c))) [] [] h g in
-          ready-framed Q b t z _ (k .correction .result) (f .result) (p .1 .1 .1 .0) (p .1 .1 .1 .1 .0) (corrected k) lz e (c .ready .ensures) (k .correction .ensures ∙ correction-reads Q b) (f .ensures)),
-      ready-few (a .k) (a .r) (a .q .now) z (p .0) (p .1 .1 .0) (k .correction .result) (f .result) (c .ready .ensures) (f .ensures),
+          let Q = problemIn (a .shape .k) (a .shape .m) (valueAt (rowsIn (a .xs .now) (a .c))) [] [] h g in
+          ready-framed Q b t z _ (k .correction .result) (f .result) (p .vectors) (p .by-row) (corrected k) lz
+          e (c .ready .ensures) (k .correction .ensures ∙ correction-reads Q b) (f .ensures)),
+      ready-few (a .shape .k) (a .shape .r) (a .q .now) z (p .few .variables) (few-independent s)
+          (k .correction .result) (f .result) (c .ready .ensures) (f .ensures),
     )
 
 pub prepare-free-spec : {M : Type 1} → statement M

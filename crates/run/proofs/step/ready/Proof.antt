@@ -25,4 +25,5 @@ returns-3 : tie.Need-returns-3
 returns-3 c = rw (c .before .end .given .1)
 
 pub ready-spec : {M : Type 1} → statement M
-ready-spec = tie.close (tie.spec enum-told enum-known-found returns enum-known-found-2 returns-2 enum-known-end returns-3)
+ready-spec =
+    tie.close (tie.spec enum-told enum-known-found returns enum-known-found-2 returns-2 enum-known-end returns-3)

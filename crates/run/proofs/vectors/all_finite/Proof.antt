@@ -30,7 +30,8 @@ is-finite-requires c κs = search needs
 returns : tie.Need-returns Inv-loop μ-loop
 returns c =
     let l = c .before .before .before .before .loop in
-    sym (all-broke _ (l .i) _ (c .before .before .before .loop-test .taken) (l .inv .1) (rw (← c .before .before .at .ensures, ← c .before .is-finite .ensures) (not-true _ (c .if1 .taken))))
+    sym (all-broke _ (l .i) _ (c .before .before .before .loop-test .taken) (l .inv .1)
+    (rw (← c .before .before .at .ensures, ← c .before .is-finite .ensures) (not-true _ (c .if1 .taken))))
 
 add-i : tie.Need-add-i Inv-loop μ-loop
 add-i c = search needs
@@ -40,8 +41,11 @@ loop-less c = search needs
 
 loop-again : tie.Need-loop-again Inv-loop μ-loop
 loop-again c =
-    let l = c .before .before .before .before .loop in
-    (search needs, all-turn _ (l .i) (l .inv .1) (rw (← c .before .before .at .ensures, ← c .before .is-finite .ensures) (not-false _ (c .if1 .left))))
+    let l = c .before .before .before .before .loop in (
+      search needs,
+      all-turn _ (l .i) (l .inv .1)
+          (rw (← c .before .before .at .ensures, ← c .before .is-finite .ensures) (not-false _ (c .if1 .left))),
+    )
 
 returns-2 : tie.Need-returns-2 Inv-loop μ-loop
 returns-2 c = sym (rw (le-antisymm (c .before .loop .inv .0) (c .loop-test .left)) at (c .before .loop .inv .1))

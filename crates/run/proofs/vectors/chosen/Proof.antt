@@ -42,8 +42,15 @@ loop-less c = search needs
 loop-again : tie.Need-loop-again Inv-loop μ-loop
 loop-again c =
     let l = c .before .before .before .before .before .before .before .loop in
-    let v = c .before .before .before .choose .ensures ∙ ap chooseOf (c .before .before .before .before .at .ensures) in
-    (search needs, search needs, c .before .before .put .ensures ∙ fill-first _ (λ j. chooseOf (at (c .before .before .before .before .before .before .before .before .before .before .args .xs .now) (c .before .before .before .before .before .before .before .before .before .before .args .base + j))) (l .i) (l .inv .2) v)
+    let a = c .before .before .before .before .before .before .before .before .before .before .args in
+    let v =
+    c .before .before .before .choose .ensures
+    ∙ ap chooseOf (c .before .before .before .before .at .ensures) in (
+      search needs,
+      search needs,
+      c .before .before .put .ensures
+          ∙ fill-first _ (λ j. chooseOf (at (a .xs .now) (a .base + j))) (l .i) (l .inv .2) v,
+    )
 
 same-length : tie.Need-same-length Inv-loop μ-loop
 same-length c = search needs

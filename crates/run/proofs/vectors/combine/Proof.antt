@@ -15,7 +15,9 @@ use Rattle.run.proofs.vectors.combine.Statement.{statement}
 use Rattle.run.proofs.vectors.combine.Tie as tie
 
 -- one row more
-turn : (k : ℕ) (weights rows d₀ d : List Float) (t : ℕ) {w v : Scalar} {r : List Float} → d ≡ combinedTo k weights rows d₀ t → w ≡ at weights t → v ≡ negOf w → r ≡ minusScaled d 0 v rows (12 * t) k → r ≡ combinedTo k weights rows d₀ (t + 1)
+turn : (k : ℕ) (weights rows d₀ d : List Float) (t : ℕ) {w v : Scalar} {r : List Float}
+    → d ≡ combinedTo k weights rows d₀ t → w ≡ at weights t → v ≡ negOf w
+    → r ≡ minusScaled d 0 v rows (12 * t) k → r ≡ combinedTo k weights rows d₀ (t + 1)
 unfolding combinedTo
 turn k weights rows d₀ d t ed ew ev er = rw (add-one, er, ev, ew, ed)
 
@@ -49,8 +51,12 @@ loop-less c = search needs
 
 loop-again : tie.Need-loop-again Inv-loop μ-loop
 loop-again c =
-    let l = c .before .before .before .before .before .before .before .loop in
-    (search needs, search needs, turn _ _ _ _ _ (l .t) (l .inv .2) (c .before .before .before .before .before .at .ensures) (c .before .before .before .neg .ensures .value) (c .before .before .minus-scaled .ensures))
+    let l = c .before .before .before .before .before .before .before .loop in (
+      search needs,
+      search needs,
+      turn _ _ _ _ _ (l .t) (l .inv .2) (c .before .before .before .before .before .at .ensures)
+          (c .before .before .before .neg .ensures .value) (c .before .before .minus-scaled .ensures),
+    )
 
 same-length : tie.Need-same-length Inv-loop μ-loop
 same-length c = search needs

@@ -16,7 +16,9 @@ norm-requires : tie.Need-norm-requires
 norm-requires c κs = search needs
 
 returns : tie.Need-returns
-returns c = let s = c .before .before .before in c .norm .ensures ∙ norm-part (s .args .xs .now) (s .args .k) (s .pre .0) (s .pre .1)
+returns c =
+    let s = c .before .before .before in
+    c .norm .ensures ∙ norm-part (s .args .xs .now) (s .args .k) (s .pre .0) (s .pre .1)
 
 pub norm-of-spec : {M : Type 1} → statement M
 norm-of-spec = tie.close (tie.spec mul-q slice-aggregate-norm norm-requires returns)

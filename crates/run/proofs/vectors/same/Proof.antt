@@ -19,7 +19,8 @@ use Rattle.run.proofs.vectors.same.Tie as tie
 abbrev alike : (a b : List Float) → ℕ → Bool
 alike a b i = couldBeEqual (at a i) (at b i)
 
-told : (a b : List Float) (i : ℕ) {x y : Scalar} {r : Bool} → x ≡ at a i → y ≡ at b i → r ≡ couldBeEqual x y → alike a b i ≡ r
+told : (a b : List Float) (i : ℕ) {x y : Scalar} {r : Bool} → x ≡ at a i → y ≡ at b i → r ≡ couldBeEqual x y
+    → alike a b i ≡ r
 told a b i ex ey er = rw (← ex, ← ey, ← er)
 
 abbrev Inv-loop : tie.InvT-loop
@@ -43,7 +44,14 @@ could-be-equal-requires c κs = search needs
 
 returns : tie.Need-returns Inv-loop μ-loop
 unfolding sameOf
-returns c = let a = c .before .before .before .before .before .before .before .before .args in sym (all-broke (alike (a .a .now) (a .b .now)) (c .before .before .before .before .before .loop .i) (a .n) (c .before .before .before .before .loop-test .taken) (c .before .before .before .before .before .loop .inv .1) (told (a .a .now) (a .b .now) (c .before .before .before .before .before .loop .i) (c .before .before .before .at .ensures) (c .before .before .at2 .ensures) (c .before .could-be-equal .ensures) ∙ negated _ (c .if1 .taken)))
+returns c =
+    let a = c .before .before .before .before .before .before .before .before .args in
+    sym (all-broke (alike (a .a .now) (a .b .now)) (c .before .before .before .before .before .loop .i) (a .n)
+    (c .before .before .before .before .loop-test .taken)
+    (c .before .before .before .before .before .loop .inv .1)
+    (told (a .a .now) (a .b .now) (c .before .before .before .before .before .loop .i)
+    (c .before .before .before .at .ensures) (c .before .before .at2 .ensures)
+    (c .before .could-be-equal .ensures) ∙ negated _ (c .if1 .taken)))
 
 add-i : tie.Need-add-i Inv-loop μ-loop
 add-i c = search needs
@@ -52,7 +60,15 @@ loop-less : tie.Need-loop-less Inv-loop μ-loop
 loop-less c = search needs
 
 loop-again : tie.Need-loop-again Inv-loop μ-loop
-loop-again c = let a = c .before .before .before .before .before .before .before .before .args in (search needs, all-turn (alike (a .a .now) (a .b .now)) (c .before .before .before .before .before .loop .i) (c .before .before .before .before .before .loop .inv .1) (told (a .a .now) (a .b .now) (c .before .before .before .before .before .loop .i) (c .before .before .before .at .ensures) (c .before .before .at2 .ensures) (c .before .could-be-equal .ensures) ∙ negated _ (c .if1 .left)))
+loop-again c =
+    let a = c .before .before .before .before .before .before .before .before .args in (
+      search needs,
+      all-turn (alike (a .a .now) (a .b .now)) (c .before .before .before .before .before .loop .i)
+          (c .before .before .before .before .before .loop .inv .1)
+          (told (a .a .now) (a .b .now) (c .before .before .before .before .before .loop .i)
+          (c .before .before .before .at .ensures) (c .before .before .at2 .ensures)
+          (c .before .could-be-equal .ensures) ∙ negated _ (c .if1 .left)),
+    )
 
 returns-2 : tie.Need-returns-2 Inv-loop μ-loop
 unfolding sameOf

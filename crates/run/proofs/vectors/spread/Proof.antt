@@ -14,7 +14,8 @@ use Rattle.run.proofs.vectors.spread.Statement.{statement}
 use Rattle.run.proofs.vectors.spread.Tie as tie
 
 -- one scalar more
-turn : (places : List ℕ) (from s : List Float) (t : ℕ) {x : Scalar} {r : List Float} → s ≡ spreadTo places from t → x ≡ at from t → r ≡ put s (getD places t 0) x → r ≡ spreadTo places from (t + 1)
+turn : (places : List ℕ) (from s : List Float) (t : ℕ) {x : Scalar} {r : List Float}
+    → s ≡ spreadTo places from t → x ≡ at from t → r ≡ put s (getD places t 0) x → r ≡ spreadTo places from (t + 1)
 unfolding spreadTo
 turn places from s t es ex er = rw (add-one, er, ex, es)
 
@@ -29,7 +30,12 @@ clear-requires c κs = search needs
 
 loop-holds : tie.Need-loop-holds Inv-loop μ-loop
 unfolding spreadTo ofBits
-loop-holds c = (search needs, search needs, c .before .before .clear .ensures ∙ ap zeros (c .before .before .before .before .before .before .before .pre .0))
+loop-holds c = (
+  search needs,
+  search needs,
+  c .before .before .clear .ensures
+      ∙ ap zeros (c .before .before .before .before .before .before .before .pre .0),
+)
 
 mul-put : tie.Need-mul-put Inv-loop μ-loop
 mul-put c = search needs
@@ -51,8 +57,11 @@ loop-less c = search needs
 
 loop-again : tie.Need-loop-again Inv-loop μ-loop
 loop-again c =
-    let l = c .before .before .before .before .before .before .before .loop in
-    (search needs, search needs, turn _ _ _ (l .t) (l .inv .2) (c .before .before .before .at .ensures) (c .before .before .put .ensures))
+    let l = c .before .before .before .before .before .before .before .loop in (
+      search needs,
+      search needs,
+      turn _ _ _ (l .t) (l .inv .2) (c .before .before .before .at .ensures) (c .before .before .put .ensures),
+    )
 
 same-length : tie.Need-same-length Inv-loop μ-loop
 same-length c = search needs
