@@ -22,9 +22,11 @@ use Rattle.linear.specs.Flat.{at}
 use Rattle.run.specs.Corrected.{Shift, shiftOf, shiftFrom, shiftedStep}
 use Rattle.run.specs.Curvature.{updateCurvature}
 use Rattle.run.specs.Judgement.{Judged, judgeOf}
-use Rattle.run.specs.Rows.{constraintsOf, evaluationOf}
+use Rattle.run.specs.Rows.{rowCounts, constraintsOf, evaluationOf, evaluationBy}
 use Rattle.run.specs.Residuals.{violationOf}
+use Rattle.run.specs.declared.rows.RowCounts.{RowCounts}
 use Rattle.run.specs.declared.state.Last.{Last}
+use Rattle.run.specs.declared.state.Sizes.{Sizes}
 use Rattle.run.specs.declared.state.State.{State}
 use Rattle.run.proofs.AreaLaws.{slots-of, holds-of, wrote, slot-read, slot-length, part-back}
 use Rattle.run.proofs.EndingLaws.{pick-yes, pick-no, standing-rows-read, curvature-read, cut-length}
@@ -164,16 +166,17 @@ learned-is n m s {w} {a} {b} {b′} {r} h eb e =
     ∙ ap (λ (l : List Float). us b′ (w .step) (w .standingRows) (w .landedRows) l) (multipliers-read h)
 
 -- how a step fares, from the slots
-pub judged-is : (n m s : ℕ) (theta : Scalar) (count : ℕ) (last : Last) {w : Memory} {a : List Float} {r : Res Judged} → Holds w a
-    → r ≡ judgeOf n (evaluationOf n m s (take 936 (drop 72 a))) (evaluationOf n m s (take 936 (drop 1008 a))) theta (take 800 (drop 2280 a)) count last (take 24 (drop 1944 a))
-    → r ≡ judgeOf n (evaluationOf n m s (w .standingRows)) (evaluationOf n m s (w .landedRows)) theta (w .filter) count last (w .step)
-judged-is n m s theta count last {w} {a} {r} h e =
-    let us : List Float → List Float → List Float → List Float → Res Judged = λ x y f d. judgeOf n (evaluationOf n m s x) (evaluationOf n m s y) theta f count last d in
-    e
-    ∙ ap (λ (x : List Float). us x (take 936 (drop 1008 a)) (take 800 (drop 2280 a)) (take 24 (drop 1944 a))) (standing-rows-read h)
-    ∙ ap (λ (y : List Float). us (w .standingRows) y (take 800 (drop 2280 a)) (take 24 (drop 1944 a))) (landed-rows-read h)
-    ∙ ap (λ (f : List Float). us (w .standingRows) (w .landedRows) f (take 24 (drop 1944 a))) (filter-read h)
-    ∙ ap (λ (d : List Float). us (w .standingRows) (w .landedRows) (w .filter) d) (step-read h)
+pub judged-is :
+    (z : Sizes) (w : Memory) (theta : Scalar) (count : ℕ) (last : Last)
+    {c : RowCounts} {x y f d : List Float} {v : Res Scalar} {r : Res Judged} →
+    c ≡ rowCounts z → x ≡ w .standingRows → y ≡ w .landedRows → f ≡ w .filter → d ≡ w .step →
+    v ≡ violationOf (constraintsOf (z .n) (z .m) (w .landedRows)) →
+    (v ≡ violationOf (constraintsOf (c .n) (c .m) y) →
+    r ≡ judgeOf (c .n) (evaluationBy c x) (evaluationBy c y) theta f count last d) →
+    r
+    ≡ judgeOf (z .n) (evaluationBy (rowCounts z) (w .standingRows)) (evaluationBy (rowCounts z) (w .landedRows)) theta
+    (w .filter) count last (w .step)
+judged-is z w theta count last ec ex ey ef ed ev k = (rw (ec, ex, ey, ef, ed) at k) ev
 
 -- the step with a shift added, in its slot
 abbrev pub withStep : Memory → List Float → Memory

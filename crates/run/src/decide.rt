@@ -30,11 +30,13 @@ use crate::endings::finish;
 use crate::endings::refuse;
 use crate::iterate::iterate;
 use crate::iterate::search;
+use crate::judgement::Baseline;
 use crate::judgement::Judged;
 use crate::judgement::Judgement;
 use crate::judgement::judge;
 use crate::radius::radius_after;
 use crate::residuals;
+use crate::rows::row_counts;
 use crate::state::Last;
 use crate::state::Rejection;
 use crate::state::Returned;
@@ -300,18 +302,19 @@ fn judge_in(st: State, area: &[f64], theta: Scalar, landed: Answer) -> Judgement
         (st .counts .iterations) (st .last) (w .step)) ⌝ }
 {
     let last = st.last;
-    judge(
-        st.sizes.n,
-        st.sizes.m,
-        st.sizes.s,
-        &area[area::STANDING_ROWS_AT..area::LANDED_ROWS_AT],
-        &area[area::LANDED_ROWS_AT..area::STEP_AT],
+    let base = Baseline {
         theta,
-        landed,
-        &area[area::FILTER_AT..area::SPARE_AT],
-        st.counts.iterations,
+        pairs: st.counts.iterations,
         last,
-        &area[area::STEP_AT..area::MULTIPLIERS_AT],
+    };
+    judge(
+        row_counts(st.sizes),
+        area::standing_rows(area),
+        area::landed_rows(area),
+        landed,
+        base,
+        area::filter(area),
+        area::step(area),
     )
 }
 

@@ -15,6 +15,7 @@ use crate::checks::sizes_fit;
 use crate::corrected;
 use crate::curvature;
 use crate::judgement;
+use crate::judgement::Baseline;
 use crate::judgement::Judgement;
 use crate::limits::ITERATIONS;
 use crate::limits::VARIABLES;
@@ -24,6 +25,7 @@ use crate::proposal::StandingPoint;
 use crate::radius::cut_within;
 use crate::residuals;
 use crate::rows;
+use crate::rows::RowCounts;
 use crate::state::Last;
 use crate::state::Sizes;
 use crate::step;
@@ -181,7 +183,12 @@ pub fn judge(
         Done::Finished => {}
     }
     let landed = residuals::violation(next, n, m);
-    judgement::judge(n, m, s, xs, next, theta, landed, filter, count, last, step)
+    let base = Baseline {
+        theta,
+        pairs: count,
+        last,
+    };
+    judgement::judge(RowCounts { n, m, s }, xs, next, landed, base, filter, step)
 }
 
 // Whether the model expects the step to lower the sum or the violation, from f and theta: 288 numbers of curvature.

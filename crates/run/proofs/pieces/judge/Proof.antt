@@ -38,22 +38,16 @@ judge-requires c κs =
     let p = wants-passed _ _ _ (finished (c .before .enum-told .given .1)) (c .before .before .before .wants .ensures)
     in
     let q = fits-passed (p .0) (c .before .before .before .before .fits2 .ensures) in
-    let z = q .0 in (
-      z .few-variables,
-      (
-        z .few-constraints,
-        (
-          z .few-residuals,
-          (
-            omega (
-              arith,
-              c .before .before .before .before .before .if1 .left,
-            ),
-            p .1,
-          ),
-        ),
-      ),
-    )
+    let z = q .0 in
+    record {
+      counts = record {
+        few-variables = z .few-variables;
+        few-constraints = z .few-constraints;
+        few-sums = z .few-residuals;
+      };
+      few-pairs = omega (arith, c .before .before .before .before .before .if1 .left);
+      step-is = p .1;
+    }
 
 returns-3 : tie.Need-returns-3
 unfolding judgeReply
