@@ -39,6 +39,7 @@ use Rattle.run.specs.Curvature.{
   updateCurvature,
 }
 use Rattle.run.specs.Proposal.{curvatureAlong}
+use Rattle.run.specs.program.Curvature.{updatedAlong}
 use Rattle.run.proofs.VectorLaws.{filled, fill-ext, fill-whole, prefix-list}
 use Rattle.run.proofs.LinearCalls.{minus-solved-result}
 
@@ -124,9 +125,10 @@ module _ (n : ℕ) (c : Rows) (b y s : List Float) {bs₀ bs : List Float} {p q 
   pub leaves : t ≡ false → ok b ≡ updatedBy n c b y s
   leaves h = rw h at asked
 
--- the whole update; x′ is the front of the array that the step's part was written to
-pub updates-by : (n : ℕ) (b step : List Float) (e e′ : Evaluation) (lambda : List Float) {r : Done} {x x′ y : List Float} {s : Res (List Float)}
-    → r ≡ done.Finished → doneOf r x ≡ alongOf (e .constraints) step → x′ ≡ x → y ≡ lagrangianChange n e e′ lambda → s ≡ updatedBy n (e .constraints) b y x′
-    → s ≡ updateCurvature n b step e e′ lambda
+-- the whole update, from y
+pub update-is :
+    (n : ℕ) (b step : List Float) (e e′ : Evaluation) (lambda : List Float) {y : List Float} {r : Res (List Float)} →
+    y ≡ lagrangianChange n e e′ lambda → r ≡ updatedAlong n (e .constraints) b y step →
+    r ≡ updateCurvature n b step e e′ lambda
 unfolding updateCurvature
-updates-by n b step e e′ lambda h ex k ey es = went-on _ h ex k (rw (← ey) es)
+update-is n b step e e′ lambda ey er = rw (← ey) er

@@ -22,9 +22,11 @@ use Rattle.linear.specs.Flat.{at}
 use Rattle.run.specs.Corrected.{Shift, shiftOf, shiftFrom, shiftedStep}
 use Rattle.run.specs.Curvature.{updateCurvature}
 use Rattle.run.specs.Judgement.{Judged, judgeOf}
-use Rattle.run.specs.Rows.{constraintsOf, evaluationOf}
+use Rattle.run.specs.Rows.{rowCounts, constraintsOf, evaluationOf, evaluationBy}
 use Rattle.run.specs.Residuals.{violationOf}
+use Rattle.run.specs.declared.rows.RowCounts.{RowCounts}
 use Rattle.run.specs.declared.state.Last.{Last}
+use Rattle.run.specs.declared.state.Sizes.{Sizes}
 use Rattle.run.specs.declared.state.State.{State}
 use Rattle.run.proofs.AreaLaws.{slots-of, holds-of, wrote, slot-read, slot-length, part-back}
 use Rattle.run.proofs.EndingLaws.{pick-yes, pick-no, standing-rows-read, curvature-read, cut-length}
@@ -53,23 +55,18 @@ module _ {w : Memory} {a : List Float} (h : Holds w a) where
   unfolding startOf
   filter-read = slot-read (slots-of h) 8 (omega arith)
 
--- a slot of rows has all the constraints' values
-pub slot-enough : (base : ℕ) (a : List Float) {m : ℕ} → base + 936 ≤ length a → m ≤ 12 → 2 * m ≤ length (take 936 (drop base a))
-slot-enough base a l h = omega (arith, cut-length 936 base a l, h)
+-- the shift of the landed point, by the rows and the point that are read of their slots
+pub shift-read :
+    (st : State) (w : Memory) {xs : List Float} {x : Res (List Float)} → xs ≡ w .landedRows →
+    x ≡ shiftOf (st .moving) (constraintsOf (st .sizes .n) (st .sizes .m) xs) →
+    x ≡ shiftOf (st .moving) (landedAt st w .constraints)
+shift-read st w ex e = rw ex at e
 
--- the violation, and the shift, that are read of the slots of the landed point
-pub landed-violation : (st : State) {w : Memory} {a : List Float} {x : Res Scalar} → Holds w a → x ≡ violationOf (constraintsOf (st .sizes .n) (st .sizes .m) (take 936 (drop 1008 a))) → violationOf (landedAt st w .constraints) ≡ x
-landed-violation st h e = sym (e ∙ ap (λ (xs : List Float). violationOf (constraintsOf (st .sizes .n) (st .sizes .m) xs)) (landed-rows-read h))
-
-pub shift-read : (st : State) {w : Memory} {a : List Float} {x : Res (List Float)} → Holds w a → x ≡ shiftOf (st .moving) (constraintsOf (st .sizes .n) (st .sizes .m) (take 936 (drop 1008 a))) → x ≡ shiftOf (st .moving) (landedAt st w .constraints)
-shift-read st h e = e ∙ ap (λ (xs : List Float). shiftOf (st .moving) (constraintsOf (st .sizes .n) (st .sizes .m) xs)) (landed-rows-read h)
-
-pub shifted-read : (st : State) {w : Memory} {a : List Float} {x : Res Shift} → Holds w a → x ≡ shiftFrom (st .moving) (constraintsOf (st .sizes .n) (st .sizes .m) (take 936 (drop 1008 a))) (take 24 (drop 24 a))
-    → x ≡ shiftFrom (st .moving) (landedAt st w .constraints) (w .landed)
-shifted-read st {w} {a} h e =
-    e
-    ∙ ap (λ (xs : List Float). shiftFrom (st .moving) (constraintsOf (st .sizes .n) (st .sizes .m) xs) (take 24 (drop 24 a))) (landed-rows-read h)
-    ∙ ap (λ (x : List Float). shiftFrom (st .moving) (landedAt st w .constraints) x) (landed-read h)
+pub shifted-read :
+    (st : State) (w : Memory) {xs landed : List Float} {x : Res Shift} → xs ≡ w .landedRows → landed ≡ w .landed →
+    x ≡ shiftFrom (st .moving) (constraintsOf (st .sizes .n) (st .sizes .m) xs) landed →
+    x ≡ shiftFrom (st .moving) (landedAt st w .constraints) (w .landed)
+shifted-read st w ex el e = rw (ex, el) at e
 
 -- a point asked, in its slot
 pub asked-read : {w : Memory} {a b : List Float} → Holds w a → (next : List Float) → b ≡ written a 48 next → length next ≡ 24 → Holds (withAsked w next) b
@@ -142,38 +139,28 @@ module _ (length radius max : Scalar) {reach : Scalar} (e : reach ≡ mulOf (deg
   reach-near linear q t =
       sym (pick-no (pick (linear || definitelyLess (mulOf (degenerate two64) length) max) (upper (mulOf (degenerate two64) length)) max) radius (ap (λ (x : Scalar). definitelyGreater x radius) (sym e) ∙ sym q ∙ t))
 
--- the curvature's numbers in use, from its slot
-pub curvature-first :
-    (n : ℕ) {w : Memory} {a : List Float} → Holds w a → n ≤ 288 →
-    take (1992 + n - 1992) (drop 1992 a) ≡ take n (w .curvature)
-curvature-first n {w} {a} h f =
-    let k : 1992 + n - 1992 ≡ n = omega arith in
-    ap (λ (i : ℕ). take i (drop 1992 a)) k ∙ sym (take-take n 288 (drop 1992 a) f) ∙ ap (take n) (curvature-read h)
-
 -- the curvature after a step, from the slots
-pub learned-is : (n m s : ℕ) {w : Memory} {a b b′ : List Float} {r : Res (List Float)} → Holds w a → b ≡ b′
-    → r ≡ updateCurvature n b (take 24 (drop 1944 a)) (evaluationOf n m s (take 936 (drop 72 a))) (evaluationOf n m s (take 936 (drop 1008 a))) (take 24 (drop 1968 a))
-    → r ≡ updateCurvature n b′ (w .step) (evaluationOf n m s (w .standingRows)) (evaluationOf n m s (w .landedRows)) (w .multipliers)
-learned-is n m s {w} {a} {b} {b′} {r} h eb e =
-    let us : List Float → List Float → List Float → List Float → List Float → Res (List Float) = λ c d x y l. updateCurvature n c d (evaluationOf n m s x) (evaluationOf n m s y) l in
-    e
-    ∙ ap (λ (c : List Float). us c (take 24 (drop 1944 a)) (take 936 (drop 72 a)) (take 936 (drop 1008 a)) (take 24 (drop 1968 a))) eb
-    ∙ ap (λ (d : List Float). us b′ d (take 936 (drop 72 a)) (take 936 (drop 1008 a)) (take 24 (drop 1968 a))) (step-read h)
-    ∙ ap (λ (x : List Float). us b′ (w .step) x (take 936 (drop 1008 a)) (take 24 (drop 1968 a))) (standing-rows-read h)
-    ∙ ap (λ (y : List Float). us b′ (w .step) (w .standingRows) y (take 24 (drop 1968 a))) (landed-rows-read h)
-    ∙ ap (λ (l : List Float). us b′ (w .step) (w .standingRows) (w .landedRows) l) (multipliers-read h)
+pub learned-is :
+    (z : Sizes) (w : Memory) {c : RowCounts} {b b′ d x y l : List Float} {r : Res (List Float)} →
+    c ≡ rowCounts z → b ≡ b′ → d ≡ w .step → x ≡ w .standingRows → y ≡ w .landedRows → l ≡ w .multipliers →
+    r ≡ updateCurvature (c .n) b d (evaluationBy c x) (evaluationBy c y) l →
+    r
+    ≡ updateCurvature (z .n) b′ (w .step) (evaluationBy (rowCounts z) (w .standingRows))
+    (evaluationBy (rowCounts z) (w .landedRows)) (w .multipliers)
+learned-is z w ec eb ed ex ey el e = rw (ec, eb, ed, ex, ey, el) at e
 
 -- how a step fares, from the slots
-pub judged-is : (n m s : ℕ) (theta : Scalar) (count : ℕ) (last : Last) {w : Memory} {a : List Float} {r : Res Judged} → Holds w a
-    → r ≡ judgeOf n (evaluationOf n m s (take 936 (drop 72 a))) (evaluationOf n m s (take 936 (drop 1008 a))) theta (take 800 (drop 2280 a)) count last (take 24 (drop 1944 a))
-    → r ≡ judgeOf n (evaluationOf n m s (w .standingRows)) (evaluationOf n m s (w .landedRows)) theta (w .filter) count last (w .step)
-judged-is n m s theta count last {w} {a} {r} h e =
-    let us : List Float → List Float → List Float → List Float → Res Judged = λ x y f d. judgeOf n (evaluationOf n m s x) (evaluationOf n m s y) theta f count last d in
-    e
-    ∙ ap (λ (x : List Float). us x (take 936 (drop 1008 a)) (take 800 (drop 2280 a)) (take 24 (drop 1944 a))) (standing-rows-read h)
-    ∙ ap (λ (y : List Float). us (w .standingRows) y (take 800 (drop 2280 a)) (take 24 (drop 1944 a))) (landed-rows-read h)
-    ∙ ap (λ (f : List Float). us (w .standingRows) (w .landedRows) f (take 24 (drop 1944 a))) (filter-read h)
-    ∙ ap (λ (d : List Float). us (w .standingRows) (w .landedRows) (w .filter) d) (step-read h)
+pub judged-is :
+    (z : Sizes) (w : Memory) (theta : Scalar) (count : ℕ) (last : Last)
+    {c : RowCounts} {x y f d : List Float} {v : Res Scalar} {r : Res Judged} →
+    c ≡ rowCounts z → x ≡ w .standingRows → y ≡ w .landedRows → f ≡ w .filter → d ≡ w .step →
+    v ≡ violationOf (constraintsOf (z .n) (z .m) (w .landedRows)) →
+    (v ≡ violationOf (constraintsOf (c .n) (c .m) y) →
+    r ≡ judgeOf (c .n) (evaluationBy c x) (evaluationBy c y) theta f count last d) →
+    r
+    ≡ judgeOf (z .n) (evaluationBy (rowCounts z) (w .standingRows)) (evaluationBy (rowCounts z) (w .landedRows)) theta
+    (w .filter) count last (w .step)
+judged-is z w theta count last ec ex ey ef ed ev k = (rw (ec, ex, ey, ef, ed) at k) ev
 
 -- the step with a shift added, in its slot
 abbrev pub withStep : Memory → List Float → Memory

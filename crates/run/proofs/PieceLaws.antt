@@ -23,7 +23,9 @@ use Rattle.linear.specs.declared.answers.Done.the-variants as done
 use Rattle.run.specs.Rows.{rowNumbers}
 use Rattle.run.specs.Checks.{sizesFit}
 use Rattle.run.specs.Pieces.{sizedOf, wantsOf, stepReplied, stepReplyOf}
+use Rattle.run.specs.program.Rows.{FewRows}
 use Rattle.run.specs.program.Step.{endOf}
+use Rattle.run.specs.declared.rows.RowCounts.{RowCounts}
 use Rattle.run.specs.declared.step.StepEnd.{StepEnd}
 use Rattle.run.specs.declared.step.StepEnd.the-variants as s
 use Rattle.run.proofs.Booleans.{never}
@@ -37,41 +39,54 @@ answer-small {n} {m} {s} hn hm hs =
     mul-le-mul a b
 
 -- sizes of which one is above its limit
-one-refused : (a b d : Bool) (r : Res (Unit {0})) → (a && (b && (d && true))) ≡ false → refused 1 ≡ checkedValue a 1 (checkedValue b 1 (checkedValue d 1 r))
+one-refused :
+    (a b d : Bool) (r : Res (Unit {0})) → (a && (b && (d && true))) ≡ false →
+    refused 1 ≡ checkedValue a 1 (checkedValue b 1 (checkedValue d 1 r))
 one-refused true true true r e = never (sym e)
 one-refused true true false r e = refl
 one-refused true false d r e = refl
 one-refused false b d r e = refl
 
-pub too-many : (n m s count : ℕ) → sizesFit (record { n = n; m = m; s = s; limit = 0 }) ≡ false → refused 1 ≡ sizedOf n m s count
+pub too-many :
+    (c : RowCounts) (count : ℕ) → sizesFit (record { n = c .n; m = c .m; s = c .s; limit = 0 }) ≡ false →
+    refused 1 ≡ sizedOf c count
 unfolding sizedOf
-too-many n m s count e = one-refused (leb n 12) (leb m 12) (leb s 24) _ e
+too-many c count e = one-refused (leb (c .n) 12) (leb (c .m) 12) (leb (c .s) 24) _ e
 
 -- a check that passed
 checked-ok : {A : Type 0} {x : A} (b : Bool) (k : ℕ) (r : Res A) → checkedValue b k r ≡ ok x → (b ≡ true) × (r ≡ ok x)
 checked-ok true k r e = (refl, e)
 checked-ok false k r e = absurd (refused-ok e)
 
-pub record Sized (n m s count : ℕ) : Type 0 where
-  pub few-variables : n ≤ 12
-  pub few-constraints : m ≤ 12
-  pub few-residuals : s ≤ 24
-  pub whole : count ≡ rowNumbers n m s
+pub record Sized (c : RowCounts) (count : ℕ) : Type 0 where
+  pub counts : FewRows c
+  pub whole : count ≡ rowNumbers (c .n) (c .m) (c .s)
 
-sized-ok : {n m s count : ℕ} → sizedOf n m s count ≡ ok tt → Sized n m s count
+sized-ok : {c : RowCounts} {count : ℕ} → sizedOf c count ≡ ok tt → Sized c count
 unfolding sizedOf
-sized-ok {n} {m} {s} {count} e =
-    let a = checked-ok (leb n 12) 1 _ e in
-    let b = checked-ok (leb m 12) 1 _ (a .1) in
-    let d = checked-ok (leb s 24) 1 _ (b .1) in
-    let f = checked-ok (eqb count (rowNumbers n m s)) 2 (ok tt) (d .1) in
-    record { few-variables = leb-true _ _ (a .0); few-constraints = leb-true _ _ (b .0); few-residuals = leb-true _ _ (d .0); whole = eqb-true _ _ (f .0) }
+sized-ok {c} {count} e =
+    let a = checked-ok (leb (c .n) 12) 1 _ e in
+    let b = checked-ok (leb (c .m) 12) 1 _ (a .1) in
+    let d = checked-ok (leb (c .s) 24) 1 _ (b .1) in
+    let f = checked-ok (eqb count (rowNumbers (c .n) (c .m) (c .s))) 2 (ok tt) (d .1) in
+    record {
+      counts = record {
+        few-variables = leb-true _ _ (a .0);
+        few-constraints = leb-true _ _ (b .0);
+        few-sums = leb-true _ _ (d .0);
+      };
+      whole = eqb-true _ _ (f .0);
+    }
+
+-- the bounds of the counts, as the functions of the rows ask for them
+pub bounds : {c : RowCounts} {count : ℕ} → Sized c count → (c .n ≤ 12) × ((c .m ≤ 12) × (c .s ≤ 24))
+bounds z = (z .counts .few-variables, (z .counts .few-constraints, z .counts .few-sums))
 
 -- the constraint values stand in a list as long as the rows
-pub values-inside : {n m s count length : ℕ} → Sized n m s count → length ≡ count → 2 * m ≤ length
-values-inside {n} {m} {s} z e =
-    let h : 1 ≤ n + 1 = omega arith in
-    let a : (m + s) * 1 ≤ (m + s) * (n + 1) = mul-le-mul (le-refl (m + s)) h in
+pub values-inside : {c : RowCounts} {count length : ℕ} → Sized c count → length ≡ count → 2 * c .m ≤ length
+values-inside {c} z e =
+    let h : 1 ≤ c .n + 1 = omega arith in
+    let a : (c .m + c .s) * 1 ≤ (c .m + c .s) * (c .n + 1) = mul-le-mul (le-refl (c .m + c .s)) h in
     omega (arith, z .whole)
 
 -- of a check after others
@@ -81,28 +96,41 @@ wants-ok count wanted (ok _) e = (refl, eqb-true _ _ (checked-ok (eqb count want
 wants-ok count wanted (refused k) e = absurd (refused-ok e)
 
 -- of the rows and two counts
-fits-ok : {n m s count a wa b wb : ℕ} → wantsOf (wantsOf (sizedOf n m s count) a wa) b wb ≡ ok tt → Sized n m s count × ((a ≡ wa) × (b ≡ wb))
+pub record Fitting (c : RowCounts) (count a wanted b wanted′ : ℕ) : Type 0 where
+  pub sized : Sized c count
+  pub first : a ≡ wanted
+  pub second : b ≡ wanted′
+
+fits-ok :
+    {c : RowCounts} {count a wanted b wanted′ : ℕ} →
+    wantsOf (wantsOf (sizedOf c count) a wanted) b wanted′ ≡ ok tt → Fitting c count a wanted b wanted′
 fits-ok e =
     let p = wants-ok _ _ _ e in
     let q = wants-ok _ _ _ (p .0) in
-    (sized-ok (q .0), (q .1, p .1))
+    record { sized = sized-ok (q .0); first = q .1; second = p .1 }
 
 -- the same of a check's answer x
 pub finished : {r : Done} → r ≡ done.Finished → doneOf r (tt {0}) ≡ ok (tt {0})
 finished e = rw e
 
 module _ {x : Res (Unit {0})} where
-  pub sized-passed : {n m s count : ℕ} → x ≡ ok tt → x ≡ sizedOf n m s count → Sized n m s count
+  pub sized-passed : {c : RowCounts} {count : ℕ} → x ≡ ok tt → x ≡ sizedOf c count → Sized c count
   sized-passed h e = sized-ok (sym e ∙ h)
 
-  pub wants-passed : (count wanted : ℕ) (before : Res (Unit {0})) → x ≡ ok tt → x ≡ wantsOf before count wanted → (before ≡ ok tt) × (count ≡ wanted)
+  pub wants-passed :
+      (count wanted : ℕ) (before : Res (Unit {0})) → x ≡ ok tt → x ≡ wantsOf before count wanted →
+      (before ≡ ok tt) × (count ≡ wanted)
   wants-passed count wanted before h e = wants-ok count wanted before (sym e ∙ h)
 
-  pub fits-passed : {n m s count a wa b wb : ℕ} → x ≡ ok tt → x ≡ wantsOf (wantsOf (sizedOf n m s count) a wa) b wb → Sized n m s count × ((a ≡ wa) × (b ≡ wb))
+  pub fits-passed :
+      {c : RowCounts} {count a wanted b wanted′ : ℕ} →
+      x ≡ ok tt → x ≡ wantsOf (wantsOf (sizedOf c count) a wanted) b wanted′ → Fitting c count a wanted b wanted′
   fits-passed h e = fits-ok (sym e ∙ h)
 
 -- an end that is not the first variant: no step, so both slices are as cleared
-pub not-found : (end : StepEnd) (delta lambda x y : List Float) → OneOf (1 ∷ (2 ∷ [])) (tagOf the-type end) → stepReplied end x y ≡ stepReplyOf x y (endOf end delta lambda)
+pub not-found :
+    (end : StepEnd) (delta lambda x y : List Float) → OneOf (1 ∷ (2 ∷ [])) (tagOf the-type end) →
+    stepReplied end x y ≡ stepReplyOf x y (endOf end delta lambda)
 not-found (s.Found r) delta lambda x y k = absurd (⊎-elim (λ e. omega (arith, e)) (λ e. omega (arith, e)) k)
 not-found s.NotPositive delta lambda x y k = refl
 not-found (s.Refused e) delta lambda x y k = refl

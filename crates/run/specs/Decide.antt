@@ -15,7 +15,6 @@ use Rattle.run.specs.Judgement.{Judged, judgeOf}
 use Rattle.run.specs.Radius.{reachOf}
 use Rattle.run.specs.Residuals.{violationOf, sumSquared}
 use Rattle.run.specs.State.{searching, rejectedFor, withRadius, retried, standingOn}
-use Rattle.run.specs.declared.decide.Linear.the-variants as linear
 use Rattle.run.specs.declared.state.Last.{Last}
 use Rattle.run.specs.declared.state.Last.the-variants as last
 use Rattle.run.specs.declared.state.Rejection.{Rejection}

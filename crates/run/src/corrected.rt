@@ -5,9 +5,8 @@ ghost use Prim.Native.Nat.{_*_, _/_, _%_, _≤_};
 ghost use mathlib.Core.Path.{_≡_};
 ghost use lib.ListN.{length};
 ghost use Rattle.interval.specs.Result.{ok};
-ghost use Rattle.interval.specs.Scalar.{zeroS, pick, sharpen};
+ghost use Rattle.interval.specs.Scalar.{pick, sharpen};
 ghost use Rattle.linear.specs.Answers.{doneOf, resultOf};
-ghost use Rattle.linear.specs.Choose.{chooseOf};
 ghost use Rattle.linear.specs.Flat.{listTo, at};
 ghost use Rattle.run.specs.Limits.{AREA, VARIABLES, CONSTRAINTS, CORRECTIONS};
 ghost use Rattle.run.specs.declared.state.Kind.the-variants as kinds;
@@ -17,10 +16,11 @@ ghost use Rattle.run.specs.Corrected.{movingSlope, to, shiftOf, shiftFro
 ghost use Rattle.run.specs.Corrected.{landCorrection, landTrial};
 ghost use Rattle.run.specs.Decide.{judge};
 ghost use Rattle.run.specs.Residuals.{violationOf};
+ghost use Rattle.run.specs.Results.{truthOf};
 ghost use Rattle.run.specs.Rows.{constraintsOf, rowNumbers};
 ghost use Rattle.run.specs.Vectors.{vector, fillTo};
 ghost use Rattle.run.specs.program.Area.{ViolationsKnown, StandingKnown, Working};
-ghost use Rattle.run.specs.program.Corrected.{shiftedOf, nearerOf, nearerResult};
+ghost use Rattle.run.specs.program.Corrected.{shiftedOf, nearerOf};
 ghost use Rattle.run.specs.program.Endings.{Leaves, Underway};
 use crate::area;
 use crate::decide::judge_landed;
@@ -31,6 +31,7 @@ use crate::residuals;
 use crate::residuals::chosen_values;
 use crate::residuals::landed_violation;
 use crate::residuals::standing_violation;
+use crate::results::TruthResult;
 use crate::rows::constraints;
 use crate::rows::slope_of;
 use crate::state::Kind;
@@ -38,6 +39,7 @@ use crate::state::Returned;
 use crate::state::State;
 use crate::state::with_landed_number;
 use crate::vectors::all_finite;
+use crate::vectors::choose_if;
 use crate::vectors::moved;
 use crate::vectors::same;
 use interval::Scalar;
@@ -45,7 +47,6 @@ use linear::Answer;
 use linear::Done;
 use linear::LinearError;
 use linear::at;
-use linear::choose;
 use linear::clear;
 use linear::minus_solved;
 use linear::put;
@@ -55,16 +56,6 @@ pub enum Shifted {
     To,
     Stay,
     Refused(LinearError),
-}
-
-// A slope, chosen; zero for a variable that does not move.
-fn moving_slope(moves: bool, v: Scalar) -> Scalar
-    ensures { λ r. ⌜ r ≡ pick moves (chooseOf v) zeroS ⌝ }
-{
-    if moves {
-        return choose(v);
-    }
-    Scalar::ZERO
 }
 
 // The slopes of the constraints by the variables that move, chosen, and zero by the others.
@@ -77,7 +68,7 @@ fn moving_slopes(n: usize, m: usize, xs: &[f64], moving: &[bool], jc: &mut [f64]
     let q = m * n;
     for p in 0..q {
         let v = slope_of(xs, e, p / n, p % n);
-        put(jc, p, moving_slope(moving[p % n], v));
+        put(jc, p, choose_if(moving[p % n], v));
     }
 }
 
@@ -154,12 +145,6 @@ pub fn shifted_step(n: usize, step: &mut [f64], d: &[f64])
     }
 }
 
-// Whether the constraints are nearer.
-pub enum Nearer {
-    Known(bool),
-    Refused(LinearError),
-}
-
 // The landed point is shifted back onto the constraints, and that point asked, or it is judged.
 fn correct(st: State, area: &mut [f64], theta: Scalar, landed: Answer) -> Returned
     requires { ⌜ (length (now area) ≡ AREA) × Underway st ⌝ }
@@ -171,9 +156,9 @@ fn correct(st: State, area: &mut [f64], theta: Scalar, landed: Answer) -> Return
     let shifted = shift_from(
         st.sizes.n,
         st.sizes.m,
-        &area[area::LANDED_ROWS_AT..area::STEP_AT],
+        area::landed_rows(area),
         &moving,
-        &area[area::LANDED_AT..area::ASKED_AT],
+        area::landed_point(area),
         &mut next,
     );
     match shifted {
@@ -222,7 +207,7 @@ fn keep(st: State, area: &mut [f64], rows: &[f64], theta: Scalar, landed: Answer
     let shift = shift(
         st.sizes.n,
         st.sizes.m,
-        &area[area::LANDED_ROWS_AT..area::STEP_AT],
+        area::landed_rows(area),
         &moving,
         &mut d,
     );
@@ -244,20 +229,20 @@ fn keep(st: State, area: &mut [f64], rows: &[f64], theta: Scalar, landed: Answer
 }
 
 // Whether a correction's rows, by their violation, are nearer the constraints than the landed ones.
-fn is_nearer(new: Answer, old: Answer) -> Nearer
-    ensures { λ r. ⌜ nearerResult r ≡ nearerOf (resultOf new) (resultOf old) ⌝ }
+fn is_nearer(new: Answer, old: Answer) -> TruthResult
+    ensures { λ r. ⌜ truthOf r ≡ nearerOf (resultOf new) (resultOf old) ⌝ }
 {
     match new {
         Answer::Value(now) => match old {
             Answer::Value(before) => {
-                return Nearer::Known(now.definitely_less(before));
+                return TruthResult::Value(now.definitely_less(before));
             }
             Answer::Refused(e) => {
-                return Nearer::Refused(e);
+                return TruthResult::Refused(e);
             }
         },
         Answer::Refused(e) => {
-            return Nearer::Refused(e);
+            return TruthResult::Refused(e);
         }
     }
 }
@@ -273,13 +258,13 @@ pub fn land_correction(st: State, area: &mut [f64], rows: &[f64], theta: Scalar)
     let new = residuals::violation(rows, st.sizes.n, st.sizes.m);
     let old = landed_violation(st.sizes, area);
     match is_nearer(new, old) {
-        Nearer::Known(kept) => {
+        TruthResult::Value(kept) => {
             if kept {
                 return keep(st, area, rows, theta, new);
             }
             return judge_landed(st, area, theta, old);
         }
-        Nearer::Refused(e) => {
+        TruthResult::Refused(e) => {
             return refuse(st, area, e);
         }
     }

@@ -1,4 +1,6 @@
-// The curvature that Gauss-Newton leaves out: n rows of n.
+// The curvature that Gauss-Newton leaves out, n rows of n: that of the constraints, weighted by how hard the sum pulls
+// against them. It is learned from the steps taken, along the constraints only, and as often negative as positive. Without
+// it, where the sum cannot reach zero against curved constraints, steps along them overshoot and the run zig-zags.
 ghost use Prim.Native.Nat.{_≤_, _*_, _<_};
 ghost use mathlib.Core.Bool.{not, _||_};
 ghost use mathlib.Core.List.{List};
@@ -13,15 +15,17 @@ ghost use Rattle.linear.specs.Choose.{chooseOf};
 ghost use Rattle.linear.specs.Dot.{dotTo};
 ghost use Rattle.linear.specs.Flat.{at, along};
 ghost use Rattle.linear.specs.Substitution.{storeR};
-ghost use Rattle.run.specs.Limits.{VARIABLES, CONSTRAINTS, SUM-ROWS};
-ghost use Rattle.run.specs.Curvature.{learnedOf, alongOf, lagrangianChangeAt, lagrangianChange, chosenSum, rankOneStep};
-ghost use Rattle.run.specs.Curvature.{rankOneOf, correctedBy, updatedBy, updateCurvature};
-ghost use Rattle.run.specs.Rows.{constraintsOf, evaluationOf};
+ghost use Rattle.run.specs.Limits.{VARIABLES, CONSTRAINTS};
+ghost use Rattle.run.specs.Curvature.{learnedOf, alongOf, lagrangianChangeAt, lagrangianChange, chosenSum};
+ghost use Rattle.run.specs.Curvature.{rankOneStep, rankOneOf, correctedBy, updatedBy, updateCurvature};
+ghost use Rattle.run.specs.Rows.{constraintsOf, evaluationBy};
 ghost use Rattle.run.specs.Vectors.{fillTo, vector};
-ghost use Rattle.run.specs.program.Curvature.{Factored};
+ghost use Rattle.run.specs.program.Curvature.{AlongLengths, UpdateLengths, Factored, updatedAlong};
+ghost use Rattle.run.specs.program.Rows.{FewRows};
 use crate::residuals::chosen_slopes;
 use crate::residuals::chosen_values;
 use crate::residuals::transposed_at;
+use crate::rows::RowCounts;
 use crate::rows::constraints;
 use crate::rows::sum;
 use crate::vectors::quotient;
@@ -37,7 +41,7 @@ use linear::minus_solved;
 use linear::put;
 use linear::row_dot;
 
-// Not sharp, or definitely not zero.
+// Whether an entry bends the model: not sharp, or definitely not zero.
 fn bends(v: Scalar) -> bool
     ensures { λ r. ⌜ r ≡ (not (isSharp v) || definitelyNotEqual v zeroS) ⌝ }
 {
@@ -68,16 +72,18 @@ fn dot_of(a: &[f64], b: &[f64], n: usize) -> Scalar
 // The first k rows of n, each times v, from the start of `out` on.
 pub fn products(n: usize, k: usize, rows: &[f64], v: &[f64], out: &mut [f64])
     requires { ⌜ (n ≤ VARIABLES) × (k ≤ VARIABLES) ⌝ }
-    ensures { λ _. ⌜ now (out .exit) ≡ fillTo (now (out .entry)) 0 (λ i. dotTo (along (now (rows .entry)) (i * n) 1) (at (now (v .entry))) n) k ⌝ }
+    ensures { λ _. ⌜ now (out .exit)
+        ≡ fillTo (now (out .entry)) 0
+        (λ i. dotTo (along (now (rows .entry)) (i * n) 1) (at (now (v .entry))) n) k ⌝ }
 {
     for i in 0..k {
         put(out, i, row_dot(rows, i * n, v, 0, n));
     }
 }
 
-// The part of v along the constraints.
+// The part of v along the constraints, that is, square to their slopes.
 pub fn along_constraints(n: usize, m: usize, xs: &[f64], v: &[f64], out: &mut [f64]) -> Done
-    requires { ⌜ (n ≤ VARIABLES) × ((m ≤ CONSTRAINTS) × ((2 * n ≤ length (now v)) × (length (now out) ≡ 2 * n))) ⌝ }
+    requires { ⌜ AlongLengths n m (length (now v)) (length (now out)) ⌝ }
     ensures { λ r. ⌜ doneOf r (now (out .exit)) ≡ alongOf (constraintsOf n m (now (xs .entry))) (now (v .entry)) ⌝ }
 {
     let q = 2 * (m * n);
@@ -102,7 +108,7 @@ fn along_factored(
     v: &[f64],
     out: &mut [f64],
 ) -> Done
-    requires { ⌜ (n ≤ VARIABLES) × ((m ≤ CONSTRAINTS) × ((2 * n ≤ length (now v)) × (length (now out) ≡ 2 * n))) ⌝ }
+    requires { ⌜ AlongLengths n m (length (now v)) (length (now out)) ⌝ }
     ensures { λ r. ⌜ ((xs : List Float) →
         Factored (constraintsOf n m xs) (now (slopes .entry)) (factorOf (now (l .entry)) (now («left_out» .entry))) →
         doneOf r (now (out .exit)) ≡ alongOf (constraintsOf n m xs) (now (v .entry))) ⌝ }
@@ -116,53 +122,46 @@ fn along_factored(
 
 // One entry of how far the gradient of the Lagrangian turned; r has the sum's new values, chosen.
 fn lagrangian_change_at(
-    n: usize,
-    m: usize,
-    s: usize,
+    c: RowCounts,
     xs: &[f64],
     next: &[f64],
     lambda: &[f64],
     r: &[f64],
     j: usize,
 ) -> Scalar
-    requires { ⌜ (n ≤ VARIABLES) × ((m ≤ CONSTRAINTS) × ((s ≤ SUM-ROWS) × (j < 65536))) ⌝ }
-    ensures { λ y. ⌜ y ≡ lagrangianChangeAt (evaluationOf n m s (now (xs .entry))) (evaluationOf n m s (now (next .entry))) (now (lambda .entry)) (now (r .entry)) j ⌝ }
+    requires { ⌜ FewRows c × (j < 65536) ⌝ }
+    ensures { λ y. ⌜ y
+        ≡ lagrangianChangeAt (evaluationBy c (now (xs .entry))) (evaluationBy c (now (next .entry)))
+        (now (lambda .entry)) (now (r .entry)) j ⌝ }
 {
-    let c = constraints(n, m);
-    let q = sum(n, m, s);
-    let a = transposed_at(next, c, lambda, j).sub(transposed_at(xs, c, lambda, j));
-    let b = a.add(transposed_at(next, q, r, j));
-    b.sub(transposed_at(xs, q, r, j))
+    let held = constraints(c.n, c.m);
+    let summed = sum(c.n, c.m, c.s);
+    let a = transposed_at(next, held, lambda, j).sub(transposed_at(xs, held, lambda, j));
+    let b = a.add(transposed_at(next, summed, r, j));
+    b.sub(transposed_at(xs, summed, r, j))
 }
 
-// By how much the gradient of the Lagrangian turned between two points with their rows, beyond what the sum's slopes explain, into a clear vector.
-fn lagrangian_change(
-    n: usize,
-    m: usize,
-    s: usize,
-    xs: &[f64],
-    next: &[f64],
-    lambda: &[f64],
-    y: &mut [f64],
-)
-    requires { ⌜ (n ≤ VARIABLES) × ((m ≤ CONSTRAINTS) × ((s ≤ SUM-ROWS) × (now y ≡ vector))) ⌝ }
-    ensures { λ _. ⌜ now (y .exit) ≡ lagrangianChange n (evaluationOf n m s (now (xs .entry))) (evaluationOf n m s (now (next .entry))) (now (lambda .entry)) ⌝ }
+// By how much the gradient of the Lagrangian turned between two points with their rows, beyond what the sum's slopes
+// explain, into a clear vector.
+fn lagrangian_change(c: RowCounts, xs: &[f64], next: &[f64], lambda: &[f64], y: &mut [f64])
+    requires { ⌜ FewRows c × (now y ≡ vector) ⌝ }
+    ensures { λ _. ⌜ now (y .exit)
+        ≡ lagrangianChange (c .n) (evaluationBy c (now (xs .entry))) (evaluationBy c (now (next .entry)))
+        (now (lambda .entry)) ⌝ }
 {
+    let n = c.n;
     let mut r = [0.0; 48];
-    chosen_values(next, sum(n, m, s), &mut r);
+    chosen_values(next, sum(c.n, c.m, c.s), &mut r);
     let values: &[f64] = &r;
     for j in 0..n {
-        put(
-            y,
-            j,
-            lagrangian_change_at(n, m, s, xs, next, lambda, values, j),
-        );
+        put(y, j, lagrangian_change_at(c, xs, next, lambda, values, j));
     }
 }
 
 // Adds to the p-th scalar, chosen, or hands a refusal on.
 fn add_chosen(b: &mut [f64], p: usize, q: ScalarResult) -> Done
-    ensures { λ r. ⌜ doneOf r (now (b .exit)) ≡ storeR (now (b .entry)) p (chosenSum (at (now (b .entry)) p) (scalar.resultOf q)) ⌝ }
+    ensures { λ r. ⌜ doneOf r (now (b .exit))
+        ≡ storeR (now (b .entry)) p (chosenSum (at (now (b .entry)) p) (scalar.resultOf q)) ⌝ }
 {
     match q {
         ScalarResult::Value(v) => {
@@ -208,7 +207,8 @@ pub fn rank_one(n: usize, b: &mut [f64], v: &[f64], vs: Scalar) -> Done
 // The first n of y less those of bs, chosen, into a clear vector.
 fn less_chosen(n: usize, y: &[f64], bs: &[f64], v: &mut [f64])
     requires { ⌜ now v ≡ vector ⌝ }
-    ensures { λ _. ⌜ now (v .exit) ≡ fillTo vector 0 (λ i. chooseOf (subOf (at (now (y .entry)) i) (at (now (bs .entry)) i))) n ⌝ }
+    ensures { λ _. ⌜ now (v .exit)
+        ≡ fillTo vector 0 (λ i. chooseOf (subOf (at (now (y .entry)) i) (at (now (bs .entry)) i))) n ⌝ }
 {
     for i in 0..n {
         let x = at(y, i);
@@ -219,7 +219,8 @@ fn less_chosen(n: usize, y: &[f64], bs: &[f64], v: &mut [f64])
 // The update, with y along the constraints.
 pub fn corrected_by(n: usize, b: &mut [f64], y: &[f64], bs: &[f64], s: &[f64]) -> Done
     requires { ⌜ n ≤ VARIABLES ⌝ }
-    ensures { λ r. ⌜ doneOf r (now (b .exit)) ≡ correctedBy n (now (b .entry)) (now (y .entry)) (now (bs .entry)) (now (s .entry)) ⌝ }
+    ensures { λ r. ⌜ doneOf r (now (b .exit))
+        ≡ correctedBy n (now (b .entry)) (now (y .entry)) (now (bs .entry)) (now (s .entry)) ⌝ }
 {
     let mut v = [0.0; 24];
     less_chosen(n, y, bs, &mut v);
@@ -231,7 +232,8 @@ pub fn corrected_by(n: usize, b: &mut [f64], y: &[f64], bs: &[f64], s: &[f64]) -
     Done::Finished
 }
 
-// The update, from y and the step s along the constraints.
+// The update, from y and the step s along the constraints. There is none where the curvature may explain y already, and
+// none where what it lacks may be square to the step, since its size is then not known.
 fn updated(
     n: usize,
     m: usize,
@@ -242,7 +244,7 @@ fn updated(
     y: &[f64],
     s: &[f64],
 ) -> Done
-    requires { ⌜ (n ≤ VARIABLES) × ((m ≤ CONSTRAINTS) × (length (now y) ≡ 24)) ⌝ }
+    requires { ⌜ (n ≤ VARIABLES) × (m ≤ CONSTRAINTS) × (length (now y) ≡ 24) ⌝ }
     ensures { λ r. ⌜ ((xs : List Float) →
         Factored (constraintsOf n m xs) (now (slopes .entry)) (factorOf (now (l .entry)) (now («left_out» .entry))) →
         doneOf r (now (b .exit))
@@ -264,74 +266,61 @@ fn updated(
     corrected_by(n, b, &y_along[..w], bent, s)
 }
 
-// The curvature b, updated from the step between two points with their rows, by the slopes and the factor at the first.
+// The curvature b, updated from a step and y, by the constraints' slopes and the factor of their products.
 fn update_factored(
     n: usize,
     m: usize,
-    s: usize,
-    b: &mut [f64],
-    step: &[f64],
-    xs: &[f64],
-    next: &[f64],
-    lambda: &[f64],
     slopes: &[f64],
     l: &[f64],
     left_out: &[bool],
+    b: &mut [f64],
+    y: &[f64],
+    step: &[f64],
 ) -> Done
-    requires { ⌜ (n ≤ VARIABLES) × ((m ≤ CONSTRAINTS) × ((s ≤ SUM-ROWS) × ((length (now step) ≡ 24)
-        × Factored (constraintsOf n m (now xs)) (now slopes) (factorOf (now l) (now «left_out»))))) ⌝ }
-    ensures { λ r. ⌜ doneOf r (now (b .exit))
-        ≡ updateCurvature n (now (b .entry)) (now (step .entry)) (evaluationOf n m s (now (xs .entry)))
-        (evaluationOf n m s (now (next .entry))) (now (lambda .entry)) ⌝ }
+    requires { ⌜ UpdateLengths n m (length (now y)) (length (now step)) ⌝ }
+    ensures { λ r. ⌜ ((xs : List Float) →
+        Factored (constraintsOf n m xs) (now (slopes .entry)) (factorOf (now (l .entry)) (now («left_out» .entry))) →
+        doneOf r (now (b .exit))
+        ≡ updatedAlong n (constraintsOf n m xs) (now (b .entry)) (now (y .entry)) (now (step .entry))) ⌝ }
 {
     let w = 2 * n;
-    let mut y = [0.0; 24];
     let mut s_along = [0.0; 24];
     let end = along_factored(n, m, slopes, l, left_out, step, &mut s_along[..w]);
     let Done::Finished = end else {
         return end;
     };
-    lagrangian_change(n, m, s, xs, next, lambda, &mut y);
-    updated(n, m, slopes, l, left_out, b, &y, &s_along[..w])
+    updated(n, m, slopes, l, left_out, b, y, &s_along[..w])
 }
 
-// The curvature b, updated from the step between two points with their rows.
+// The curvature b, updated from the step between two points with their rows, so that along the step it turns the
+// gradient as the step did.
 pub fn update_curvature(
-    n: usize,
-    m: usize,
-    s: usize,
+    c: RowCounts,
     b: &mut [f64],
     step: &[f64],
     xs: &[f64],
     next: &[f64],
     lambda: &[f64],
 ) -> Done
-    requires { ⌜ (n ≤ VARIABLES) × ((m ≤ CONSTRAINTS) × ((s ≤ SUM-ROWS) × (length (now step) ≡ 24))) ⌝ }
-    ensures { λ r. ⌜ doneOf r (now (b .exit)) ≡ updateCurvature n (now (b .entry)) (now (step .entry))
-        (evaluationOf n m s (now (xs .entry))) (evaluationOf n m s (now (next .entry))) (now (lambda .entry)) ⌝ }
+    requires { ⌜ FewRows c × (length (now step) ≡ 24) ⌝ }
+    ensures { λ r. ⌜ doneOf r (now (b .exit))
+        ≡ updateCurvature (c .n) (now (b .entry)) (now (step .entry)) (evaluationBy c (now (xs .entry)))
+        (evaluationBy c (now (next .entry))) (now (lambda .entry)) ⌝ }
 {
+    let n = c.n;
+    let m = c.m;
     let q = 2 * (m * n);
     let e = 2 * (m * m);
+    let mut y = [0.0; 24];
     let mut jc = [0.0; 288];
     let mut g = [0.0; 288];
     let mut l = [0.0; 288];
     let mut left_out = [false; 12];
+    lagrangian_change(c, xs, next, lambda, &mut y);
     chosen_slopes(xs, constraints(n, m), &mut jc[..q]);
     let end = gram_factor(m, n, &jc[..q], &mut g[..e], &mut l[..e], &mut left_out[..m]);
     let Done::Finished = end else {
         return end;
     };
-    update_factored(
-        n,
-        m,
-        s,
-        b,
-        step,
-        xs,
-        next,
-        lambda,
-        &jc[..q],
-        &l[..e],
-        &left_out[..m],
-    )
+    update_factored(n, m, &jc[..q], &l[..e], &left_out[..m], b, &y, step)
 }

@@ -7,19 +7,21 @@ ghost use Rattle.interval.specs.Scalar.{pick};
 ghost use Rattle.interval.specs.Scaling.{isPositive};
 ghost use Rattle.linear.specs.Answers.{resultOf, doneOf};
 ghost use Rattle.linear.specs.Flat.{zeros};
-ghost use Rattle.run.specs.Limits.{AREA, VARIABLES, CONSTRAINTS, SUM-ROWS};
+ghost use Rattle.run.specs.Limits.{AREA, VARIABLES};
 ghost use Rattle.run.specs.Area.{Memory, landedAt, standingAt};
 ghost use Rattle.run.specs.Curvature.{learnedOf, updateCurvature};
 ghost use Rattle.run.specs.Decide.{held, linearOf, take, wasTaken, decide, judge};
 ghost use Rattle.run.specs.Decide as run;
 ghost use Rattle.run.specs.Judgement.{judgeOf};
 ghost use Rattle.run.specs.Residuals.{violationOf};
-ghost use Rattle.run.specs.Rows.{evaluationOf};
+ghost use Rattle.run.specs.Results.{truthOf};
+ghost use Rattle.run.specs.Rows.{rowCounts, evaluationBy};
 ghost use Rattle.run.specs.State.{searching, rejectedFor, withRadius};
 ghost use Rattle.run.specs.program.Area.{StandingKnown, Holds, ZeroBehind, ViolationsKnown};
-ghost use Rattle.run.specs.program.Decide.{linearResult, takenWith};
+ghost use Rattle.run.specs.program.Decide.{takenWith};
 ghost use Rattle.run.specs.program.Endings.{Leaves, Bounded, Underway};
 ghost use Rattle.run.specs.program.Judgement.{judgementOf};
+ghost use Rattle.run.specs.program.Rows.{FewRows};
 use crate::area;
 use crate::curvature::learned;
 use crate::curvature::update_curvature;
@@ -30,11 +32,14 @@ use crate::endings::finish;
 use crate::endings::refuse;
 use crate::iterate::iterate;
 use crate::iterate::search;
+use crate::judgement::Baseline;
 use crate::judgement::Judged;
 use crate::judgement::Judgement;
 use crate::judgement::judge;
 use crate::radius::radius_after;
 use crate::residuals;
+use crate::results::TruthResult;
+use crate::rows::row_counts;
 use crate::state::Last;
 use crate::state::Rejection;
 use crate::state::Returned;
@@ -92,7 +97,7 @@ fn may_retry(plain: bool, n: usize, area: &[f64]) -> bool
     if plain {
         return false;
     }
-    learned(n, &area[area::CURVATURE_AT..area::FILTER_AT])
+    learned(n, area::curvature(area))
 }
 
 // A step that is not lower is tried again without the curvature learned, once in an iteration, or turned down.
@@ -112,13 +117,8 @@ pub fn not_lower(st: State, area: &mut [f64], standing: Answer) -> Returned
     turn_down(st, area, Rejection::NotLower, standing)
 }
 
-// Whether the constraints came as near as their linearization said.
-pub enum Linear {
-    Known(bool),
-    Refused(LinearError),
-}
-
-// Whether the violation fell by three quarters of the drop that was predicted, at least.
+// Whether the constraints came as near as their linearization said: the violation fell by three quarters of the drop that was predicted, at
+// least.
 fn held(old: Scalar, predicted: Scalar, new: Scalar) -> bool
     ensures { λ r. ⌜ r ≡ held old predicted new ⌝ }
 {
@@ -128,53 +128,53 @@ fn held(old: Scalar, predicted: Scalar, new: Scalar) -> bool
 
 // Whether they did, by the violation of the landed point. It is asked only where there was a violation to lower, and
 // then the radius may grow beyond the longest step that a caller allows at once.
-fn linear_of(st: State, theta: Scalar, landed: Answer) -> Linear
+fn linear_of(st: State, theta: Scalar, landed: Answer) -> TruthResult
     ensures { λ r. ⌜ ((w : Memory) → resultOf landed ≡ violationOf (landedAt st w .constraints) →
-        linearResult r ≡ linearOf st w theta) ⌝ }
+        truthOf r ≡ linearOf st w theta) ⌝ }
 {
     if theta.definitely_greater(Scalar::ZERO) {
         match landed {
             Answer::Value(new) => {
-                return Linear::Known(held(theta, st.trial.predicted, new));
+                return TruthResult::Value(held(theta, st.trial.predicted, new));
             }
             Answer::Refused(e) => {
-                return Linear::Refused(e);
+                return TruthResult::Refused(e);
             }
         }
     }
-    Linear::Known(false)
+    TruthResult::Value(false)
 }
 
 // The curvature before the step, over +0 into b: none in plain. Of its slot the entries in use are copied.
 fn curvature_in_use(plain: bool, n: usize, area: &[f64], b: &mut [f64])
-    requires { ⌜ (n ≤ VARIABLES) × ((length (now area) ≡ AREA) × (now b ≡ zeros 288)) ⌝ }
+    requires { ⌜ (n ≤ VARIABLES) × (length (now area) ≡ AREA) × (now b ≡ zeros 288) ⌝ }
     ensures { λ _. ⌜ ((w : Memory) → Holds w (now (area .entry)) → ZeroBehind 288 (2 * (n * n)) (w .curvature) →
         now (b .exit) ≡ pick plain (zeros 288) (w .curvature)) ⌝ }
 {
     if !plain {
-        let e = area::CURVATURE_AT + 2 * (n * n);
-        area::write(b, 0, &area[area::CURVATURE_AT..e]);
+        let e = 2 * (n * n);
+        let entries = area::curvature(area);
+        area::write(b, 0, &entries[..e]);
     }
 }
 
 // The curvature after the step, over +0 into b.
 fn learn(z: Sizes, plain: bool, area: &[f64], b: &mut [f64]) -> Done
-    requires { ⌜ (z .n ≤ VARIABLES) × ((z .m ≤ CONSTRAINTS) × ((z .s ≤ SUM-ROWS) × ((length (now area) ≡ AREA) × (now b ≡ zeros 288)))) ⌝ }
+    requires { ⌜ FewRows (rowCounts z) × (length (now area) ≡ AREA) × (now b ≡ zeros 288) ⌝ }
     ensures { λ r. ⌜ ((w : Memory) → Holds w (now (area .entry)) → ZeroBehind 288 (2 * (z .n * z .n)) (w .curvature) →
-        doneOf r (now (b .exit)) ≡ updateCurvature (z .n) (pick plain (zeros 288) (w .curvature)) (w .step)
-        (evaluationOf (z .n) (z .m) (z .s) (w .standingRows)) (evaluationOf (z .n) (z .m) (z .s) (w .landedRows))
+        doneOf r (now (b .exit))
+        ≡ updateCurvature (z .n) (pick plain (zeros 288) (w .curvature)) (w .step)
+        (evaluationBy (rowCounts z) (w .standingRows)) (evaluationBy (rowCounts z) (w .landedRows))
         (w .multipliers)) ⌝ }
 {
     curvature_in_use(plain, z.n, area, b);
     update_curvature(
-        z.n,
-        z.m,
-        z.s,
+        row_counts(z),
         b,
-        &area[area::STEP_AT..area::MULTIPLIERS_AT],
-        &area[area::STANDING_ROWS_AT..area::LANDED_ROWS_AT],
-        &area[area::LANDED_ROWS_AT..area::STEP_AT],
-        &area[area::MULTIPLIERS_AT..area::CURVATURE_AT],
+        area::step(area),
+        area::standing_rows(area),
+        area::landed_rows(area),
+        area::multipliers(area),
     )
 }
 
@@ -200,7 +200,7 @@ fn take_with(
         }
     }
     let f = residuals::sum_squared(
-        &area[area::STANDING_ROWS_AT..area::LANDED_ROWS_AT],
+        area::standing_rows(area),
         st.sizes.n,
         st.sizes.m,
         st.sizes.s,
@@ -216,7 +216,7 @@ pub fn take(st: State, area: &mut [f64], theta: Scalar, landed: Answer, span: Sc
         Leaves (take st w theta span) r (now (area .exit))) ⌝ }
 {
     match linear_of(st, theta, landed) {
-        Linear::Known(linear) => match st.search.mu.div(Scalar::degenerate(3.0)) {
+        TruthResult::Value(linear) => match st.search.mu.div(Scalar::degenerate(3.0)) {
             ScalarResult::Value(third) => {
                 let mu = shrunk(st.search.mu, third);
                 let radius = radius_after(span, st.search.radius, st.max_step, linear);
@@ -226,7 +226,7 @@ pub fn take(st: State, area: &mut [f64], theta: Scalar, landed: Answer, span: Sc
                 return refuse(st, area, LinearError::Arithmetic(e));
             }
         },
-        Linear::Refused(e) => {
+        TruthResult::Refused(e) => {
             return refuse(st, area, e);
         }
     }
@@ -300,18 +300,19 @@ fn judge_in(st: State, area: &[f64], theta: Scalar, landed: Answer) -> Judgement
         (st .counts .iterations) (st .last) (w .step)) ⌝ }
 {
     let last = st.last;
-    judge(
-        st.sizes.n,
-        st.sizes.m,
-        st.sizes.s,
-        &area[area::STANDING_ROWS_AT..area::LANDED_ROWS_AT],
-        &area[area::LANDED_ROWS_AT..area::STEP_AT],
+    let base = Baseline {
         theta,
-        landed,
-        &area[area::FILTER_AT..area::SPARE_AT],
-        st.counts.iterations,
+        pairs: st.counts.iterations,
         last,
-        &area[area::STEP_AT..area::MULTIPLIERS_AT],
+    };
+    judge(
+        row_counts(st.sizes),
+        area::standing_rows(area),
+        area::landed_rows(area),
+        landed,
+        base,
+        area::filter(area),
+        area::step(area),
     )
 }
 

@@ -1,20 +1,21 @@
-// The judgement of a landed point.
-ghost use Prim.Native.Nat.{_<_, _≤_};
+// The judgement of a landed point: whether it is lower than where the step began and than every point that stood before,
+// whether that can be told at all, and whether the steps contract.
+ghost use Prim.Native.Nat.{_<_};
 ghost use mathlib.Core.Bool.{_&&_, _||_};
 ghost use mathlib.Core.Path.{_≡_};
 ghost use lib.ListN.{length};
 ghost use Rattle.interval.specs.Scalar.{subOf};
 ghost use Rattle.linear.specs.Answers.{resultOf};
-ghost use Rattle.run.specs.Limits.{VARIABLES, CONSTRAINTS, SUM-ROWS};
 ghost use Rattle.run.specs.Filter.{beatsTo};
 ghost use Rattle.run.specs.Judgement.{sumChange, indefinite, rises, contracts, judgedBy, judgeOf};
-ghost use Rattle.run.specs.Residuals.{sumSquared, violationOf};
-ghost use Rattle.run.specs.Rows.{rowsIn, sumOf, constraintsOf, evaluationOf};
-ghost use Rattle.run.specs.program.Judgement.{judgementOf};
+ghost use Rattle.run.specs.Residuals.{violationOf};
+ghost use Rattle.run.specs.Rows.{rowsIn, constraintsOf, evaluationBy};
+ghost use Rattle.run.specs.program.Judgement.{Judging, judgementOf};
 ghost use Rattle.run.specs.program.Rows.{Small};
 use crate::filter::beats_as_pairs;
 use crate::residuals;
 use crate::rows;
+use crate::rows::RowCounts;
 use crate::rows::RowSet;
 use crate::rows::value_of;
 use crate::state::Last;
@@ -35,7 +36,9 @@ pub enum Judgement {
     Refused(LinearError),
 }
 
-// The sum change from the rows of xs to those of ys.
+// By how much the sum of squares falls from the rows of xs to those of ys, Σ (r - r') (r + r'). Where the sum stays
+// large, as near its minimum, the difference of the two sums is lost to their rounding; here what the two values share
+// goes before anything is squared.
 fn sum_change(xs: &[f64], ys: &[f64], e: RowSet) -> Scalar
     requires { ⌜ Small e ⌝ }
     ensures { λ r. ⌜ r ≡ sumChange (rowsIn (now (xs .entry)) e) (rowsIn (now (ys .entry)) e) ⌝ }
@@ -50,12 +53,14 @@ fn sum_change(xs: &[f64], ys: &[f64], e: RowSet) -> Scalar
     total
 }
 
+// Whether rounding hides the sign.
 fn is_indefinite(v: Scalar) -> bool
     ensures { λ r. ⌜ r ≡ indefinite v ⌝ }
 {
     !v.definitely_greater(Scalar::ZERO) && !v.definitely_less(Scalar::ZERO)
 }
 
+// Whether the sum or the violation definitely falls, and every pair of the filter is beaten.
 fn is_lower(change: Scalar, fall: Scalar, beaten: bool) -> bool
     ensures { λ r. ⌜ r ≡ (rises change || rises fall) && beaten ⌝ }
 {
@@ -65,13 +70,15 @@ fn is_lower(change: Scalar, fall: Scalar, beaten: bool) -> bool
     fall.definitely_greater(Scalar::ZERO) && beaten
 }
 
+// Whether neither change can be told from its rounding.
 fn is_undecided(change: Scalar, fall: Scalar) -> bool
     ensures { λ r. ⌜ r ≡ indefinite change && indefinite fall ⌝ }
 {
     is_indefinite(change) && is_indefinite(fall)
 }
 
-// Whether a step was taken before, and twice this length is definitely less than its length.
+// Whether a step was taken before, and twice this length is definitely less than its length. Where rounding hides both
+// changes this still tells progress: steps that halve add up to a bounded way, while those that shrink by less may not.
 fn contracts(last: Last, length: Scalar) -> bool
     ensures { λ r. ⌜ r ≡ contracts last length ⌝ }
 {
@@ -81,27 +88,32 @@ fn contracts(last: Last, length: Scalar) -> bool
     }
 }
 
-// The judgement from the rows, with the violation theta_next where the step landed.
-fn judged_at(
-    n: usize,
-    m: usize,
-    s: usize,
-    at: &[f64],
-    next: &[f64],
+// What a landed point is judged against: the violation of the point that the step left, how many pairs the filter has,
+// and the last step taken.
+pub struct Baseline {
+    pub theta: Scalar,
+    pub pairs: usize,
+    pub last: Last,
+}
+
+// The judgement of a step of that length, from the sum's change, and f and the violation where the step landed. A step
+// that is lower against the present point alone could lead back to an earlier one, by trading the sum for the violation
+// and back, so it is held against every pair of the filter.
+fn judged_by(
+    change: Scalar,
+    f: Scalar,
     theta: Scalar,
-    theta_next: Scalar,
+    base: Baseline,
     filter: &[f64],
-    count: usize,
-    last: Last,
     length: Scalar,
 ) -> Judged
-    requires { ⌜ (n ≤ VARIABLES) × ((m ≤ CONSTRAINTS) × ((s ≤ SUM-ROWS) × (count < 65536))) ⌝ }
-    ensures { λ r. ⌜ r ≡ judgedBy (sumChange (sumOf n m s (now (at .entry))) (sumOf n m s (now (next .entry)))) (subOf theta «theta_next») (beatsTo (now (filter .entry)) (sumSquared (sumOf n m s (now (next .entry)))) «theta_next» count) length last ⌝ }
+    requires { ⌜ base .pairs < 65536 ⌝ }
+    ensures { λ r. ⌜ r ≡ judgedBy change (subOf (base .theta) theta)
+        (beatsTo (now (filter .entry)) f theta (base .pairs)) length (base .last) ⌝ }
 {
-    let change = sum_change(at, next, rows::sum(n, m, s));
-    let f = residuals::sum_squared(next, n, m, s);
-    let beaten = beats_as_pairs(filter, f, theta_next, count);
-    let fall = theta.sub(theta_next);
+    let last = base.last;
+    let beaten = beats_as_pairs(filter, f, theta, base.pairs);
+    let fall = base.theta.sub(theta);
     Judged {
         length,
         lower: is_lower(change, fall, beaten),
@@ -110,27 +122,24 @@ fn judged_at(
     }
 }
 
-// How the step from the rows `at`, with violation theta, to the rows `next`, with violation `landed`, fares against the
-// first pairs of the filter.
+// How the step from the rows `at` to the rows `next`, with violation `landed`, fares against the baseline and the first
+// pairs of the filter.
 pub fn judge(
-    n: usize,
-    m: usize,
-    s: usize,
+    c: RowCounts,
     at: &[f64],
     next: &[f64],
-    theta: Scalar,
     landed: Answer,
+    base: Baseline,
     filter: &[f64],
-    count: usize,
-    last: Last,
     step: &[f64],
 ) -> Judgement
-    requires { ⌜ (n ≤ VARIABLES) × ((m ≤ CONSTRAINTS) × ((s ≤ SUM-ROWS) × ((count < 65536) × (length (now step) ≡ 24)))) ⌝ }
-    ensures { λ r. ⌜ (resultOf landed ≡ violationOf (constraintsOf n m (now (next .entry))) →
-        judgementOf r ≡ judgeOf n (evaluationOf n m s (now (at .entry))) (evaluationOf n m s (now (next .entry))) theta
-        (now (filter .entry)) count last (now (step .entry))) ⌝ }
+    requires { ⌜ Judging c base (length (now step)) ⌝ }
+    ensures { λ r. ⌜ (resultOf landed ≡ violationOf (constraintsOf (c .n) (c .m) (now (next .entry))) →
+        judgementOf r
+        ≡ judgeOf (c .n) (evaluationBy c (now (at .entry))) (evaluationBy c (now (next .entry))) (base .theta)
+        (now (filter .entry)) (base .pairs) (base .last) (now (step .entry))) ⌝ }
 {
-    match norm_of(step, n) {
+    match norm_of(step, c.n) {
         Answer::Refused(e) => {
             return Judgement::Refused(e);
         }
@@ -138,20 +147,10 @@ pub fn judge(
             Answer::Refused(e) => {
                 return Judgement::Refused(e);
             }
-            Answer::Value(t) => {
-                return Judgement::Of(judged_at(
-                    n,
-                    m,
-                    s,
-                    at,
-                    next,
-                    theta,
-                    t,
-                    filter,
-                    count,
-                    last,
-                    length,
-                ));
+            Answer::Value(theta) => {
+                let change = sum_change(at, next, rows::sum(c.n, c.m, c.s));
+                let f = residuals::sum_squared(next, c.n, c.m, c.s);
+                return Judgement::Of(judged_by(change, f, theta, base, filter, length));
             }
         },
     }

@@ -1,13 +1,15 @@
-// The pieces of a run as calls of their own. They are total: 1 where a count is above its limit, then 2 where a slice has the wrong length, with nothing written; and 5 or 6 in the Rust's order of
-// operations, with what is written all +0. Rows have 2 (m + s) (n + 1) numbers, points and steps 24.
+// The pieces of a run as calls of their own, so that each can be compared with the Rust's. They are total: 1 where a
+// count is above its limit, then 2 where a slice has the wrong length, with nothing written; and 5 or 6 in the Rust's
+// order of operations, with what is written all +0. Rows have 2 (m + s) (n + 1) numbers, points and steps 24.
 ghost use mathlib.Core.Path.{_≡_};
 ghost use lib.ListN.{length};
 ghost use Rattle.linear.specs.Answers.{doneOf, resultOf};
 ghost use Rattle.linear.specs.Flat.{zeros};
 ghost use Rattle.linear.specs.Replies.{replied, replyOf};
-ghost use Rattle.run.specs.Pieces.{sizedOf, wantsOf, reachOf, squaredReply, predictedReply, transposedReply};
-ghost use Rattle.run.specs.Pieces.{movingReply, judgeReply, expectsReply, cutReply, alongReply, shiftReply};
-ghost use Rattle.run.specs.Pieces.{updateReply, stepReplied, stepReply, learnedReply, learningOf};
+ghost use Rattle.run.specs.Pieces.{sizedOf, wantsOf, fitsTwo, reachOf, squaredReply, predictedReply};
+ghost use Rattle.run.specs.Pieces.{transposedReply, movingReply, judgeReply, expectsReply, cutReply};
+ghost use Rattle.run.specs.Pieces.{alongReply, shiftReply, updateReply, stepReplied, stepReply, learnedReply};
+ghost use Rattle.run.specs.Results.{truthOf};
 ghost use Rattle.run.specs.program.Judgement.{judgementOf};
 ghost use Rattle.run.specs.program.Proposal.{expectedResult};
 use crate::area::FILTER_LEN;
@@ -15,6 +17,7 @@ use crate::checks::sizes_fit;
 use crate::corrected;
 use crate::curvature;
 use crate::judgement;
+use crate::judgement::Baseline;
 use crate::judgement::Judgement;
 use crate::limits::ITERATIONS;
 use crate::limits::VARIABLES;
@@ -23,7 +26,9 @@ use crate::proposal::Expected;
 use crate::proposal::StandingPoint;
 use crate::radius::cut_within;
 use crate::residuals;
+use crate::results::TruthResult;
 use crate::rows;
+use crate::rows::RowCounts;
 use crate::state::Last;
 use crate::state::Sizes;
 use crate::step;
@@ -35,21 +40,20 @@ use linear::LinearError;
 use linear::clear;
 use linear::put;
 
-// Whether any curvature was learned.
-pub enum Learning {
-    Learned,
-    Unlearned,
-    Refused(LinearError),
-}
-
 // Whether the counts fit, and so many numbers are those of their rows.
-fn sized(n: usize, m: usize, s: usize, count: usize) -> Done
-    ensures { λ r. ⌜ doneOf r tt ≡ sizedOf n m s count ⌝ }
+fn sized(c: RowCounts, count: usize) -> Done
+    ensures { λ r. ⌜ doneOf r tt ≡ sizedOf c count ⌝ }
 {
-    if !sizes_fit(Sizes { n, m, s, limit: 0 }) {
+    let sizes = Sizes {
+        n: c.n,
+        m: c.m,
+        s: c.s,
+        limit: 0,
+    };
+    if !sizes_fit(sizes) {
         return Done::Refused(LinearError::TooMany);
     }
-    if count != 2 * ((m + s) * (n + 1)) {
+    if count != 2 * ((c.m + c.s) * (c.n + 1)) {
         return Done::Refused(LinearError::WrongLength);
     }
     Done::Finished
@@ -71,21 +75,13 @@ fn wants(before: Done, count: usize, wanted: usize) -> Done
 }
 
 // The counts and the rows, then two further counts.
-fn fits(
-    n: usize,
-    m: usize,
-    s: usize,
-    xs: &[f64],
-    a: usize,
-    wanted_a: usize,
-    b: usize,
-    wanted_b: usize,
-) -> Done
-    ensures { λ r. ⌜ doneOf r tt ≡ wantsOf (wantsOf (sizedOf n m s (length (now (xs .entry)))) a «wanted_a») b «wanted_b» ⌝ }
+fn fits(c: RowCounts, xs: &[f64], a: usize, wanted_a: usize, b: usize, wanted_b: usize) -> Done
+    ensures { λ r. ⌜ doneOf r tt ≡ fitsTwo c (now (xs .entry)) a «wanted_a» b «wanted_b» ⌝ }
 {
-    wants(wants(sized(n, m, s, xs.len()), a, wanted_a), b, wanted_b)
+    wants(wants(sized(c, xs.len()), a, wanted_a), b, wanted_b)
 }
 
+// How many variables d may say are read: none, or all.
 fn variables_read(n: usize, d: usize) -> usize
     ensures { λ r. ⌜ r ≡ reachOf n d ⌝ }
 {
@@ -96,70 +92,71 @@ fn variables_read(n: usize, d: usize) -> usize
 }
 
 // |values + slopes delta|² of the sum's rows, over the first d variables: d is n, or 0 for the sum of squares.
-pub fn squared(n: usize, m: usize, s: usize, xs: &[f64], delta: &[f64], d: usize) -> Answer
-    ensures { λ r. ⌜ resultOf r ≡ squaredReply n m s (now (xs .entry)) (now (delta .entry)) d ⌝ }
+pub fn squared(c: RowCounts, xs: &[f64], delta: &[f64], d: usize) -> Answer
+    ensures { λ r. ⌜ resultOf r ≡ squaredReply c (now (xs .entry)) (now (delta .entry)) d ⌝ }
 {
-    match fits(n, m, s, xs, delta.len(), 24, d, variables_read(n, d)) {
+    match fits(c, xs, delta.len(), 24, d, variables_read(c.n, d)) {
         Done::Refused(e) => {
             return Answer::Refused(e);
         }
         Done::Finished => {}
     }
-    Answer::Value(residuals::squared(xs, rows::sum(n, m, s), delta, d))
+    Answer::Value(residuals::squared(xs, rows::sum(c.n, c.m, c.s), delta, d))
 }
 
 // The violation that a step leads to, to first order.
-pub fn predicted(n: usize, m: usize, s: usize, xs: &[f64], delta: &[f64]) -> Answer
-    ensures { λ r. ⌜ resultOf r ≡ predictedReply n m s (now (xs .entry)) (now (delta .entry)) ⌝ }
+pub fn predicted(c: RowCounts, xs: &[f64], delta: &[f64]) -> Answer
+    ensures { λ r. ⌜ resultOf r ≡ predictedReply c (now (xs .entry)) (now (delta .entry)) ⌝ }
 {
-    match wants(sized(n, m, s, xs.len()), delta.len(), 24) {
+    match wants(sized(c, xs.len()), delta.len(), 24) {
         Done::Refused(e) => {
             return Answer::Refused(e);
         }
         Done::Finished => {}
     }
-    residuals::predicted(xs, n, m, delta)
+    residuals::predicted(xs, c.n, c.m, delta)
 }
 
 // The slopes of the sum's rows by each variable, times their weights: 48 numbers in w, 24 in out.
-pub fn transposed(n: usize, m: usize, s: usize, xs: &[f64], w: &[f64], out: &mut [f64]) -> Done
-    ensures { λ r. ⌜ replied r (now (out .exit)) ≡ transposedReply n m s (now (xs .entry)) (now (w .entry)) (now (out .entry)) ⌝ }
+pub fn transposed(c: RowCounts, xs: &[f64], w: &[f64], out: &mut [f64]) -> Done
+    ensures { λ r. ⌜ replied r (now (out .exit))
+        ≡ transposedReply c (now (xs .entry)) (now (w .entry)) (now (out .entry)) ⌝ }
 {
-    let fit = fits(n, m, s, xs, w.len(), 48, out.len(), 24);
+    let fit = fits(c, xs, w.len(), 48, out.len(), 24);
     let Done::Finished = fit else {
         return fit;
     };
+    let n = c.n;
     clear(out);
     for j in 0..n {
         put(
             out,
             j,
-            residuals::transposed_at(xs, rows::sum(n, m, s), w, j),
+            residuals::transposed_at(xs, rows::sum(c.n, c.m, c.s), w, j),
         );
     }
     fit
 }
 
 // Marks of the variables that some residual definitely depends on: 12 marks.
-pub fn moving(n: usize, m: usize, s: usize, xs: &[f64], marks: &mut [bool]) -> Done
-    ensures { λ r. ⌜ replied r (now (marks .exit)) ≡ movingReply n m s (now (xs .entry)) (now (marks .entry)) ⌝ }
+pub fn moving(c: RowCounts, xs: &[f64], marks: &mut [bool]) -> Done
+    ensures { λ r. ⌜ replied r (now (marks .exit)) ≡ movingReply c (now (xs .entry)) (now (marks .entry)) ⌝ }
 {
-    let fit = wants(sized(n, m, s, xs.len()), marks.len(), 12);
+    let fit = wants(sized(c, xs.len()), marks.len(), 12);
     let Done::Finished = fit else {
         return fit;
     };
-    let found = residuals::moving(xs, n, m, s);
+    let found = residuals::moving(xs, c.n, c.m, c.s);
     for j in 0..12 {
         marks[j] = found[j];
     }
     fit
 }
 
-// How a step fares, from the rows xs with violation theta to the rows `next`, against the first pairs of the filter: at most 200 pairs, of 800 numbers.
+// How a step fares, from the rows xs with violation theta to the rows `next`, against the first pairs of the filter: at
+// most 200 pairs, of 800 numbers.
 pub fn judge(
-    n: usize,
-    m: usize,
-    s: usize,
+    c: RowCounts,
     xs: &[f64],
     next: &[f64],
     theta: Scalar,
@@ -168,47 +165,61 @@ pub fn judge(
     last: Last,
     step: &[f64],
 ) -> Judgement
-    ensures { λ r. ⌜ judgementOf r ≡ judgeReply n m s (now (xs .entry)) (now (next .entry)) theta (now (filter .entry)) count last (now (step .entry)) ⌝ }
+    ensures { λ r. ⌜ judgementOf r
+        ≡ judgeReply c (now (xs .entry)) (now (next .entry)) theta (now (filter .entry)) count last
+        (now (step .entry)) ⌝ }
 {
     if count > ITERATIONS {
         return Judgement::Refused(LinearError::TooMany);
     }
-    let fit = fits(n, m, s, xs, next.len(), xs.len(), filter.len(), FILTER_LEN);
+    let fit = fits(c, xs, next.len(), xs.len(), filter.len(), FILTER_LEN);
     match wants(fit, step.len(), 24) {
         Done::Refused(e) => {
             return Judgement::Refused(e);
         }
         Done::Finished => {}
     }
-    let landed = residuals::violation(next, n, m);
-    judgement::judge(n, m, s, xs, next, theta, landed, filter, count, last, step)
+    let landed = residuals::violation(next, c.n, c.m);
+    let base = Baseline {
+        theta,
+        pairs: count,
+        last,
+    };
+    judgement::judge(c, xs, next, landed, base, filter, step)
 }
 
 // Whether the model expects the step to lower the sum or the violation, from f and theta: 288 numbers of curvature.
 pub fn expects(
-    n: usize,
-    m: usize,
-    s: usize,
+    c: RowCounts,
     xs: &[f64],
     b: &[f64],
     f: Scalar,
     theta: Scalar,
     delta: &[f64],
 ) -> Expected
-    ensures { λ r. ⌜ expectedResult r ≡ expectsReply n m s (now (xs .entry)) (now (b .entry)) f theta (now (delta .entry)) ⌝ }
+    ensures { λ r. ⌜ expectedResult r
+        ≡ expectsReply c (now (xs .entry)) (now (b .entry)) f theta (now (delta .entry)) ⌝ }
 {
-    match fits(n, m, s, xs, b.len(), 288, delta.len(), 24) {
+    match fits(c, xs, b.len(), 288, delta.len(), 24) {
         Done::Refused(e) => {
             return Expected::Refused(e);
         }
         Done::Finished => {}
     }
-    proposal::expects(StandingPoint { n, m, s, f, theta }, xs, b, delta)
+    let from = StandingPoint {
+        n: c.n,
+        m: c.m,
+        s: c.s,
+        f,
+        theta,
+    };
+    proposal::expects(from, xs, b, delta)
 }
 
 // Clears what was written of a piece that was refused.
 fn cleared(d: Done, x: &mut [f64]) -> Done
-    ensures { λ r. ⌜ replied r (now (x .exit)) ≡ replyOf (zeros (length (now (x .entry)))) (doneOf d (now (x .entry))) ⌝ }
+    ensures { λ r. ⌜ replied r (now (x .exit))
+        ≡ replyOf (zeros (length (now (x .entry)))) (doneOf d (now (x .entry))) ⌝ }
 {
     let Done::Refused(_) = d else {
         return d;
@@ -231,59 +242,57 @@ pub fn cut(n: usize, radius: Scalar, delta: &mut [f64]) -> Done
 }
 
 // The part of v along the constraints, 24 numbers in v, 2 n in out.
-pub fn along(n: usize, m: usize, s: usize, xs: &[f64], v: &[f64], out: &mut [f64]) -> Done
-    ensures { λ r. ⌜ replied r (now (out .exit)) ≡ alongReply n m s (now (xs .entry)) (now (v .entry)) (now (out .entry)) ⌝ }
+pub fn along(c: RowCounts, xs: &[f64], v: &[f64], out: &mut [f64]) -> Done
+    ensures { λ r. ⌜ replied r (now (out .exit))
+        ≡ alongReply c (now (xs .entry)) (now (v .entry)) (now (out .entry)) ⌝ }
 {
-    let fit = wants(sized(n, m, s, xs.len()), v.len(), 24);
+    let fit = wants(sized(c, xs.len()), v.len(), 24);
     let Done::Finished = fit else {
         return fit;
     };
-    if out.len() != 2 * n {
+    if out.len() != 2 * c.n {
         return Done::Refused(LinearError::WrongLength);
     }
-    cleared(curvature::along_constraints(n, m, xs, v, out), out)
+    cleared(curvature::along_constraints(c.n, c.m, xs, v, out), out)
 }
 
 // The shortest move that meets the linearized constraints, among the variables that move: 12 marks, 24 numbers in d.
-pub fn shift(n: usize, m: usize, s: usize, xs: &[f64], moving: &[bool], d: &mut [f64]) -> Done
-    ensures { λ r. ⌜ replied r (now (d .exit)) ≡ shiftReply n m s (now (xs .entry)) (now (moving .entry)) (now (d .entry)) ⌝ }
+pub fn shift(c: RowCounts, xs: &[f64], moving: &[bool], d: &mut [f64]) -> Done
+    ensures { λ r. ⌜ replied r (now (d .exit))
+        ≡ shiftReply c (now (xs .entry)) (now (moving .entry)) (now (d .entry)) ⌝ }
 {
-    let fit = fits(n, m, s, xs, moving.len(), 12, d.len(), 24);
+    let fit = fits(c, xs, moving.len(), 12, d.len(), 24);
     let Done::Finished = fit else {
         return fit;
     };
-    cleared(corrected::shift(n, m, xs, moving, d), d)
+    cleared(corrected::shift(c.n, c.m, xs, moving, d), d)
 }
 
 // The curvature b, updated from the step between two points with their rows: 288 numbers in b, 24 in step and lambda.
 pub fn update_curvature(
-    n: usize,
-    m: usize,
-    s: usize,
+    c: RowCounts,
     b: &mut [f64],
     step: &[f64],
     xs: &[f64],
     next: &[f64],
     lambda: &[f64],
 ) -> Done
-    ensures { λ r. ⌜ replied r (now (b .exit)) ≡ updateReply n m s (now (b .entry)) (now (step .entry)) (now (xs .entry)) (now (next .entry)) (now (lambda .entry)) ⌝ }
+    ensures { λ r. ⌜ replied r (now (b .exit))
+        ≡ updateReply c (now (b .entry)) (now (step .entry)) (now (xs .entry)) (now (next .entry))
+        (now (lambda .entry)) ⌝ }
 {
-    let rows = fits(n, m, s, xs, next.len(), xs.len(), b.len(), 288);
+    let rows = fits(c, xs, next.len(), xs.len(), b.len(), 288);
     let fit = wants(wants(rows, step.len(), 24), lambda.len(), 24);
     let Done::Finished = fit else {
         return fit;
     };
-    cleared(
-        curvature::update_curvature(n, m, s, b, step, xs, next, lambda),
-        b,
-    )
+    cleared(curvature::update_curvature(c, b, step, xs, next, lambda), b)
 }
 
-// The step of the problem linearized at the rows, with curvature b and damping mu, and its multipliers: 288 numbers in b, 12 marks, 24 numbers in delta and lambda, which are +0 where there is none.
+// The step of the problem linearized at the rows, with curvature b and damping mu, and its multipliers: 288 numbers in b,
+// 12 marks, 24 numbers in delta and lambda, which are +0 where there is none.
 pub fn step_at(
-    n: usize,
-    m: usize,
-    s: usize,
+    c: RowCounts,
     xs: &[f64],
     b: &[f64],
     moving: &[bool],
@@ -291,16 +300,18 @@ pub fn step_at(
     delta: &mut [f64],
     lambda: &mut [f64],
 ) -> StepEnd
-    ensures { λ r. ⌜ stepReplied r (now (delta .exit)) (now (lambda .exit)) ≡ stepReply n m s (now (xs .entry)) (now (b .entry)) (now (moving .entry)) mu (now (delta .entry)) (now (lambda .entry)) ⌝ }
+    ensures { λ r. ⌜ stepReplied r (now (delta .exit)) (now (lambda .exit))
+        ≡ stepReply c (now (xs .entry)) (now (b .entry)) (now (moving .entry)) mu (now (delta .entry))
+        (now (lambda .entry)) ⌝ }
 {
-    let rows = fits(n, m, s, xs, b.len(), 288, moving.len(), 12);
+    let rows = fits(c, xs, b.len(), 288, moving.len(), 12);
     match wants(wants(rows, delta.len(), 24), lambda.len(), 24) {
         Done::Refused(e) => {
             return StepEnd::Refused(e);
         }
         Done::Finished => {}
     }
-    let end = step::step(n, m, s, xs, b, moving, mu, delta, lambda);
+    let end = step::step(c.n, c.m, c.s, xs, b, moving, mu, delta, lambda);
     if let StepEnd::Found(_) = end {
         return end;
     }
@@ -310,17 +321,14 @@ pub fn step_at(
 }
 
 // Whether any of the curvature's first n rows of n was learned: 288 numbers.
-pub fn learned(n: usize, b: &[f64]) -> Learning
-    ensures { λ r. ⌜ learningOf r ≡ learnedReply n (now (b .entry)) ⌝ }
+pub fn learned(n: usize, b: &[f64]) -> TruthResult
+    ensures { λ r. ⌜ truthOf r ≡ learnedReply n (now (b .entry)) ⌝ }
 {
     if n > VARIABLES {
-        return Learning::Refused(LinearError::TooMany);
+        return TruthResult::Refused(LinearError::TooMany);
     }
     if b.len() != 288 {
-        return Learning::Refused(LinearError::WrongLength);
+        return TruthResult::Refused(LinearError::WrongLength);
     }
-    if curvature::learned(n, b) {
-        return Learning::Learned;
-    }
-    Learning::Unlearned
+    TruthResult::Value(curvature::learned(n, b))
 }

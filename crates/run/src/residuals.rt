@@ -175,11 +175,7 @@ pub fn standing_violation(z: Sizes, area: &[f64]) -> Answer
     ensures { λ r. ⌜ ((w : Memory) → Holds w (now (area .entry)) →
         resultOf r ≡ violationOf (constraintsOf (z .n) (z .m) (w .standingRows))) ⌝ }
 {
-    violation(
-        &area[area::STANDING_ROWS_AT..area::LANDED_ROWS_AT],
-        z.n,
-        z.m,
-    )
+    violation(area::standing_rows(area), z.n, z.m)
 }
 
 // The violation of the landed point, from its rows in the area.
@@ -188,5 +184,5 @@ pub fn landed_violation(z: Sizes, area: &[f64]) -> Answer
     ensures { λ r. ⌜ ((w : Memory) → Holds w (now (area .entry)) →
         resultOf r ≡ violationOf (constraintsOf (z .n) (z .m) (w .landedRows))) ⌝ }
 {
-    violation(&area[area::LANDED_ROWS_AT..area::STEP_AT], z.n, z.m)
+    violation(area::landed_rows(area), z.n, z.m)
 }

@@ -8,12 +8,17 @@ use Rattle.interval.specs.declared.Scalar.{Scalar}
 use Rattle.interval.specs.Result.{Res, ok, refused}
 use Rattle.interval.specs.Scalar.{zeroS, pick}
 use Rattle.run.specs.declared.judgement.Judged.{Judged}
+use Rattle.run.specs.declared.rows.RowCounts.{RowCounts}
 use Rattle.run.specs.declared.state.Last.{Last}
 use Rattle.run.specs.declared.state.Last.the-variants.{NoneYet, Taken}
 use Rattle.run.specs.Pieces.{Ending, independent, none, StepReply}
 use Rattle.run_c.specs.declared.Stepped.{Stepped}
 use Rattle.run_c.specs.declared.Decision.{Decision}
 use Rattle.run_c.specs.declared.JudgedStep.{JudgedStep}
+
+-- the counts of an answer, which cross one by one
+abbrev pub countsOf : ℕ → ℕ → ℕ → RowCounts
+countsOf n m s = record { n = n; m = m; s = s }
 
 abbrev pub decisionOf : Res Bool → Decision
 decisionOf (ok b) = record { number = 0; holds = b }

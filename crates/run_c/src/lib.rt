@@ -6,15 +6,18 @@ ghost use Rattle.yadzvego.specs.Written.{written, writtenOf};
 ghost use Rattle.run.specs.program.Judgement.{judgementOf};
 ghost use Rattle.run.specs.Pieces.{squaredReply, predictedReply, transposedReply, movingReply, judgeReply};
 ghost use Rattle.run.specs.Pieces.{expectsReply, cutReply, alongReply, shiftReply, updateReply, learnedReply};
-ghost use Rattle.run.specs.Pieces.{learningOf, stepReply, endingOf};
+ghost use Rattle.run.specs.Pieces.{stepReply, endingOf};
+ghost use Rattle.run.specs.Results.{truthOf};
 ghost use Rattle.run.specs.program.Proposal.{expectedResult};
-ghost use Rattle.run_c.specs.Replies.{decisionOf, judgedOf, lastOf, steppedOf, stepWritten, stepWrittenOf};
+ghost use Rattle.run_c.specs.Replies.{countsOf, decisionOf, judgedOf, lastOf, steppedOf, stepWritten};
+ghost use Rattle.run_c.specs.Replies.{stepWrittenOf};
 use interval::Scalar;
 use run::Expected;
 use run::Judgement;
 use run::Last;
-use run::Learning;
+use run::RowCounts;
 use run::StepEnd;
+use run::TruthResult;
 use yadzvego::lists::number_of;
 use yadzvego::lists::number_of_done;
 use yadzvego::lists::scalar_result_of;
@@ -86,19 +89,12 @@ fn expected_of(e: Expected) -> Decision
     }
 }
 
-fn learning_of(l: Learning) -> Decision
-    ensures { λ r. ⌜ r ≡ decisionOf (learningOf l) ⌝ }
+fn decision_of(t: TruthResult) -> Decision
+    ensures { λ r. ⌜ r ≡ decisionOf (truthOf t) ⌝ }
 {
-    match l {
-        Learning::Learned => Decision {
-            number: 0,
-            holds: true,
-        },
-        Learning::Unlearned => Decision {
-            number: 0,
-            holds: false,
-        },
-        Learning::Refused(e) => Decision {
+    match t {
+        TruthResult::Value(holds) => Decision { number: 0, holds },
+        TruthResult::Refused(e) => Decision {
             number: number_of(e),
             holds: false,
         },
@@ -147,9 +143,9 @@ pub extern "C" fn run_squared(
     delta: &[f64],
     d: usize,
 ) -> ScalarResult
-    ensures { λ r. ⌜ r ≡ scalarResultOf (squaredReply n m s (now (rows .entry)) (now (delta .entry)) d) ⌝ }
+    ensures { λ r. ⌜ r ≡ scalarResultOf (squaredReply (countsOf n m s) (now (rows .entry)) (now (delta .entry)) d) ⌝ }
 {
-    scalar_result_of(run::squared(n, m, s, rows, delta, d))
+    scalar_result_of(run::squared(RowCounts { n, m, s }, rows, delta, d))
 }
 
 #[no_mangle]
@@ -160,9 +156,9 @@ pub extern "C" fn run_predicted(
     rows: &[f64],
     delta: &[f64],
 ) -> ScalarResult
-    ensures { λ r. ⌜ r ≡ scalarResultOf (predictedReply n m s (now (rows .entry)) (now (delta .entry))) ⌝ }
+    ensures { λ r. ⌜ r ≡ scalarResultOf (predictedReply (countsOf n m s) (now (rows .entry)) (now (delta .entry))) ⌝ }
 {
-    scalar_result_of(run::predicted(n, m, s, rows, delta))
+    scalar_result_of(run::predicted(RowCounts { n, m, s }, rows, delta))
 }
 
 #[no_mangle]
@@ -175,17 +171,17 @@ pub extern "C" fn run_transposed(
     out: &mut [f64],
 ) -> u64
     ensures { λ r. ⌜ written r (now (out .exit))
-        ≡ writtenOf (transposedReply n m s (now (rows .entry)) (now (w .entry)) (now (out .entry))) ⌝ }
+        ≡ writtenOf (transposedReply (countsOf n m s) (now (rows .entry)) (now (w .entry)) (now (out .entry))) ⌝ }
 {
-    number_of_done(run::transposed(n, m, s, rows, w, out))
+    number_of_done(run::transposed(RowCounts { n, m, s }, rows, w, out))
 }
 
 #[no_mangle]
 pub extern "C" fn run_moving(n: usize, m: usize, s: usize, rows: &[f64], marks: &mut [bool]) -> u64
-    ensures { λ r.
-        ⌜ written r (now (marks .exit)) ≡ writtenOf (movingReply n m s (now (rows .entry)) (now (marks .entry))) ⌝ }
+    ensures { λ r. ⌜ written r (now (marks .exit))
+        ≡ writtenOf (movingReply (countsOf n m s) (now (rows .entry)) (now (marks .entry))) ⌝ }
 {
-    number_of_done(run::moving(n, m, s, rows, marks))
+    number_of_done(run::moving(RowCounts { n, m, s }, rows, marks))
 }
 
 #[no_mangle]
@@ -202,13 +198,12 @@ pub extern "C" fn run_judge(
     last: Scalar,
     step: &[f64],
 ) -> JudgedStep
-    ensures { λ r. ⌜ r ≡ judgedOf (judgeReply n m s (now (rows .entry)) (now (next .entry)) theta
+    ensures { λ r. ⌜ r
+        ≡ judgedOf (judgeReply (countsOf n m s) (now (rows .entry)) (now (next .entry)) theta
         (now (filter .entry)) count (lastOf taken last) (now (step .entry))) ⌝ }
 {
     judged_of(run::judge(
-        n,
-        m,
-        s,
+        RowCounts { n, m, s },
         rows,
         next,
         theta,
@@ -230,10 +225,11 @@ pub extern "C" fn run_expects(
     theta: Scalar,
     delta: &[f64],
 ) -> Decision
-    ensures { λ r.
-        ⌜ r ≡ decisionOf (expectsReply n m s (now (rows .entry)) (now (b .entry)) f theta (now (delta .entry))) ⌝ }
+    ensures { λ r. ⌜ r
+        ≡ decisionOf (expectsReply (countsOf n m s) (now (rows .entry)) (now (b .entry)) f theta
+        (now (delta .entry))) ⌝ }
 {
-    expected_of(run::expects(n, m, s, rows, b, f, theta, delta))
+    expected_of(run::expects(RowCounts { n, m, s }, rows, b, f, theta, delta))
 }
 
 #[no_mangle]
@@ -246,9 +242,9 @@ pub extern "C" fn run_along(
     out: &mut [f64],
 ) -> u64
     ensures { λ r. ⌜ written r (now (out .exit))
-        ≡ writtenOf (alongReply n m s (now (rows .entry)) (now (v .entry)) (now (out .entry))) ⌝ }
+        ≡ writtenOf (alongReply (countsOf n m s) (now (rows .entry)) (now (v .entry)) (now (out .entry))) ⌝ }
 {
-    number_of_done(run::along(n, m, s, rows, v, out))
+    number_of_done(run::along(RowCounts { n, m, s }, rows, v, out))
 }
 
 #[no_mangle]
@@ -261,9 +257,9 @@ pub extern "C" fn run_shift(
     d: &mut [f64],
 ) -> u64
     ensures { λ r. ⌜ written r (now (d .exit))
-        ≡ writtenOf (shiftReply n m s (now (rows .entry)) (now (moving .entry)) (now (d .entry))) ⌝ }
+        ≡ writtenOf (shiftReply (countsOf n m s) (now (rows .entry)) (now (moving .entry)) (now (d .entry))) ⌝ }
 {
-    number_of_done(run::shift(n, m, s, rows, moving, d))
+    number_of_done(run::shift(RowCounts { n, m, s }, rows, moving, d))
 }
 
 #[no_mangle]
@@ -284,17 +280,18 @@ pub extern "C" fn run_update_curvature(
     next: &[f64],
     lambda: &[f64],
 ) -> u64
-    ensures { λ r. ⌜ written r (now (b .exit)) ≡ writtenOf (updateReply n m s (now (b .entry)) (now (step .entry))
+    ensures { λ r. ⌜ written r (now (b .exit))
+        ≡ writtenOf (updateReply (countsOf n m s) (now (b .entry)) (now (step .entry))
         (now (rows .entry)) (now (next .entry)) (now (lambda .entry))) ⌝ }
 {
-    number_of_done(run::update_curvature(n, m, s, b, step, rows, next, lambda))
+    number_of_done(run::update_curvature(RowCounts { n, m, s }, b, step, rows, next, lambda))
 }
 
 #[no_mangle]
 pub extern "C" fn run_learned(n: usize, b: &[f64]) -> Decision
     ensures { λ r. ⌜ r ≡ decisionOf (learnedReply n (now (b .entry))) ⌝ }
 {
-    learning_of(run::learned(n, b))
+    decision_of(run::learned(n, b))
 }
 
 #[no_mangle]
@@ -309,8 +306,9 @@ pub extern "C" fn run_step(
     delta: &mut [f64],
     lambda: &mut [f64],
 ) -> Stepped
-    ensures { λ r. ⌜ stepWritten r (now (delta .exit)) (now (lambda .exit)) ≡ stepWrittenOf (stepReply n m s
+    ensures { λ r. ⌜ stepWritten r (now (delta .exit)) (now (lambda .exit))
+        ≡ stepWrittenOf (stepReply (countsOf n m s)
         (now (rows .entry)) (now (b .entry)) (now (moving .entry)) mu (now (delta .entry)) (now (lambda .entry))) ⌝ }
 {
-    stepped_of(run::step_at(n, m, s, rows, b, moving, mu, delta, lambda))
+    stepped_of(run::step_at(RowCounts { n, m, s }, rows, b, moving, mu, delta, lambda))
 }

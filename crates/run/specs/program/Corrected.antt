@@ -8,8 +8,6 @@ use Rattle.interval.specs.declared.Scalar.{Scalar}
 use Rattle.linear.specs.Answers.{numberOf}
 use Rattle.linear.specs.Results.{bind}
 use Rattle.run.specs.Corrected.{Shift, to, stay}
-use Rattle.run.specs.declared.corrected.Nearer.{Nearer}
-use Rattle.run.specs.declared.corrected.Nearer.the-variants as nearer
 use Rattle.run.specs.declared.corrected.Shifted.{Shifted}
 use Rattle.run.specs.declared.corrected.Shifted.the-variants as shifted
 
@@ -22,8 +20,3 @@ shiftedOf (shifted.Refused e) next = refused (numberOf e)
 -- whether a correction's rows are nearer the constraints than the landed ones, by the violations of both
 abbrev pub nearerOf : Res Scalar → Res Scalar → Res Bool
 nearerOf new old = bind new (λ x. bind old (λ y. ok (definitelyLess x y)))
-
--- what `is_nearer` and `linear_of` answer
-abbrev pub nearerResult : Nearer → Res Bool
-nearerResult (nearer.Known b) = ok b
-nearerResult (nearer.Refused e) = refused (numberOf e)

@@ -1,19 +1,44 @@
--- The constraints' slopes, chosen, with the factor of their products: what `along` is worked out with, for several
--- vectors.
-use Prim.Native.Nat.{_+_, _*_}
+-- For private functions: what the parts along the constraints and an update of the curvature are given, and the update
+-- from y. The constraints' slopes, chosen, and the factor of their products serve several vectors.
+use Prim.Native.Nat.{ℕ, _+_, _*_, _≤_}
 use mathlib.Core.List.{List}
 use mathlib.Core.Path.{_≡_}
 use lib.Ieee.{Float}
 use lib.ListN.{length}
-use Rattle.interval.specs.Result.{ok}
+use Rattle.interval.specs.Result.{Res, ok}
 use Rattle.linear.specs.Cholesky.{Factor}
 use Rattle.linear.specs.Choose.{chooseOf}
 use Rattle.linear.specs.Flat.{at, listTo}
+use Rattle.linear.specs.Results.{bind}
 use Rattle.linear.specs.Solved.{gramFactorOf}
+use Rattle.run.specs.Curvature.{alongOf, updatedBy}
+use Rattle.run.specs.Limits.{VARIABLES, CONSTRAINTS}
 use Rattle.run.specs.Rows.{Rows}
+
+-- ---- counts and lengths
+
+-- n variables and m constraints, a vector that has a number for each variable, and a slice for as many
+pub record AlongLengths (n m v out : ℕ) : Type 0 where
+  pub few-variables : n ≤ VARIABLES
+  pub few-constraints : m ≤ CONSTRAINTS
+  pub enough : 2 * n ≤ v
+  pub values : out ≡ 2 * n
+
+-- the same counts, with y and a step
+pub record UpdateLengths (n m y step : ℕ) : Type 0 where
+  pub few-variables : n ≤ VARIABLES
+  pub few-constraints : m ≤ CONSTRAINTS
+  pub y-is : y ≡ 24
+  pub step-is : step ≡ 24
+
+-- ---- the factor, and the update by it
 
 pub record Factored (c : Rows) (jc : List Float) (f : Factor) : Type 0 where
   pub slopes : jc ≡ listTo (λ p. chooseOf (at (c .list) (c .slopes + p))) (c .count * c .n)
   pub factor : gramFactorOf (c .count) (c .n) jc ≡ ok f
   pub entries : length (f .l) ≡ 2 * (c .count * c .count)
   pub marks : length (f .left-out) ≡ c .count
+
+-- the update from y and a step, which is brought along the constraints
+abbrev pub updatedAlong : ℕ → Rows → List Float → List Float → List Float → Res (List Float)
+updatedAlong n c b y step = bind (alongOf c step) (λ s. updatedBy n c b y s)

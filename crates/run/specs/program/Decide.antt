@@ -1,8 +1,5 @@
 -- For private functions: a step taken, once the damping and the radius after it are known.
-use mathlib.Core.Bool.{Bool}
-use Rattle.interval.specs.Result.{Res, ok, refused}
 use Rattle.interval.specs.declared.Scalar.{Scalar}
-use Rattle.linear.specs.Answers.{numberOf}
 use Rattle.run.specs.Area.{Memory, withTaken, standingAt, landedAt, curvatureOf}
 use Rattle.run.specs.Curvature.{updateCurvature}
 use Rattle.run.specs.Endings.{AfterSlots, orRefuse}
@@ -10,8 +7,6 @@ use Rattle.run.specs.Filter.{filterWith}
 use Rattle.run.specs.Iterate.{iterate}
 use Rattle.run.specs.Residuals.{sumSquared}
 use Rattle.run.specs.State.{standingOn}
-use Rattle.run.specs.declared.decide.Linear.{Linear}
-use Rattle.run.specs.declared.decide.Linear.the-variants as linear
 use Rattle.run.specs.declared.state.State.{State}
 
 -- a step taken, once the damping and the radius after it are known
@@ -19,7 +14,3 @@ abbrev pub takenWith : State → Memory → Scalar → Scalar → Scalar → Sca
 takenWith st w theta length mu radius =
     orRefuse st w (updateCurvature (st .sizes .n) (curvatureOf st w) (w .step) (standingAt st w) (landedAt st w) (w .multipliers))
     (λ b. iterate (standingOn st length mu radius) (withTaken w b (filterWith (w .filter) (st .counts .iterations) (sumSquared (standingAt st w .sum)) theta)))
-
-abbrev pub linearResult : Linear → Res Bool
-linearResult (linear.Known b) = ok b
-linearResult (linear.Refused e) = refused (numberOf e)

@@ -1,9 +1,20 @@
--- For private functions: what a judgement answers.
+-- For private functions: what a judgement is given, and what it answers.
+use Prim.Native.Nat.{ℕ, _<_}
+use mathlib.Core.Path.{_≡_}
 use Rattle.interval.specs.Result.{Res, ok, refused}
 use Rattle.linear.specs.Answers.{numberOf}
 use Rattle.run.specs.Judgement.{Judged}
+use Rattle.run.specs.declared.judgement.Baseline.{Baseline}
 use Rattle.run.specs.declared.judgement.Judgement.{Judgement}
 use Rattle.run.specs.declared.judgement.Judgement.the-variants as judgement
+use Rattle.run.specs.declared.rows.RowCounts.{RowCounts}
+use Rattle.run.specs.program.Rows.{FewRows}
+
+-- counts within the limits, and a step of so many numbers
+pub record Judging (c : RowCounts) (b : Baseline) (step : ℕ) : Type 0 where
+  pub counts : FewRows c
+  pub few-pairs : b .pairs < 65536
+  pub step-is : step ≡ 24
 
 -- what a judgement means
 abbrev pub judgementOf : Judgement → Res Judged

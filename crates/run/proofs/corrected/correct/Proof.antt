@@ -15,26 +15,14 @@ use Rattle.run.proofs.corrected.correct.Tie as tie
 marks : (s : tie.Start) → length (s .args .st .moving) ≡ 12
 marks s = marks-count (s .args .st .moving) (s .good .0 .1 .1 .1 .1 .1 .1 .1 .1 .1 .0 .1 .0 .1)
 
-sub-shift-from : tie.Need-sub-shift-from
-sub-shift-from c = search needs
-
-part-shift-from-start : tie.Need-part-shift-from-start
-part-shift-from-start c = search needs
-
-part-shift-from-end : tie.Need-part-shift-from-end
-part-shift-from-end c = search needs
+landed-rows-requires : tie.Need-landed-rows-requires
+landed-rows-requires c κs = search needs
 
 slice-aggregate-shift-from : tie.Need-slice-aggregate-shift-from
 slice-aggregate-shift-from c = sym (marks (c .before .before .before .before .before))
 
-sub-shift-from-2 : tie.Need-sub-shift-from-2
-sub-shift-from-2 c = search needs
-
-part-shift-from-start-2 : tie.Need-part-shift-from-start-2
-part-shift-from-start-2 c = search needs
-
-part-shift-from-end-2 : tie.Need-part-shift-from-end-2
-part-shift-from-end-2 c = search needs
+landed-point-requires : tie.Need-landed-point-requires
+landed-point-requires c κs = search needs
 
 slice-aggregate-shift-from-2 : tie.Need-slice-aggregate-shift-from-2
 slice-aggregate-shift-from-2 c = search needs
@@ -58,7 +46,9 @@ returns : tie.Need-returns
 returns c w h =
     let a = c .before .before .before .before .before .before .before .before .before .before .before .before .before .before .before .args in
     let x = c .before .before .before .before .before .before .before .shift-from in
-    correct-stays (a .st) w (a .theta) refl (shifted-read (a .st) (h .measured .uses .holds) (x .ensures))
+    let k = h .measured .uses .holds in
+    correct-stays (a .st) w (a .theta) refl (shifted-read (a .st) w (c .before .before .before .before .before .before .before .before .before .before .before .landed-rows .ensures .read w k)
+    (c .before .before .before .before .before .before .before .before .before .landed-point .ensures .read w k) (x .ensures))
     (ap (λ (r : Shifted). shiftedOf r (x .last .1 .1 .1 .1 .1 .0))
     (c .before .before .before .before .enum-told2 .given .1))
     (c .before .before .judge-landed .ensures w h)
@@ -78,7 +68,9 @@ returns-2 : tie.Need-returns-2
 returns-2 c w h =
     let a = c .before .before .before .before .before .before .before .before .before .before .before .before .before .before .before .before .args in
     let x = c .before .before .before .before .before .before .before .before .shift-from in
-    correct-refused (a .st) w (a .theta) refl (shifted-read (a .st) (h .measured .uses .holds) (x .ensures))
+    let k = h .measured .uses .holds in
+    correct-refused (a .st) w (a .theta) refl (shifted-read (a .st) w (c .before .before .before .before .before .before .before .before .before .before .before .before .landed-rows .ensures .read w k)
+    (c .before .before .before .before .before .before .before .before .before .before .landed-point .ensures .read w k) (x .ensures))
     (ap (λ (r : Shifted). shiftedOf r (x .last .1 .1 .1 .1 .1 .0))
     (c .before .before .before .before .before .shifted .given .1))
     (c .before .before .refuse .ensures w (h .measured .uses))
@@ -101,7 +93,8 @@ returns-3 c w h =
     let x = c .before .before .before .before .before .before .before .before .before .shift-from in
     let next = x .last .1 .1 .1 .1 .1 .0 in
     let k = h .measured .uses .holds in
-    correct-asks (a .st) w (a .theta) refl (shifted-read (a .st) k (x .ensures))
+    correct-asks (a .st) w (a .theta) refl (shifted-read (a .st) w (c .before .before .before .before .before .before .before .before .before .before .before .before .before .landed-rows .ensures .read w k)
+    (c .before .before .before .before .before .before .before .before .before .before .before .landed-point .ensures .read w k) (x .ensures))
     (ap (λ (r : Shifted). shiftedOf r (x .last .1 .1 .1 .1 .1 .0))
     (c .before .before .before .before .before .before .enum-told .given .1))
     (c .ask .ensures _ _ (asked-read k next (c .before .before .before .write .ensures) (x .kept .1 .1 .1 .1 .1 .0)))
@@ -110,13 +103,9 @@ pub correct-spec : {M : Type 1} → statement M
 correct-spec =
     tie.close
     (tie.spec
-    sub-shift-from
-    part-shift-from-start
-    part-shift-from-end
+    landed-rows-requires
     slice-aggregate-shift-from
-    sub-shift-from-2
-    part-shift-from-start-2
-    part-shift-from-end-2
+    landed-point-requires
     slice-aggregate-shift-from-2
     shift-from-requires
     enum-told

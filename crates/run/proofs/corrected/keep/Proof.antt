@@ -21,14 +21,8 @@ use Rattle.run.proofs.corrected.keep.Tie as tie
 marks : (s : tie.Start) → length (s .args .st .moving) ≡ 12
 marks s = marks-count (s .args .st .moving) (s .good .0 .1 .1 .1 .1 .1 .1 .1 .1 .1 .0 .1 .0 .1)
 
-sub-shift : tie.Need-sub-shift
-sub-shift c = search needs
-
-part-shift-start : tie.Need-part-shift-start
-part-shift-start c = search needs
-
-part-shift-end : tie.Need-part-shift-end
-part-shift-end c = search needs
+landed-rows-requires : tie.Need-landed-rows-requires
+landed-rows-requires c κs = search needs
 
 slice-aggregate-shift : tie.Need-slice-aggregate-shift
 slice-aggregate-shift c = sym (marks (c .before .before .before .before .before .before))
@@ -57,7 +51,7 @@ returns : tie.Need-returns
 returns c w h v =
     let a = c .before .before .before .before .before .before .before .before .before .before .before .before .before .before .before .before .args in
     let x = c .before .before .before .before .before .before .before .before .shift in
-    keep-refused (a .st) w (a .rows .now) (a .theta) refl (shift-read (a .st) (h .uses .holds) (x .ensures))
+    keep-refused (a .st) w (a .rows .now) (a .theta) refl (shift-read (a .st) w (c .before .before .before .before .before .before .before .before .before .before .before .landed-rows .ensures .read w (h .uses .holds)) (x .ensures))
     (ap (λ (r : Done). doneOf r (x .last .1 .1 .1 .1 .0)) (c .before .before .before .before .before .shift2 .given .1))
     (c .before .before .refuse .ensures w (h .uses))
 
@@ -113,7 +107,7 @@ returns-2 c w h v =
     let hv = lands (a .st) (p .1 .1 .0 .bounded) (a .rows .now) (p .1 .0) hs
     (c .before .before .before .before .before .before .before .before .write-landed .ensures (withStep w s) (hs .holds)) in
     let hj = compares (a .st) hv (h .standing-is) (v ∙ sym (violation-padded z (a .rows .now) (p .1 .0))) in
-    keep-known (a .st) w (a .rows .now) (a .theta) refl (shift-read (a .st) (h .uses .holds) (x .ensures))
+    keep-known (a .st) w (a .rows .now) (a .theta) refl (shift-read (a .st) w (c .before .before .before .before .before .before .before .before .before .before .before .before .before .before .before .before .before .before .before .before .before .landed-rows .ensures .read w (h .uses .holds)) (x .ensures))
     (ap (λ (r : Done). doneOf r d) (c .before .before .before .before .before .before .before .before .before .before
     .before .before .before .before .before .enum-told .given .1))
     (kept-known (a .st) w (a .rows .now) (a .theta) d t
@@ -123,9 +117,7 @@ pub keep-spec : {M : Type 1} → statement M
 keep-spec =
     tie.close
     (tie.spec
-    sub-shift
-    part-shift-start
-    part-shift-end
+    landed-rows-requires
     slice-aggregate-shift
     slice-aggregate-shift-2
     shift-requires

@@ -7,7 +7,7 @@ use Rattle.run.specs.Area.{Memory}
 use Rattle.run.specs.Endings.{AfterSlots}
 use Rattle.run.specs.Corrected.{keep}
 use Rattle.run.specs.Decide.{judge}
-use Rattle.run.specs.program.Corrected.{nearerResult}
+use Rattle.run.specs.Results.{truthOf}
 use Rattle.run.proofs.AnsweredLaws.{correction-by, nearer-read, rows-enough}
 use Rattle.run.proofs.EndingLaws.{or-next, or-refused, when, unless}
 use Rattle.run.proofs.ZeroBehind.{limits-of, compares}
@@ -54,7 +54,7 @@ returns c w h =
     let old = c .before .before .before .before .before .before .before .before .before .landed-violation .ensures w k
     in
     let e = nearer-read (c .before .before .before .before .before .before .before .before .is-nearer .ensures) new old
-    ∙ ap nearerResult (c .before .before .before .before .before .before .kept .given .1) in
+    ∙ ap truthOf (c .before .before .before .before .before .before .kept .given .1) in
     correction-by (a .st) w (a .rows .now) (a .theta)
     (or-next (a .st) w (next (c .before .before .before .before .before .before .before .before .before .before .before
     .before .before .before) w) e (when _ _ (c .before .before .before .before .if1 .taken)
@@ -78,7 +78,7 @@ returns-2 c w h =
     let old = c .before .before .before .before .before .before .before .before .before .landed-violation .ensures w k
     in
     let e = nearer-read (c .before .before .before .before .before .before .before .before .is-nearer .ensures) new old
-    ∙ ap nearerResult (c .before .before .before .before .before .before .kept .given .1) in
+    ∙ ap truthOf (c .before .before .before .before .before .before .kept .given .1) in
     let hj = compares (a .st) (h .uses) (h .standing-is) old in
     correction-by (a .st) w (a .rows .now) (a .theta)
     (or-next (a .st) w (next (c .before .before .before .before .before .before .before .before .before .before .before
@@ -104,7 +104,7 @@ returns-3 c w h =
     let new = c .before .before .before .before .before .before .before .before .before .before .violation .ensures in
     let old = c .before .before .before .before .before .before .before .before .landed-violation .ensures w k in
     let e = nearer-read (c .before .before .before .before .before .before .before .is-nearer .ensures) new old ∙ ap
-    nearerResult (c .before .before .before .before .before .e .given .1) in
+    truthOf (c .before .before .before .before .before .e .given .1) in
     correction-by (a .st) w (a .rows .now) (a .theta)
     (or-refused (a .st) w (next (c .before .before .before .before .before .before .before .before .before .before
     .before .before .before) w) e (c .before .before .refuse .ensures w (h .uses)))

@@ -49,14 +49,14 @@ slope-of-requires c κs =
     let s = c .before .before .before .before .before .before in
     (rw (c .before .before .constraints .ensures) (constraints-small (s .pre .0) (s .pre .1 .0)), omega (arith, room s, c .loop-test .taken, div-le-self (c .before .loop .p) (s .args .n)))
 
-rem-moving-slope : tie.Need-rem-moving-slope Inv-loop μ-loop
-rem-moving-slope c = some-variable (c .before .before .before .before .before .before .before .before) (c .before .before .before .loop .p) (c .before .before .loop-test .taken)
+rem-choose-if : tie.Need-rem-choose-if Inv-loop μ-loop
+rem-choose-if c = some-variable (c .before .before .before .before .before .before .before .before) (c .before .before .before .loop .p) (c .before .before .loop-test .taken)
 
-shared-slice-read-moving-slope : tie.Need-shared-slice-read-moving-slope Inv-loop μ-loop
-shared-slice-read-moving-slope c = omega (arith, mod-lt (c .before .before .before .before .loop .p) (some-variable (c .before .before .before .before .before .before .before .before .before) (c .before .before .before .before .loop .p) (c .before .before .before .loop-test .taken)))
+shared-slice-read-choose-if : tie.Need-shared-slice-read-choose-if Inv-loop μ-loop
+shared-slice-read-choose-if c = omega (arith, mod-lt (c .before .before .before .before .loop .p) (some-variable (c .before .before .before .before .before .before .before .before .before) (c .before .before .before .before .loop .p) (c .before .before .before .loop-test .taken)))
 
-moving-slope-requires : tie.Need-moving-slope-requires Inv-loop μ-loop
-moving-slope-requires c κs = search needs
+choose-if-requires : tie.Need-choose-if-requires Inv-loop μ-loop
+choose-if-requires c κs = search needs
 
 put-requires : tie.Need-put-requires Inv-loop μ-loop
 put-requires c κs = search needs
@@ -71,7 +71,7 @@ loop-again : tie.Need-loop-again Inv-loop μ-loop
 loop-again c =
     let a = c .before .before .before .before .before .before .before .before .before .before .before .before .before .args in
     let l = c .before .before .before .before .before .before .before .before .loop in
-    let v = slope-is (a .moving .now) (a .xs .now) (a .n) (a .m) (l .p) (rw (c .before .before .before .before .before .before .before .before .before .constraints .ensures) at (c .before .before .before .before .before .before .slope-of .ensures)) (c .before .before .before .moving-slope .ensures) in
+    let v = slope-is (a .moving .now) (a .xs .now) (a .n) (a .m) (l .p) (rw (c .before .before .before .before .before .before .before .before .before .constraints .ensures) at (c .before .before .before .before .before .before .slope-of .ensures)) (c .before .before .before .choose-if .ensures) in
     let e = rw (l .inv .2, v) at (c .before .before .put .ensures) in
     (search needs, search needs, e ∙ listTo-more (λ k. movingSlope (a .moving .now) (constraintsOf (a .n) (a .m) (a .xs .now)) (k / a .n) (k % a .n)) (l .p) (a .jc .now) (omega arith))
 
@@ -85,4 +85,4 @@ returns c =
     e ∙ listTo-all (λ k. movingSlope (a .moving .now) (constraintsOf (a .n) (a .m) (a .xs .now)) (k / a .n) (k % a .n)) (a .m * a .n) (a .jc .now) (c .before .before .before .before .before .before .pre .1 .1 .1)
 
 pub moving-slopes-spec : {M : Type 1} → statement M
-moving-slopes-spec = tie.close (tie.spec Inv-loop μ-loop constraints-requires mul-q loop-holds div-slope-of rem-slope-of slope-of-requires rem-moving-slope shared-slice-read-moving-slope moving-slope-requires put-requires add-p loop-less loop-again same-length returns)
+moving-slopes-spec = tie.close (tie.spec Inv-loop μ-loop constraints-requires mul-q loop-holds div-slope-of rem-slope-of slope-of-requires rem-choose-if shared-slice-read-choose-if choose-if-requires put-requires add-p loop-less loop-again same-length returns)

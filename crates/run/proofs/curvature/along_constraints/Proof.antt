@@ -11,10 +11,10 @@ use Rattle.run.proofs.curvature.along_constraints.Statement.{statement}
 use Rattle.run.proofs.curvature.along_constraints.Tie as tie
 
 room : (s : tie.Start) → 2 * (s .args .m * s .args .n) ≤ 288
-room s = omega (arith, few (s .pre .1 .0) (s .pre .0))
+room s = omega (arith, few (s .pre .few-constraints) (s .pre .few-variables))
 
 high : (s : tie.Start) → 2 * s .args .m ≤ 24
-high s = omega (arith, s .pre .1 .0)
+high s = omega (arith, s .pre .few-constraints)
 
 mul-q : tie.Need-mul-q
 mul-q c = omega (arith, room (c .before .before .before))
@@ -38,7 +38,7 @@ slice-aggregate-chosen-slopes : tie.Need-slice-aggregate-chosen-slopes
 slice-aggregate-chosen-slopes c = sym (length-take-le _ _ (room (c .before .before .before .before .before)))
 
 chosen-slopes-requires : tie.Need-chosen-slopes-requires
-chosen-slopes-requires c κs = let s = c .before .before .before .before .before in rw (c .before .constraints .ensures) (constraints-small (s .pre .0) (s .pre .1 .0))
+chosen-slopes-requires c κs = let s = c .before .before .before .before .before in rw (c .before .constraints .ensures) (constraints-small (s .pre .few-variables) (s .pre .few-constraints))
 
 array-share-prefix-jc : tie.Need-array-share-prefix-jc
 array-share-prefix-jc c = front-room _ (c .before .chosen-slopes .last .1 .1 .0) _ (room (c .before .before .before .before .before .before .before)) (c .before .chosen-slopes .kept .1 .1 .0)
@@ -62,7 +62,7 @@ slice-aggregate-minus-solved : tie.Need-slice-aggregate-minus-solved
 slice-aggregate-minus-solved c = sym (length-take-le _ _ (front-room _ (c .before .before .products .last .1 .1 .1 .1 .0) _ (high (c .before .before .before .before .before .before .before .before .before .before .before .before)) (c .before .before .products .kept .1 .1 .1 .1 .0)))
 
 slice-aggregate-minus-solved-2 : tie.Need-slice-aggregate-minus-solved-2
-slice-aggregate-minus-solved-2 c = sym (length-take-le _ _ ((c .before .before .before .before .before .before .before .before .before .before .before .before .before) .pre .1 .1 .0))
+slice-aggregate-minus-solved-2 c = sym (length-take-le _ _ ((c .before .before .before .before .before .before .before .before .before .before .before .before .before) .pre .enough))
 
 minus-solved-requires : tie.Need-minus-solved-requires
 minus-solved-requires c κs = tt
@@ -77,7 +77,7 @@ returns c =
     let p = s .pre in
     let fj = front-kept _ (c .before .before .before .before .before .before .before .before .before .before .before .chosen-slopes .last .1 .1 .0) _ (room s) (c .before .before .before .before .before .before .before .before .before .before .before .chosen-slopes .kept .1 .1 .0) in
     let fr = front-kept _ (c .before .before .before .before .before .before .before .products .last .1 .1 .1 .1 .0) _ (high s) (c .before .before .before .before .before .before .before .products .kept .1 .1 .1 .1 .0) in
-    along-is (a .n) (a .m) (a .xs .now) (a .v .now) _ _ (a .out .now) (p .0) (p .1 .0) (p .1 .1 .0) _ _ (c .before .before .minus-solved .result) _ (p .1 .1 .1) (length-take-le _ _ (room s)) (length-take-le _ _ (high s)) fj fr (c .before .before .before .before .before .before .before .before .before .before .before .before .before .constraints .ensures) (c .before .before .before .before .before .before .before .before .before .before .before .chosen-slopes .ensures) (c .before .before .before .before .before .before .before .products .ensures) (c .before .before .minus-solved .ensures)
+    along-is (a .n) (a .m) (a .xs .now) (a .v .now) _ _ (a .out .now) (p .few-variables) (p .few-constraints) (p .enough) _ _ (c .before .before .minus-solved .result) _ (p .values) (length-take-le _ _ (room s)) (length-take-le _ _ (high s)) fj fr (c .before .before .before .before .before .before .before .before .before .before .before .before .before .constraints .ensures) (c .before .before .before .before .before .before .before .before .before .before .before .chosen-slopes .ensures) (c .before .before .before .before .before .before .before .products .ensures) (c .before .before .minus-solved .ensures)
 
 pub along-constraints-spec : {M : Type 1} → statement M
 along-constraints-spec =

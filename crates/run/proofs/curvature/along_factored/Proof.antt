@@ -12,7 +12,7 @@ use Rattle.run.proofs.curvature.along_factored.Statement.{statement}
 use Rattle.run.proofs.curvature.along_factored.Tie as tie
 
 high : (s : tie.Start) → 2 * s .args .m ≤ 24
-high s = omega (arith, s .pre .1 .0)
+high s = omega (arith, s .pre .few-constraints)
 
 mul-k : tie.Need-mul-k
 mul-k c = search needs
@@ -43,7 +43,7 @@ slice-aggregate-minus-factored c =
 slice-aggregate-minus-factored-2 : tie.Need-slice-aggregate-minus-factored-2
 slice-aggregate-minus-factored-2 c =
     sym (length-take-le _ _
-    (c .before .before .before .before .before .before .before .before .before .before .pre .1 .1 .0))
+    (c .before .before .before .before .before .before .before .before .before .before .pre .enough))
 
 minus-factored-requires : tie.Need-minus-factored-requires
 minus-factored-requires c κs = tt
@@ -59,9 +59,9 @@ returns c = λ xs f.
     let p = s .pre in
     let k = c .before .before .before .before .before .before .before in
     let fr = front-kept _ (k .products .last .1 .1 .1 .1 .0) _ (high s) (k .products .kept .1 .1 .1 .1 .0) in
-    along-by (a .n) (a .m) xs (p .0) (p .1 .0) (a .v .now) (a .slopes .now) _ (a .out .now)
-    (factorOf (a .l .now) (a .«left-out» .now)) (p .1 .1 .0) f _ (c .before .before .minus-factored .result) _
-    (p .1 .1 .1) (length-take-le _ _ (high s)) fr (k .products .ensures) (c .before .before .minus-factored .ensures)
+    along-by (a .n) (a .m) xs (p .few-variables) (p .few-constraints) (a .v .now) (a .slopes .now) _ (a .out .now)
+    (factorOf (a .l .now) (a .«left-out» .now)) (p .enough) f _ (c .before .before .minus-factored .result) _
+    (p .values) (length-take-le _ _ (high s)) fr (k .products .ensures) (c .before .before .minus-factored .ensures)
 
 pub along-factored-spec : {M : Type 1} → statement M
 along-factored-spec =

@@ -1,4 +1,5 @@
--- `turned` meets its contract: the sum's new values, chosen, into a clear array, and then the vector is filled so far.
+-- `lagrangian_change` meets its contract: the sum's new values, chosen, into a clear array, and then the vector is filled so
+-- far.
 use mathlib.Core.Path.{_≡_, refl, sym, _∙_}
 use Prim.Native.Nat.{_≤_, _-_}
 use native.Mathlib.Nat.{le-antisymm}
@@ -6,7 +7,7 @@ use native.Mathlib.Omega.{arith}
 use lib.Ieee.{ofBits}
 use lib.ListN.{length}
 use Rattle.run.specs.Vectors.{vector, fillTo}
-use Rattle.run.specs.Rows.{evaluationOf}
+use Rattle.run.specs.Rows.{evaluationBy}
 use Rattle.run.specs.Curvature.{lagrangianChangeAt}
 use Rattle.run.proofs.CurvatureLaws.{turned-is}
 use Rattle.run.proofs.VectorLaws.{fill-none, fill-first}
@@ -15,10 +16,12 @@ use Rattle.run.proofs.curvature.lagrangian_change.Statement.{statement}
 use Rattle.run.proofs.curvature.lagrangian_change.Tie as tie
 
 abbrev Inv-loop : tie.InvT-loop
-Inv-loop n m s xs next lambda y₀ values j₀ y j = (j ≤ n) × (length y ≡ length y₀) × (y ≡ fillTo vector 0 (lagrangianChangeAt (evaluationOf n m s xs) (evaluationOf n m s next) lambda values) j)
+Inv-loop c xs next lambda y₀ n values j₀ y j =
+    (j ≤ n) × (length y ≡ length y₀) ×
+    (y ≡ fillTo vector 0 (lagrangianChangeAt (evaluationBy c xs) (evaluationBy c next) lambda values) j)
 
 abbrev μ-loop : tie.MeasureT-loop
-μ-loop n m s xs next lambda y₀ values j₀ y j = n - j
+μ-loop c xs next lambda y₀ n values j₀ y j = n - j
 
 sum-requires : tie.Need-sum-requires Inv-loop μ-loop
 sum-requires c κs = search needs
@@ -33,10 +36,10 @@ slice-aggregate-values : tie.Need-slice-aggregate-values Inv-loop μ-loop
 slice-aggregate-values c = search needs
 
 loop-holds : tie.Need-loop-holds Inv-loop μ-loop
-loop-holds c = (search needs, search needs, c .before .before .before .before .before .before .before .before .before .pre .1 .1 .1 ∙ sym (fill-none _ _))
+loop-holds c = (search needs, search needs, c .before .before .before .before .before .before .before .before .before .pre .1 ∙ sym (fill-none _ _))
 
 lagrangian-change-at-requires : tie.Need-lagrangian-change-at-requires Inv-loop μ-loop
-lagrangian-change-at-requires c κs = let p = c .before .before .before .before .before .before .before .before .before .before .before .before .pre in (p .0, (p .1 .0, (p .1 .1 .0, omega (arith, p .0, c .before .loop-test .taken))))
+lagrangian-change-at-requires c κs = let p = c .before .before .before .before .before .before .before .before .before .before .before .before .pre .0 in (p, omega (arith, p .few-variables, c .before .loop-test .taken))
 
 put-requires : tie.Need-put-requires Inv-loop μ-loop
 put-requires c κs = search needs
@@ -48,7 +51,10 @@ loop-less : tie.Need-loop-less Inv-loop μ-loop
 loop-less c = search needs
 
 loop-again : tie.Need-loop-again Inv-loop μ-loop
-loop-again c = let l = c .before .before .before .before .before .before .loop in (search needs, search needs, c .before .before .put .ensures ∙ fill-first _ _ (l .j) (l .inv .2) (c .before .before .before .lagrangian-change-at .ensures))
+loop-again c =
+    let l = c .before .before .before .before .before .before .loop in
+    let filled = fill-first _ _ (l .j) (l .inv .2) (c .before .before .before .lagrangian-change-at .ensures) in
+    (search needs, search needs, c .before .before .put .ensures ∙ filled)
 
 same-length : tie.Need-same-length Inv-loop μ-loop
 same-length c = search needs
@@ -58,7 +64,8 @@ unfolding ofBits
 returns c =
     let a = c .before .before .before .before .before .before .before .before .before .before .before .args in
     let r = rw (c .before .before .before .before .before .before .sum .ensures) at (c .before .before .before .before .chosen-values .ensures) in
-    turned-is (a .n) (evaluationOf (a .n) (a .m) (a .s) (a .xs .now)) (evaluationOf (a .n) (a .m) (a .s) (a .next .now)) (a .lambda .now) refl r (rw (le-antisymm (c .before .loop .inv .0) (c .loop-test .left)) at (c .before .loop .inv .2))
+    turned-is (a .c .n) (evaluationBy (a .c) (a .xs .now)) (evaluationBy (a .c) (a .next .now)) (a .lambda .now) refl r
+    (rw (le-antisymm (c .before .loop .inv .0) (c .loop-test .left)) at (c .before .loop .inv .2))
 
 pub lagrangian-change-spec : {M : Type 1} → statement M
 lagrangian-change-spec =

@@ -1,27 +1,36 @@
--- `turned_at` meets its contract: the definition's sum, from what each call gives.
+-- `lagrangian_change_at` meets its contract: the definition's sum, from what each call gives.
 use mathlib.Core.List.{List}
 use mathlib.Core.Path.{_≡_}
 use Prim.Native.Nat.{ℕ}
-use borrow.Author.Needs.{needs}
 use lib.Ieee.{Float}
 use Rattle.interval.specs.declared.Scalar.{Scalar}
 use Rattle.interval.specs.Scalar.{addOf, subOf}
+use Rattle.run.specs.declared.rows.RowCounts.{RowCounts}
 use Rattle.run.specs.declared.rows.RowSet.{RowSet}
-use Rattle.run.specs.Rows.{rowsIn, constraintSet, sumSet, evaluationOf}
+use Rattle.run.specs.Rows.{rowsIn, constraintSet, sumSet, evaluationBy}
 use Rattle.run.specs.Residuals.{transposedAt}
 use Rattle.run.specs.Curvature.{lagrangianChangeAt}
+use Rattle.run.specs.program.Rows.{Small}
 use Rattle.run.proofs.RowLaws.{constraints-small, sum-small}
 use borrow.Author.Needs.{needs}
 use Rattle.run.proofs.curvature.lagrangian_change_at.Statement.{statement}
 use Rattle.run.proofs.curvature.lagrangian_change_at.Tie as tie
 
-value : (n m s : ℕ) (xs next lambda r : List Float) (j : ℕ) {c q : RowSet} {t u v w a b y : Scalar}
-    → c ≡ constraintSet n m → q ≡ sumSet n m s
-    → t ≡ transposedAt (rowsIn next c) lambda j → u ≡ transposedAt (rowsIn xs c) lambda j → a ≡ subOf t u
-    → v ≡ transposedAt (rowsIn next q) r j → b ≡ addOf a v
-    → w ≡ transposedAt (rowsIn xs q) r j → y ≡ subOf b w
-    → y ≡ lagrangianChangeAt (evaluationOf n m s xs) (evaluationOf n m s next) lambda r j
-value n m s xs next lambda r j ec eq et eu ea ev eb ew ey = rw (ey, eb, ea, et, eu, ev, ew, ec, eq)
+value :
+    (c : RowCounts) (xs next lambda r : List Float) (j : ℕ) {e q : RowSet} {t u v w a b y : Scalar} →
+    e ≡ constraintSet (c .n) (c .m) → q ≡ sumSet (c .n) (c .m) (c .s) →
+    t ≡ transposedAt (rowsIn next e) lambda j → u ≡ transposedAt (rowsIn xs e) lambda j → a ≡ subOf t u →
+    v ≡ transposedAt (rowsIn next q) r j → b ≡ addOf a v →
+    w ≡ transposedAt (rowsIn xs q) r j → y ≡ subOf b w →
+    y ≡ lagrangianChangeAt (evaluationBy c xs) (evaluationBy c next) lambda r j
+value c xs next lambda r j ee eq et eu ea ev eb ew ey = rw (ey, eb, ea, et, eu, ev, ew, ee, eq)
+
+-- the row sets, in their places
+held-small : (s : tie.Start) {e : RowSet} → e ≡ constraintSet (s .args .c .n) (s .args .c .m) → Small e
+held-small s q = let f = s .pre .0 in rw q (constraints-small (f .few-variables) (f .few-constraints))
+
+summed-small : (s : tie.Start) {e : RowSet} → e ≡ sumSet (s .args .c .n) (s .args .c .m) (s .args .c .s) → Small e
+summed-small s q = let f = s .pre .0 in rw q (sum-small (f .few-variables) (f .few-constraints) (f .few-sums))
 
 constraints-requires : tie.Need-constraints-requires
 constraints-requires c κs = search needs
@@ -30,28 +39,32 @@ sum-requires : tie.Need-sum-requires
 sum-requires c κs = search needs
 
 transposed-at-requires : tie.Need-transposed-at-requires
-transposed-at-requires c κs = (rw (c .before .constraints .ensures) (constraints-small (c .before .before .before .before .before .before .pre .0) (c .before .before .before .before .before .before .pre .1 .0)), c .before .before .before .before .before .before .pre .1 .1 .1)
+transposed-at-requires c κs = let s = c .before .before .before .before .before .before in (held-small s (c .before .constraints .ensures), s .pre .1)
 
 transposed-at-requires-2 : tie.Need-transposed-at-requires-2
-transposed-at-requires-2 c κs = (rw (c .before .before .constraints .ensures) (constraints-small (c .before .before .before .before .before .before .before .pre .0) (c .before .before .before .before .before .before .before .pre .1 .0)), c .before .before .before .before .before .before .before .pre .1 .1 .1)
+transposed-at-requires-2 c κs = let s = c .before .before .before .before .before .before .before in (held-small s (c .before .before .constraints .ensures), s .pre .1)
 
 sub-requires : tie.Need-sub-requires
 sub-requires c κs = search needs
 
 transposed-at-requires-3 : tie.Need-transposed-at-requires-3
-transposed-at-requires-3 c κs = (rw (c .before .before .before .sum .ensures) (sum-small (c .before .before .before .before .before .before .before .before .before .pre .0) (c .before .before .before .before .before .before .before .before .before .pre .1 .0) (c .before .before .before .before .before .before .before .before .before .pre .1 .1 .0)), c .before .before .before .before .before .before .before .before .before .pre .1 .1 .1)
+transposed-at-requires-3 c κs = let s = c .before .before .before .before .before .before .before .before .before in (summed-small s (c .before .before .before .sum .ensures), s .pre .1)
 
 add-requires : tie.Need-add-requires
 add-requires c κs = search needs
 
 transposed-at-requires-4 : tie.Need-transposed-at-requires-4
-transposed-at-requires-4 c κs = (rw (c .before .before .before .before .before .sum .ensures) (sum-small (c .before .before .before .before .before .before .before .before .before .before .before .pre .0) (c .before .before .before .before .before .before .before .before .before .before .before .pre .1 .0) (c .before .before .before .before .before .before .before .before .before .before .before .pre .1 .1 .0)), c .before .before .before .before .before .before .before .before .before .before .before .pre .1 .1 .1)
+transposed-at-requires-4 c κs = let s = c .before .before .before .before .before .before .before .before .before .before .before in (summed-small s (c .before .before .before .before .before .sum .ensures), s .pre .1)
 
 sub-requires-2 : tie.Need-sub-requires-2
 sub-requires-2 c κs = search needs
 
 returns : tie.Need-returns
-returns c = let a = c .before .before .before .before .before .before .before .before .before .before .before .before .before .args in value (a .n) (a .m) (a .s) (a .xs .now) (a .next .now) (a .lambda .now) (a .r .now) (a .j) (c .before .before .before .before .before .before .before .before .constraints .ensures) (c .before .before .before .before .before .before .before .sum .ensures) (c .before .before .before .before .before .before .transposed-at .ensures) (c .before .before .before .before .before .transposed-at2 .ensures) (c .before .before .before .before .sub .ensures .value) (c .before .before .before .transposed-at3 .ensures) (c .before .before .add .ensures .value) (c .before .transposed-at4 .ensures) (c .sub2 .ensures .value)
+returns c =
+    let a = c .before .before .before .before .before .before .before .before .before .before .before .before .before .args in
+    value (a .c) (a .xs .now) (a .next .now) (a .lambda .now) (a .r .now) (a .j) (c .before .before .before .before .before .before .before .before .constraints .ensures)
+    (c .before .before .before .before .before .before .before .sum .ensures) (c .before .before .before .before .before .before .transposed-at .ensures) (c .before .before .before .before .before .transposed-at2 .ensures) (c .before .before .before .before .sub .ensures .value)
+    (c .before .before .before .transposed-at3 .ensures) (c .before .before .add .ensures .value) (c .before .transposed-at4 .ensures) (c .sub2 .ensures .value)
 
 pub lagrangian-change-at-spec : {M : Type 1} → statement M
 lagrangian-change-at-spec =

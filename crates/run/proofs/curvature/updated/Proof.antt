@@ -65,7 +65,12 @@ along-factored-requires : tie.Need-along-factored-requires
 along-factored-requires c κs =
     let s = c .before .before .before .before .before .before .before .before .before .before .before .before .before
     .before .before .before .before in let p = s .pre in
-    (p .0, (p .1 .0, (omega (arith, p .0, p .1 .1), length-take-le _ _ (short s))))
+    record {
+      few-variables = p .0;
+      few-constraints = p .1;
+      enough = omega (arith, p .0, p .2);
+      values = length-take-le _ _ (short s);
+    }
 
 enum-told : tie.Need-enum-told
 enum-told c = search needs

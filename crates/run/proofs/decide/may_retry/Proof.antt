@@ -3,7 +3,6 @@ use mathlib.Core.Path.{ap, _∙_}
 use mathlib.Core.List.{List}
 use lib.Ieee.{Float}
 use Rattle.run.specs.Curvature.{learnedOf}
-use Rattle.run.proofs.EndingLaws.{curvature-read}
 use borrow.Author.Needs.{needs}
 use Rattle.run.proofs.decide.may_retry.Statement.{statement}
 use Rattle.run.proofs.decide.may_retry.Tie as tie
@@ -11,22 +10,17 @@ use Rattle.run.proofs.decide.may_retry.Tie as tie
 returns : tie.Need-returns
 returns c w h = rw (c .if1 .taken)
 
-sub-learned : tie.Need-sub-learned
-sub-learned c = search needs
-
-part-learned-start : tie.Need-part-learned-start
-part-learned-start c = search needs
-
-part-learned-end : tie.Need-part-learned-end
-part-learned-end c = search needs
+curvature-requires : tie.Need-curvature-requires
+curvature-requires c κs = search needs
 
 learned-requires : tie.Need-learned-requires
 learned-requires c κs = search needs
 
 returns-2 : tie.Need-returns-2
-returns-2 c w h = rw (c .before .before .if1 .left) (c .learned .ensures ∙ ap (λ (b : List Float). learnedOf (c .before .before .before .before .args .n) b) (curvature-read h))
+returns-2 c w h =
+    let n = c .before .before .before .before .args .n in
+    rw (c .before .before .if1 .left)
+    (c .learned .ensures ∙ ap (λ (b : List Float). learnedOf n b) (c .before .curvature .ensures .read w h))
 
 pub may-retry-spec : {M : Type 1} → statement M
-may-retry-spec =
-    tie.close
-    (tie.spec returns sub-learned part-learned-start part-learned-end learned-requires returns-2)
+may-retry-spec = tie.close (tie.spec returns curvature-requires learned-requires returns-2)

@@ -7,7 +7,7 @@ use Rattle.interval.specs.Result.{resultOf}
 use Rattle.interval.specs.Scalar.{degenerate, divOf}
 use Rattle.interval.specs.Scaling.{three64, isPositive}
 use Rattle.interval.proofs.Given.{yes}
-use Rattle.run.specs.program.Decide.{linearResult}
+use Rattle.run.specs.Results.{truthOf}
 use Rattle.run.proofs.DampingBounds.{shrunk-positive}
 use Rattle.run.proofs.AnsweredLaws.{take-known, take-refused, third-known, third-refused}
 use Rattle.run.proofs.ZeroBehind.{limits-of}
@@ -68,7 +68,7 @@ returns c w h =
     let a = c .before .before .before .before .before .before .before .before .before .before .before .before .before
     .before .before .before .args in
     let near = sym (c .before .before .before .before .before .before .before .before .before .before .before .before
-    .before .before .linear-of .ensures w (h .landed-is)) ∙ ap linearResult
+    .before .before .linear-of .ensures w (h .landed-is)) ∙ ap truthOf
     (c .before .before .before .before .before .before .before .before .before .before .before .before .linear .given
     .1) in
     let third = sym (divided (c .before .before .before .before .before .before .before .before .before)) ∙ ap resultOf
@@ -95,7 +95,7 @@ returns-2 c w h =
     let a = c .before .before .before .before .before .before .before .before .before .before .before .before .before
     .before .args in
     let near = sym (c .before .before .before .before .before .before .before .before .before .before .before .before
-    .linear-of .ensures w (h .landed-is)) ∙ ap linearResult
+    .linear-of .ensures w (h .landed-is)) ∙ ap truthOf
     (c .before .before .before .before .before .before .before .before .before .before .linear .given .1) in
     let third = sym (divided (c .before .before .before .before .before .before .before)) ∙ ap resultOf
     (c .before .before .before .before .before .e .given .1) in
@@ -119,7 +119,7 @@ returns-3 : tie.Need-returns-3
 returns-3 c w h =
     let a = c .before .before .before .before .before .before .before .before .before .args in
     let near = sym (c .before .before .before .before .before .before .before .linear-of .ensures w (h .landed-is)) ∙ ap
-    linearResult (c .before .before .before .before .before .e2 .given .1) in
+    truthOf (c .before .before .before .before .before .e2 .given .1) in
     take-refused (a .st) w (a .theta) (a .span) near (c .before .before .refuse2 .ensures w (h .measured .uses))
 
 pub take-spec : {M : Type 1} → statement M

@@ -5,16 +5,16 @@ use native.Mathlib.Omega.{arith}
 use lib.Ieee.{Float, ofBits}
 use Rattle.linear.specs.Answers.{doneOf}
 use Rattle.linear.specs.declared.answers.Done.{Done}
-use Rattle.run.specs.Rows.{sumOf}
+use Rattle.run.specs.Rows.{rowCounts, sumOf}
 use Rattle.run.specs.Residuals.{sumSquared}
 use Rattle.run.specs.Area.{withTaken}
 use Rattle.run.specs.program.Area.{Working}
 use Rattle.run.specs.program.Endings.{Bounded}
+use Rattle.run.specs.program.Rows.{FewRows}
 use Rattle.run.specs.Filter.{filterWith}
 use Rattle.run.specs.State.{standingOn}
 use Rattle.run.specs.declared.state.State.{State}
 use Rattle.run.proofs.AnsweredLaws.{learned-known, learned-refused, stands-on}
-use Rattle.run.proofs.EndingLaws.{standing-rows-read}
 use Rattle.run.proofs.DecideLaws.{stood}
 use Rattle.run.proofs.ZeroBehind.{limits-of, measures}
 use Rattle.run.proofs.ZeroBehindKept.{learned-tidy, taken-working}
@@ -27,7 +27,15 @@ slice-aggregate-learn c = search needs
 
 learn-requires : tie.Need-learn-requires
 unfolding ofBits
-learn-requires c κs = let s = c .before .before .before in let b = s .pre .1 .0 .bounded in (b .few-variables, (b .few-constraints, (b .few-sums, (s .pre .0, refl))))
+learn-requires c κs =
+    let s = c .before .before .before in
+    let b = s .pre .1 .0 .bounded in
+    let few : FewRows (rowCounts (s .args .st .sizes)) = record {
+      few-variables = b .few-variables;
+      few-constraints = b .few-constraints;
+      few-sums = b .few-sums;
+    } in
+    (few, s .pre .0, refl)
 
 enum-told : tie.Need-enum-told
 enum-told c = search needs
@@ -54,14 +62,8 @@ returns c w h =
     (c .before .before .before .before .before .e .given .1) in
     learned-refused (a .st) w (a .theta) (a .span) (a .mu) (a .radius) e (c .before .before .refuse .ensures w u)
 
-sub-sum-squared : tie.Need-sub-sum-squared
-sub-sum-squared c = search needs
-
-part-sum-squared-start : tie.Need-part-sum-squared-start
-part-sum-squared-start c = search needs
-
-part-sum-squared-end : tie.Need-part-sum-squared-end
-part-sum-squared-end c = search needs
+standing-rows-requires : tie.Need-standing-rows-requires
+standing-rows-requires c κs = search needs
 
 sum-squared-requires : tie.Need-sum-squared-requires
 sum-squared-requires c κs = let b = c .before .before .before .before .before .before .before .before .before .pre .1 .0 .bounded in (b .few-variables, (b .few-constraints, b .few-sums))
@@ -112,7 +114,7 @@ returns-2 c w h =
     .enum-told .given .1) in
     let f = c .before .before .before .before .before .before .before .before .before .before .sum-squared .result in
     let sum = c .before .before .before .before .before .before .before .before .before .before .sum-squared .ensures
-    ∙ ap (λ (x : List Float). sumSquared (sumOf (z .n) (z .m) (z .s) x)) (standing-rows-read (u .holds)) in
+    ∙ ap (λ (x : List Float). sumSquared (sumOf (z .n) (z .m) (z .s) x)) (c .before .before .before .before .before .before .before .before .before .before .before .standing-rows .ensures .read w (u .holds)) in
     let kept : Working (standingOn (a .st) (a .span) (a .mu) (a .radius))
     (withTaken w b (filterWith (w .filter) (a .st .counts .iterations) f (a .theta)))
     (c .before .before .before .before .before .before .before .write-taken .last .0) = record {
@@ -138,9 +140,7 @@ take-with-spec =
     refuse-requires
     same-length
     returns
-    sub-sum-squared
-    part-sum-squared-start
-    part-sum-squared-end
+    standing-rows-requires
     sum-squared-requires
     slice-aggregate-with-taken
     write-taken-requires

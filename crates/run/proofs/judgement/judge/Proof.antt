@@ -1,12 +1,27 @@
 -- `judge` meets its contract: the length, then the violation, and the refusal of the first that is refused.
-use mathlib.Core.Path.{ap, sym, _∙_}
+use Prim.Native.Nat.{ℕ}
+use mathlib.Core.List.{List}
+use mathlib.Core.Path.{_≡_, ap, sym, _∙_}
+use lib.Ieee.{Float}
 use Rattle.interval.specs.Result.{ok}
+use Rattle.interval.specs.declared.Scalar.{Scalar}
 use Rattle.linear.specs.Answers.{resultOf}
 use Rattle.linear.proofs.Folds.{bind-ok, bind-refused}
-use Rattle.run.specs.Judgement.{judgeOf}
+use Rattle.run.specs.Filter.{beatsTo}
+use Rattle.run.specs.Judgement.{Judged, sumChange, judgedBy, judgeOf}
+use Rattle.run.specs.Rows.{rowsIn}
+use Rattle.run.specs.declared.state.Last.{Last}
+use Rattle.run.proofs.RowLaws.{sum-small}
 use borrow.Author.Needs.{needs}
 use Rattle.run.proofs.judgement.judge.Statement.{statement}
 use Rattle.run.proofs.judgement.judge.Tie as tie
+
+-- a judgement from an equal change and an equal f
+equal :
+    (fall theta length : Scalar) (filter : List Float) (count : ℕ) (last : Last) {x x′ f f′ : Scalar} {r : Judged} →
+    x ≡ x′ → f ≡ f′ → r ≡ judgedBy x fall (beatsTo filter f theta count) length last →
+    r ≡ judgedBy x′ fall (beatsTo filter f′ theta count) length last
+equal fall theta length filter count last ex ef er = rw (er, ex, ef)
 
 norm-of-requires : tie.Need-norm-of-requires
 norm-of-requires c κs = search needs
@@ -16,8 +31,7 @@ enum-known-e c = search needs
 
 returns : tie.Need-returns
 unfolding judgeOf
-returns c v =
-    sym (bind-refused _ (sym (c .before .before .before .norm-of .ensures) ∙ ap resultOf (c .before .e .given .1)))
+returns c v = sym (bind-refused _ (sym (c .before .before .before .norm-of .ensures) ∙ ap resultOf (c .before .e .given .1)))
 
 enum-known-length : tie.Need-enum-known-length
 enum-known-length c = search needs
@@ -28,24 +42,40 @@ enum-known-landed c = search needs
 returns-2 : tie.Need-returns-2
 unfolding judgeOf
 returns-2 c v =
-    let f = sym (c .before .before .before .before .before .before .norm-of .ensures) ∙ ap resultOf
-    (c .before .before .before .before .length .given .1) in
+    let f = sym (c .before .before .before .before .before .before .norm-of .ensures) ∙ ap resultOf (c .before .before .before .before .length .given .1) in
     let g = sym v ∙ ap resultOf (c .before .landed .given .1) in
     sym (bind-ok _ f ∙ bind-refused _ g)
 
 enum-known-landed-2 : tie.Need-enum-known-landed-2
 enum-known-landed-2 c = search needs
 
-judged-at-requires : tie.Need-judged-at-requires
-judged-at-requires c κs = search needs
+sum-requires : tie.Need-sum-requires
+sum-requires c κs = search needs
+
+sum-change-requires : tie.Need-sum-change-requires
+sum-change-requires c κs =
+    let p = c .before .before .before .before .before .before .before .before .before .before .before .before .pre .counts in
+    rw (c .sum .ensures) (sum-small (p .few-variables) (p .few-constraints) (p .few-sums))
+
+sum-squared-requires : tie.Need-sum-squared-requires
+sum-squared-requires c κs = search needs
+
+judged-by-requires : tie.Need-judged-by-requires
+judged-by-requires c κs = search needs
 
 returns-3 : tie.Need-returns-3
 unfolding judgeOf
 returns-3 c v =
-    let f = sym (c .before .before .before .before .before .before .before .norm-of .ensures) ∙ ap resultOf
-    (c .before .before .before .before .before .length .given .1) in
-    let g = sym v ∙ ap resultOf (c .before .before .landed2 .given .1) in
-    ap ok (c .judged-at .ensures) ∙ sym (bind-ok _ f ∙ bind-ok _ g)
+    let a = c .before .before .before .before .before .before .before .before .before .before .before .before .before .before .before .args in
+    let f = sym (c .before .before .before .before .before .before .before .before .before .before .norm-of .ensures) ∙ ap resultOf (c .before .before .before .before .before .before .before .before .length .given .1) in
+    let g = sym v ∙ ap resultOf (c .before .before .before .before .before .landed2 .given .1) in
+    let change =
+    c .before .before .sum-change .ensures ∙ ap (λ e. sumChange (rowsIn (a .at .now) e) (rowsIn (a .next .now) e))
+    (c .before .before .before .sum .ensures) in
+    let judged =
+    equal _ _ _ (a .filter .now) (a .base .pairs) (a .base .last) change (c .before .sum-squared .ensures)
+    (c .judged-by .ensures) in
+    ap ok judged ∙ sym (bind-ok _ f ∙ bind-ok _ g)
 
 pub judge-spec : {M : Type 1} → statement M
 judge-spec =
@@ -58,5 +88,8 @@ judge-spec =
     enum-known-landed
     returns-2
     enum-known-landed-2
-    judged-at-requires
+    sum-requires
+    sum-change-requires
+    sum-squared-requires
+    judged-by-requires
     returns-3)

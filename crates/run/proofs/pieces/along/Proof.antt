@@ -28,18 +28,24 @@ returns c = rw (← c .before .before .before .sized .ensures, ← c .before .be
 
 mul-if1 : tie.Need-mul-if1
 mul-if1 c =
-    let p = wants-passed _ _ _ (finished (c .enum-told .given .1)) (c .before .before .wants .ensures) in
-    omega (arith, sized-passed (p .0) (c .before .before .before .sized .ensures) .few-variables)
+    let p = wants-passed _ _ _ (finished (c .before .enum-told .given .1)) (c .before .before .before .wants .ensures) in
+    omega (arith, sized-passed (p .0) (c .before .before .before .before .sized .ensures) .counts .few-variables)
 
 returns-2 : tie.Need-returns-2
 unfolding alongReply
-returns-2 c = rw (← c .before .before .before .before .sized .ensures, ← c .before .before .before .wants .ensures, c .before .enum-told .given .1, ne-eqb _ _ (c .if1 .taken))
+returns-2 c =
+    rw (← c .before .before .before .before .before .sized .ensures, ← c .before .before .before .before .wants .ensures, c .before .before .enum-told .given .1, ne-eqb _ _ (c .if1 .taken))
 
 along-constraints-requires : tie.Need-along-constraints-requires
 along-constraints-requires c κs =
-    let p = wants-passed _ _ _ (finished (c .before .before .enum-told .given .1)) (c .before .before .before .before .wants .ensures) in
-    let z = sized-passed (p .0) (c .before .before .before .before .before .sized .ensures) in
-    (z .few-variables, (z .few-constraints, (omega (arith, z .few-variables, p .1), c .before .if1 .left)))
+    let p = wants-passed _ _ _ (finished (c .before .before .before .enum-told .given .1)) (c .before .before .before .before .before .wants .ensures) in
+    let z = sized-passed (p .0) (c .before .before .before .before .before .before .sized .ensures) .counts in
+    record {
+      few-variables = z .few-variables;
+      few-constraints = z .few-constraints;
+      enough = omega (arith, z .few-variables, p .1);
+      values = c .before .if1 .left;
+    }
 
 cleared-requires : tie.Need-cleared-requires
 cleared-requires c κs = search needs
@@ -51,8 +57,24 @@ returns-3 : tie.Need-returns-3
 unfolding alongReply
 returns-3 c =
     let k = c .before .before .before .before .before .before .along-constraints in
-    let size : length (k .last .1 .1 .1 .1 .0) ≡ 2 * c .before .before .before .before .before .before .before .before .before .before .before .before .before .before .before .before .args .n = omega (arith, k .kept, c .before .before .before .before .before .before .before .before .if1 .left) in
-    rw (← c .before .before .before .before .before .before .before .before .before .before .before .before .sized .ensures, ← c .before .before .before .before .before .before .before .before .before .before .before .wants .ensures, c .before .before .before .before .before .before .before .before .before .enum-told .given .1, eq-eqb _ _ (c .before .before .before .before .before .before .before .before .if1 .left), ← k .ensures) (rw size at (c .before .before .cleared .ensures))
+    let n = c .before .before .before .before .before .before .before .before .before .before .before .before .before .before .before .before .before .args .c .n in
+    let long = c .before .before .before .before .before .before .before .before .if1 .left in
+    let size : length (k .last .1 .1 .1 .1 .0) ≡ 2 * n = omega (arith, k .kept, long) in
+    rw (← c .before .before .before .before .before .before .before .before .before .before .before .before .before .sized .ensures, ← c .before .before .before .before .before .before .before .before .before .before .before .before .wants .ensures, c .before .before .before .before .before .before .before .before .before .before .enum-told .given .1, eq-eqb _ _ long, ← k .ensures)
+    (rw size at (c .before .before .cleared .ensures))
 
 pub along-spec : {M : Type 1} → statement M
-along-spec = tie.close (tie.spec sized-requires wants-requires enum-told enum-told-2 returns mul-if1 returns-2 along-constraints-requires cleared-requires same-length returns-3)
+along-spec =
+    tie.close
+    (tie.spec
+    sized-requires
+    wants-requires
+    enum-told
+    enum-told-2
+    returns
+    mul-if1
+    returns-2
+    along-constraints-requires
+    cleared-requires
+    same-length
+    returns-3)

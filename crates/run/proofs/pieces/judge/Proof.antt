@@ -31,29 +31,18 @@ violation-requires : tie.Need-violation-requires
 violation-requires c κs =
     let p = wants-passed _ _ _ (finished (c .enum-told .given .1)) (c .before .before .wants .ensures) in
     let q = fits-passed (p .0) (c .before .before .before .fits2 .ensures) in
-    (q .0 .few-constraints, values-inside (q .0) (q .1 .0))
+    (q .sized .counts .few-constraints, values-inside (q .sized) (q .first))
 
 judge-requires : tie.Need-judge-requires
 judge-requires c κs =
     let p = wants-passed _ _ _ (finished (c .before .enum-told .given .1)) (c .before .before .before .wants .ensures)
     in
     let q = fits-passed (p .0) (c .before .before .before .before .fits2 .ensures) in
-    let z = q .0 in (
-      z .few-variables,
-      (
-        z .few-constraints,
-        (
-          z .few-residuals,
-          (
-            omega (
-              arith,
-              c .before .before .before .before .before .if1 .left,
-            ),
-            p .1,
-          ),
-        ),
-      ),
-    )
+    record {
+      counts = q .sized .counts;
+      few-pairs = omega (arith, c .before .before .before .before .before .if1 .left);
+      step-is = p .1;
+    }
 
 returns-3 : tie.Need-returns-3
 unfolding judgeReply

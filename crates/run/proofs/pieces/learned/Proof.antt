@@ -1,5 +1,5 @@
 -- `learned` meets its contract: each check decides one of the definition's.
-use mathlib.Core.Path.{sym, ap, _∙_}
+use mathlib.Core.Path.{ap}
 use Rattle.interval.specs.Result.{ok}
 use borrow.Author.Tests.{le-leb, lt-leb, eq-eqb, ne-eqb}
 use Rattle.run.specs.Pieces.{learnedReply}
@@ -20,11 +20,8 @@ learned-requires c κs = search needs
 
 returns-3 : tie.Need-returns-3
 unfolding learnedReply
-returns-3 c = rw (le-leb _ _ (c .before .before .before .if1 .left), eq-eqb _ _ (c .before .before .if2 .left), ← c .before .learned .ensures, c .if3 .taken)
-
-returns-4 : tie.Need-returns-4
-unfolding learnedReply
-returns-4 c = rw (le-leb _ _ (c .before .before .before .if1 .left), eq-eqb _ _ (c .before .before .if2 .left), ← c .before .learned .ensures, c .if3 .left)
+returns-3 c =
+    rw (le-leb _ _ (c .before .before .if1 .left), eq-eqb _ _ (c .before .if2 .left)) (ap ok (c .learned .ensures))
 
 pub learned-spec : {M : Type 1} → statement M
-learned-spec = tie.close (tie.spec returns returns-2 learned-requires returns-3 returns-4)
+learned-spec = tie.close (tie.spec returns returns-2 learned-requires returns-3)

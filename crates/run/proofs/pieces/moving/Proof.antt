@@ -4,16 +4,17 @@ use Prim.Native.Nat.{_≤_, _-_}
 use native.Mathlib.Omega.{arith}
 use lib.ListN.{length}
 use Rattle.run.specs.Pieces.{movingReply}
-use Rattle.run.proofs.PieceLaws.{finished, sized-passed, wants-passed, Copied, copied-none, copied-more, copied-all}
+use Rattle.run.proofs.PieceLaws.{finished, bounds, sized-passed, wants-passed, Copied, copied-none}
+use Rattle.run.proofs.PieceLaws.{copied-more, copied-all}
 use borrow.Author.Needs.{needs}
 use Rattle.run.proofs.pieces.moving.Statement.{statement}
 use Rattle.run.proofs.pieces.moving.Tie as tie
 
 abbrev Inv-loop : tie.InvT-loop
-Inv-loop n m s xs marks₀ fit found j₀ marks j = (j ≤ 12) × (length marks ≡ length marks₀) × Copied found j marks
+Inv-loop xs marks₀ fit found j₀ marks j = (j ≤ 12) × (length marks ≡ length marks₀) × Copied found j marks
 
 abbrev μ-loop : tie.MeasureT-loop
-μ-loop n m s xs marks₀ fit found j₀ marks j = 12 - j
+μ-loop xs marks₀ fit found j₀ marks j = 12 - j
 
 sized-requires : tie.Need-sized-requires Inv-loop μ-loop
 sized-requires c κs = search needs
@@ -35,7 +36,7 @@ moving-requires : tie.Need-moving-requires Inv-loop μ-loop
 moving-requires c κs =
     let p = wants-passed _ _ _ (finished (c .enum-told .given .1)) (c .before .before .wants .ensures) in
     let z = sized-passed (p .0) (c .before .before .before .sized .ensures) in
-    (z .few-variables, (z .few-constraints, z .few-residuals))
+    bounds z
 
 loop-holds : tie.Need-loop-holds Inv-loop μ-loop
 loop-holds c = (search needs, search needs, copied-none (c .moving .result) (c .before .before .before .before .before .before .before .args .marks .now))

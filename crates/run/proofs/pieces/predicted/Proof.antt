@@ -26,7 +26,7 @@ predicted-requires : tie.Need-predicted-requires
 predicted-requires c κs =
     let p = wants-passed _ _ _ (finished (c .enum-told .given .1)) (c .before .before .wants .ensures) in
     let z = sized-passed (p .0) (c .before .before .before .sized .ensures) in
-    (z .few-variables, z .few-constraints)
+    (z .counts .few-variables, z .counts .few-constraints)
 
 returns-2 : tie.Need-returns-2
 unfolding predictedReply

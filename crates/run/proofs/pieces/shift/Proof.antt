@@ -24,8 +24,8 @@ returns c = rw (← c .before .before .fits2 .ensures, c .enum-told2 .given .1)
 shift-requires : tie.Need-shift-requires
 shift-requires c κs =
     let p = fits-passed (finished (c .before .enum-told .given .1)) (c .before .before .before .fits2 .ensures) in
-    let z = p .0 in
-    (z .few-variables, (z .few-constraints, (p .1 .0, p .1 .1)))
+    let z = p .sized in
+    (z .counts .few-variables, (z .counts .few-constraints, (p .first, p .second)))
 
 cleared-requires : tie.Need-cleared-requires
 cleared-requires c κs = search needs
@@ -38,7 +38,7 @@ unfolding shiftReply
 returns-2 c =
     let p = fits-passed (finished (c .before .before .before .before .before .before .before .before .enum-told .given .1)) (c .before .before .before .before .before .before .before .before .before .before .fits2 .ensures) in
     let k = c .before .before .before .before .before .before .shift in
-    let size : length (k .last .1 .1 .1 .1 .0) ≡ 24 = omega (arith, k .kept, p .1 .1) in
+    let size : length (k .last .1 .1 .1 .1 .0) ≡ 24 = omega (arith, k .kept, p .second) in
     rw (← c .before .before .before .before .before .before .before .before .before .before .fits2 .ensures, c .before .before .before .before .before .before .before .before .enum-told .given .1, ← k .ensures) (rw size at (c .before .before .cleared .ensures))
 
 pub shift-spec : {M : Type 1} → statement M

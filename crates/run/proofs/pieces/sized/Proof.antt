@@ -1,39 +1,64 @@
 -- `sized` meets its contract: the sizes decide the definition's first three checks, the count its last.
+use mathlib.Core.Bool.{Bool, true, not, false}
+use mathlib.Core.Path.{_≡_, sym, _∙_}
 use native.Mathlib.Omega.{arith}
-use mathlib.Core.Path.{_≡_, refl, sym, _∙_}
 use borrow.Author.Needs.{needs}
 use borrow.Author.Tests.{not-true, not-false, le-leb, eq-eqb, ne-eqb}
+use Rattle.run.specs.Checks.{sizesFit}
 use Rattle.run.specs.Pieces.{sizedOf}
-use Rattle.run.proofs.CheckLaws.{size-bounds}
+use Rattle.run.specs.declared.rows.RowCounts.{RowCounts}
+use Rattle.run.specs.declared.state.Sizes.{Sizes}
+use Rattle.run.proofs.CheckLaws.{SizeBounds, size-bounds}
 use Rattle.run.proofs.PieceLaws.{answer-small, too-many}
 use Rattle.run.proofs.pieces.sized.Statement.{statement}
 use Rattle.run.proofs.pieces.sized.Tie as tie
+
+abbrev sizes : RowCounts → Sizes
+sizes c = record { n = c .n; m = c .m; s = c .s; limit = 0 }
+
+-- sizes that passed
+passed : (c : RowCounts) {b : Bool} → b ≡ sizesFit (sizes c) → not b ≡ false → SizeBounds (sizes c)
+passed c e h = size-bounds (sizes c) (sym e ∙ not-false _ h)
 
 sizes-fit-requires : tie.Need-sizes-fit-requires
 sizes-fit-requires c κs = search needs
 
 returns : tie.Need-returns
-returns c = let a = c .before .before .args in too-many (a .n) (a .m) (a .s) (a .count) (sym (c .before .sizes-fit .ensures) ∙ not-true _ (c .if1 .taken))
+returns c =
+    let a = c .before .before .args in
+    too-many (a .c) (a .count) (sym (c .before .sizes-fit .ensures) ∙ not-true _ (c .if1 .taken))
 
 add-if2 : tie.Need-add-if2
-add-if2 c = let a = c .before .before .args in let b = size-bounds (record { n = a .n; m = a .m; s = a .s; limit = 0 }) (sym (c .before .sizes-fit .ensures) ∙ not-false _ (c .if1 .left)) in omega (arith, b .m, b .s)
+add-if2 c =
+    let b = passed (c .before .before .before .args .c) (c .before .before .sizes-fit .ensures) (c .before .if1 .left) in
+    omega (arith, b .m, b .s)
 
 add-if2-2 : tie.Need-add-if2-2
-add-if2-2 c = let a = c .before .before .args in let b = size-bounds (record { n = a .n; m = a .m; s = a .s; limit = 0 }) (sym (c .before .sizes-fit .ensures) ∙ not-false _ (c .if1 .left)) in omega (arith, b .n)
+add-if2-2 c =
+    let b = passed (c .before .before .before .before .args .c) (c .before .before .before .sizes-fit .ensures) (c .before .before .if1 .left) in
+    omega (arith, b .n)
 
 mul-if2 : tie.Need-mul-if2
-mul-if2 c = let a = c .before .before .args in let b = size-bounds (record { n = a .n; m = a .m; s = a .s; limit = 0 }) (sym (c .before .sizes-fit .ensures) ∙ not-false _ (c .if1 .left)) in omega (arith, answer-small (b .n) (b .m) (b .s))
+mul-if2 c =
+    let b = passed (c .before .before .before .before .args .c) (c .before .before .before .sizes-fit .ensures) (c .before .before .if1 .left) in
+    omega (arith, answer-small (b .n) (b .m) (b .s))
 
 mul-if2-2 : tie.Need-mul-if2-2
-mul-if2-2 c = let a = c .before .before .args in let b = size-bounds (record { n = a .n; m = a .m; s = a .s; limit = 0 }) (sym (c .before .sizes-fit .ensures) ∙ not-false _ (c .if1 .left)) in omega (arith, answer-small (b .n) (b .m) (b .s))
+mul-if2-2 c =
+    let b = passed (c .before .before .before .before .args .c) (c .before .before .before .sizes-fit .ensures) (c .before .before .if1 .left) in
+    omega (arith, answer-small (b .n) (b .m) (b .s))
 
 returns-2 : tie.Need-returns-2
 unfolding sizedOf
-returns-2 c = let a = c .before .before .before .args in let b = size-bounds (record { n = a .n; m = a .m; s = a .s; limit = 0 }) (sym (c .before .before .sizes-fit .ensures) ∙ not-false _ (c .before .if1 .left)) in rw (le-leb _ _ (b .n), le-leb _ _ (b .m), le-leb _ _ (b .s), ne-eqb _ _ (c .if2 .taken))
+returns-2 c =
+    let b = passed (c .before .before .before .before .before .args .c) (c .before .before .before .before .sizes-fit .ensures) (c .before .before .before .if1 .left) in
+    rw (le-leb _ _ (b .n), le-leb _ _ (b .m), le-leb _ _ (b .s), ne-eqb _ _ (c .if2 .taken))
 
 returns-3 : tie.Need-returns-3
 unfolding sizedOf
-returns-3 c = let a = c .before .before .before .args in let b = size-bounds (record { n = a .n; m = a .m; s = a .s; limit = 0 }) (sym (c .before .before .sizes-fit .ensures) ∙ not-false _ (c .before .if1 .left)) in rw (le-leb _ _ (b .n), le-leb _ _ (b .m), le-leb _ _ (b .s), eq-eqb _ _ (c .if2 .left))
+returns-3 c =
+    let b = passed (c .before .before .before .before .before .args .c) (c .before .before .before .before .sizes-fit .ensures) (c .before .before .before .if1 .left) in
+    rw (le-leb _ _ (b .n), le-leb _ _ (b .m), le-leb _ _ (b .s), eq-eqb _ _ (c .if2 .left))
 
 pub sized-spec : {M : Type 1} → statement M
 sized-spec =

@@ -32,8 +32,8 @@ step-requires c κs =
     let p = wants-passed _ _ _ (finished (c .before .before .enum-told .given .1)) (c .before .before .before .before .wants2 .ensures) in
     let q = wants-passed _ _ _ (p .0) (c .before .before .before .before .before .wants .ensures) in
     let r = fits-passed (q .0) (c .before .before .before .before .before .before .fits2 .ensures) in
-    let z = r .0 in
-    (z .few-variables, (z .few-constraints, (z .few-residuals, (r .1 .1, (q .1, p .1)))))
+    let z = r .sized .counts in
+    (z .few-variables, (z .few-constraints, (z .few-sums, (r .second, (q .1, p .1)))))
 
 enum-told-2 : tie.Need-enum-told-2
 enum-told-2 c = search needs

@@ -6,21 +6,22 @@ use native.Mathlib.Omega.{arith}
 use lib.ListN.{length}
 use Rattle.linear.specs.Flat.{zeros}
 use Rattle.run.specs.Vectors.{vector, fillTo}
-use Rattle.run.specs.Rows.{rowsIn, sumOf}
+use Rattle.run.specs.Rows.{rowsIn, evaluationBy}
 use Rattle.run.specs.Residuals.{transposedAt}
 use Rattle.run.specs.Pieces.{transposedReply}
 use Rattle.run.proofs.RowLaws.{sum-small}
 use Rattle.run.proofs.VectorLaws.{fill-first}
-use Rattle.run.proofs.PieceLaws.{finished, fits-passed}
+use Rattle.run.proofs.PieceLaws.{finished, bounds, fits-passed}
 use borrow.Author.Needs.{needs}
 use Rattle.run.proofs.pieces.transposed.Statement.{statement}
 use Rattle.run.proofs.pieces.transposed.Tie as tie
 
 abbrev Inv-loop : tie.InvT-loop
-Inv-loop n m s xs w out₀ fit j₀ out j = (j ≤ n) × (length out ≡ length out₀) × (out ≡ fillTo vector 0 (transposedAt (sumOf n m s xs) w) j)
+Inv-loop c xs w out₀ fit n j₀ out j =
+    (j ≤ n) × (length out ≡ length out₀) × (out ≡ fillTo vector 0 (transposedAt (evaluationBy c xs .sum) w) j)
 
 abbrev μ-loop : tie.MeasureT-loop
-μ-loop n m s xs w out₀ fit j₀ out j = n - j
+μ-loop c xs w out₀ fit n j₀ out j = n - j
 
 fits-requires : tie.Need-fits-requires Inv-loop μ-loop
 fits-requires c κs = search needs
@@ -42,17 +43,17 @@ loop-holds : tie.Need-loop-holds Inv-loop μ-loop
 unfolding fillTo
 loop-holds c =
     let p = fits-passed (finished (c .before .before .before .before .enum-told .given .1)) (c .before .before .before .before .before .before .fits2 .ensures) in
-    (search needs, search needs, c .before .before .clear .ensures ∙ ap zeros (p .1 .1))
+    (search needs, search needs, c .before .before .clear .ensures ∙ ap zeros (p .second))
 
 sum-requires : tie.Need-sum-requires Inv-loop μ-loop
 sum-requires c κs =
-    let z = fits-passed (finished (c .before .before .before .before .before .before .before .enum-told .given .1)) (c .before .before .before .before .before .before .before .before .before .fits2 .ensures) .0 in
-    (z .few-variables, (z .few-constraints, z .few-residuals))
+    let z = fits-passed (finished (c .before .before .before .before .before .before .before .enum-told .given .1)) (c .before .before .before .before .before .before .before .before .before .fits2 .ensures) .sized in
+    bounds z
 
 transposed-at-requires : tie.Need-transposed-at-requires Inv-loop μ-loop
 transposed-at-requires c κs =
-    let z = fits-passed (finished (c .before .before .before .before .before .before .before .before .enum-told .given .1)) (c .before .before .before .before .before .before .before .before .before .before .fits2 .ensures) .0 in
-    (rw (c .sum .ensures) (sum-small (z .few-variables) (z .few-constraints) (z .few-residuals)), omega (arith, z .few-variables, c .before .before .loop-test .taken))
+    let z = fits-passed (finished (c .before .before .before .before .before .before .before .before .enum-told .given .1)) (c .before .before .before .before .before .before .before .before .before .before .fits2 .ensures) .sized in
+    (rw (c .sum .ensures) (sum-small (z .counts .few-variables) (z .counts .few-constraints) (z .counts .few-sums)), omega (arith, z .counts .few-variables, c .before .before .loop-test .taken))
 
 put-requires : tie.Need-put-requires Inv-loop μ-loop
 put-requires c κs = search needs

@@ -31,8 +31,8 @@ update-curvature-requires : tie.Need-update-curvature-requires
 update-curvature-requires c κs =
     let p = wants-passed _ _ _ (finished (c .before .enum-told .given .1)) (c .before .before .before .wants2 .ensures) in
     let q = wants-passed _ _ _ (p .0) (c .before .before .before .before .wants .ensures) in
-    let z = fits-passed (q .0) (c .before .before .before .before .before .fits2 .ensures) .0 in
-    (z .few-variables, (z .few-constraints, (z .few-residuals, q .1)))
+    let z = fits-passed (q .0) (c .before .before .before .before .before .fits2 .ensures) .sized in
+    (z .counts, q .1)
 
 cleared-requires : tie.Need-cleared-requires
 cleared-requires c κs = search needs
@@ -47,7 +47,7 @@ returns-2 c =
     let q = wants-passed _ _ _ (p .0) (c .before .before .before .before .before .before .before .before .before .before .before .wants .ensures) in
     let r = fits-passed (q .0) (c .before .before .before .before .before .before .before .before .before .before .before .before .fits2 .ensures) in
     let k = c .before .before .before .before .before .before .update-curvature in
-    let size : length (k .last .1 .1 .1 .0) ≡ 288 = omega (arith, k .kept, r .1 .1) in
+    let size : length (k .last .1 .0) ≡ 288 = omega (arith, k .kept, r .second) in
     rw (← c .before .before .before .before .before .before .before .before .before .before .before .before .fits2 .ensures, ← c .before .before .before .before .before .before .before .before .before .before .before .wants .ensures, ← c .before .before .before .before .before .before .before .before .before .before .wants2 .ensures, c .before .before .before .before .before .before .before .before .enum-told .given .1, ← k .ensures) (rw size at (c .before .before .cleared .ensures))
 
 pub update-curvature-spec : {M : Type 1} → statement M
