@@ -47,7 +47,7 @@ pub use pieces::squared;
 pub use pieces::step_at;
 pub use pieces::transposed;
 pub use pieces::update_curvature;
-pub use proposal::Expected;
+pub use results::TruthResult;
 pub use state::Counts;
 pub use state::Event;
 pub use state::Kind;

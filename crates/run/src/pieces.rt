@@ -8,8 +8,8 @@ ghost use Rattle.linear.specs.Replies.{replied, replyOf};
 ghost use Rattle.run.specs.Pieces.{sizedOf, wantsOf, reachOf, squaredReply, predictedReply, transposedReply};
 ghost use Rattle.run.specs.Pieces.{movingReply, judgeReply, expectsReply, cutReply, alongReply, shiftReply};
 ghost use Rattle.run.specs.Pieces.{updateReply, stepReplied, stepReply, learnedReply, learningOf};
+ghost use Rattle.run.specs.Results.{truthOf};
 ghost use Rattle.run.specs.program.Judgement.{judgementOf};
-ghost use Rattle.run.specs.program.Proposal.{expectedResult};
 use crate::area::FILTER_LEN;
 use crate::checks::sizes_fit;
 use crate::corrected;
@@ -19,11 +19,12 @@ use crate::judgement::Judgement;
 use crate::limits::ITERATIONS;
 use crate::limits::VARIABLES;
 use crate::proposal;
-use crate::proposal::Expected;
 use crate::proposal::StandingPoint;
 use crate::radius::cut_within;
 use crate::residuals;
+use crate::results::TruthResult;
 use crate::rows;
+use crate::rows::RowCounts;
 use crate::state::Last;
 use crate::state::Sizes;
 use crate::step;
@@ -194,16 +195,17 @@ pub fn expects(
     f: Scalar,
     theta: Scalar,
     delta: &[f64],
-) -> Expected
-    ensures { λ r. ⌜ expectedResult r ≡ expectsReply n m s (now (xs .entry)) (now (b .entry)) f theta (now (delta .entry)) ⌝ }
+) -> TruthResult
+    ensures { λ r. ⌜ truthOf r ≡ expectsReply n m s (now (xs .entry)) (now (b .entry)) f theta (now (delta .entry)) ⌝ }
 {
     match fits(n, m, s, xs, b.len(), 288, delta.len(), 24) {
         Done::Refused(e) => {
-            return Expected::Refused(e);
+            return TruthResult::Refused(e);
         }
         Done::Finished => {}
     }
-    proposal::expects(StandingPoint { n, m, s, f, theta }, xs, b, delta)
+    let counts = RowCounts { n, m, s };
+    proposal::expects(StandingPoint { counts, f, theta }, xs, b, delta)
 }
 
 // Clears what was written of a piece that was refused.
@@ -300,7 +302,7 @@ pub fn step_at(
         }
         Done::Finished => {}
     }
-    let end = step::step(n, m, s, xs, b, moving, mu, delta, lambda);
+    let end = step::step(RowCounts { n, m, s }, xs, b, moving, mu, delta, lambda);
     if let StepEnd::Found(_) = end {
         return end;
     }

@@ -22,7 +22,7 @@ enum-told c = search needs
 expects-requires : tie.Need-expects-requires
 expects-requires c κs =
     let z = fits-passed (finished (c .enum-told .given .1)) (c .before .before .fits2 .ensures) .0 in
-    (z .few-variables, (z .few-constraints, z .few-residuals))
+    record { few-variables = z .few-variables; few-constraints = z .few-constraints; few-sums = z .few-residuals }
 
 returns-2 : tie.Need-returns-2
 unfolding expectsReply
