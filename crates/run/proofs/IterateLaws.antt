@@ -2,7 +2,7 @@
 use mathlib.Core.Bool.{Bool, true, false, not, _&&_}
 use mathlib.Core.Path.{_≡_, refl, sym, ap, subst, _∙_}
 use mathlib.Core.List.{List}
-use Prim.Native.Nat.{ℕ, _+_, _-_, _<_, _≤_}
+use Prim.Native.Nat.{ℕ, _+_, _<_}
 use native.Mathlib.Omega.{arith}
 use lib.Ieee.{Float}
 use lib.ListN.{take, drop}
@@ -17,22 +17,22 @@ use Rattle.run.specs.program.Area.{Holds}
 use Rattle.run.specs.Curvature.{learnedOf}
 use Rattle.run.specs.Proposal.{Standing}
 use Rattle.run.specs.Vectors.{movedOf}
-use Rattle.run.specs.program.Proposal.{standingFor}
-use Rattle.run.specs.Rows.{constraintsOf, sumOf}
-use Rattle.run.specs.Residuals.{sumSquared, violationOf}
+use Rattle.run.specs.program.Proposal.{curvatureFor, standingIn, nextIn}
+use Rattle.run.specs.Rows.{constraintsOf}
+use Rattle.run.specs.Residuals.{violationOf}
 use Rattle.run.specs.program.Endings.{Leaves, Bounded}
 use Rattle.run.specs.State.{searching}
 use Rattle.run.specs.Area.{standingAt}
 use Rattle.run.specs.Iterate.{standingOf, leftAt, search}
 use Rattle.run.specs.Endings.{finish, refuse, orRefuse}
-use Rattle.run.specs.program.Iterate.{soughtWith, soughtOf}
+use Rattle.run.specs.program.Iterate.{soughtWith, soughtOf, searchStart}
 use Rattle.run.specs.Decide.{grow, turnDown, notLower}
 use Rattle.run.specs.Search.{Found, searchOf}
 use Rattle.run.specs.State.{rejectedFor, withRadius, retried}
 use Rattle.run.specs.Damping.{grown, damped}
 use Rattle.run.specs.program.Search.{foundResult}
 use Rattle.run.specs.program.Damping.{goesOn, stopsAt}
-use Rattle.run.specs.declared.proposal.StandingPoint.{StandingPoint}
+use Rattle.run.specs.declared.proposal.Start.{Start}
 use Rattle.run.specs.declared.damping.Damped.{Damped}
 use Rattle.run.specs.declared.damping.Damped.the-variants as d
 use Rattle.run.specs.declared.search.Found as declared
@@ -89,47 +89,25 @@ pub standing-violation : (st : State) {w : Memory} {a : List Float} {x : Res Sca
 standing-violation st h e = sym (e ∙ ap (λ (xs : List Float). violationOf (constraintsOf (st .sizes .n) (st .sizes .m) xs)) (standing-rows-read h))
 
 -- the curvature that is read, from its slot or of the last numbers
-pub bent-read :
-    (plain : Bool) {i : ℕ} {w : Memory} {a : List Float} → Holds w a → i ≡ pick plain 3080 1992 →
-    take (i + 288 - i) (drop i a) ≡ pick plain (zeros 288) (w .curvature)
+curvature-for-read : (plain : Bool) {w : Memory} {a : List Float} → Holds w a →
+    curvatureFor plain a ≡ pick plain (zeros 288) (w .curvature)
 unfolding startOf
-bent-read plain {i} {w} {a} h e =
-    let n : i + 288 - i ≡ 288 = omega arith in
-    ap (λ (k : ℕ). take k (drop i a)) n ∙ ap (λ (k : ℕ). take 288 (drop k a)) e ∙ by plain
-  where
-    by : (b : Bool) → take 288 (drop (pick b 3080 1992) a) ≡ pick b (zeros 288) (w .curvature)
-    by true = ap (take 288) (spare-drop (slots-of h)) ∙ take-replicate 288 4920 zero64 (omega arith)
-    by false = curvature-read h
-
-pub bent-within : (plain : Bool) {i : ℕ} → i ≡ pick plain 3080 1992 → i ≤ 3080
-bent-within true e = omega arith
-bent-within false e = omega arith
+curvature-for-read true h = ap (take 288) (spare-drop (slots-of h)) ∙ take-replicate 288 4920 zero64 (omega arith)
+curvature-for-read false h = curvature-read h
 
 -- where a search from what is read of the slots is left
-module _ (st : State) {theta : Scalar} {w : Memory} {a b : List Float} {z : StandingPoint} (d lambda : List Float)
+module _ (st : State) {theta : Scalar} {w : Memory} {a : List Float} {z : Start} (d lambda : List Float)
     (r : declared.Found) where
-  pub sought-by :
-      Holds w a →
-      z
-      ≡ record {
-        n = st .sizes .n;
-        m = st .sizes .m;
-        s = st .sizes .s;
-        f = sumSquared (sumOf (st .sizes .n) (st .sizes .m) (st .sizes .s) (take 936 (drop 72 a)));
-        theta = theta;
-      } →
-      b ≡ pick (st .search .plain) (zeros 288) (w .curvature) →
-      violationOf (standingAt st w .constraints) ≡ ok theta →
-      foundResult r d lambda (movedOf (z .n) (take 24 (drop 0 a)) d)
-      ≡ searchOf (standingFor z (take 936 (drop 72 a)) b (take 24 (drop 0 a)) (st .moving)) (st .«max_step») (st
-      .search) →
+  pub sought-by : Holds w a → z ≡ searchStart st a theta → violationOf (standingAt st w .constraints) ≡ ok theta →
+      foundResult r d lambda (nextIn z a d) ≡ searchOf (standingIn z a) (z .«max_step») (st .search) →
       foundResult r d lambda (movedOf (st .sizes .n) (w .standing) d) ≡ soughtOf st w
-  sought-by h ez eb ev e =
-      let S : standingFor z (take 936 (drop 72 a)) b (take 24 (drop 0 a)) (st .moving) ≡ standingOf st w theta =
-      rw (ez, eb, standing-read h, standing-rows-read h) in
-      let x : movedOf (z .n) (take 24 (drop 0 a)) d ≡ movedOf (st .sizes .n) (w .standing) d = rw (ez, standing-read h) in
+  sought-by h ez ev e =
+      let s : Start = searchStart st a theta in
+      let S : standingIn s a ≡ standingOf st w theta =
+      rw (standing-read h, standing-rows-read h, curvature-for-read (st .search .plain) h) in
+      let x : nextIn s a d ≡ movedOf (st .sizes .n) (w .standing) d = rw (standing-read h) in
       sym (ap (λ (y : List Float). foundResult r d lambda y) x)
-      ∙ e
+      ∙ rw ez at e
       ∙ ap (λ (y : Standing). searchOf y (st .«max_step») (st .search)) S
       ∙ sym (ap (soughtWith st w) ev)
 

@@ -20,8 +20,8 @@ use Rattle.linear.proofs.Lists.{ext-at}
 use Rattle.run.specs.Curvature.{curvatureAt}
 use Rattle.run.specs.Problem.{Kept, keepNext, keptTo, variable, squeezedOf, scalingAt, dampedAt, dampedOf}
 use Rattle.run.specs.Problem.{gradientOf, problemOf}
-use Rattle.run.specs.program.Problem.{squeezedAs, problemIn, undampedAt, undampedOf, scalingsOf, dampedEntry}
-use Rattle.run.specs.program.Problem.{dampedBy, dampedFrom, gradientIn, gradientAt}
+use Rattle.run.specs.program.Problem.{squeezedAs, problemIn, undampedAt, undampedBetween, undampedOf, scalingsOf}
+use Rattle.run.specs.program.Problem.{dampedEntry, dampedBy, dampedFrom, gradientIn, gradientAt}
 use Rattle.run.specs.Rows.{Rows, rowsIn, constraintSet, sumSet, constraintsOf, evaluationOf, valueAt, slopeAt}
 use Rattle.run.specs.Vectors.{vector, matrix, column, fillTo, fillRows, chosenOf}
 use Rattle.run.specs.declared.rows.RowSet.{RowSet}
@@ -108,52 +108,80 @@ entry-damped : (jr : List Float) (s : ℕ) (jc : List Float) (m : ℕ) (mu b : S
 unfolding dampedEntry undampedAt dampedAt
 entry-damped jr s jc m mu b i j = either (eqb i j) (plusTo (column jr i) (column jr j) b s) (scalingAt jr s jc m i) mu
 
--- a curve that is filled part by part
-filled-is : (u : ℕ → ℕ → Scalar) (d g : ℕ → Scalar) (k : ℕ) → k ≤ 12 → fillTo (fillTo (fillRows (zeros 336) u k k) 144 d k) 156 g k ≡ fillRows matrix u k k ++ (fillTo vector 0 d k ++ fillTo vector 0 g k)
+-- what is undamped, filled part by part
+filled-is : (u : ℕ → ℕ → Scalar) (d g : ℕ → Scalar) (k : ℕ) → k ≤ 12 →
+    fillTo (fillTo (fillRows (zeros 336) u k k) 144 d k) 156 g k
+    ≡ fillRows matrix u k k ++ (fillTo vector 0 d k ++ fillTo vector 0 g k)
 filled-is u d g k h =
-    let lu : length (fillRows matrix u k k) ≡ 288 = length-fillRows matrix u k k in
-    let ld : length (fillTo vector 0 d k) ≡ 24 = length-fillTo vector 0 d k in
+    let us : List Float = fillRows matrix u k k in
+    let ds : List Float = fillTo vector 0 d k in
+    let lu : length us ≡ 288 = length-fillRows matrix u k k in
+    let ld : length ds ≡ 24 = length-fillTo vector 0 d k in
     let lv : length vector ≡ 24 = refl in
     let lm : length matrix ≡ 288 = refl in
     let lz : length (zeros 48) ≡ 48 = refl in
     let z : zeros 336 ≡ matrix ++ zeros 48 = sym (replicate-append-replicate 288 48 zero64) in
     let y : zeros 48 ≡ vector ++ vector = sym (replicate-append-replicate 24 24 zero64) in
-    let e₁ : fillRows (zeros 336) u k k ≡ fillRows matrix u k k ++ zeros 48 = ap (λ (x : List Float). fillRows x u k k) z ∙ rows-front matrix (zeros 48) u k k h (omega (arith, lm, h)) in
-    let e₂ : fillTo (zeros 48) 0 d k ≡ fillTo vector 0 d k ++ vector = ap (λ (x : List Float). fillTo x 0 d k) y ∙ fill-front vector vector 0 d k (omega (arith, lv, h)) in
-    let e₃ : fillTo (fillRows (zeros 336) u k k) 144 d k ≡ (fillRows matrix u k k ++ fillTo vector 0 d k) ++ vector = ap (λ (x : List Float). fillTo x 144 d k) e₁ ∙ fill-behind (fillRows matrix u k k) (zeros 48) 144 d k lu (omega (arith, lz, h)) ∙ ap (λ (x : List Float). fillRows matrix u k k ++ x) e₂ ∙ sym (append-assoc (fillRows matrix u k k) (fillTo vector 0 d k) vector) in
+    let e₁ : fillRows (zeros 336) u k k ≡ us ++ zeros 48 =
+    ap (λ (x : List Float). fillRows x u k k) z ∙ rows-front matrix (zeros 48) u k k h (omega (arith, lm, h)) in
+    let e₂ : fillTo (zeros 48) 0 d k ≡ ds ++ vector =
+    ap (λ (x : List Float). fillTo x 0 d k) y ∙ fill-front vector vector 0 d k (omega (arith, lv, h)) in
+    let e₃ : fillTo (fillRows (zeros 336) u k k) 144 d k ≡ (us ++ ds) ++ vector =
+    ap (λ (x : List Float). fillTo x 144 d k) e₁
+    ∙ fill-behind us (zeros 48) 144 d k lu (omega (arith, lz, h))
+    ∙ ap (λ (x : List Float). us ++ x) e₂
+    ∙ sym (append-assoc us ds vector) in
     ap (λ (x : List Float). fillTo x 156 g k) e₃
-    ∙ fill-behind (fillRows matrix u k k ++ fillTo vector 0 d k) vector 156 g k (length-both (fillRows matrix u k k) (fillTo vector 0 d k) lu ld) (omega (arith, lv, h))
-    ∙ append-assoc (fillRows matrix u k k) (fillTo vector 0 d k) (fillTo vector 0 g k)
+    ∙ fill-behind (us ++ ds) vector 156 g k (length-both us ds lu ld) (omega (arith, lv, h))
+    ∙ append-assoc us ds (fillTo vector 0 g k)
 
-pub curve-filled : (n : ℕ) (k : Kept) (jr : List Float) (s : ℕ) (jc : List Float) (m : ℕ) (b : List Float) (e : Rows) {c₁ c₂ c₃ : List Float}
-    → k .count ≤ 12 → c₁ ≡ fillRows (zeros 336) (λ i j. undampedAt jr s (curvatureAt n b (variable k i) (variable k j)) i j) (k .count) (k .count) → c₂ ≡ fillTo c₁ 144 (scalingAt jr s jc m) (k .count) → c₃ ≡ fillTo c₂ 156 (gradientAt k e) (k .count)
-    → c₃ ≡ undampedOf n k jr s b ++ (scalingsOf (k .count) jr s jc m ++ gradientOf k e)
+pub undamped-filled : (n : ℕ) (k : Kept) (jr : List Float) (s : ℕ) (jc : List Float) (m : ℕ) (b : List Float) (e : Rows)
+    {u₁ u₂ u₃ : List Float} → k .count ≤ 12 →
+    u₁ ≡ fillRows (zeros 336) (undampedBetween n (k .index) jr s b) (k .count) (k .count) →
+    u₂ ≡ fillTo u₁ 144 (scalingAt jr s jc m) (k .count) → u₃ ≡ fillTo u₂ 156 (gradientAt k e) (k .count) →
+    u₃ ≡ undampedOf n k jr s b ++ (scalingsOf (k .count) jr s jc m ++ gradientOf k e)
 unfolding undampedOf scalingsOf gradientOf
-curve-filled n k jr s jc m b e h e₁ e₂ e₃ = e₃ ∙ ap (λ (x : List Float). fillTo x 156 (gradientAt k e) (k .count)) (e₂ ∙ ap (λ (x : List Float). fillTo x 144 (scalingAt jr s jc m) (k .count)) e₁) ∙ filled-is _ (scalingAt jr s jc m) (gradientAt k e) (k .count) h
+undamped-filled n k jr s jc m b e h e₁ e₂ e₃ =
+    e₃
+    ∙ ap (λ (x : List Float). fillTo x 156 (gradientAt k e) (k .count))
+    (e₂ ∙ ap (λ (x : List Float). fillTo x 144 (scalingAt jr s jc m) (k .count)) e₁)
+    ∙ filled-is _ (scalingAt jr s jc m) (gradientAt k e) (k .count) h
 
--- H, read from a curve
-pub damped-read : (k : ℕ) (curve : List Float) (mu : Scalar) → k ≤ 12 → length curve ≡ 336 → fillRows matrix (λ i j. dampedEntry (at curve (12 * i + j)) (at curve (144 + i)) mu i j) k k ≡ dampedFrom k curve mu
+-- H, read from what is undamped
+pub damped-read : (k : ℕ) (undamped : List Float) (mu : Scalar) → k ≤ 12 → 336 ≤ length undamped →
+    fillRows matrix (λ i j. dampedEntry (at undamped (12 * i + j)) (at undamped (144 + i)) mu i j) k k
+    ≡ dampedFrom k undamped mu
 unfolding dampedBy
-damped-read k curve mu h l =
-    fill-rows-ext matrix (λ i j. dampedEntry (at curve (12 * i + j)) (at curve (144 + i)) mu i j) (λ i j. dampedEntry (at (take 288 curve) (12 * i + j)) (at (take 24 (drop 288 curve)) i) mu i j) k k
-    (λ i j hi hj. rw (at-take curve 144 (12 * i + j) (omega arith) (omega (arith, l)), at-part curve 144 12 i (omega arith) (omega (arith, l))))
+damped-read k undamped mu h l =
+    fill-rows-ext matrix (λ i j. dampedEntry (at undamped (12 * i + j)) (at undamped (144 + i)) mu i j)
+    (λ i j. dampedEntry (at (take 288 undamped) (12 * i + j)) (at (take 24 (drop 288 undamped)) i) mu i j) k k
+    (λ i j hi hj.
+    rw
+    (at-take undamped 144 (12 * i + j) (omega arith) (omega (arith, l)),
+    at-part undamped 144 12 i (omega arith) (omega (arith, l))))
 
 module _ (n : ℕ) (k : Kept) (jr : List Float) (s : ℕ) (jc : List Float) (m : ℕ) (b : List Float) where
   -- what is filled before it is damped
   abbrev before : ℕ → ℕ → Scalar
-  before i j = undampedAt jr s (curvatureAt n b (variable k i) (variable k j)) i j
+  before i j = undampedBetween n (k .index) jr s b i j
 
-  damped-is : (mu : Scalar) → k .count ≤ 12 → dampedBy (k .count) (undampedOf n k jr s b) (scalingsOf (k .count) jr s jc m) mu ≡ dampedOf n k jr s jc m b mu
+  damped-is : (mu : Scalar) → k .count ≤ 12 →
+      dampedBy (k .count) (undampedOf n k jr s b) (scalingsOf (k .count) jr s jc m) mu ≡ dampedOf n k jr s jc m b mu
   unfolding dampedBy undampedOf scalingsOf dampedOf
   damped-is mu h =
       let r : ℕ = k .count in
       let lm : length matrix ≡ 288 = refl in
       let lv : length vector ≡ 24 = refl in
-      fill-rows-ext matrix (λ i j. dampedEntry (at (fillRows matrix before r r) (12 * i + j)) (at (fillTo vector 0 (scalingAt jr s jc m) r) i) mu i j) (λ i j. dampedAt jr s jc m mu (curvatureAt n b (variable k i) (variable k j)) i j) r r
+      let ds : List Float = fillTo vector 0 (scalingAt jr s jc m) r in
+      fill-rows-ext matrix
+      (λ i j. dampedEntry (at (fillRows matrix before r r) (12 * i + j)) (at ds i) mu i j)
+      (λ i j. dampedAt jr s jc m mu (curvatureAt n b (variable k i) (variable k j)) i j) r r
       (λ i j hi hj.
       let z : 0 + i ≡ i = omega arith in
-      let e : at (fillTo vector 0 (scalingAt jr s jc m) r) i ≡ scalingAt jr s jc m i = rw z at (at-fill-in vector 0 (scalingAt jr s jc m) r i hi (omega (arith, lv, h))) in
-      rw (at-fill-rows matrix before r r i j h hi hj (omega (arith, lm, h)), e) (entry-damped jr s jc m mu (curvatureAt n b (variable k i) (variable k j)) i j))
+      let e : at ds i ≡ scalingAt jr s jc m i =
+      rw z at (at-fill-in vector 0 (scalingAt jr s jc m) r i hi (omega (arith, lv, h))) in
+      rw (at-fill-rows matrix before r r i j h hi hj (omega (arith, lm, h)), e)
+      (entry-damped jr s jc m mu (curvatureAt n b (variable k i) (variable k j)) i j))
 
   length-undamped : length (undampedOf n k jr s b) ≡ 288
   unfolding undampedOf
@@ -168,13 +196,24 @@ module _ (n : ℕ) (k : Kept) (jr : List Float) (s : ℕ) (jc : List Float) (m :
     unfolding gradientOf
     length-gradient = length-fillTo vector 0 _ (k .count)
 
-    -- a curve, as it is read
-    module _ {curve : List Float} (ec : curve ≡ undampedOf n k jr s b ++ (scalingsOf (k .count) jr s jc m ++ gradientOf k e)) where
-      pub curve-damped : (mu : Scalar) → k .count ≤ 12 → dampedFrom (k .count) curve mu ≡ dampedOf n k jr s jc m b mu
-      curve-damped mu h = rw (first-of-three curve (undampedOf n k jr s b) (scalingsOf (k .count) jr s jc m) (gradientOf k e) length-undamped length-scalings length-gradient ec, second-of-three curve (undampedOf n k jr s b) (scalingsOf (k .count) jr s jc m) (gradientOf k e) length-undamped length-scalings length-gradient ec) (damped-is mu h)
+    -- each part, as it is read
+    module _ {undamped : List Float}
+        (ec : undamped ≡ undampedOf n k jr s b ++ (scalingsOf (k .count) jr s jc m ++ gradientOf k e)) where
+      pub undamped-damped : (mu : Scalar) → k .count ≤ 12 →
+          dampedFrom (k .count) undamped mu ≡ dampedOf n k jr s jc m b mu
+      undamped-damped mu h =
+          let u : List Float = undampedOf n k jr s b in
+          let d : List Float = scalingsOf (k .count) jr s jc m in
+          let g : List Float = gradientOf k e in
+          rw
+          (first-of-three undamped u d g length-undamped length-scalings length-gradient ec,
+          second-of-three undamped u d g length-undamped length-scalings length-gradient ec)
+          (damped-is mu h)
 
-      pub curve-gradient : gradientIn curve ≡ gradientOf k e
-      curve-gradient = third-of-three curve (undampedOf n k jr s b) (scalingsOf (k .count) jr s jc m) (gradientOf k e) length-undamped length-scalings length-gradient ec
+      pub undamped-gradient : gradientIn undamped ≡ gradientOf k e
+      undamped-gradient =
+          third-of-three undamped (undampedOf n k jr s b) (scalingsOf (k .count) jr s jc m) (gradientOf k e)
+          length-undamped length-scalings length-gradient ec
 
 -- ---- slopes chosen as they are read
 

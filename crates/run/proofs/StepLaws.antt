@@ -1,15 +1,16 @@
 -- The step, put together from its parts: along what is left free, with its multipliers, over the kept variables, and over all.
 use Prim.Native.Nat.{ℕ, _+_, _*_, _-_, _≤_}
 use mathlib.Core.Bool.{Bool, true, false, _&&_}
-use mathlib.Core.Path.{_≡_, refl, sym, ap, _∙_}
-use mathlib.Core.List.{List, [], _++_}
+use mathlib.Core.Path.{_≡_, refl, sym, ap, ap₂, _∙_}
+use mathlib.Core.List.{List, [], _++_, append-nil}
 use native.Mathlib.Omega.{arith}
 use lib.Ieee.{Float}
-use lib.ListN.{length, take, drop}
+use lib.ListN.{length, take, drop, length-drop, drop-of-length-le, replicate-append-replicate}
+use lib.Seq.{take-length, take-at, drop-at, take-append-le, drop-append-le}
 use Rattle.interval.specs.declared.Scalar.{Scalar}
 use Rattle.interval.specs.Result.{Res, ok, refused}
-use Rattle.interval.specs.Scalar.{zeroS, pick, isFinite}
-use Rattle.linear.specs.Flat.{at}
+use Rattle.interval.specs.Scalar.{zero64, zeroS, pick, isFinite}
+use Rattle.linear.specs.Flat.{at, zeros}
 use Rattle.linear.specs.Answers.{numberOf, doneOf}
 use Rattle.linear.specs.Results.{bind}
 use Rattle.linear.specs.declared.answers.Done.{Done}
@@ -19,7 +20,7 @@ use Rattle.linear.specs.Cholesky.{Factor, choleskyOf}
 use Rattle.run.specs.Vectors.{matrix, allFinite, spreadTo}
 use Rattle.run.specs.Rows.{Evaluation}
 use Rattle.run.specs.Problem.{Kept, keptTo, Problem, problemOf}
-use Rattle.run.specs.program.Problem.{problemIn, dampedBy, dampedFrom, gradientIn}
+use Rattle.run.specs.program.Problem.{keptBy, problemIn, dampedBy, dampedFrom, gradientIn}
 use Rattle.run.specs.Basis.{Basis, basisOf, correctionOf, multiplierStep, multipliersOf}
 use Rattle.run.specs.program.Basis.{basisBy, problemBy, rankedOf, bare, withoutGram}
 use Rattle.run.specs.declared.results.CountResult.{CountResult}
@@ -35,11 +36,12 @@ use Rattle.run.specs.Reduced.{forceOf, pullOf, reducedOf, againstOf, Wei
 use Rattle.run.specs.program.Reduced.{curved, spanned, solvedWith, addedTo, freePart}
 use Rattle.run.specs.program.Step.{withMultipliers, endOf, spreadEnd, basisFor, stepFromCorrection, stepFromBasis}
 use Rattle.run.specs.program.Step.{testedStep, Few, readyOf, readyStep, stepFromFactors, dampedStep}
-use Rattle.run.specs.program.Step.{preparedStep}
-use Rattle.run.proofs.BasisLaws.{basis-reads}
+use Rattle.run.specs.program.Step.{factorsIn, preparedStep}
+use Rattle.run.proofs.AreaLaws.{length-clear}
+use Rattle.run.proofs.BasisLaws.{basis-reads, take-replicate}
 use Rattle.run.proofs.NullSpaceLaws.{directions-few}
 use Rattle.run.proofs.VectorLaws.{at-rows-behind, at-clear, all-behind}
-use Rattle.run.proofs.Concatenation.{first-of-four, second-of-four, third-of-four, fourth-of-four}
+use Rattle.run.proofs.Concatenation.{length-both, first-of-four, second-of-four, third-of-four, fourth-of-four}
 
 -- the kept step, once its part along Z is added
 abbrev pub onward : Problem → Basis → Weights → Res Stepped
@@ -227,59 +229,130 @@ module _ {x : Prepared} (P : Problem) (order : List ℕ) (frame : List Float) wh
   ready-refused ex = rw ex
 
 -- H is finite where its first k rows are: behind them it is clear
-rows-finite : (k : ℕ) (curve : List Float) (mu : Scalar) → k ≤ 12 →
-    allFinite (dampedFrom k curve mu) 144 ≡ allFinite (dampedFrom k curve mu) (12 * k)
+rows-finite : (k : ℕ) (fixed : List Float) (mu : Scalar) → k ≤ 12 →
+    allFinite (dampedFrom k fixed mu) 144 ≡ allFinite (dampedFrom k fixed mu) (12 * k)
 unfolding dampedBy
-rows-finite k curve mu h =
+rows-finite k fixed mu h =
     let m : (144 - 12 * k) + 12 * k ≡ 144 = omega (arith, h) in
-    rw m at (all-behind (λ i. isFinite (at (dampedFrom k curve mu) i)) (144 - 12 * k) (12 * k)
+    rw m at (all-behind (λ i. isFinite (at (dampedFrom k fixed mu) i)) (144 - 12 * k) (12 * k)
     (λ t a b. ap isFinite (at-rows-behind matrix _ k k t h a ∙ at-clear 288 t (omega (arith, b, m)))))
 
 -- where H is finite
-module _ (k : ℕ) (x : Prepared) (order : List ℕ) (curve frame : List Float) (mu : Scalar)
-    {h : List Float} {finite : Bool} (hk : k ≤ 12) (eh : h ≡ dampedFrom k curve mu)
+module _ (k : ℕ) (x : Prepared) (order : List ℕ) (fixed : List Float) (mu : Scalar)
+    {h : List Float} {finite : Bool} (hk : k ≤ 12) (eh : h ≡ dampedFrom k fixed mu)
     (ef : finite ≡ allFinite h (12 * k)) where
-  whole : finite ≡ allFinite (dampedFrom k curve mu) 144
-  whole = rw eh at ef ∙ sym (rows-finite k curve mu hk)
+  whole : finite ≡ allFinite (dampedFrom k fixed mu) 144
+  whole = rw eh at ef ∙ sym (rows-finite k fixed mu hk)
 
-  pub damped-not : finite ≡ false → ok notPositive ≡ dampedStep k x order curve frame mu
+  pub damped-not : finite ≡ false → ok notPositive ≡ dampedStep k x order fixed mu
   unfolding dampedStep
   damped-not q = rw (← whole, q)
 
-  pub damped-on : {y : Res Stepped} → finite ≡ true → y ≡ stepFromFactors x (curved k h (gradientIn curve)) order frame → y ≡ dampedStep k x order curve frame mu
+  pub damped-on : {y : Res Stepped} → finite ≡ true →
+      y ≡ stepFromFactors x (curved k h (gradientIn fixed)) order (factorsIn fixed) →
+      y ≡ dampedStep k x order fixed mu
   unfolding dampedStep
   damped-on q ey = rw (← whole, q, ← eh) ey
 
-damped-tested : (k m : ℕ) (c : ℕ → Scalar) (wide jc : List Float) (x : Prepared) (order : List ℕ) (curve frame : List Float) (mu : Scalar)
-    → ((h g : List Float) → stepFromFactors x (curved k h g) order frame ≡ keptStep (problemIn k m c wide jc h g))
-    → dampedStep k x order curve frame mu ≡ testedStep (problemIn k m c wide jc (dampedFrom k curve mu) (gradientIn curve))
-unfolding dampedStep testedStep
-damped-tested k m c wide jc x order curve frame mu f = ap (λ (y : Res Stepped). pick (allFinite (dampedFrom k curve mu) 144) y (ok notPositive)) (f (dampedFrom k curve mu) (gradientIn curve))
-
 -- over all
-spread-tested : (k : Kept) (finite : Bool) (x : Res Stepped) → spreadEnd k (pick finite x (ok notPositive)) ≡ pick finite (bind x (λ y. ok (spreadStep k y))) (ok notPositive)
+spread-tested : (k : Kept) (finite : Bool) (x : Res Stepped) →
+    spreadEnd k (pick finite x (ok notPositive)) ≡ pick finite (bind x (λ y. ok (spreadStep k y))) (ok notPositive)
 unfolding spreadEnd bind
 spread-tested k true x = refl
 spread-tested k false x = refl
 
-pub end-spread : (x : StepEnd) (k : Kept) (kept lambda : List Float) {delta : List Float} → delta ≡ spreadTo (k .index) kept (k .count) → endOf x delta lambda ≡ spreadEnd k (endOf x kept lambda)
+pub end-spread : (x : StepEnd) (k : Kept) (kept lambda : List Float) {delta : List Float} →
+    delta ≡ spreadTo (k .index) kept (k .count) → endOf x delta lambda ≡ spreadEnd k (endOf x kept lambda)
 unfolding spreadEnd bind
 end-spread (end.Found r) k kept lambda e = rw e
 end-spread end.NotPositive k kept lambda e = refl
 end-spread (end.Refused o) k kept lambda e = refl
 
-pub step-is : (n : ℕ) (e : Evaluation) (b : List Float) (moving : List Bool) (mu : Scalar) {k : Kept} {x y : Res Stepped}
-    → k ≡ keptTo moving n → x ≡ testedStep (problemOf n k e b mu) → y ≡ spreadEnd k x → y ≡ stepOf n e b moving mu
+pub step-is : (n : ℕ) (e : Evaluation) (b : List Float) (moving : List Bool) (mu : Scalar) {k : Kept} {x y : Res Stepped} →
+    k ≡ keptTo moving n → x ≡ testedStep (problemOf n k e b mu) → y ≡ spreadEnd k x → y ≡ stepOf n e b moving mu
 unfolding stepOf testedStep
-step-is n e b moving mu {k} ek ex ey = ey ∙ ap (spreadEnd k) ex ∙ spread-tested k (allFinite (problemOf n k e b mu .h) 144) (keptStep (problemOf n k e b mu)) ∙ rw ek
+step-is n e b moving mu {k} ek ex ey =
+    ey ∙ ap (spreadEnd k) ex
+    ∙ spread-tested k (allFinite (problemOf n k e b mu .h) 144) (keptStep (problemOf n k e b mu)) ∙ rw ek
 
-module _ (n : ℕ) (moving : List Bool) (x : Prepared) (order : List ℕ) (curve frame : List Float) (mu : Scalar) {k : Kept} (ek : k ≡ keptTo moving n) where
-  pub prepared-by : {y z : Res Stepped} → y ≡ dampedStep (k .count) x order curve frame mu → z ≡ spreadEnd k y → z ≡ preparedStep n moving x order curve frame mu
+module _ (n : ℕ) (moving : List Bool) (x : Prepared) (order : List ℕ) (fixed : List Float) (mu : Scalar) {k : Kept}
+    (ek : k ≡ keptTo moving n) where
+  pub prepared-by : {y z : Res Stepped} → y ≡ dampedStep (k .count) x order fixed mu → z ≡ spreadEnd k y →
+      z ≡ preparedStep n moving x order fixed mu
   unfolding preparedStep
   prepared-by ey ez = ez ∙ ap (spreadEnd k) ey ∙ rw ek
 
-  pub prepared-is : (e : Evaluation) (b : List Float) (m : ℕ) (c : ℕ → Scalar) (wide jc : List Float)
-      → problemIn (k .count) m c wide jc (dampedFrom (k .count) curve mu) (gradientIn curve) ≡ problemOf n k e b mu
-      → ((h g : List Float) → stepFromFactors x (curved (k .count) h g) order frame ≡ keptStep (problemIn (k .count) m c wide jc h g)) → preparedStep n moving x order curve frame mu ≡ stepOf n e b moving mu
-  prepared-is e b m c wide jc ep f =
-      sym (prepared-by refl refl) ∙ step-is n e b moving mu ek (damped-tested (k .count) m c wide jc x order curve frame mu f ∙ ap testedStep ep) refl
+-- ---- what is undamped and the factors, in one list
+
+rest-clear : drop 336 (zeros 1224) ≡ zeros 888
+rest-clear =
+    ap (drop 336) (sym (replicate-append-replicate 336 888 zero64))
+    ∙ drop-at (zeros 336) (zeros 888) 336 (length-clear 336)
+
+none-left : drop 888 (zeros 888) ≡ []
+none-left = let l : length (zeros 888) ≤ 888 = omega (arith, length-clear 888) in drop-of-length-le (zeros 888) l
+
+-- each in its part of a list that was clear
+module _ (a : List Float) (clear : a ≡ zeros 1224) where
+  pub clear-long : length a ≡ 1224
+  clear-long = ap length clear ∙ length-clear 1224
+
+  pub first-clear : take 336 (drop 0 a) ≡ zeros 336
+  first-clear = rw clear (take-replicate 336 1224 zero64 (omega arith))
+
+  module _ (u : List Float) (lu : length u ≡ 336) where
+    abbrev pub with-first : List Float
+    with-first = take 0 a ++ (u ++ drop 336 (drop 0 a))
+
+    first-written : with-first ≡ u ++ zeros 888
+    first-written = ap (λ (x : List Float). u ++ drop 336 x) clear ∙ ap (λ (x : List Float). u ++ x) rest-clear
+
+    pub first-long : length with-first ≡ 1224
+    first-long = ap length first-written ∙ length-both u (zeros 888) lu (length-clear 888)
+
+    behind-first : drop 336 with-first ≡ zeros 888
+    behind-first = ap (drop 336) first-written ∙ drop-at u (zeros 888) 336 lu
+
+    pub second-clear : take 888 (drop 336 with-first) ≡ zeros 888
+    second-clear = ap (take 888) behind-first ∙ take-replicate 888 888 zero64 (omega arith)
+
+    pub both-written : (f : List Float) → take 336 with-first ++ (f ++ drop 888 (drop 336 with-first)) ≡ u ++ f
+    both-written f =
+        let front : take 336 with-first ≡ u = ap (take 336) first-written ∙ take-at u (zeros 888) 336 lu in
+        let rest : f ++ drop 888 (drop 336 with-first) ≡ f =
+        ap (λ (x : List Float). f ++ drop 888 x) behind-first ∙ ap (λ (x : List Float). f ++ x) none-left ∙ append-nil f in
+        ap₂ _++_ front rest
+
+-- what is read of it
+module _ (k : ℕ) (mu : Scalar) (fixed u f : List Float) (e : fixed ≡ u ++ f) (lu : length u ≡ 336)
+    (lf : length f ≡ 888) where
+  damped-first : dampedFrom k fixed mu ≡ dampedFrom k u mu
+  damped-first =
+      let l₁ : 288 ≤ length u = omega (arith, lu) in
+      let l₂ : 24 ≤ length (drop 288 u) = omega (arith, lu, length-drop 288 u) in
+      rw (e, take-append-le 288 u f l₁, drop-append-le 288 u f l₁, take-append-le 24 (drop 288 u) f l₂)
+
+  gradient-first : gradientIn fixed ≡ gradientIn u
+  gradient-first =
+      let l₁ : 312 ≤ length u = omega (arith, lu) in
+      let l₂ : 24 ≤ length (drop 312 u) = omega (arith, lu, length-drop 312 u) in
+      rw (e, drop-append-le 312 u f l₁, take-append-le 24 (drop 312 u) f l₂)
+
+  factors-second : factorsIn fixed ≡ f
+  factors-second = rw (e, drop-at u f 336 lu) (rw lf at (take-length f))
+
+  -- what is prepared gives the step of the definition
+  pub prepared-is : (n : ℕ) (moving : List Bool) (x : Prepared) (order : List ℕ) {index : List ℕ} →
+      keptBy k index ≡ keptTo moving n →
+      (v : Evaluation) (b : List Float) (m : ℕ) (c : ℕ → Scalar) (wide jc : List Float) →
+      problemIn k m c wide jc (dampedFrom k u mu) (gradientIn u) ≡ problemOf n (keptBy k index) v b mu →
+      ((h g : List Float) → stepFromFactors x (curved k h g) order f ≡ keptStep (problemIn k m c wide jc h g)) →
+      preparedStep n moving x order fixed mu ≡ stepOf n v b moving mu
+  unfolding dampedStep testedStep
+  prepared-is n moving x order ek v b m c wide jc ep q =
+      let h : List Float = dampedFrom k u mu in
+      let tested : dampedStep k x order fixed mu ≡ testedStep (problemIn k m c wide jc h (gradientIn u)) =
+      rw (damped-first, gradient-first, factors-second)
+      (ap (λ (y : Res Stepped). pick (allFinite h 144) y (ok notPositive)) (q h (gradientIn u))) in
+      sym (prepared-by n moving x order fixed mu ek refl refl)
+      ∙ step-is n v b moving mu ek (tested ∙ ap testedStep ep) refl

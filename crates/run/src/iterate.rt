@@ -1,31 +1,30 @@
 // The next iteration: the search from the standing point, until a question, the finish or a refusal.
-ghost use Prim.Native.Nat.{_≤_};
 ghost use mathlib.Core.Path.{_≡_};
 ghost use lib.ListN.{length};
-ghost use Rattle.interval.specs.Scalar.{pick};
 ghost use Rattle.linear.specs.Answers.{resultOf};
-ghost use Rattle.run.specs.Limits.{AREA, VARIABLES, CONSTRAINTS, SUM-ROWS};
-ghost use Rattle.run.specs.Area.{Memory, SPARE-AT, CURVATURE-AT};
+ghost use Rattle.run.specs.Limits.{AREA};
+ghost use Rattle.run.specs.Area.{Memory};
 ghost use Rattle.run.specs.Iterate.{leftAt};
 ghost use Rattle.run.specs.Iterate as run;
-ghost use Rattle.run.specs.Residuals.{sumSquared};
-ghost use Rattle.run.specs.Rows.{sumOf};
+ghost use Rattle.run.specs.Rows.{rowCounts};
 ghost use Rattle.run.specs.Vectors.{movedOf};
 ghost use Rattle.run.specs.program.Area.{Working, StandingKnown};
 ghost use Rattle.run.specs.program.Endings.{Leaves, Bounded};
-ghost use Rattle.run.specs.program.Iterate.{soughtOf};
+ghost use Rattle.run.specs.program.Iterate.{soughtOf, searchStart};
+ghost use Rattle.run.specs.program.Rows.{FewRows};
 ghost use Rattle.run.specs.program.Search.{foundResult};
 use crate::area;
 use crate::endings::ask;
 use crate::endings::finish;
 use crate::endings::refuse;
 use crate::proposal::StandingPoint;
+use crate::proposal::Start;
 use crate::residuals::sum_squared;
+use crate::rows::row_counts;
 use crate::search::Found;
 use crate::search::seek;
 use crate::state::Kind;
 use crate::state::Returned;
-use crate::state::Sizes;
 use crate::state::State;
 use crate::state::Stop;
 use crate::state::with_search;
@@ -55,33 +54,22 @@ fn left_at(st: State, area: &mut [f64], found: Found, delta: &[f64], lambda: &[f
     }
 }
 
-// Where the curvature that a proposal goes by begins. In plain there is none: the last numbers of the area are +0.
-fn curvature_from(plain: bool) -> usize
-    ensures { λ r. ⌜ r ≡ pick plain SPARE-AT CURVATURE-AT ⌝ }
+// What the search goes out from: the standing point, from its rows and their violation theta.
+fn search_start(st: State, area: &[f64], theta: Scalar) -> Start
+    requires { ⌜ (length (now area) ≡ AREA) × FewRows (rowCounts (st .sizes)) ⌝ }
+    ensures { λ r. ⌜ r ≡ searchStart st (now (area .entry)) theta ⌝ }
 {
-    if plain {
-        return area::SPARE_AT;
-    }
-    area::CURVATURE_AT
-}
-
-// The numbers of the standing point's problem, from its rows and their violation.
-fn standing_point(z: Sizes, rows: &[f64], theta: Scalar) -> StandingPoint
-    requires { ⌜ (z .n ≤ VARIABLES) × ((z .m ≤ CONSTRAINTS) × (z .s ≤ SUM-ROWS)) ⌝ }
-    ensures { λ r. ⌜ r ≡ record {
-      n = z .n;
-      m = z .m;
-      s = z .s;
-      f = sumSquared (sumOf (z .n) (z .m) (z .s) (now (rows .entry)));
-      theta = theta;
-    } ⌝ }
-{
-    StandingPoint {
-        n: z.n,
-        m: z.m,
-        s: z.s,
-        f: sum_squared(rows, z.n, z.m, z.s),
-        theta,
+    let counts = row_counts(st.sizes);
+    let rows = &area[area::STANDING_ROWS_AT..area::LANDED_ROWS_AT];
+    let f = sum_squared(rows, counts.n, counts.m, counts.s);
+    let point = StandingPoint { counts, f, theta };
+    let moving = st.moving;
+    let max_step = st.max_step;
+    Start {
+        point,
+        moving,
+        plain: st.search.plain,
+        max_step,
     }
 }
 
@@ -100,22 +88,9 @@ fn seek_standing(
         (movedOf (st .sizes .n) (w .standing) (now (delta .exit))) ≡ soughtOf st w) ⌝ }
 {
     let from = st.search;
-    let rows = &area[area::STANDING_ROWS_AT..area::LANDED_ROWS_AT];
     match standing {
         Answer::Value(theta) => {
-            let moving = st.moving;
-            let curvature = curvature_from(from.plain);
-            return seek(
-                standing_point(st.sizes, rows, theta),
-                rows,
-                &area[area::STANDING_AT..area::LANDED_AT],
-                &area[curvature..curvature + area::CURVATURE_LEN],
-                &moving,
-                st.max_step,
-                from,
-                delta,
-                lambda,
-            );
+            return seek(search_start(st, area, theta), area, from, delta, lambda);
         }
         Answer::Refused(e) => {
             return Found::Refused(from, e);

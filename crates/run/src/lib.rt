@@ -46,7 +46,6 @@ pub use pieces::squared;
 pub use pieces::step_at;
 pub use pieces::transposed;
 pub use pieces::update_curvature;
-pub use proposal::Expected;
 pub use results::TruthResult;
 pub use rows::RowCounts;
 pub use state::Counts;

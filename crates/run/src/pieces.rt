@@ -11,7 +11,6 @@ ghost use Rattle.run.specs.Pieces.{transposedReply, movingReply, judgeRe
 ghost use Rattle.run.specs.Pieces.{alongReply, shiftReply, updateReply, stepReplied, stepReply, learnedReply};
 ghost use Rattle.run.specs.Results.{truthOf};
 ghost use Rattle.run.specs.program.Judgement.{judgementOf};
-ghost use Rattle.run.specs.program.Proposal.{expectedResult};
 use crate::area::FILTER_LEN;
 use crate::checks::sizes_fit;
 use crate::corrected;
@@ -22,7 +21,6 @@ use crate::judgement::Judgement;
 use crate::limits::ITERATIONS;
 use crate::limits::VARIABLES;
 use crate::proposal;
-use crate::proposal::Expected;
 use crate::proposal::StandingPoint;
 use crate::radius::cut_within;
 use crate::residuals;
@@ -196,20 +194,18 @@ pub fn expects(
     f: Scalar,
     theta: Scalar,
     delta: &[f64],
-) -> Expected
-    ensures { λ r. ⌜ expectedResult r
+) -> TruthResult
+    ensures { λ r. ⌜ truthOf r
         ≡ expectsReply c (now (xs .entry)) (now (b .entry)) f theta (now (delta .entry)) ⌝ }
 {
     match fits(c, xs, b.len(), 288, delta.len(), 24) {
         Done::Refused(e) => {
-            return Expected::Refused(e);
+            return TruthResult::Refused(e);
         }
         Done::Finished => {}
     }
     let from = StandingPoint {
-        n: c.n,
-        m: c.m,
-        s: c.s,
+        counts: c,
         f,
         theta,
     };
@@ -311,7 +307,7 @@ pub fn step_at(
         }
         Done::Finished => {}
     }
-    let end = step::step(c.n, c.m, c.s, xs, b, moving, mu, delta, lambda);
+    let end = step::step(c, xs, b, moving, mu, delta, lambda);
     if let StepEnd::Found(_) = end {
         return end;
     }

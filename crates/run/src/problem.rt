@@ -1,20 +1,22 @@
 // The problem that a step solves: the slopes by the variables that move, J_rᵀ J_r + B, the scaling D and the gradient.
+// Whatever no damping changes is worked out once for all dampings of a search; a damping then only adds mu D to the
+// diagonal.
 ghost use Prim.Native.Nat.{_<_, _≤_, _+_, _*_, ℕ};
 ghost use mathlib.Core.Bool.{true};
-ghost use mathlib.Core.List.{_++_};
 ghost use mathlib.Core.Path.{_≡_};
 ghost use lib.ListN.{length, replicate, getD};
 ghost use Rattle.linear.specs.Flat.{at, zeros};
-ghost use Rattle.run.specs.Limits.{VARIABLES, CONSTRAINTS, SUM-ROWS};
+ghost use Rattle.run.specs.Limits.{VARIABLES};
 ghost use Rattle.run.specs.Curvature.{curvatureAt};
-ghost use Rattle.run.specs.Problem.{keepNext, keptTo, scalingAt, squeezedOf, gradientOf, problemOf};
-ghost use Rattle.run.specs.Rows.{rowsIn, slopeAt, constraintsOf, evaluationOf, valueAt};
+ghost use Rattle.run.specs.Problem.{keepNext, keptTo, scalingAt, squeezedOf, problemOf};
+ghost use Rattle.run.specs.Rows.{rowsIn, slopeAt, constraintsOf, evaluationBy, valueAt};
 ghost use Rattle.run.specs.Vectors.{fillTo, fillRows, matrix, chosenOf};
-ghost use Rattle.run.specs.program.Problem.{keptBy, chosenIf, squeezedAs, undampedAt, dampedEntry, dampedFrom};
-ghost use Rattle.run.specs.program.Problem.{gradientAt, undampedOf, scalingsOf, problemIn, gradientIn};
-ghost use Rattle.run.specs.program.Rows.{Small};
+ghost use Rattle.run.specs.program.Problem.{keptBy, KeptFits, chosenIf, squeezedAs, undampedAt, undampedBetween};
+ghost use Rattle.run.specs.program.Problem.{dampedEntry, dampedFrom, gradientAt, problemIn, gradientIn};
+ghost use Rattle.run.specs.program.Rows.{Small, FewRows};
 use crate::residuals::chosen_values;
 use crate::residuals::transposed_at;
+use crate::rows::RowCounts;
 use crate::rows::RowSet;
 use crate::rows::constraints;
 use crate::rows::slope_of;
@@ -27,12 +29,14 @@ use linear::choose;
 use linear::plus_dot;
 use linear::put;
 
-// The first scalar of D and of the gradient in a curve, behind the curvature that is not damped.
-const SCALINGS: usize = 144;
+// The first scalar of D and of the gradient, behind J_rᵀ J_r + B, in the slice of what is undamped.
+const FIRST_SCALING: usize = 144;
 
-const GRADIENT: usize = 156;
+const FIRST_GRADIENT: usize = 156;
 
 // ---- the variables that move
+
+// Variable i is kept where it moves; the new count.
 fn keep_next(moves: bool, index: &mut [usize], count: usize, i: usize) -> usize
     requires { ⌜ (count < length (now index)) × (count < 12) ⌝ }
     ensures { λ r. ⌜ keptBy r (now (index .exit)) ≡ keepNext moves (keptBy count (now (index .entry))) i ⌝ }
@@ -112,13 +116,14 @@ fn scaling(jr: &[f64], s: usize, jc: &[f64], m: usize, i: usize) -> Scalar
     plus_dot(jc, i, 12, jc, i, 12, d, m)
 }
 
-// D, over the kept variables, at its place in a curve.
-fn scalings(k: usize, jr: &[f64], s: usize, jc: &[f64], m: usize, curve: &mut [f64])
+// D over the kept variables, at its place.
+fn scalings(k: usize, jr: &[f64], s: usize, jc: &[f64], m: usize, undamped: &mut [f64])
     requires { ⌜ k ≤ VARIABLES ⌝ }
-    ensures { λ _. ⌜ now (curve .exit) ≡ fillTo (now (curve .entry)) 144 (scalingAt (now (jr .entry)) s (now (jc .entry)) m) k ⌝ }
+    ensures { λ _. ⌜ now (undamped .exit)
+        ≡ fillTo (now (undamped .entry)) 144 (scalingAt (now (jr .entry)) s (now (jc .entry)) m) k ⌝ }
 {
     for i in 0..k {
-        put(curve, SCALINGS + i, scaling(jr, s, jc, m, i));
+        put(undamped, FIRST_SCALING + i, scaling(jr, s, jc, m, i));
     }
 }
 
@@ -162,8 +167,8 @@ fn is_mirrored(b: Scalar, across: Scalar, i: usize, j: usize) -> bool
     false
 }
 
-// Entry (i, j) of it, from B's entry b: the entry across the diagonal, which h has, where B's entry there is the same,
-// since products commute.
+// Entry (i, j) of J_rᵀ J_r + B, from B's entry b: the entry across the diagonal, which h has, where B's entry there is
+// the same, since products commute.
 fn undamped_from(
     jr: &[f64],
     s: usize,
@@ -182,7 +187,7 @@ fn undamped_from(
     undamped_at(jr, s, b, i, j)
 }
 
-// Row i of it, where the rows before it are there.
+// Row i of J_rᵀ J_r + B, where h has the rows before it.
 fn undamped_row(
     n: usize,
     index: &[usize],
@@ -193,9 +198,12 @@ fn undamped_row(
     h: &mut [f64],
     i: usize,
 )
-    requires { ⌜ (k ≤ VARIABLES) × ((length (now index) ≡ 12) × ((i < k) × ((t j : ℕ) → t < i → j < k → at (now h) (12 * t + j)
-        ≡ undampedAt (now jr) s (curvatureAt n (now b) (getD (now index) t 0) (getD (now index) j 0)) t j))) ⌝ }
-    ensures { λ _. ⌜ now (h .exit) ≡ fillTo (now (h .entry)) (12 * i) (λ j. undampedAt (now (jr .entry)) s (curvatureAt n (now (b .entry)) (getD (now (index .entry)) i 0) (getD (now (index .entry)) j 0)) i j) k ⌝ }
+    requires { ⌜ (k ≤ VARIABLES) × ((length (now index) ≡ 12) × ((i < k) ×
+        ((t j : ℕ) → t < i → j < k →
+        at (now h) (12 * t + j) ≡ undampedBetween n (now index) (now jr) s (now b) t j))) ⌝ }
+    ensures { λ _. ⌜ now (h .exit)
+        ≡ fillTo (now (h .entry)) (12 * i)
+        (undampedBetween n (now (index .entry)) (now (jr .entry)) s (now (b .entry)) i) k ⌝ }
 {
     let row = index[i];
     for j in 0..k {
@@ -207,13 +215,23 @@ fn undamped_row(
     }
 }
 
-// J_rᵀ J_r + B over the kept variables, at the start of a clear curve.
-fn undamped(n: usize, index: &[usize], k: usize, jr: &[f64], s: usize, b: &[f64], curve: &mut [f64])
-    requires { ⌜ (k ≤ VARIABLES) × ((length (now index) ≡ 12) × (now curve ≡ zeros 336)) ⌝ }
-    ensures { λ _. ⌜ now (curve .exit) ≡ fillRows (zeros 336) (λ i j. undampedAt (now (jr .entry)) s (curvatureAt n (now (b .entry)) (getD (now (index .entry)) i 0) (getD (now (index .entry)) j 0)) i j) k k ⌝ }
+// J_rᵀ J_r + B over the kept variables, at the start of a clear slice.
+fn fill_undamped(
+    n: usize,
+    index: &[usize],
+    k: usize,
+    jr: &[f64],
+    s: usize,
+    b: &[f64],
+    undamped: &mut [f64],
+)
+    requires { ⌜ (k ≤ VARIABLES) × ((length (now index) ≡ 12) × (now undamped ≡ zeros 336)) ⌝ }
+    ensures { λ _. ⌜ now (undamped .exit)
+        ≡ fillRows (zeros 336)
+        (undampedBetween n (now (index .entry)) (now (jr .entry)) s (now (b .entry))) k k ⌝ }
 {
     for i in 0..k {
-        undamped_row(n, index, k, jr, s, b, curve, i);
+        undamped_row(n, index, k, jr, s, b, undamped, i);
     }
 }
 
@@ -230,40 +248,44 @@ fn damped_at(v: Scalar, d: Scalar, mu: Scalar, i: usize, j: usize) -> Scalar
 }
 
 // Row i of H.
-fn damped_row(k: usize, curve: &[f64], mu: Scalar, h: &mut [f64], i: usize)
+fn damped_row(k: usize, undamped: &[f64], mu: Scalar, h: &mut [f64], i: usize)
     requires { ⌜ (k ≤ VARIABLES) × (i < k) ⌝ }
-    ensures { λ _. ⌜ now (h .exit) ≡ fillTo (now (h .entry)) (12 * i) (λ j. dampedEntry (at (now (curve .entry)) (12 * i + j)) (at (now (curve .entry)) (144 + i)) mu i j) k ⌝ }
+    ensures { λ _. ⌜ now (h .exit)
+        ≡ fillTo (now (h .entry)) (12 * i)
+        (λ j. dampedEntry (at (now (undamped .entry)) (12 * i + j)) (at (now (undamped .entry)) (144 + i)) mu i j) k ⌝ }
 {
-    let scale = at(curve, SCALINGS + i);
+    let scale = at(undamped, FIRST_SCALING + i);
     for j in 0..k {
         let p = 12 * i + j;
-        put(h, p, damped_at(at(curve, p), scale, mu, i, j));
+        put(h, p, damped_at(at(undamped, p), scale, mu, i, j));
     }
 }
 
-// H = J_rᵀ J_r + B + mu D, from a curve, into a clear matrix.
-pub fn damped(k: usize, curve: &[f64], mu: Scalar, h: &mut [f64])
-    requires { ⌜ (k ≤ VARIABLES) × ((length (now curve) ≡ 336) × (now h ≡ matrix)) ⌝ }
-    ensures { λ _. ⌜ now (h .exit) ≡ dampedFrom k (now (curve .entry)) mu ⌝ }
+// H = J_rᵀ J_r + B + mu D, from the slice that begins with what is undamped, into a clear matrix.
+pub fn damped(k: usize, undamped: &[f64], mu: Scalar, h: &mut [f64])
+    requires { ⌜ (k ≤ VARIABLES) × ((336 ≤ length (now undamped)) × (now h ≡ matrix)) ⌝ }
+    ensures { λ _. ⌜ now (h .exit) ≡ dampedFrom k (now (undamped .entry)) mu ⌝ }
 {
     for i in 0..k {
-        damped_row(k, curve, mu, h, i);
+        damped_row(k, undamped, mu, h, i);
     }
 }
 
 // ---- the gradient
 
-// The sum's gradient J_rᵀ r over the kept variables, chosen, at its place in a curve.
-fn gradient(xs: &[f64], e: RowSet, index: &[usize], k: usize, curve: &mut [f64])
-    requires { ⌜ Small e × ((k ≤ VARIABLES) × ((length (now index) ≡ 12) × ((p : ℕ) → getD (now index) p 0 < 65536))) ⌝ }
-    ensures { λ _. ⌜ now (curve .exit) ≡ fillTo (now (curve .entry)) 156 (gradientAt (keptBy k (now (index .entry))) (rowsIn (now (xs .entry)) e)) k ⌝ }
+// The sum's gradient J_rᵀ r over the kept variables, chosen, at its place.
+fn gradient(xs: &[f64], e: RowSet, index: &[usize], k: usize, undamped: &mut [f64])
+    requires { ⌜ Small e × KeptFits k (now index) ⌝ }
+    ensures { λ _. ⌜ now (undamped .exit)
+        ≡ fillTo (now (undamped .entry)) 156
+        (gradientAt (keptBy k (now (index .entry))) (rowsIn (now (xs .entry)) e)) k ⌝ }
 {
     let mut r = [0.0; 48];
     chosen_values(xs, e, &mut r);
     for p in 0..k {
         put(
-            curve,
-            GRADIENT + p,
+            undamped,
+            FIRST_GRADIENT + p,
             choose(transposed_at(xs, e, &r, index[p])),
         );
     }
@@ -274,54 +296,38 @@ fn gradient(xs: &[f64], e: RowSet, index: &[usize], k: usize, curve: &mut [f64])
 // The slopes by the kept variables, and the same chosen.
 fn slopes(xs: &[f64], e: RowSet, index: &[usize], k: usize, wide: &mut [f64], narrow: &mut [f64])
     requires { ⌜ Small e × ((k ≤ VARIABLES) × (length (now index) ≡ 12)) ⌝ }
-    ensures { λ _. ⌜ (now (wide .exit) ≡ squeezedOf (keptBy k (now (index .entry))) (rowsIn (now (xs .entry)) e) (now (wide .entry))) × (now (narrow .exit) ≡ chosenOf (now (narrow .entry)) (now (wide .exit)) 0 (12 * e .count)) ⌝ }
+    ensures { λ _. ⌜
+        (now (wide .exit) ≡ squeezedOf (keptBy k (now (index .entry))) (rowsIn (now (xs .entry)) e) (now (wide .entry))) ×
+        (now (narrow .exit) ≡ chosenOf (now (narrow .entry)) (now (wide .exit)) 0 (12 * e .count)) ⌝ }
 {
     squeeze(xs, e, index, k, false, wide);
     chosen(wide, 0, 12 * e.count, narrow);
 }
 
-// The curve: J_rᵀ J_r + B, D and the gradient, from the slopes chosen, into a clear slice.
-fn fill_undamped(
-    n: usize,
-    m: usize,
-    index: &[usize],
-    k: usize,
-    xs: &[f64],
-    e: RowSet,
-    b: &[f64],
-    jr: &[f64],
-    jc: &[f64],
-    curve: &mut [f64],
-)
-    requires { ⌜ Small e × ((k ≤ VARIABLES) × ((length (now index) ≡ 12) × (((p : ℕ) → getD (now index) p 0 < 65536)
-        × (now curve ≡ zeros 336)))) ⌝ }
-    ensures { λ _. ⌜ now (curve .exit) ≡ undampedOf n (keptBy k (now (index .entry))) (now (jr .entry)) (e .count) (now (b .entry)) ++ (scalingsOf k (now (jr .entry)) (e .count) (now (jc .entry)) m ++ gradientOf (keptBy k (now (index .entry))) (rowsIn (now (xs .entry)) e)) ⌝ }
-{
-    undamped(n, index, k, jr, e.count, b, curve);
-    scalings(k, jr, e.count, jc, m, curve);
-    gradient(xs, e, index, k, curve);
-}
-
 // The problem over the k kept variables, from an answer's rows, before it is damped: the constraints' slopes, the same
-// chosen, and the curve, into clear slices.
+// chosen, and what is undamped (J_rᵀ J_r + B, D and the gradient, one behind the other), into clear slices.
 pub fn problem(
-    n: usize,
-    m: usize,
-    s: usize,
+    c: RowCounts,
     index: &[usize],
     k: usize,
     xs: &[f64],
     b: &[f64],
     wide: &mut [f64],
     jc: &mut [f64],
-    curve: &mut [f64],
+    undamped: &mut [f64],
 )
-    requires { ⌜ (n ≤ VARIABLES) × ((m ≤ CONSTRAINTS) × ((s ≤ SUM-ROWS) × ((k ≤ VARIABLES) × ((length (now index) ≡ 12) × (((p : ℕ) → getD (now index) p 0 < 65536) × ((now wide ≡ matrix) × ((now jc ≡ matrix) × (now curve ≡ zeros 336)))))))) ⌝ }
-    ensures { λ _. ⌜ ((mu : Scalar) → problemIn k m (valueAt (constraintsOf n m (now (xs .entry)))) (now (wide .exit)) (now (jc .exit)) (dampedFrom k (now (curve .exit)) mu) (gradientIn (now (curve .exit))) ≡ problemOf n (keptBy k (now (index .entry))) (evaluationOf n m s (now (xs .entry))) (now (b .entry)) mu) ⌝ }
+    requires { ⌜ FewRows c × KeptFits k (now index) ⌝ }
+    requires { ⌜ (now wide ≡ matrix) × ((now jc ≡ matrix) × (now undamped ≡ zeros 336)) ⌝ }
+    ensures { λ _. ⌜ ((mu : Scalar) →
+        problemIn k (c .m) (valueAt (constraintsOf (c .n) (c .m) (now (xs .entry)))) (now (wide .exit)) (now (jc .exit))
+        (dampedFrom k (now (undamped .exit)) mu) (gradientIn (now (undamped .exit)))
+        ≡ problemOf (c .n) (keptBy k (now (index .entry))) (evaluationBy c (now (xs .entry))) (now (b .entry)) mu) ⌝ }
 {
-    let e = sum(n, m, s);
+    let e = sum(c.n, c.m, c.s);
     let mut jr = [0.0; 576];
-    slopes(xs, constraints(n, m), index, k, wide, jc);
+    slopes(xs, constraints(c.n, c.m), index, k, wide, jc);
     squeeze(xs, e, index, k, true, &mut jr);
-    fill_undamped(n, m, index, k, xs, e, b, &jr, jc, curve);
+    fill_undamped(c.n, index, k, &jr, e.count, b, undamped);
+    scalings(k, &jr, e.count, jc, c.m, undamped);
+    gradient(xs, e, index, k, undamped);
 }

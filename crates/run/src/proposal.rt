@@ -1,32 +1,39 @@
-// What one damping proposes: a step, cut to the radius where it is definitely longer, and the point it leads to.
+// What one damping proposes: a step, cut to the radius where it is definitely longer, and the point it leads to. A step
+// that the model expects nothing of is not tried: a trial costs the caller an answer, and its model says already that
+// it cannot be taken.
 ghost use Prim.Native.Nat.{_≤_};
 ghost use mathlib.Core.List.{List};
 ghost use mathlib.Core.Path.{_≡_};
 ghost use lib.Ieee.{Float};
 ghost use lib.ListN.{length};
 ghost use Rattle.interval.specs.Result.{ok};
-ghost use Rattle.interval.specs.Scalar.{zeroS, subOf, definitelyGreater, pick};
+ghost use Rattle.interval.specs.Scalar.{zeroS, subOf, definitelyGreater};
 ghost use Rattle.linear.specs.Answers.{resultOf};
-ghost use Rattle.linear.specs.Choose.{chooseOf};
 ghost use Rattle.linear.specs.Results.{bind};
-ghost use Rattle.run.specs.Limits.{VARIABLES, CONSTRAINTS};
+ghost use Rattle.run.specs.Limits.{AREA, VARIABLES, CONSTRAINTS};
 ghost use Rattle.run.specs.Proposal.{curvatureAlong, expectsOf, ask, trialOf, shortenedOf, withinOf, proposalOf};
 ghost use Rattle.run.specs.Radius.{cutOf};
-ghost use Rattle.run.specs.Rows.{constraintsOf, evaluationOf};
+ghost use Rattle.run.specs.Results.{truthOf};
+ghost use Rattle.run.specs.Rows.{constraintsOf, evaluationBy};
 ghost use Rattle.run.specs.Vectors.{movedOf};
-ghost use Rattle.run.specs.program.Proposal.{expectedResult, modelFor, proposalResult, triedOf, pointOf};
-ghost use Rattle.run.specs.program.Proposal.{stillFor, standingFor};
+ghost use Rattle.run.specs.program.Proposal.{modelFor, proposalResult, triedOf, pointOf, stillFor, standingIn};
+ghost use Rattle.run.specs.program.Proposal.{nextIn, rowsOf, curvatureFor};
+ghost use Rattle.run.specs.program.Rows.{FewRows};
 ghost use Rattle.run.specs.program.Step.{PreparedFor};
+use crate::area;
 use crate::curvature::products;
 use crate::radius::cut;
 use crate::residuals::predicted;
 use crate::residuals::squared;
+use crate::results::TruthResult;
+use crate::rows::RowCounts;
 use crate::rows::sum;
 use crate::state::Search;
 use crate::state::Trial;
 use crate::step::Prepared;
 use crate::step::StepEnd;
 use crate::step::damped_step;
+use crate::vectors::choose_if;
 use crate::vectors::moved;
 use crate::vectors::norm_of;
 use crate::vectors::same;
@@ -35,24 +42,23 @@ use interval::ScalarResult;
 use linear::Answer;
 use linear::LinearError;
 use linear::at;
-use linear::choose;
 use linear::plus_dot;
 use linear::put;
 
-// The numbers of a standing point's problem: how many variables, constraint rows and sum rows there are, the sum f and the violation theta.
+// The numbers of a standing point: how many variables and rows there are, the sum f and the violation theta.
 pub struct StandingPoint {
-    pub n: usize,
-    pub m: usize,
-    pub s: usize,
+    pub counts: RowCounts,
     pub f: Scalar,
     pub theta: Scalar,
 }
 
-// What the model expects of a step.
-pub enum Expected {
-    Drop,
-    NoDrop,
-    Refused(LinearError),
+// What every damping of a search goes out from: the standing point, the variables that move, whether the curvature
+// learned is left aside, and the longest step.
+pub struct Start {
+    pub point: StandingPoint,
+    pub moving: [bool; 12],
+    pub plain: bool,
+    pub max_step: Scalar,
 }
 
 // With `NoDrop` how many rows are independent.
@@ -63,6 +69,17 @@ pub enum Proposal {
     NoChange,
     Ask(Trial),
     Refused(LinearError),
+}
+
+// The curvature that a search goes by. In plain there is none: the last numbers of the area are +0.
+pub fn curvature_for(plain: bool, area: &[f64]) -> &[f64]
+    requires { ⌜ length (now area) ≡ AREA ⌝ }
+    ensures { λ r. ⌜ now r ≡ curvatureFor plain (now (area .entry)) ⌝ }
+{
+    if plain {
+        return &area[area::SPARE_AT..area::SPARE_AT + area::CURVATURE_LEN];
+    }
+    &area[area::CURVATURE_AT..area::FILTER_AT]
 }
 
 // deltaᵀ B delta.
@@ -76,36 +93,41 @@ fn curvature_along(n: usize, b: &[f64], delta: &[f64]) -> Scalar
 }
 
 // Whether the violation falls, from what it is to what is predicted.
-fn falls(theta: Scalar, predicted: Answer) -> Expected
-    ensures { λ r. ⌜ expectedResult r ≡ bind (resultOf predicted) (λ v. ok (definitelyGreater (subOf theta v) zeroS)) ⌝ }
+fn falls(theta: Scalar, predicted: Answer) -> TruthResult
+    ensures { λ r. ⌜ truthOf r ≡ bind (resultOf predicted) (λ v. ok (definitelyGreater (subOf theta v) zeroS)) ⌝ }
 {
     match predicted {
-        Answer::Value(v) => {
-            if theta.sub(v).definitely_greater(Scalar::ZERO) {
-                return Expected::Drop;
-            }
-            Expected::NoDrop
-        }
-        Answer::Refused(e) => Expected::Refused(e),
+        Answer::Value(v) => TruthResult::Value(theta.sub(v).definitely_greater(Scalar::ZERO)),
+        Answer::Refused(e) => TruthResult::Refused(e),
     }
 }
 
 // Whether the model expects the step to lower the sum or, asked only then, the violation.
-pub fn expects(model: StandingPoint, rows: &[f64], b: &[f64], delta: &[f64]) -> Expected
-    requires { ⌜ (model .n ≤ 12) × ((model .m ≤ 12) × (model .s ≤ 24)) ⌝ }
-    ensures { λ r. ⌜ expectedResult r ≡ expectsOf (modelFor model (now (rows .entry)) (now (b .entry))) (now (delta .entry)) ⌝ }
+pub fn expects(point: StandingPoint, rows: &[f64], b: &[f64], delta: &[f64]) -> TruthResult
+    requires { ⌜ FewRows (point .counts) ⌝ }
+    ensures { λ r. ⌜ truthOf r
+        ≡ expectsOf (modelFor point (now (rows .entry)) (now (b .entry))) (now (delta .entry)) ⌝ }
 {
-    let left = squared(rows, sum(model.n, model.m, model.s), delta, model.n);
-    let drop = model.f.sub(left).sub(curvature_along(model.n, b, delta));
+    let c = point.counts;
+    let left = squared(rows, sum(c.n, c.m, c.s), delta, c.n);
+    let drop = point.f.sub(left).sub(curvature_along(c.n, b, delta));
     if drop.definitely_greater(Scalar::ZERO) {
-        return Expected::Drop;
+        return TruthResult::Value(true);
     }
-    falls(model.theta, predicted(rows, model.n, model.m, delta))
+    falls(point.theta, predicted(rows, c.n, c.m, delta))
 }
 
 // The question, once the step's length is known.
 fn asked(predicted: Scalar, length: Answer) -> Proposal
-    ensures { λ r. ⌜ ((delta lambda next : List Float) → proposalResult r delta lambda next ≡ bind (resultOf length) (λ tried. ok (ask (record { delta = delta; lambda = lambda; next = next; predicted = predicted; tried = tried })))) ⌝ }
+    ensures { λ r. ⌜ ((delta lambda next : List Float) →
+        proposalResult r delta lambda next
+        ≡ bind (resultOf length) (λ tried. ok (ask (record {
+          delta = delta;
+          lambda = lambda;
+          next = next;
+          predicted = predicted;
+          tried = tried;
+        })))) ⌝ }
 {
     match length {
         Answer::Value(tried) => Proposal::Ask(Trial { predicted, tried }),
@@ -116,7 +138,9 @@ fn asked(predicted: Scalar, length: Answer) -> Proposal
 // The point that a chosen step leads to.
 fn tried(n: usize, m: usize, rows: &[f64], x: &[f64], delta: &[f64]) -> Proposal
     requires { ⌜ (n ≤ VARIABLES) × ((m ≤ CONSTRAINTS) × (length (now delta) ≡ 24)) ⌝ }
-    ensures { λ r. ⌜ ((lambda : List Float) → proposalResult r (now (delta .entry)) lambda (movedOf n (now (x .entry)) (now (delta .entry))) ≡ triedOf (pointOf n (now (x .entry)) (constraintsOf n m (now (rows .entry)))) (now (delta .entry)) lambda) ⌝ }
+    ensures { λ r. ⌜ ((lambda : List Float) →
+        proposalResult r (now (delta .entry)) lambda (movedOf n (now (x .entry)) (now (delta .entry)))
+        ≡ triedOf (pointOf n (now (x .entry)) (constraintsOf n m (now (rows .entry)))) (now (delta .entry)) lambda) ⌝ }
 {
     let mut next = [0.0; 24];
     moved(n, x, delta, &mut next);
@@ -133,20 +157,12 @@ fn tried(n: usize, m: usize, rows: &[f64], x: &[f64], delta: &[f64]) -> Proposal
     }
 }
 
-// Chosen, or zero where it is not in use.
-fn choose_if(in_use: bool, d: Scalar) -> Scalar
-    ensures { λ r. ⌜ r ≡ pick «in_use» (chooseOf d) zeroS ⌝ }
-{
-    if in_use {
-        return choose(d);
-    }
-    Scalar::ZERO
-}
-
 // The point that a step leads to; it is chosen in its place.
 fn trial(n: usize, m: usize, rows: &[f64], x: &[f64], delta: &mut [f64]) -> Proposal
     requires { ⌜ (n ≤ VARIABLES) × ((m ≤ CONSTRAINTS) × (length (now delta) ≡ 24)) ⌝ }
-    ensures { λ r. ⌜ ((lambda : List Float) → proposalResult r (now (delta .exit)) lambda (movedOf n (now (x .entry)) (now (delta .exit))) ≡ trialOf (pointOf n (now (x .entry)) (constraintsOf n m (now (rows .entry)))) (now (delta .entry)) lambda) ⌝ }
+    ensures { λ r. ⌜ ((lambda : List Float) →
+        proposalResult r (now (delta .exit)) lambda (movedOf n (now (x .entry)) (now (delta .exit)))
+        ≡ trialOf (pointOf n (now (x .entry)) (constraintsOf n m (now (rows .entry)))) (now (delta .entry)) lambda) ⌝ }
 {
     for i in 0..12 {
         let d = at(delta, i);
@@ -157,25 +173,29 @@ fn trial(n: usize, m: usize, rows: &[f64], x: &[f64], delta: &mut [f64]) -> Prop
 
 // The point that a step leads to once it is cut, if the model still expects something of it.
 fn shortened(
-    model: StandingPoint,
+    point: StandingPoint,
     rows: &[f64],
     x: &[f64],
     b: &[f64],
     shrink: Scalar,
     delta: &mut [f64],
 ) -> Proposal
-    requires { ⌜ (model .n ≤ 12) × ((model .m ≤ 12) × ((model .s ≤ 24) × (length (now delta) ≡ 24))) ⌝ }
-    ensures { λ r. ⌜ ((lambda : List Float) → proposalResult r (now (delta .exit)) lambda (movedOf (model .n) (now (x .entry)) (now (delta .exit))) ≡ shortenedOf (stillFor model (now (rows .entry)) (now (b .entry)) (now (x .entry))) (cutOf (model .n) (now (delta .entry)) shrink) lambda) ⌝ }
+    requires { ⌜ FewRows (point .counts) × (length (now delta) ≡ 24) ⌝ }
+    ensures { λ r. ⌜ ((lambda : List Float) →
+        proposalResult r (now (delta .exit)) lambda (movedOf (point .counts .n) (now (x .entry)) (now (delta .exit)))
+        ≡ shortenedOf (stillFor point (now (rows .entry)) (now (b .entry)) (now (x .entry)))
+        (cutOf (point .counts .n) (now (delta .entry)) shrink) lambda) ⌝ }
 {
-    cut(model.n, delta, shrink);
-    match expects(model, rows, b, delta) {
-        Expected::Drop => {
-            return trial(model.n, model.m, rows, x, delta);
-        }
-        Expected::NoDrop => {
+    let c = point.counts;
+    cut(c.n, delta, shrink);
+    match expects(point, rows, b, delta) {
+        TruthResult::Value(drop) => {
+            if drop {
+                return trial(c.n, c.m, rows, x, delta);
+            }
             return Proposal::Unresolved;
         }
-        Expected::Refused(e) => {
+        TruthResult::Refused(e) => {
             return Proposal::Refused(e);
         }
     }
@@ -183,24 +203,28 @@ fn shortened(
 
 // The point that a step leads to, cut where it is definitely longer than the radius.
 fn within(
-    model: StandingPoint,
+    point: StandingPoint,
     rows: &[f64],
     x: &[f64],
     b: &[f64],
     radius: Scalar,
     delta: &mut [f64],
 ) -> Proposal
-    requires { ⌜ (model .n ≤ 12) × ((model .m ≤ 12) × ((model .s ≤ 24) × (length (now delta) ≡ 24))) ⌝ }
-    ensures { λ r. ⌜ ((lambda : List Float) → proposalResult r (now (delta .exit)) lambda (movedOf (model .n) (now (x .entry)) (now (delta .exit))) ≡ withinOf (stillFor model (now (rows .entry)) (now (b .entry)) (now (x .entry))) radius (now (delta .entry)) lambda) ⌝ }
+    requires { ⌜ FewRows (point .counts) × (length (now delta) ≡ 24) ⌝ }
+    ensures { λ r. ⌜ ((lambda : List Float) →
+        proposalResult r (now (delta .exit)) lambda (movedOf (point .counts .n) (now (x .entry)) (now (delta .exit)))
+        ≡ withinOf (stillFor point (now (rows .entry)) (now (b .entry)) (now (x .entry))) radius (now (delta .entry))
+        lambda) ⌝ }
 {
-    match norm_of(delta, model.n) {
+    let c = point.counts;
+    match norm_of(delta, c.n) {
         Answer::Value(length) => {
             if !length.definitely_greater(radius) {
-                return trial(model.n, model.m, rows, x, delta);
+                return trial(c.n, c.m, rows, x, delta);
             }
             match radius.div(length) {
                 ScalarResult::Value(shrink) => {
-                    return shortened(model, rows, x, b, shrink, delta);
+                    return shortened(point, rows, x, b, shrink, delta);
                 }
                 ScalarResult::Refused(e) => {
                     return Proposal::Refused(LinearError::Arithmetic(e));
@@ -213,46 +237,54 @@ fn within(
     }
 }
 
-// What a search's damping proposes, from what was prepared, within its radius; where it asks, delta and lambda hold the step and its multipliers.
+// What a search's damping proposes, from what was prepared, within its radius; where it asks, delta and lambda hold the
+// step and its multipliers.
 pub fn propose(
-    model: StandingPoint,
-    rows: &[f64],
-    x: &[f64],
-    b: &[f64],
-    moving: &[bool],
+    start: Start,
+    area: &[f64],
     prepared: Prepared,
     order: &[usize],
-    curve: &[f64],
-    frame: &[f64],
+    fixed: &[f64],
     from: Search,
     delta: &mut [f64],
     lambda: &mut [f64],
 ) -> Proposal
-    requires { ⌜ (model .n ≤ 12) × ((model .m ≤ 12) × ((model .s ≤ 24) × ((length (now moving) ≡ 12) × (PreparedFor (model .n) (evaluationOf (model .n) (model .m) (model .s) (now rows)) (now b) (now moving) prepared (now order) (now curve) (now frame) × ((length (now delta) ≡ 24) × (length (now lambda) ≡ 24)))))) ⌝ }
-    ensures { λ r. ⌜ proposalResult r (now (delta .exit)) (now (lambda .exit)) (movedOf (model .n) (now (x .entry)) (now (delta .exit))) ≡ proposalOf (standingFor model (now (rows .entry)) (now (b .entry)) (now (x .entry)) (now (moving .entry))) (from .mu) (from .radius) ⌝ }
+    requires { ⌜ FewRows (start .point .counts) × ((length (now area) ≡ AREA) ×
+        ((length (now delta) ≡ 24) × (length (now lambda) ≡ 24))) ⌝ }
+    requires { ⌜ PreparedFor (start .point .counts .n) (evaluationBy (start .point .counts) (rowsOf (now area)))
+        (curvatureFor (start .plain) (now area)) (start .moving) prepared (now order) (now fixed) ⌝ }
+    ensures { λ r. ⌜ proposalResult r (now (delta .exit)) (now (lambda .exit))
+        (nextIn start (now (area .entry)) (now (delta .exit)))
+        ≡ proposalOf (standingIn start (now (area .entry))) (from .mu) (from .radius) ⌝ }
 {
+    let point = start.point;
+    let moving = start.moving;
     match damped_step(
-        model.n,
-        moving,
+        point.counts.n,
+        &moving,
         prepared,
         order,
-        curve,
-        frame,
+        fixed,
         from.mu,
         delta,
         lambda,
     ) {
-        StepEnd::Found(r) => match expects(model, rows, b, delta) {
-            Expected::Drop => {
-                return within(model, rows, x, b, from.radius, delta);
+        StepEnd::Found(r) => {
+            let rows = &area[area::STANDING_ROWS_AT..area::LANDED_ROWS_AT];
+            let b = curvature_for(start.plain, area);
+            match expects(point, rows, b, delta) {
+                TruthResult::Value(drop) => {
+                    if drop {
+                        let x = &area[area::STANDING_AT..area::LANDED_AT];
+                        return within(point, rows, x, b, from.radius, delta);
+                    }
+                    return Proposal::NoDrop(r);
+                }
+                TruthResult::Refused(e) => {
+                    return Proposal::Refused(e);
+                }
             }
-            Expected::NoDrop => {
-                return Proposal::NoDrop(r);
-            }
-            Expected::Refused(e) => {
-                return Proposal::Refused(e);
-            }
-        },
+        }
         StepEnd::NotPositive => {
             return Proposal::NotPositive;
         }

@@ -1,5 +1,6 @@
-// The search for a proposal, over dampings: left at the first question or stop.
-ghost use Prim.Native.Nat.{_^_, _<_, _≤_};
+// The search for a proposal, over dampings: left at the first question or stop. What no damping changes is worked out
+// once, before the loop: it is most of the work of a step.
+ghost use Prim.Native.Nat.{_^_, _<_};
 ghost use mathlib.Core.Bool.{true};
 ghost use mathlib.Core.List.{List};
 ghost use mathlib.Core.Path.{_≡_};
@@ -7,24 +8,28 @@ ghost use lib.Ieee.{Float};
 ghost use lib.ListN.{length};
 ghost use Rattle.interval.specs.Scaling.{isPositive};
 ghost use Rattle.run.specs.Damping.{damped};
-ghost use Rattle.run.specs.Rows.{evaluationOf};
+ghost use Rattle.run.specs.Limits.{AREA};
+ghost use Rattle.run.specs.Rows.{evaluationBy};
 ghost use Rattle.run.specs.Search.{flatOr, follow, searchOf};
 ghost use Rattle.run.specs.Search as defined;
 ghost use Rattle.run.specs.State.{rejectedFor, withRadius};
-ghost use Rattle.run.specs.Vectors.{movedOf};
 ghost use Rattle.run.specs.program.Damping.{goesOn, stopsAt};
-ghost use Rattle.run.specs.program.Proposal.{proposalResult, standingFor};
+ghost use Rattle.run.specs.program.Proposal.{proposalResult, standingIn, nextIn, rowsOf, curvatureFor};
+ghost use Rattle.run.specs.program.Rows.{FewRows};
 ghost use Rattle.run.specs.program.Search.{turnOf, turnResult, foundResult};
 ghost use Rattle.run.specs.program.Step.{PreparedFor};
+use crate::area;
 use crate::damping::Damped;
 use crate::damping::damp;
 use crate::proposal::Proposal;
-use crate::proposal::StandingPoint;
+use crate::proposal::Start;
+use crate::proposal::curvature_for;
 use crate::proposal::propose;
 use crate::state::Rejection;
 use crate::state::Search;
 use crate::state::Stop;
 use crate::state::Trial;
+use crate::step::FIXED_LEN;
 use crate::step::Prepared;
 use crate::step::prepare;
 use interval::Scalar;
@@ -37,13 +42,13 @@ pub enum Found {
     Refused(Search, LinearError),
 }
 
-// Gone on, or left.
+// Whether the loop over dampings continues or ends.
 pub enum Turn {
     On(Search),
     Leave(Found),
 }
 
-// No expected drop.
+// The stop where the model expects no drop: Flat before any damping grew, since then the point itself is the reason.
 fn flat(x: Search, independent: usize, m: usize) -> Stop
     ensures { λ r. ⌜ r ≡ flatOr x independent m ⌝ }
 {
@@ -54,7 +59,7 @@ fn flat(x: Search, independent: usize, m: usize) -> Stop
     Stop::Damped(why)
 }
 
-// Rejected, with that radius: gone on with more damping, or left.
+// A proposal is rejected, with that radius from now on: the loop continues with more damping, or ends.
 fn damp_or_leave(x: Search, radius: Scalar, why: Rejection) -> Turn
     requires { ⌜ x .«turned_down» < 2 ^ 32 ⌝ }
     ensures { λ r. ⌜ r ≡ turnOf (damped goesOn stopsAt (rejectedFor (withRadius x radius) why)) ⌝ }
@@ -72,7 +77,8 @@ fn damp_or_leave(x: Search, radius: Scalar, why: Rejection) -> Turn
 // What a proposal makes of the search.
 fn follow(p: Proposal, x: Search, m: usize, max: Scalar) -> Turn
     requires { ⌜ x .«turned_down» < 2 ^ 32 ⌝ }
-    ensures { λ r. ⌜ ((on : Search → defined.Found) (delta lambda next : List Float) → turnResult r on delta lambda next ≡ follow on m max x (proposalResult p delta lambda next)) ⌝ }
+    ensures { λ r. ⌜ ((on : Search → defined.Found) (delta lambda next : List Float) →
+        turnResult r on delta lambda next ≡ follow on m max x (proposalResult p delta lambda next)) ⌝ }
 {
     match p {
         Proposal::Ask(t) => {
@@ -99,41 +105,28 @@ fn follow(p: Proposal, x: Search, m: usize, max: Scalar) -> Turn
 
 // The search, from what no damping changes.
 fn seek_from(
-    model: StandingPoint,
-    rows: &[f64],
-    x: &[f64],
-    b: &[f64],
-    moving: &[bool],
-    max: Scalar,
+    start: Start,
+    area: &[f64],
     prepared: Prepared,
     order: &[usize],
-    curve: &[f64],
-    frame: &[f64],
+    fixed: &[f64],
     from: Search,
     delta: &mut [f64],
     lambda: &mut [f64],
 ) -> Found
-    requires { ⌜ (model .n ≤ 12) × ((model .m ≤ 12) × ((model .s ≤ 24) × ((length (now moving) ≡ 12) × (PreparedFor (model .n) (evaluationOf (model .n) (model .m) (model .s) (now rows)) (now b) (now moving) prepared (now order) (now curve) (now frame) × ((length (now delta) ≡ 24) × (length (now lambda) ≡ 24)))))) ⌝ }
+    requires { ⌜ FewRows (start .point .counts) × ((length (now area) ≡ AREA) ×
+        ((length (now delta) ≡ 24) × (length (now lambda) ≡ 24))) ⌝ }
+    requires { ⌜ PreparedFor (start .point .counts .n) (evaluationBy (start .point .counts) (rowsOf (now area)))
+        (curvatureFor (start .plain) (now area)) (start .moving) prepared (now order) (now fixed) ⌝ }
     requires { ⌜ (from .«turned_down» < 2 ^ 31) × (isPositive (from .mu) ≡ true) ⌝ }
-    ensures { λ r. ⌜ foundResult r (now (delta .exit)) (now (lambda .exit)) (movedOf (model .n) (now (x .entry)) (now (delta .exit))) ≡ searchOf (standingFor model (now (rows .entry)) (now (b .entry)) (now (x .entry)) (now (moving .entry))) max from ⌝ }
+    ensures { λ r. ⌜ foundResult r (now (delta .exit)) (now (lambda .exit))
+        (nextIn start (now (area .entry)) (now (delta .exit)))
+        ≡ searchOf (standingIn start (now (area .entry))) (start .«max_step») from ⌝ }
 {
     let mut state = from;
     let found = loop {
-        let p = propose(
-            model,
-            rows,
-            x,
-            b,
-            moving,
-            prepared,
-            order,
-            curve,
-            frame,
-            state,
-            delta,
-            lambda,
-        );
-        match follow(p, state, model.m, max) {
+        let p = propose(start, area, prepared, order, fixed, state, delta, lambda);
+        match follow(p, state, start.point.counts.m, start.max_step) {
             Turn::Leave(left) => {
                 break left;
             }
@@ -145,49 +138,32 @@ fn seek_from(
     found
 }
 
-// The search from a standing point x with its model, rows, curvature b and moving marks.
+// The search from a standing point, over the area that holds its rows and the curvature learned.
 pub fn seek(
-    model: StandingPoint,
-    rows: &[f64],
-    x: &[f64],
-    b: &[f64],
-    moving: &[bool],
-    max: Scalar,
+    start: Start,
+    area: &[f64],
     from: Search,
     delta: &mut [f64],
     lambda: &mut [f64],
 ) -> Found
-    requires { ⌜ (model .n ≤ 12) × ((model .m ≤ 12) × ((model .s ≤ 24) × ((length (now moving) ≡ 12) × ((length (now delta) ≡ 24) × (length (now lambda) ≡ 24))))) ⌝ }
+    requires { ⌜ FewRows (start .point .counts) × ((length (now area) ≡ AREA) ×
+        ((length (now delta) ≡ 24) × (length (now lambda) ≡ 24))) ⌝ }
     requires { ⌜ (from .«turned_down» < 2 ^ 31) × (isPositive (from .mu) ≡ true) ⌝ }
-    ensures { λ r. ⌜ foundResult r (now (delta .exit)) (now (lambda .exit)) (movedOf (model .n) (now (x .entry)) (now (delta .exit))) ≡ searchOf (standingFor model (now (rows .entry)) (now (b .entry)) (now (x .entry)) (now (moving .entry))) max from ⌝ }
+    ensures { λ r. ⌜ foundResult r (now (delta .exit)) (now (lambda .exit))
+        (nextIn start (now (area .entry)) (now (delta .exit)))
+        ≡ searchOf (standingIn start (now (area .entry))) (start .«max_step») from ⌝ }
 {
     let mut order = [0; 24];
-    let mut curve = [0.0; 336];
-    let mut frame = [0.0; 888];
+    let mut fixed = [0.0; FIXED_LEN];
+    let counts = start.point.counts;
+    let moving = start.moving;
     let prepared = prepare(
-        model.n,
-        model.m,
-        model.s,
-        rows,
-        b,
-        moving,
+        counts,
+        &area[area::STANDING_ROWS_AT..area::LANDED_ROWS_AT],
+        curvature_for(start.plain, area),
+        &moving,
         &mut order,
-        &mut curve,
-        &mut frame,
+        &mut fixed,
     );
-    seek_from(
-        model,
-        rows,
-        x,
-        b,
-        moving,
-        max,
-        prepared,
-        &order,
-        &curve,
-        &frame,
-        from,
-        delta,
-        lambda,
-    )
+    seek_from(start, area, prepared, &order, &fixed, from, delta, lambda)
 }

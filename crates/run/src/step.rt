@@ -1,22 +1,25 @@
-// The step over the kept variables and over all: what is tested of it, and how it ends.
+// The step over the kept variables and over all: what no damping changes of it is prepared once, then each damping has
+// its own step from that. A step that is not finite, or whose H is not, is none: a search then goes on with more damping.
 ghost use Prim.Native.Nat.{_≤_};
 ghost use mathlib.Core.Bool.{_&&_};
 ghost use mathlib.Core.List.{List, []};
 ghost use mathlib.Core.Path.{_≡_};
 ghost use lib.Ieee.{Float};
-ghost use lib.ListN.{length, take, drop, replicate};
+ghost use lib.ListN.{length, replicate};
 ghost use Rattle.linear.specs.Answers.{doneOf};
 ghost use Rattle.linear.specs.Flat.{zeros};
-ghost use Rattle.run.specs.Limits.{VARIABLES, CONSTRAINTS, SUM-ROWS};
+ghost use Rattle.run.specs.Limits.{VARIABLES, CONSTRAINTS};
 ghost use Rattle.run.specs.Reduced.{pullOf};
-ghost use Rattle.run.specs.Rows.{rowsIn, valueAt, evaluationOf};
+ghost use Rattle.run.specs.Rows.{rowsIn, valueAt, evaluationBy};
 ghost use Rattle.run.specs.Step.{freeStep, keptStep, stepOf};
 ghost use Rattle.run.specs.Vectors.{vector, allFinite};
 ghost use Rattle.run.specs.program.Basis.{basisBy, ForPreparing};
 ghost use Rattle.run.specs.program.Problem.{problemIn};
-ghost use Rattle.run.specs.program.Reduced.{curved, spanned};
-ghost use Rattle.run.specs.program.Step.{endOf, withMultipliers, basisFor, readyOf, stepFromBasis, Few, stepFromFactors};
-ghost use Rattle.run.specs.program.Step.{PreparedFor, dampedStep, PreparedSizes, preparedStep};
+ghost use Rattle.run.specs.program.Reduced.{curved};
+ghost use Rattle.run.specs.program.Rows.{FewRows};
+ghost use Rattle.run.specs.program.Step.{endOf, withMultipliers, readyOf, stepFromBasis, Few, stepFromFactors};
+ghost use Rattle.run.specs.program.Step.{DimensionsFit, basisWith, directionsWith, dampedStep, preparedStep};
+ghost use Rattle.run.specs.program.Step.{FIXED-LEN, PreparedSizes, PreparedFor};
 use crate::area::write;
 use crate::basis::Shape;
 use crate::basis::basis;
@@ -30,6 +33,7 @@ use crate::reduced::WeightsEnd;
 use crate::reduced::free_part;
 use crate::reduced::pull;
 use crate::results::CountResult;
+use crate::rows::RowCounts;
 use crate::rows::RowSet;
 use crate::rows::constraints;
 use crate::vectors::all_finite;
@@ -51,10 +55,19 @@ pub enum Prepared {
     Refused(LinearError),
 }
 
-// Where the gradient of a curve begins, and where it ends.
-const GRADIENT: usize = 312;
+// How many variables are kept, how many rows are independent, and how many directions are free.
+pub struct Dimensions {
+    pub kept: usize,
+    pub independent: usize,
+    pub free: usize,
+}
 
-const CURVE: usize = 336;
+// What no damping changes is one slice: what is undamped, of which the gradient is the last, and then the factors.
+const GRADIENT_AT: usize = 312;
+
+const FACTORS_AT: usize = 336;
+
+pub const FIXED_LEN: usize = 1224;
 
 // Where each part of a frame begins, behind the basis.
 const COEFFICIENTS: usize = 288;
@@ -68,7 +81,9 @@ const FRAME: usize = 888;
 // What pulls against the kept step, and whether both are finite.
 pub fn finite_pull(k: usize, h: &[f64], g: &[f64], kept: &[f64], out: &mut [f64]) -> bool
     requires { ⌜ (k ≤ VARIABLES) × (now out ≡ vector) ⌝ }
-    ensures { λ r. ⌜ (now (out .exit) ≡ pullOf (curved k (now (h .entry)) (now (g .entry))) (now (kept .entry))) × (r ≡ (allFinite (now (kept .entry)) 12 && allFinite (now (out .exit)) 12)) ⌝ }
+    ensures { λ r. ⌜
+        (now (out .exit) ≡ pullOf (curved k (now (h .entry)) (now (g .entry))) (now (kept .entry))) ×
+        (r ≡ (allFinite (now (kept .entry)) 12 && allFinite (now (out .exit)) 12)) ⌝ }
 {
     pull(k, h, g, kept, out);
     if all_finite(kept, 12) {
@@ -77,9 +92,10 @@ pub fn finite_pull(k: usize, h: &[f64], g: &[f64], kept: &[f64], out: &mut [f64]
     false
 }
 
-// How a step ends whose multipliers ended so.
+// The step's result, given that of its multipliers.
 pub fn multiplied(d: Done, r: usize) -> StepEnd
-    ensures { λ e. ⌜ ((delta lambda : List Float) → endOf e delta lambda ≡ withMultipliers delta r (doneOf d lambda)) ⌝ }
+    ensures { λ e. ⌜ ((delta lambda : List Float) →
+        endOf e delta lambda ≡ withMultipliers delta r (doneOf d lambda)) ⌝ }
 {
     match d {
         Done::Finished => StepEnd::Found(r),
@@ -87,26 +103,32 @@ pub fn multiplied(d: Done, r: usize) -> StepEnd
     }
 }
 
-// The step along `count` directions z, from the correction delta on, with its multipliers, where it and what pulls against it are finite.
+// The step along the free directions, from the correction delta on, with its multipliers, where it and what pulls
+// against it are finite.
 fn free_step(
-    k: usize,
-    r: usize,
-    count: usize,
+    d: Dimensions,
     h: &[f64],
     g: &[f64],
     order: &[usize],
-    frame: &[f64],
+    factors: &[f64],
     delta: &mut [f64],
     lambda: &mut [f64],
 ) -> StepEnd
-    requires { ⌜ (k ≤ VARIABLES) × ((r ≤ CONSTRAINTS) × ((count ≤ 12) × ((length (now order) ≡ 24) × ((length (now frame) ≡ 888) × (length (now lambda) ≡ 24))))) ⌝ }
-    ensures { λ e. ⌜ endOf e (now (delta .exit)) (now (lambda .exit)) ≡ freeStep (curved k (now (h .entry)) (now (g .entry))) (basisFor r (take 288 (now (frame .entry))) (take 288 (drop 288 (now (frame .entry)))) (now (order .entry))) (now (delta .entry)) (spanned count (take 288 (drop 600 (now (frame .entry))))) ⌝ }
+    requires { ⌜ DimensionsFit d ×
+        ((length (now order) ≡ 24) × ((length (now factors) ≡ 888) × (length (now lambda) ≡ 24))) ⌝ }
+    ensures { λ e. ⌜ endOf e (now (delta .exit)) (now (lambda .exit))
+        ≡ freeStep (curved (d .kept) (now (h .entry)) (now (g .entry)))
+        (basisWith (d .independent) (now (order .entry)) (now (factors .entry))) (now (delta .entry))
+        (directionsWith (d .free) (now (factors .entry))) ⌝ }
 {
     let mut p = [0.0; 24];
-    match free_part(k, count, h, g, &frame[DIRECTIONS..FRAME], delta) {
+    match free_part(d.kept, d.free, h, g, &factors[DIRECTIONS..FRAME], delta) {
         WeightsEnd::Found => {
-            if finite_pull(k, h, g, delta, &mut p) {
-                return multiplied(multipliers(k, r, frame, order, &p, lambda), r);
+            if finite_pull(d.kept, h, g, delta, &mut p) {
+                return multiplied(
+                    multipliers(d.kept, d.independent, factors, order, &p, lambda),
+                    d.independent,
+                );
             }
             return StepEnd::NotPositive;
         }
@@ -226,25 +248,42 @@ fn prepare_kept(
 // What no damping changes of the step from an answer's rows and the curvature b, over the variables that move, into
 // clear slices.
 pub fn prepare(
-    n: usize,
-    m: usize,
-    s: usize,
+    c: RowCounts,
     rows: &[f64],
     b: &[f64],
     moving: &[bool],
     order: &mut [usize],
-    curve: &mut [f64],
-    frame: &mut [f64],
+    fixed: &mut [f64],
 ) -> Prepared
-    requires { ⌜ (n ≤ VARIABLES) × ((m ≤ CONSTRAINTS) × ((s ≤ SUM-ROWS) × ((length (now moving) ≡ 12) × ((now order ≡ replicate 24 0) × ((now curve ≡ zeros 336) × (now frame ≡ zeros 888)))))) ⌝ }
-    ensures { λ x. ⌜ PreparedFor n (evaluationOf n m s (now (rows .entry))) (now (b .entry)) (now (moving .entry)) x (now (order .exit)) (now (curve .exit)) (now (frame .exit)) ⌝ }
+    requires { ⌜ FewRows c ×
+        ((length (now moving) ≡ 12) × ((now order ≡ replicate 24 0) × (now fixed ≡ zeros FIXED-LEN))) ⌝ }
+    ensures { λ x. ⌜ PreparedFor (c .n) (evaluationBy c (now (rows .entry))) (now (b .entry)) (now (moving .entry))
+        x (now (order .exit)) (now (fixed .exit)) ⌝ }
 {
     let mut index = [0; 12];
     let mut wide = [0.0; 288];
     let mut jc = [0.0; 288];
-    let k = keep(moving, n, &mut index);
-    problem(n, m, s, &index, k, rows, b, &mut wide, &mut jc, curve);
-    prepare_kept(k, m, &wide, &jc, rows, constraints(n, m), order, frame)
+    let k = keep(moving, c.n, &mut index);
+    problem(
+        c,
+        &index,
+        k,
+        rows,
+        b,
+        &mut wide,
+        &mut jc,
+        &mut fixed[0..FACTORS_AT],
+    );
+    prepare_kept(
+        k,
+        c.m,
+        &wide,
+        &jc,
+        rows,
+        constraints(c.n, c.m),
+        order,
+        &mut fixed[FACTORS_AT..FIXED_LEN],
+    )
 }
 
 // ---- damped
@@ -256,17 +295,26 @@ fn prepared_step(
     order: &[usize],
     h: &[f64],
     g: &[f64],
-    frame: &[f64],
+    factors: &[f64],
     kept: &mut [f64],
     lambda: &mut [f64],
 ) -> StepEnd
-    requires { ⌜ (k ≤ VARIABLES) × (Few prepared × ((length (now order) ≡ 24) × ((length (now frame) ≡ 888) × ((length (now kept) ≡ 24) × (length (now lambda) ≡ 24))))) ⌝ }
-    ensures { λ x. ⌜ endOf x (now (kept .exit)) (now (lambda .exit)) ≡ stepFromFactors prepared (curved k (now (h .entry)) (now (g .entry))) (now (order .entry)) (now (frame .entry)) ⌝ }
+    requires { ⌜ (k ≤ VARIABLES) × (Few prepared ×
+        ((length (now order) ≡ 24) × ((length (now factors) ≡ 888) ×
+        ((length (now kept) ≡ 24) × (length (now lambda) ≡ 24))))) ⌝ }
+    ensures { λ x. ⌜ endOf x (now (kept .exit)) (now (lambda .exit))
+        ≡ stepFromFactors prepared (curved k (now (h .entry)) (now (g .entry))) (now (order .entry))
+        (now (factors .entry)) ⌝ }
 {
     match prepared {
         Prepared::Ready(r, count) => {
-            write(kept, 0, &frame[CORRECTION..DIRECTIONS]);
-            return free_step(k, r, count, h, g, order, frame, kept, lambda);
+            write(kept, 0, &factors[CORRECTION..DIRECTIONS]);
+            let d = Dimensions {
+                kept: k,
+                independent: r,
+                free: count,
+            };
+            return free_step(d, h, g, order, factors, kept, lambda);
         }
         Prepared::Refused(e) => {
             return StepEnd::Refused(e);
@@ -279,25 +327,26 @@ fn kept_step(
     k: usize,
     prepared: Prepared,
     order: &[usize],
-    curve: &[f64],
-    frame: &[f64],
+    fixed: &[f64],
     mu: Scalar,
     kept: &mut [f64],
     lambda: &mut [f64],
 ) -> StepEnd
-    requires { ⌜ (k ≤ VARIABLES) × (PreparedSizes prepared (now order) (now curve) (now frame) × ((length (now kept) ≡ 24) × (length (now lambda) ≡ 24))) ⌝ }
-    ensures { λ x. ⌜ endOf x (now (kept .exit)) (now (lambda .exit)) ≡ dampedStep k prepared (now (order .entry)) (now (curve .entry)) (now (frame .entry)) mu ⌝ }
+    requires { ⌜ (k ≤ VARIABLES) × (PreparedSizes prepared (now order) (now fixed) ×
+        ((length (now kept) ≡ 24) × (length (now lambda) ≡ 24))) ⌝ }
+    ensures { λ x. ⌜ endOf x (now (kept .exit)) (now (lambda .exit))
+        ≡ dampedStep k prepared (now (order .entry)) (now (fixed .entry)) mu ⌝ }
 {
     let mut h = [0.0; 288];
-    damped(k, curve, mu, &mut h);
+    damped(k, fixed, mu, &mut h);
     if all_finite(&h, 12 * k) {
         return prepared_step(
             k,
             prepared,
             order,
             &h,
-            &curve[GRADIENT..CURVE],
-            frame,
+            &fixed[GRADIENT_AT..FACTORS_AT],
+            &fixed[FACTORS_AT..FIXED_LEN],
             kept,
             lambda,
         );
@@ -307,34 +356,36 @@ fn kept_step(
 
 // ---- over all variables
 
-// The step with the damping mu, from what was prepared for the variables that move, with the constraints' multipliers. Where there is none, what delta holds has no meaning.
+// The step with the damping mu, from what was prepared for the variables that move, with the constraints' multipliers.
+// Where there is none, what delta holds has no meaning.
 pub fn damped_step(
     n: usize,
     moving: &[bool],
     prepared: Prepared,
     order: &[usize],
-    curve: &[f64],
-    frame: &[f64],
+    fixed: &[f64],
     mu: Scalar,
     delta: &mut [f64],
     lambda: &mut [f64],
 ) -> StepEnd
-    requires { ⌜ (n ≤ VARIABLES) × ((length (now moving) ≡ 12) × (PreparedSizes prepared (now order) (now curve) (now frame) × ((length (now delta) ≡ 24) × (length (now lambda) ≡ 24)))) ⌝ }
-    ensures { λ x. ⌜ endOf x (now (delta .exit)) (now (lambda .exit)) ≡ preparedStep n (now (moving .entry)) prepared (now (order .entry)) (now (curve .entry)) (now (frame .entry)) mu ⌝ }
+    requires { ⌜ (n ≤ VARIABLES) × ((length (now moving) ≡ 12) ×
+        (PreparedSizes prepared (now order) (now fixed) ×
+        ((length (now delta) ≡ 24) × (length (now lambda) ≡ 24)))) ⌝ }
+    ensures { λ x. ⌜ endOf x (now (delta .exit)) (now (lambda .exit))
+        ≡ preparedStep n (now (moving .entry)) prepared (now (order .entry)) (now (fixed .entry)) mu ⌝ }
 {
     let mut index = [0; 12];
     let mut kept = [0.0; 24];
     let k = keep(moving, n, &mut index);
-    let end = kept_step(k, prepared, order, curve, frame, mu, &mut kept, lambda);
+    let end = kept_step(k, prepared, order, fixed, mu, &mut kept, lambda);
     spread(&index, &kept, k, delta);
     end
 }
 
-// The step of the linearized problem, from an answer's rows and the curvature b, over the variables that move, with the constraints' multipliers.
+// The step of the linearized problem, from an answer's rows and the curvature b, over the variables that move, with the
+// constraints' multipliers.
 pub fn step(
-    n: usize,
-    m: usize,
-    s: usize,
+    c: RowCounts,
     rows: &[f64],
     b: &[f64],
     moving: &[bool],
@@ -342,12 +393,13 @@ pub fn step(
     delta: &mut [f64],
     lambda: &mut [f64],
 ) -> StepEnd
-    requires { ⌜ (n ≤ VARIABLES) × ((m ≤ CONSTRAINTS) × ((s ≤ SUM-ROWS) × ((length (now moving) ≡ 12) × ((length (now delta) ≡ 24) × (length (now lambda) ≡ 24))))) ⌝ }
-    ensures { λ r. ⌜ endOf r (now (delta .exit)) (now (lambda .exit)) ≡ stepOf n (evaluationOf n m s (now (rows .entry))) (now (b .entry)) (now (moving .entry)) mu ⌝ }
+    requires { ⌜ FewRows c ×
+        ((length (now moving) ≡ 12) × ((length (now delta) ≡ 24) × (length (now lambda) ≡ 24))) ⌝ }
+    ensures { λ r. ⌜ endOf r (now (delta .exit)) (now (lambda .exit))
+        ≡ stepOf (c .n) (evaluationBy c (now (rows .entry))) (now (b .entry)) (now (moving .entry)) mu ⌝ }
 {
     let mut order = [0; 24];
-    let mut curve = [0.0; 336];
-    let mut frame = [0.0; 888];
-    let end = prepare(n, m, s, rows, b, moving, &mut order, &mut curve, &mut frame);
-    damped_step(n, moving, end, &order, &curve, &frame, mu, delta, lambda)
+    let mut fixed = [0.0; FIXED_LEN];
+    let end = prepare(c, rows, b, moving, &mut order, &mut fixed);
+    damped_step(c.n, moving, end, &order, &fixed, mu, delta, lambda)
 }

@@ -8,11 +8,9 @@ ghost use Rattle.run.specs.Pieces.{squaredReply, predictedReply, transposedRepl
 ghost use Rattle.run.specs.Pieces.{expectsReply, cutReply, alongReply, shiftReply, updateReply, learnedReply};
 ghost use Rattle.run.specs.Pieces.{stepReply, endingOf};
 ghost use Rattle.run.specs.Results.{truthOf};
-ghost use Rattle.run.specs.program.Proposal.{expectedResult};
 ghost use Rattle.run_c.specs.Replies.{countsOf, decisionOf, judgedOf, lastOf, steppedOf, stepWritten};
 ghost use Rattle.run_c.specs.Replies.{stepWrittenOf};
 use interval::Scalar;
-use run::Expected;
 use run::Judgement;
 use run::Last;
 use run::RowCounts;
@@ -70,19 +68,12 @@ fn stepped_of(e: StepEnd) -> Stepped
     }
 }
 
-fn expected_of(e: Expected) -> Decision
-    ensures { λ r. ⌜ r ≡ decisionOf (expectedResult e) ⌝ }
+fn decision_of(t: TruthResult) -> Decision
+    ensures { λ r. ⌜ r ≡ decisionOf (truthOf t) ⌝ }
 {
-    match e {
-        Expected::Drop => Decision {
-            number: 0,
-            holds: true,
-        },
-        Expected::NoDrop => Decision {
-            number: 0,
-            holds: false,
-        },
-        Expected::Refused(e) => Decision {
+    match t {
+        TruthResult::Value(holds) => Decision { number: 0, holds },
+        TruthResult::Refused(e) => Decision {
             number: number_of(e),
             holds: false,
         },
@@ -229,7 +220,7 @@ pub extern "C" fn run_expects(
         ≡ decisionOf (expectsReply (countsOf n m s) (now (rows .entry)) (now (b .entry)) f theta
         (now (delta .entry))) ⌝ }
 {
-    expected_of(run::expects(RowCounts { n, m, s }, rows, b, f, theta, delta))
+    decision_of(run::expects(RowCounts { n, m, s }, rows, b, f, theta, delta))
 }
 
 #[no_mangle]

@@ -13,7 +13,8 @@ use Rattle.linear.specs.Results.{bind}
 use Rattle.linear.specs.declared.answers.Done.{Done}
 use Rattle.linear.specs.declared.answers.Done.the-variants as done
 use Rattle.run.specs.Basis.{Basis, correctionOf}
-use Rattle.run.specs.NullSpace.{directionsOf}
+use Rattle.run.specs.Limits.{VARIABLES, CONSTRAINTS}
+use Rattle.run.specs.NullSpace.{Directions, directionsOf}
 use Rattle.run.specs.Problem.{Kept, Problem, keptTo}
 use Rattle.run.specs.Rows.{Evaluation}
 use Rattle.run.specs.Step.{Step, Stepped, found, notPositive, spreadStep, freeStep, keptStep, stepOf}
@@ -22,6 +23,7 @@ use Rattle.run.specs.program.Problem.{dampedFrom, gradientIn}
 use Rattle.run.specs.program.Reduced.{spanned, curved}
 use Rattle.run.specs.declared.results.CountResult.{CountResult}
 use Rattle.run.specs.declared.results.CountResult.the-variants as count
+use Rattle.run.specs.declared.step.Dimensions.{Dimensions}
 use Rattle.run.specs.declared.step.Prepared.{Prepared}
 use Rattle.run.specs.declared.step.Prepared.the-variants as p
 use Rattle.run.specs.declared.step.StepEnd.{StepEnd}
@@ -46,7 +48,14 @@ spreadEnd k x = bind x (λ y. ok (spreadStep k y))
 
 -- a basis of which only what the multipliers are worked out with is read
 abbrev pub basisFor : ℕ → List Float → List Float → List ℕ → Basis
-basisFor r q coefficients order = record { rank = r; q = q; gram = matrix; coefficients = coefficients; dependent = matrix; order = order }
+basisFor r q coefficients order = record {
+  rank = r;
+  q = q;
+  gram = matrix;
+  coefficients = coefficients;
+  dependent = matrix;
+  order = order;
+}
 
 -- the step from its correction on
 unfoldable pub stepFromCorrection : Problem → Basis → List Float → Res Stepped
@@ -86,30 +95,56 @@ readyOf (done.Refused e) x r = p.Refused e
 
 -- the step over the kept variables from it, for the curvature and the gradient of a problem
 abbrev pub readyStep : Prepared → Problem → List Float → List Float → List ℕ → List Float → List Float → Res Stepped
-readyStep (p.Ready r count) P q coefficients order delta z = freeStep P (basisFor r q coefficients order) delta (spanned count z)
+readyStep (p.Ready r count) P q coefficients order delta z =
+    freeStep P (basisFor r q coefficients order) delta (spanned count z)
 readyStep (p.Refused e) P q coefficients order delta z = refused (numberOf e)
 
--- from a frame: Q, the coefficients, the correction and the directions, one behind the other
+-- ---- the factors: Q, the coefficients, the correction and the directions, one behind the other
+
+abbrev pub basisWith : ℕ → List ℕ → List Float → Basis
+basisWith r order factors = basisFor r (take 288 factors) (take 288 (drop 288 factors)) order
+
+abbrev pub directionsWith : ℕ → List Float → Directions
+directionsWith count factors = spanned count (take 288 (drop 600 factors))
+
 abbrev pub stepFromFactors : Prepared → Problem → List ℕ → List Float → Res Stepped
-stepFromFactors x P order frame = readyStep x P (take 288 frame) (take 288 (drop 288 frame)) order (take 24 (drop 576 frame)) (take 288 (drop 600 frame))
+stepFromFactors x P order factors =
+    readyStep x P (take 288 factors) (take 288 (drop 288 factors)) order (take 24 (drop 576 factors))
+    (take 288 (drop 600 factors))
+
+-- at most so many variables, rows and directions
+pub record DimensionsFit (d : Dimensions) : Type 0 where
+  pub few-kept : d .kept ≤ VARIABLES
+  pub few-independent : d .independent ≤ CONSTRAINTS
+  pub few-free : d .free ≤ VARIABLES
+
+-- ---- what no damping changes in one list: what is undamped, then the factors
+
+abbrev pub FIXED-LEN : ℕ
+FIXED-LEN = 1224
+
+abbrev pub factorsIn : List Float → List Float
+factorsIn fixed = take 888 (drop 336 fixed)
 
 -- with the damping mu; none where H is not finite
-unfoldable pub dampedStep : ℕ → Prepared → List ℕ → List Float → List Float → Scalar → Res Stepped
-dampedStep k x order curve frame mu =
-    let h = dampedFrom k curve mu in
-    pick (allFinite h 144) (stepFromFactors x (curved k h (gradientIn curve)) order frame) (ok notPositive)
+unfoldable pub dampedStep : ℕ → Prepared → List ℕ → List Float → Scalar → Res Stepped
+dampedStep k x order fixed mu =
+    let h = dampedFrom k fixed mu in
+    pick (allFinite h 144) (stepFromFactors x (curved k h (gradientIn fixed)) order (factorsIn fixed)) (ok notPositive)
 
 -- over all variables
-unfoldable pub preparedStep : ℕ → List Bool → Prepared → List ℕ → List Float → List Float → Scalar → Res Stepped
-preparedStep n moving x order curve frame mu = let k = keptTo moving n in spreadEnd k (dampedStep (k .count) x order curve frame mu)
+unfoldable pub preparedStep : ℕ → List Bool → Prepared → List ℕ → List Float → Scalar → Res Stepped
+preparedStep n moving x order fixed mu =
+    let k = keptTo moving n in
+    spreadEnd k (dampedStep (k .count) x order fixed mu)
 
-pub record PreparedSizes (x : Prepared) (order : List ℕ) (curve frame : List Float) : Type 0 where
+pub record PreparedSizes (x : Prepared) (order : List ℕ) (fixed : List Float) : Type 0 where
   pub few : Few x
   pub order-length : length order ≡ 24
-  pub curve-length : length curve ≡ 336
-  pub frame-length : length frame ≡ 888
+  pub fixed-length : length fixed ≡ FIXED-LEN
 
 -- what is prepared gives the step of every damping
-pub record PreparedFor (n : ℕ) (e : Evaluation) (b : List Float) (moving : List Bool) (x : Prepared) (order : List ℕ) (curve frame : List Float) : Type 0 where
-  pub framed : PreparedSizes x order curve frame
-  pub steps : (mu : Scalar) → preparedStep n moving x order curve frame mu ≡ stepOf n e b moving mu
+pub record PreparedFor (n : ℕ) (e : Evaluation) (b : List Float) (moving : List Bool) (x : Prepared) (order : List ℕ)
+    (fixed : List Float) : Type 0 where
+  pub sizes : PreparedSizes x order fixed
+  pub steps : (mu : Scalar) → preparedStep n moving x order fixed mu ≡ stepOf n e b moving mu

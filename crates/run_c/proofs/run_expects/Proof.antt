@@ -8,11 +8,11 @@ use Rattle.run_c.proofs.run_expects.Tie as tie
 expects-requires : tie.Need-expects-requires
 expects-requires c κs = search needs
 
-expected-of-requires : tie.Need-expected-of-requires
-expected-of-requires c κs = search needs
+decision-of-requires : tie.Need-decision-of-requires
+decision-of-requires c κs = search needs
 
 returns : tie.Need-returns
-returns c = c .expected-of .ensures ∙ ap decisionOf (c .before .expects .ensures)
+returns c = c .decision-of .ensures ∙ ap decisionOf (c .before .expects .ensures)
 
 pub run-expects-spec : {M : Type 1} → statement M
-run-expects-spec = tie.close (tie.spec expects-requires expected-of-requires returns)
+run-expects-spec = tie.close (tie.spec expects-requires decision-of-requires returns)

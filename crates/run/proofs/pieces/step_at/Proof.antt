@@ -32,8 +32,7 @@ step-requires c κs =
     let p = wants-passed _ _ _ (finished (c .before .before .enum-told .given .1)) (c .before .before .before .before .wants2 .ensures) in
     let q = wants-passed _ _ _ (p .0) (c .before .before .before .before .before .wants .ensures) in
     let r = fits-passed (q .0) (c .before .before .before .before .before .before .fits2 .ensures) in
-    let z = r .sized .counts in
-    (z .few-variables, (z .few-constraints, (z .few-sums, (r .second, (q .1, p .1)))))
+    (r .sized .counts, (r .second, (q .1, p .1)))
 
 enum-told-2 : tie.Need-enum-told-2
 enum-told-2 c = search needs
@@ -66,8 +65,8 @@ returns-3 c =
     let p = wants-passed _ _ _ (finished (c .before .before .before .before .before .before .before .before .before .before .before .before .before .before .before .before .enum-told .given .1)) (c .before .before .before .before .before .before .before .before .before .before .before .before .before .before .before .before .before .before .wants2 .ensures) in
     let q = wants-passed _ _ _ (p .0) (c .before .before .before .before .before .before .before .before .before .before .before .before .before .before .before .before .before .before .before .wants .ensures) in
     let k = c .before .before .before .before .before .before .before .before .before .before .before .before .before .step in
-    let long : length (k .last .1 .1 .1 .1 .1 .1 .1 .0) ≡ 24 = omega (arith, k .kept, q .1) in
-    let wide : length (k .last .1 .1 .1 .1 .1 .1 .1 .1 .0) ≡ 24 = omega (arith, k .kept, p .1) in
+    let long : length (k .last .1 .1 .1 .1 .1 .0) ≡ 24 = omega (arith, k .kept, q .1) in
+    let wide : length (k .last .1 .1 .1 .1 .1 .1 .0) ≡ 24 = omega (arith, k .kept, p .1) in
     rw (← c .before .before .before .before .before .before .before .before .before .before .before .before .before .before .before .before .before .before .before .before .fits2 .ensures, ← c .before .before .before .before .before .before .before .before .before .before .before .before .before .before .before .before .before .before .before .wants .ensures, ← c .before .before .before .before .before .before .before .before .before .before .before .before .before .before .before .before .before .before .wants2 .ensures, c .before .before .before .before .before .before .before .before .before .before .before .before .before .before .before .before .enum-told .given .1, ← k .ensures, c .before .before .before .before .before .before .clear .ensures, c .before .before .clear2 .ensures, long, wide)
     (not-found (k .result) _ _ _ _ (c .before .before .before .before .before .before .before .before .match2 .keys2))
 

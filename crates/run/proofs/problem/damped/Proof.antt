@@ -13,10 +13,10 @@ use Rattle.run.proofs.problem.damped.Statement.{statement}
 use Rattle.run.proofs.problem.damped.Tie as tie
 
 abbrev Inv-loop : tie.InvT-loop
-Inv-loop k curve mu h₀ i₀ h i = (i ≤ k) × (length h ≡ length h₀) × (h ≡ fillRows matrix (λ t j. dampedEntry (at curve (12 * t + j)) (at curve (144 + t)) mu t j) k i)
+Inv-loop k undamped mu h₀ i₀ h i = (i ≤ k) × (length h ≡ length h₀) × (h ≡ fillRows matrix (λ t j. dampedEntry (at undamped (12 * t + j)) (at undamped (144 + t)) mu t j) k i)
 
 abbrev μ-loop : tie.MeasureT-loop
-μ-loop k curve mu h₀ i₀ h i = k - i
+μ-loop k undamped mu h₀ i₀ h i = k - i
 
 loop-holds : tie.Need-loop-holds Inv-loop μ-loop
 unfolding fillRows
@@ -38,7 +38,7 @@ same-length : tie.Need-same-length Inv-loop μ-loop
 same-length c = search needs
 
 returns : tie.Need-returns Inv-loop μ-loop
-returns c = let s = c .before .before .before .before in rw (le-antisymm (c .before .loop .inv .0) (c .loop-test .left)) at (c .before .loop .inv .2) ∙ damped-read (s .args .k) (s .args .curve .now) (s .args .mu) (s .pre .0) (s .pre .1 .0)
+returns c = let s = c .before .before .before .before in rw (le-antisymm (c .before .loop .inv .0) (c .loop-test .left)) at (c .before .loop .inv .2) ∙ damped-read (s .args .k) (s .args .undamped .now) (s .args .mu) (s .pre .0) (s .pre .1 .0)
 
 pub damped-spec : {M : Type 1} → statement M
 damped-spec =

@@ -13,10 +13,10 @@ use Rattle.run.specs.Vectors.{fillTo}
 use Rattle.run.proofs.VectorLaws.{fill-turn}
 
 abbrev Inv-loop : tie.InvT-loop
-Inv-loop k curve mu h₀ i scale j₀ h j = (j ≤ k) × (length h ≡ length h₀) × (h ≡ fillTo h₀ (12 * i) (λ t. dampedEntry (at curve (12 * i + t)) (at curve (144 + i)) mu i t) j)
+Inv-loop k undamped mu h₀ i scale j₀ h j = (j ≤ k) × (length h ≡ length h₀) × (h ≡ fillTo h₀ (12 * i) (λ t. dampedEntry (at undamped (12 * i + t)) (at undamped (144 + i)) mu i t) j)
 
 abbrev μ-loop : tie.MeasureT-loop
-μ-loop k curve mu h₀ i scale j₀ h j = k - j
+μ-loop k undamped mu h₀ i scale j₀ h j = k - j
 
 add-at : tie.Need-add-at Inv-loop μ-loop
 add-at c = search needs
@@ -53,7 +53,7 @@ loop-again : tie.Need-loop-again Inv-loop μ-loop
 loop-again c =
     let a = c .before .before .before .before .before .before .before .before .before .before .before .args in
     let l = c .before .before .before .before .before .before .before .loop in
-    (search needs, search needs, c .before .before .put .ensures ∙ fill-turn (a .h .now) (12 * a .i) (λ j. dampedEntry (at (a .curve .now) (12 * a .i + j)) (at (a .curve .now) (144 + a .i)) (a .mu) (a .i) j) (l .j) (l .inv .2) (rw (c .before .before .before .before .at2 .ensures, c .before .before .before .before .before .before .before .before .at .ensures) at (c .before .before .before .damped-at .ensures)))
+    (search needs, search needs, c .before .before .put .ensures ∙ fill-turn (a .h .now) (12 * a .i) (λ j. dampedEntry (at (a .undamped .now) (12 * a .i + j)) (at (a .undamped .now) (144 + a .i)) (a .mu) (a .i) j) (l .j) (l .inv .2) (rw (c .before .before .before .before .at2 .ensures, c .before .before .before .before .before .before .before .before .at .ensures) at (c .before .before .before .damped-at .ensures)))
 
 same-length : tie.Need-same-length Inv-loop μ-loop
 same-length c = search needs

@@ -17,10 +17,10 @@ use Rattle.run.specs.Vectors.{fillTo}
 use Rattle.run.proofs.VectorLaws.{fill-turn}
 
 abbrev Inv-loop : tie.InvT-loop
-Inv-loop xs e index k curve₀ r p₀ curve p = (p ≤ k) × (length curve ≡ length curve₀) × (curve ≡ fillTo curve₀ 156 (λ j. chooseOf (dotTo (slopesBy (rowsIn xs e) (getD index j 0)) (at r) (e .count))) p)
+Inv-loop xs e index k undamped₀ r p₀ undamped p = (p ≤ k) × (length undamped ≡ length undamped₀) × (undamped ≡ fillTo undamped₀ 156 (λ j. chooseOf (dotTo (slopesBy (rowsIn xs e) (getD index j 0)) (at r) (e .count))) p)
 
 abbrev μ-loop : tie.MeasureT-loop
-μ-loop xs e index k curve₀ r p₀ curve p = k - p
+μ-loop xs e index k undamped₀ r p₀ undamped p = k - p
 
 slice-aggregate-chosen-values : tie.Need-slice-aggregate-chosen-values Inv-loop μ-loop
 slice-aggregate-chosen-values c = search needs
@@ -45,7 +45,7 @@ shared-slice-read-transposed-at : tie.Need-shared-slice-read-transposed-at Inv-l
 shared-slice-read-transposed-at c = search needs
 
 transposed-at-requires : tie.Need-transposed-at-requires Inv-loop μ-loop
-transposed-at-requires c κs = let s = c .before .before .before .before .before .before .before .before .before .before .before in (s .pre .0, s .pre .1 .1 .1 (c .before .before .before .before .loop .p))
+transposed-at-requires c κs = let s = c .before .before .before .before .before .before .before .before .before .before .before in (s .pre .0, s .pre .1 .near (c .before .before .before .before .loop .p))
 
 choose-requires : tie.Need-choose-requires Inv-loop μ-loop
 choose-requires c κs = search needs
@@ -65,7 +65,7 @@ loop-again c =
     let a = c .before .before .before .before .before .before .before .before .before .before .before .before .before .before .before .before .args in
     let r = c .before .before .before .before .before .before .before .before .before .before .before .chosen-values .last .1 .1 .0 in
     let l = c .before .before .before .before .before .before .before .before .before .loop in
-    (search needs, search needs, c .before .before .put .ensures ∙ fill-turn (a .curve .now) 156 (λ j. chooseOf (dotTo (slopesBy (rowsIn (a .xs .now) (a .e)) (getD (a .index .now) j 0)) (at r) (a .e .count))) (l .p) (l .inv .2) (c .before .before .before .choose .ensures ∙ ap chooseOf (c .before .before .before .before .transposed-at .ensures)))
+    (search needs, search needs, c .before .before .put .ensures ∙ fill-turn (a .undamped .now) 156 (λ j. chooseOf (dotTo (slopesBy (rowsIn (a .xs .now) (a .e)) (getD (a .index .now) j 0)) (at r) (a .e .count))) (l .p) (l .inv .2) (c .before .before .before .choose .ensures ∙ ap chooseOf (c .before .before .before .before .transposed-at .ensures)))
 
 same-length : tie.Need-same-length Inv-loop μ-loop
 same-length c = search needs

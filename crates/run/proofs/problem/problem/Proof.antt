@@ -3,47 +3,56 @@ use mathlib.Core.Path.{refl, sym, subst}
 use lib.Ieee.{ofBits}
 use Rattle.run.specs.program.Problem.{keptBy}
 use Rattle.run.specs.program.Rows.{Small}
-use Rattle.run.proofs.ProblemLaws.{squeezed-chosen, problem-is, curve-damped, curve-gradient}
+use Rattle.run.proofs.ProblemLaws.{squeezed-chosen, undamped-filled, undamped-damped, undamped-gradient, problem-is}
 use Rattle.run.proofs.RowLaws.{constraints-small, sum-small}
 use borrow.Author.Needs.{needs}
 use Rattle.run.proofs.problem.problem.Statement.{statement}
 use Rattle.run.proofs.problem.problem.Tie as tie
 
+-- no place of the sum's rows is out of reach
+sum-near : (k : tie.After-sum) → Small (k .sum .result)
+sum-near k =
+    let f = k .before .before .before .before .before .before .before .pre .0 .0 in
+    subst Small (sym (k .sum .ensures)) (sum-small (f .few-variables) (f .few-constraints) (f .few-sums))
+
 sum-requires : tie.Need-sum-requires
-sum-requires c κs = search needs
+sum-requires c κs =
+    let f = c .before .before .before .before .before .before .pre .0 .0 in
+    (f .few-variables, (f .few-constraints, f .few-sums))
 
 constraints-requires : tie.Need-constraints-requires
 constraints-requires c κs = search needs
 
 slopes-requires : tie.Need-slopes-requires
 slopes-requires c κs =
-    let p = c .before .before .before .before .before .before .before .before .before .before .pre in (
-      subst Small (sym (c .before .before .constraints .ensures)) (constraints-small (p .0) (p .1 .0)),
-      (p .1 .1 .1 .0, p .1 .1 .1 .1 .0),
-    )
+    let p = c .before .before .before .before .before .before .before .before .before .before .pre .0 in
+    let near = constraints-small (p .0 .few-variables) (p .0 .few-constraints) in
+    (subst Small (sym (c .before .before .constraints .ensures)) near, (p .1 .few, p .1 .long))
 
 slice-aggregate-squeeze : tie.Need-slice-aggregate-squeeze
 slice-aggregate-squeeze c = search needs
 
 squeeze-requires : tie.Need-squeeze-requires
 squeeze-requires c κs =
-    let s = c .before .before .before .before .before .before .before .before .before in
-    let p = s .before .before .before .before .before .before .before .pre in (
-      subst Small (sym (s .sum .ensures)) (sum-small (p .0) (p .1 .0) (p .1 .1 .0)),
-      (p .1 .1 .1 .0, p .1 .1 .1 .1 .0),
-    )
+    let p = c .before .before .before .before .before .before .before .before .before .before .before .before .before .before .before .before .pre .0 .1 in
+    (sum-near (c .before .before .before .before .before .before .before .before .before), (p .few, p .long))
 
-slice-aggregate-fill-curve : tie.Need-slice-aggregate-fill-undamped
-slice-aggregate-fill-curve c = search needs
+slice-aggregate-fill-undamped : tie.Need-slice-aggregate-fill-undamped
+slice-aggregate-fill-undamped c = search needs
 
 fill-undamped-requires : tie.Need-fill-undamped-requires
 fill-undamped-requires c κs =
-    let s = c .before .before .before .before .before .before .before .before .before .before .before .before
-    .before .before in
-    let p = s .before .before .before .before .before .before .before .pre in (
-      subst Small (sym (s .sum .ensures)) (sum-small (p .0) (p .1 .0) (p .1 .1 .0)),
-      (p .1 .1 .1 .0, (p .1 .1 .1 .1 .0, (p .1 .1 .1 .1 .1 .0, p .1 .1 .1 .1 .1 .1 .1 .1))),
-    )
+    let p = c .before .before .before .before .before .before .before .before .before .before .before .before .before .before .before .before .before .before .before .before .pre in
+    (p .0 .1 .few, (p .0 .1 .long, p .1 .1 .1))
+
+slice-aggregate-scalings : tie.Need-slice-aggregate-scalings
+slice-aggregate-scalings c = search needs
+
+scalings-requires : tie.Need-scalings-requires
+scalings-requires c κs = c .before .before .before .before .before .before .before .before .before .before .before .before .before .before .before .before .before .before .before .before .before .before .before .before .before .before .pre .0 .1 .few
+
+gradient-requires : tie.Need-gradient-requires
+gradient-requires c κs = (sum-near (c .before .before .before .before .before .before .before .before .before .before .before .before .before .before .before .before .before .before .before .before .before .before .before), c .before .before .before .before .before .before .before .before .before .before .before .before .before .before .before .before .before .before .before .before .before .before .before .before .before .before .before .before .before .before .pre .0 .1)
 
 same-length : tie.Need-same-length
 same-length c = search needs
@@ -57,19 +66,18 @@ same-length-3 c = search needs
 returns : tie.Need-returns
 unfolding ofBits
 returns c =
-    let u = c .before .before .fill-undamped .ensures in
-    let f = c .before .before .before .before .before .before .before in
-    let l = f .before .before .before .before .before .before in
-    let s = l .before .before .before .before in
-    let a = s .before .before .before .before .before .before .before in
-    let p = a .pre in
-    let k = keptBy (a .args .k) (a .args .index .now) in
-    let small = subst Small (sym (s .sum .ensures)) (sum-small (p .0) (p .1 .0) (p .1 .1 .0)) in
-    let jr = squeezed-chosen k _ (p .1 .1 .1 .0) (small .few-rows) refl (f .squeeze .ensures) in
+    let a = c .before .before .before .before .before .before .before .before .before .before .before .before .before .before .before .before .before .before .before .before .before .before .before .before .before .before .before .before .before .before .before .before .before .args in
+    let p = c .before .before .before .before .before .before .before .before .before .before .before .before .before .before .before .before .before .before .before .before .before .before .before .before .before .before .before .before .before .before .before .before .before .pre in
+    let few = p .0 .1 .few in
+    let s = c .before .before .before .before .before .before .before .before .before .before .before .before .before .before .before .before .before .before .before .before .before .before .before .before .before .before in
+    let l = c .before .before .before .before .before .before .before .before .before .before .before .before .before .before .before .before .before .before .before .before .before .before .slopes .ensures in
+    let k = keptBy (a .k) (a .index .now) in
+    let u = undamped-filled (a .c .n) k _ _ _ (a .c .m) (a .b .now) _ few (c .before .before .before .before .before .before .before .before .before .before .before .before .fill-undamped .ensures)
+    (c .before .before .before .before .before .before .scalings .ensures) (c .before .before .gradient .ensures) in
+    let jr = squeezed-chosen k _ few (sum-near s .few-rows) refl (c .before .before .before .before .before .before .before .before .before .before .before .before .before .before .before .before .squeeze .ensures) in
     λ mu.
-    problem-is _ _ _ k _ _ mu (s .sum .ensures) (l .before .before .before .constraints .ensures)
-    (p .1 .1 .1 .1 .1 .1 .0) (p .1 .1 .1 .1 .1 .1 .1 .0) (l .slopes .ensures .0) (l .slopes .ensures .1) jr
-    (curve-damped _ k _ _ _ _ _ _ u mu (p .1 .1 .1 .0)) (curve-gradient _ k _ _ _ _ _ _ u)
+    problem-is _ _ _ k _ _ mu (s .sum .ensures) (c .before .before .before .before .before .before .before .before .before .before .before .before .before .before .before .before .before .before .before .before .before .before .before .before .before .constraints .ensures) (p .1 .0) (p .1 .1 .0) (l .0) (l .1) jr
+    (undamped-damped _ k _ _ _ _ _ _ u mu few) (undamped-gradient _ k _ _ _ _ _ _ u)
 
 pub problem-spec : {M : Type 1} → statement M
 problem-spec =
@@ -80,8 +88,11 @@ problem-spec =
     slopes-requires
     slice-aggregate-squeeze
     squeeze-requires
-    slice-aggregate-fill-curve
+    slice-aggregate-fill-undamped
     fill-undamped-requires
+    slice-aggregate-scalings
+    scalings-requires
+    gradient-requires
     same-length
     same-length-2
     same-length-3

@@ -12,10 +12,10 @@ use Rattle.run.specs.Vectors.{fillTo}
 use Rattle.run.proofs.VectorLaws.{fill-turn}
 
 abbrev Inv-loop : tie.InvT-loop
-Inv-loop k jr s jc m curve₀ i₀ curve i = (i ≤ k) × (length curve ≡ length curve₀) × (curve ≡ fillTo curve₀ 144 (scalingAt jr s jc m) i)
+Inv-loop k jr s jc m undamped₀ i₀ undamped i = (i ≤ k) × (length undamped ≡ length undamped₀) × (undamped ≡ fillTo undamped₀ 144 (scalingAt jr s jc m) i)
 
 abbrev μ-loop : tie.MeasureT-loop
-μ-loop k jr s jc m curve₀ i₀ curve i = k - i
+μ-loop k jr s jc m undamped₀ i₀ undamped i = k - i
 
 loop-holds : tie.Need-loop-holds Inv-loop μ-loop
 unfolding fillTo
@@ -37,7 +37,7 @@ loop-less : tie.Need-loop-less Inv-loop μ-loop
 loop-less c = search needs
 
 loop-again : tie.Need-loop-again Inv-loop μ-loop
-loop-again c = let l = c .before .before .before .before .before .before .loop in (search needs, search needs, c .before .before .put .ensures ∙ fill-turn (c .before .before .before .before .before .before .before .before .before .before .args .curve .now) 144 _ (l .i) (l .inv .2) (c .before .before .before .scaling .ensures))
+loop-again c = let l = c .before .before .before .before .before .before .loop in (search needs, search needs, c .before .before .put .ensures ∙ fill-turn (c .before .before .before .before .before .before .before .before .before .before .args .undamped .now) 144 _ (l .i) (l .inv .2) (c .before .before .before .scaling .ensures))
 
 same-length : tie.Need-same-length Inv-loop μ-loop
 same-length c = search needs

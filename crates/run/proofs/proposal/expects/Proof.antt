@@ -1,41 +1,49 @@
 -- `expects` meets its contract: the test decides whether the violation is asked.
 use mathlib.Core.Path.{_≡_, ap, _∙_}
-use Prim.Native.Nat.{_+_}
-use native.Mathlib.Omega.{arith}
-use borrow.Author.Needs.{needs}
 use lib.Ieee.{ofBits}
 use Rattle.interval.specs.declared.Scalar.{Scalar}
 use Rattle.interval.specs.Scalar.{zeroS, subOf, definitelyGreater}
-use Rattle.linear.proofs.Cells.{product-small}
 use Rattle.run.specs.Proposal.{curvatureAlong, expectsOf}
 use Rattle.run.specs.Rows.{rowsIn, sumOf}
 use Rattle.run.specs.Residuals.{squaredOf}
 use Rattle.run.specs.declared.rows.RowSet.{RowSet}
+use Rattle.run.proofs.RowLaws.{sum-small}
+use borrow.Author.Needs.{needs}
 use Rattle.run.proofs.proposal.expects.Statement.{statement}
 use Rattle.run.proofs.proposal.expects.Tie as tie
 
 -- the drop of the sum, less what the curvature bends
-dropped : (k : tie.After-definitely-greater)
-    → let a = k .before .before .before .before .before .before .before .before .before .args in
-    k .definitely-greater .result ≡ definitelyGreater (subOf (subOf (a .model .f) (squaredOf (sumOf (a .model .n) (a .model .m) (a .model .s) (a .rows .now)) (a .delta .now) (a .model .n))) (curvatureAlong (a .model .n) (a .b .now) (a .delta .now))) zeroS
-unfolding ofBits
-dropped k =
-    let a = k .before .before .before .before .before .before .before .before .before .args in
-    let q : k .before .before .before .before .squared .result ≡ squaredOf (sumOf (a .model .n) (a .model .m) (a .model .s) (a .rows .now)) (a .delta .now) (a .model .n) =
-    k .before .before .before .before .squared .ensures ∙ ap (λ (e : RowSet). squaredOf (rowsIn (a .rows .now) e) (a .delta .now) (a .model .n)) (k .before .before .before .before .before .sum .ensures) in
-    let d = k .before .before .before .sub .ensures .value ∙ ap (λ (x : Scalar). subOf (a .model .f) x) q in
-    k .definitely-greater .ensures
-    ∙ ap (λ (x : Scalar). definitelyGreater x zeroS)
-    (k .before .sub2 .ensures .value ∙ ap (λ (x : Scalar). subOf x (k .before .before .curvature-along .result)) d ∙ ap (λ (x : Scalar). subOf (subOf (a .model .f) (squaredOf (sumOf (a .model .n) (a .model .m) (a .model .s) (a .rows .now)) (a .delta .now) (a .model .n))) x) (k .before .before .curvature-along .ensures))
+module _ (k : tie.After-definitely-greater) where
+  abbrev sum-left : Scalar
+  sum-left =
+      let a = k .before .before .before .before .before .before .before .before .before .before .args in
+      let n = a .point .counts .n in
+      squaredOf (sumOf n (a .point .counts .m) (a .point .counts .s) (a .rows .now)) (a .delta .now) n
+
+  abbrev bent : Scalar
+  bent = let a = k .before .before .before .before .before .before .before .before .before .before .args in curvatureAlong (a .point .counts .n) (a .b .now) (a .delta .now)
+
+  dropped : k .definitely-greater .result ≡ definitelyGreater (subOf (subOf (k .before .before .before .before .before .before .before .before .before .before .args .point .f) sum-left) bent) zeroS
+  unfolding ofBits
+  dropped =
+      let a = k .before .before .before .before .before .before .before .before .before .before .args in
+      let left : k .before .before .before .before .squared .result ≡ sum-left = k .before .before .before .before .squared .ensures
+      ∙ ap (λ (e : RowSet). squaredOf (rowsIn (a .rows .now) e) (a .delta .now) (a .point .counts .n))
+      (k .before .before .before .before .before .sum .ensures) in
+      let fall = k .before .before .before .sub .ensures .value ∙ ap (λ (x : Scalar). subOf (a .point .f) x) left in
+      k .definitely-greater .ensures
+      ∙ ap (λ (x : Scalar). definitelyGreater x zeroS)
+      (k .before .sub2 .ensures .value
+      ∙ ap (λ (x : Scalar). subOf x (k .before .before .curvature-along .result)) fall
+      ∙ ap (λ (x : Scalar). subOf (subOf (a .point .f) sum-left) x) (k .before .before .curvature-along .ensures))
 
 sum-requires : tie.Need-sum-requires
 sum-requires c κs = search needs
 
 squared-requires : tie.Need-squared-requires
 squared-requires c κs =
-    let s = c .before .before .before .before in
-    let p = product-small {i = s .args .model .m} {n = s .args .model .n + 1} (omega (arith, s .pre)) (omega (arith, s .pre)) in
-    rw (c .sum .ensures) (record { few-variables = s .pre .0; few-rows = s .pre .1 .1; values-near = omega (arith, p); slopes-near = omega (arith, p, s .pre) })
+    let f = c .before .before .before .before .before .pre in
+    rw (c .sum .ensures) (sum-small (f .few-variables) (f .few-constraints) (f .few-sums))
 
 sub-requires : tie.Need-sub-requires
 sub-requires c κs = search needs

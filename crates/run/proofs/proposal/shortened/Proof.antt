@@ -3,8 +3,11 @@ use mathlib.Core.Path.{_≡_, sym, ap, _∙_}
 use mathlib.Core.List.{List}
 use native.Mathlib.Omega.{arith}
 use lib.Ieee.{Float}
+use Rattle.interval.specs.Result.{ok}
 use Rattle.run.specs.Proposal.{Standing, expectsOf, shortenedOf}
-use Rattle.run.specs.program.Proposal.{stillFor, expectedResult}
+use Rattle.run.specs.Radius.{cutOf}
+use Rattle.run.specs.Results.{truthOf}
+use Rattle.run.specs.program.Proposal.{stillFor}
 use Rattle.run.proofs.ProposalLaws.{expects-reads, trial-reads, shortened-drop, shortened-not, shortened-refused}
 use borrow.Author.Needs.{needs}
 use Rattle.run.proofs.proposal.shortened.Statement.{statement}
@@ -13,46 +16,54 @@ use Rattle.run.proofs.proposal.shortened.Tie as tie
 -- what it stands on, the step cut, and what the model expects of it
 module _ (k : tie.After-expects) where
   abbrev from : Standing
-  from = let a = k .before .before .before .before .before .before .before .before .before .before .args in stillFor (a .model) (a .rows .now) (a .b .now) (a .x .now)
+  from = let a = k .before .before .before .before .before .before .before .before .before .before .before .args in stillFor (a .point) (a .rows .now) (a .b .now) (a .x .now)
 
   abbrev cut : List Float
   cut = k .before .before .before .before .cut .last .1 .0
 
-  expected : expectsOf from cut ≡ expectedResult (k .expects .result)
+  expected : expectsOf from cut ≡ truthOf (k .expects .result)
   expected = sym (k .expects .ensures ∙ expects-reads from cut)
+
+  -- the step that the definition cuts is this one
+  cut-is : (lambda : List Float) →
+      shortenedOf from cut lambda ≡ shortenedOf from (cutOf (from .n) (k .before .before .before .before .before .before .before .before .before .before .before .args .delta .now) (k .before .before .before .before .before .before .before .before .before .before .before .args .shrink)) lambda
+  cut-is lambda = ap (λ (d : List Float). shortenedOf from d lambda) (k .before .before .before .before .cut .ensures)
 
 cut-requires : tie.Need-cut-requires
 cut-requires c κs = search needs
 
 expects-requires : tie.Need-expects-requires
-expects-requires c κs = let p = c .before .before .before .before .before .before .before .before .before .pre in (p .0, (p .1 .0, p .1 .1 .0))
+expects-requires c κs = c .before .before .before .before .before .before .before .before .before .before .pre .0
 
-enum-told : tie.Need-enum-told
-enum-told c = search needs
+enum-known-drop : tie.Need-enum-known-drop
+enum-known-drop c = search needs
 
 trial-requires : tie.Need-trial-requires
-trial-requires c κs = let p = c .before .before .before .before .before .before .before .before .before .before .before .before .before .pre in (p .0, (p .1 .0, omega (arith, c .before .before .before .before .before .before .before .cut .kept, p .1 .1 .1)))
+trial-requires c κs =
+    let p = c .before .before .before .before .before .before .before .before .before .before .before .before .before .before .before .before .pre in
+    (p .0 .few-variables, (p .0 .few-constraints, omega (arith, c .before .before .before .before .before .before .before .before .before .cut .kept, p .1)))
 
 same-length : tie.Need-same-length
 same-length c = search needs
 
 returns : tie.Need-returns
 returns c lambda =
-    let k = c .before .before .before .before .before .before in
-    c .before .before .trial .ensures lambda ∙ trial-reads (from k) (cut k) lambda
-    ∙ sym (shortened-drop (from k) (cut k) lambda (expected k ∙ ap expectedResult (c .before .before .before .before .enum-told .given .1)))
-    ∙ ap (λ (d : List Float). shortenedOf (from k) d lambda) (c .before .before .before .before .before .before .before .before .before .before .cut .ensures)
-
-enum-told-2 : tie.Need-enum-told-2
-enum-told-2 c = search needs
+    let k = c .before .before .before .before .before .before .before .before in
+    let e = expected k ∙ ap truthOf (c .before .before .before .before .before .before .drop .given .1) ∙ ap ok (c .before .before .before .before .if1 .taken) in
+    c .before .before .trial .ensures lambda
+    ∙ trial-reads (from k) (cut k) lambda
+    ∙ sym (shortened-drop (from k) (cut k) lambda e)
+    ∙ cut-is k lambda
 
 same-length-2 : tie.Need-same-length-2
 same-length-2 c = search needs
 
 returns-2 : tie.Need-returns-2
 returns-2 c lambda =
-    let k = c .before .before in
-    sym (shortened-not (from k) (cut k) lambda (expected k ∙ ap expectedResult (c .enum-told2 .given .1))) ∙ ap (λ (d : List Float). shortenedOf (from k) d lambda) (c .before .before .before .before .before .before .cut .ensures)
+    let k = c .before .before .before .before in
+    sym (shortened-not (from k) (cut k) lambda
+    (expected k ∙ ap truthOf (c .before .before .drop .given .1) ∙ ap ok (c .if1 .left)))
+    ∙ cut-is k lambda
 
 enum-known-e : tie.Need-enum-known-e
 enum-known-e c = search needs
@@ -63,7 +74,8 @@ same-length-3 c = search needs
 returns-3 : tie.Need-returns-3
 returns-3 c lambda =
     let k = c .before .before .before in
-    sym (shortened-refused (from k) (cut k) lambda (expected k ∙ ap expectedResult (c .before .e .given .1))) ∙ ap (λ (d : List Float). shortenedOf (from k) d lambda) (c .before .before .before .before .before .before .before .cut .ensures)
+    sym (shortened-refused (from k) (cut k) lambda (expected k ∙ ap truthOf (c .before .e .given .1)))
+    ∙ cut-is k lambda
 
 pub shortened-spec : {M : Type 1} → statement M
 shortened-spec =
@@ -71,11 +83,10 @@ shortened-spec =
     (tie.spec
     cut-requires
     expects-requires
-    enum-told
+    enum-known-drop
     trial-requires
     same-length
     returns
-    enum-told-2
     same-length-2
     returns-2
     enum-known-e

@@ -19,13 +19,13 @@ use Rattle.run.proofs.proposal.within.Tie as tie
 -- what it stands on, the step, and its length
 module _ (k : tie.After-norm-of) where
   abbrev from : Standing
-  from = let a = k .before .before .before .before .before .before .args in stillFor (a .model) (a .rows .now) (a .b .now) (a .x .now)
+  from = let a = k .before .before .before .before .before .before .before .args in stillFor (a .point) (a .rows .now) (a .b .now) (a .x .now)
 
   abbrev radius : Scalar
-  radius = k .before .before .before .before .before .before .args .radius
+  radius = k .before .before .before .before .before .before .before .args .radius
 
   abbrev raw : List Float
-  raw = k .before .before .before .before .before .before .args .delta .now
+  raw = k .before .before .before .before .before .before .before .args .delta .now
 
   long : normOf (at raw) (from .n) ≡ resultOf (k .norm-of .result)
   long = sym (k .norm-of .ensures)
@@ -40,7 +40,9 @@ definitely-greater-requires : tie.Need-definitely-greater-requires
 definitely-greater-requires c κs = search needs
 
 trial-requires : tie.Need-trial-requires
-trial-requires c κs = let p = c .before .before .before .before .before .before .before .before .before .before .before .before .pre in (p .0, (p .1 .0, p .1 .1 .1))
+trial-requires c κs =
+    let p = c .before .before .before .before .before .before .before .before .before .before .before .before .before .pre in
+    (p .0 .few-variables, (p .0 .few-constraints, p .1))
 
 same-length : tie.Need-same-length
 same-length c = search needs
@@ -48,8 +50,11 @@ same-length c = search needs
 returns : tie.Need-returns
 returns c lambda =
     let k = c .before .before .before .before .before .before .before .before .before in
-    c .before .before .trial .ensures lambda ∙ trial-reads (from k) (raw k) lambda
-    ∙ sym (within-whole (from k) (radius k) (raw k) lambda (c .before .before .before .before .before .before .before .length .given .0 .0) (long k ∙ ap resultOf (c .before .before .before .before .before .before .before .length .given .1)) (sym (c .before .before .before .before .before .definitely-greater .ensures) ∙ not-true _ (c .before .before .before .before .if1 .taken)))
+    let l = c .before .before .before .before .before .before .before .length .given in
+    c .before .before .trial .ensures lambda
+    ∙ trial-reads (from k) (raw k) lambda
+    ∙ sym (within-whole (from k) (radius k) (raw k) lambda (l .0 .0) (long k ∙ ap resultOf (l .1))
+    (sym (c .before .before .before .before .before .definitely-greater .ensures) ∙ not-true _ (c .before .before .before .before .if1 .taken)))
 
 div-requires : tie.Need-div-requires
 div-requires c κs = search needs
@@ -58,7 +63,7 @@ enum-known-shrink : tie.Need-enum-known-shrink
 enum-known-shrink c = search needs
 
 shortened-requires : tie.Need-shortened-requires
-shortened-requires c κs = c .before .before .before .before .before .before .before .before .before .before .before .before .before .before .before .before .pre
+shortened-requires c κs = c .before .before .before .before .before .before .before .before .before .before .before .before .before .before .before .before .before .pre
 
 same-length-2 : tie.Need-same-length-2
 same-length-2 c = search needs
@@ -66,8 +71,12 @@ same-length-2 c = search needs
 returns-2 : tie.Need-returns-2
 returns-2 c lambda =
     let k = c .before .before .before .before .before .before .before .before .before .before .before .before .before in
+    let l = c .before .before .before .before .before .before .before .before .before .before .before .length .given in
+    let greater = sym (c .before .before .before .before .before .before .before .before .before .definitely-greater .ensures) ∙ not-false _ (c .before .before .before .before .before .before .before .before .if1 .left) in
+    let shrink = sym (c .before .before .before .before .before .before .before .div .ensures .value) ∙ ap scalar.resultOf (c .before .before .before .before .before .shrink .given .1) in
     c .before .before .shortened .ensures lambda
-    ∙ sym (within-cut (from k) (radius k) (raw k) lambda (c .before .before .before .before .before .before .before .before .before .before .before .length .given .0 .0) (long k ∙ ap resultOf (c .before .before .before .before .before .before .before .before .before .before .before .length .given .1)) (sym (c .before .before .before .before .before .before .before .before .before .definitely-greater .ensures) ∙ not-false _ (c .before .before .before .before .before .before .before .before .if1 .left)) ∙ bind-ok _ (sym (c .before .before .before .before .before .before .before .div .ensures .value) ∙ ap scalar.resultOf (c .before .before .before .before .before .shrink .given .1)))
+    ∙ sym (within-cut (from k) (radius k) (raw k) lambda (l .0 .0) (long k ∙ ap resultOf (l .1)) greater
+    ∙ bind-ok _ shrink)
 
 enum-known-e : tie.Need-enum-known-e
 enum-known-e c = search needs
@@ -78,7 +87,11 @@ same-length-3 c = search needs
 returns-3 : tie.Need-returns-3
 returns-3 c lambda =
     let k = c .before .before .before .before .before .before .before .before .before in
-    sym (within-cut (from k) (radius k) (raw k) lambda (c .before .before .before .before .before .before .before .length .given .0 .0) (long k ∙ ap resultOf (c .before .before .before .before .before .before .before .length .given .1)) (sym (c .before .before .before .before .before .definitely-greater .ensures) ∙ not-false _ (c .before .before .before .before .if1 .left)) ∙ bind-refused _ (sym (c .before .before .before .div .ensures .value) ∙ ap scalar.resultOf (c .before .e .given .1)))
+    let l = c .before .before .before .before .before .before .before .length .given in
+    let greater = sym (c .before .before .before .before .before .definitely-greater .ensures) ∙ not-false _ (c .before .before .before .before .if1 .left) in
+    let e = sym (c .before .before .before .div .ensures .value) ∙ ap scalar.resultOf (c .before .e .given .1) in
+    sym (within-cut (from k) (radius k) (raw k) lambda (l .0 .0) (long k ∙ ap resultOf (l .1)) greater
+    ∙ bind-refused _ e)
 
 enum-known-e-2 : tie.Need-enum-known-e-2
 enum-known-e-2 c = search needs
@@ -87,7 +100,9 @@ same-length-4 : tie.Need-same-length-4
 same-length-4 c = search needs
 
 returns-4 : tie.Need-returns-4
-returns-4 c lambda = let k = c .before .before .before in sym (within-refused (from k) (radius k) (raw k) lambda (long k ∙ ap resultOf (c .before .e2 .given .1)))
+returns-4 c lambda =
+    let k = c .before .before .before in
+    sym (within-refused (from k) (radius k) (raw k) lambda (long k ∙ ap resultOf (c .before .e2 .given .1)))
 
 pub within-spec : {M : Type 1} → statement M
 within-spec =

@@ -1,12 +1,31 @@
 -- `seek` meets its contract: what no damping changes, from clear arrays, then the search over dampings.
-use mathlib.Core.Path.{refl}
+use mathlib.Core.Bool.{Bool}
+use mathlib.Core.Path.{_≡_, refl, sym}
 use lib.Ieee.{ofBits}
+use lib.ListN.{length}
+use borrow.Author.Needs.{length-unmapped}
 use borrow.Author.Needs.{needs}
 use Rattle.run.proofs.search.seek.Statement.{statement}
 use Rattle.run.proofs.search.seek.Tie as tie
 
+-- as many marks as there may be variables
+marks : (s : tie.Start) → length (s .args .start .moving) ≡ 12
+marks s = length-unmapped Bool (s .args .start .moving) 12 (s .good .0 .1 .1 .1 .0 .1 .0 .1)
+
+sub-prepare : tie.Need-sub-prepare
+sub-prepare c = search needs
+
+part-prepare-start : tie.Need-part-prepare-start
+part-prepare-start c = search needs
+
+part-prepare-end : tie.Need-part-prepare-end
+part-prepare-end c = search needs
+
+curvature-for-requires : tie.Need-curvature-for-requires
+curvature-for-requires c κs = search needs
+
 slice-aggregate-prepare : tie.Need-slice-aggregate-prepare
-slice-aggregate-prepare c = search needs
+slice-aggregate-prepare c = sym (marks (c .before .before .before .before .before .before .before .before))
 
 slice-aggregate-prepare-2 : tie.Need-slice-aggregate-prepare-2
 slice-aggregate-prepare-2 c = search needs
@@ -16,7 +35,9 @@ slice-aggregate-prepare-3 c = search needs
 
 prepare-requires : tie.Need-prepare-requires
 unfolding ofBits
-prepare-requires c κs = let p = c .before .before .before .before .before .before .before .before .before .pre .0 in (p .0, (p .1 .0, (p .1 .1 .0, (p .1 .1 .1 .0, (refl, (refl, refl))))))
+prepare-requires c κs =
+    let s = c .before .before .before .before .before .before .before .before .before .before in
+    (s .pre .0 .0, (marks s, (refl, refl)))
 
 slice-aggregate-seek-from : tie.Need-slice-aggregate-seek-from
 slice-aggregate-seek-from c = search needs
@@ -24,14 +45,10 @@ slice-aggregate-seek-from c = search needs
 slice-aggregate-seek-from-2 : tie.Need-slice-aggregate-seek-from-2
 slice-aggregate-seek-from-2 c = search needs
 
-slice-aggregate-seek-from-3 : tie.Need-slice-aggregate-seek-from-3
-slice-aggregate-seek-from-3 c = search needs
-
 seek-from-requires : tie.Need-seek-from-requires
 seek-from-requires c κs =
-    let s = c .before .before .before .before .before .before .before .before .before .before .before .before .before .before .before .before .before .before in
-    let p = s .pre .0 in
-    ((p .0, (p .1 .0, (p .1 .1 .0, (p .1 .1 .1 .0, (c .before .before .before .before .before .before .before .before .prepare .ensures, p .1 .1 .1 .1))))), s .pre .1)
+    let p = c .before .before .before .before .before .before .before .before .before .before .before .before .before .before .before .before .before .pre in
+    (p .0, (rw (c .before .before .before .before .before .before .before .before .before .before .curvature-for .ensures) at (c .before .before .before .before .before .before .prepare .ensures), p .1))
 
 same-length : tie.Need-same-length
 same-length c = search needs
@@ -46,13 +63,16 @@ pub seek-spec : {M : Type 1} → statement M
 seek-spec =
     tie.close
     (tie.spec
+    sub-prepare
+    part-prepare-start
+    part-prepare-end
+    curvature-for-requires
     slice-aggregate-prepare
     slice-aggregate-prepare-2
     slice-aggregate-prepare-3
     prepare-requires
     slice-aggregate-seek-from
     slice-aggregate-seek-from-2
-    slice-aggregate-seek-from-3
     seek-from-requires
     same-length
     same-length-2

@@ -6,11 +6,10 @@ use lib.ListN.{length}
 use Rattle.interval.specs.declared.Scalar.{Scalar}
 use Rattle.interval.specs.Result.{Res}
 use Rattle.interval.proofs.Given.{yes}
-use Rattle.run.specs.Proposal.{Standing, Proposal, proposalOf}
-use Rattle.run.specs.Vectors.{movedOf}
-use Rattle.run.specs.program.Proposal.{standingFor}
-use Rattle.run.specs.Search.{Found, follow, searchTo, searchOf}
 use Rattle.run.specs.Limits.{DAMPINGS}
+use Rattle.run.specs.Proposal.{Standing, Proposal, proposalOf}
+use Rattle.run.specs.Search.{Found, follow, searchTo, searchOf}
+use Rattle.run.specs.program.Proposal.{standingIn, nextIn}
 use Rattle.run.specs.program.Search.{turnResult}
 use Rattle.run.specs.declared.search.Turn.{Turn}
 use Rattle.run.specs.declared.search.Turn.the-variants as t
@@ -21,25 +20,26 @@ use Rattle.run.proofs.search.seek_from.Statement.{statement}
 use Rattle.run.proofs.search.seek_from.Tie as tie
 
 abbrev Inv-loop : tie.InvT-loop
-Inv-loop model rows x b moving max prepared order curve frame delta₀ lambda₀ state₀ delta lambda state =
-    (length delta ≡ length delta₀) × (length lambda ≡ length lambda₀) × Seeking (standingFor model rows b x moving) max state₀ state
+Inv-loop start area prepared order fixed delta₀ lambda₀ state₀ delta lambda state =
+    (length delta ≡ length delta₀) × (length lambda ≡ length lambda₀)
+    × Seeking (standingIn start area) (start .«max_step») state₀ state
 
 abbrev μ-loop : tie.MeasureT-loop
-μ-loop model rows x b moving max prepared order curve frame delta₀ lambda₀ state₀ delta lambda state = DAMPINGS - growths state₀ state
+μ-loop start area prepared order fixed delta₀ lambda₀ state₀ delta lambda state = DAMPINGS - growths state₀ state
 
 -- what it stands on, the question so far, and how it is followed
 module _ (k : tie.After-follow Inv-loop μ-loop) where
   abbrev standing : Standing
-  standing = let a = k .before .before .before .before .before .before .before .before .before .before .before .before .before .before .before .before .before .before .args in standingFor (a .model) (a .rows .now) (a .b .now) (a .x .now) (a .moving .now)
+  standing = let a = k .before .before .before .before .before .before .before .before .before .before .before .before .before .before .args in standingIn (a .start) (a .area .now)
 
   abbrev count : ℕ
-  count = k .before .before .before .before .before .before .before .before .before .before .before .before .before .before .before .before .before .before .args .model .m
+  count = k .before .before .before .before .before .before .before .before .before .before .before .before .before .before .args .start .point .counts .m
 
   abbrev max : Scalar
-  max = k .before .before .before .before .before .before .before .before .before .before .before .before .before .before .before .before .before .before .args .max
+  max = k .before .before .before .before .before .before .before .before .before .before .before .before .before .before .args .start .«max_step»
 
   abbrev start : Search
-  start = k .before .before .before .before .before .before .before .before .before .before .before .before .before .before .before .before .before .before .args .from
+  start = k .before .before .before .before .before .before .before .before .before .before .before .before .before .before .args .from
 
   abbrev here : Search
   here = k .before .before .before .before .before .before .before .before .loop .state
@@ -49,36 +49,42 @@ module _ (k : tie.After-follow Inv-loop μ-loop) where
 
   abbrev written : Turn → (Search → Found) → Found
   written r on =
-      let a = k .before .before .before .before .before .before .before .before .before .before .before .before .before .before .before .before .before .before .args in
-      let l = k .before .before .before .before .before .propose .last .1 .1 .1 .1 .1 .1 .1 .1 .1 .1 in
-      turnResult r on (l .0) (l .1 .0) (movedOf (a .model .n) (a .x .now) (l .0))
+      let a = k .before .before .before .before .before .before .before .before .before .before .before .before .before .before .args in
+      let l = k .before .before .before .before .before .propose .last .1 .1 .1 .1 .1 .1 in
+      turnResult r on (l .0) (l .1 .0) (nextIn (a .start) (a .area .now) (l .0))
 
-  followed-as : (r : Turn) → k .follow .result ≡ r → (on : Search → Found) → written r on ≡ follow on count max here (proposalOf standing (here .mu) (here .radius))
+  followed-as : (r : Turn) → k .follow .result ≡ r → (on : Search → Found) →
+      written r on ≡ follow on count max here (proposalOf standing (here .mu) (here .radius))
   followed-as r e on =
-      let a = k .before .before .before .before .before .before .before .before .before .before .before .before .before .before .before .before .before .before .args in
-      let l = k .before .before .before .before .before .propose .last .1 .1 .1 .1 .1 .1 .1 .1 .1 .1 in
-      sym (ap (λ (t : Turn). written t on) e) ∙ k .follow .ensures on (l .0) (l .1 .0) (movedOf (a .model .n) (a .x .now) (l .0)) ∙ ap (λ (p : Res Proposal). follow on count max here p) (k .before .before .before .before .before .propose .ensures)
+      let a = k .before .before .before .before .before .before .before .before .before .before .before .before .before .before .args in
+      let l = k .before .before .before .before .before .propose .last .1 .1 .1 .1 .1 .1 in
+      sym (ap (λ (t : Turn). written t on) e)
+      ∙ k .follow .ensures on (l .0) (l .1 .0) (nextIn (a .start) (a .area .now) (l .0))
+      ∙ ap (λ (p : Res Proposal). follow on count max here p) (k .before .before .before .before .before .propose .ensures)
 
   grown-to : (y : Search) → k .follow .result ≡ t.On y → Grew here y
   grown-to y e = grew count max here y (proposalOf standing (here .mu) (here .radius)) (followed-as (t.On y) e)
 
-  whole : (r : Turn) → k .follow .result ≡ r → written r (onward standing max start inv) ≡ searchTo DAMPINGS standing max start
+  whole : (r : Turn) → k .follow .result ≡ r →
+      written r (onward standing max start inv) ≡ searchTo DAMPINGS standing max start
   whole r e = followed-as r e (onward standing max start inv) ∙ followed standing max start inv
 
 loop-holds : tie.Need-loop-holds Inv-loop μ-loop
 loop-holds c =
-    let s = c .before .before .before .before .before .before .before .before .before in
-    let g = s .good .1 .1 .1 .1 .1 .1 .1 .1 .1 .1 .0 .1 .1 .0 .1 .1 in
-    (refl, refl, seeking _ _ (s .args .from) (yes (g .0 .1), yes (g .1 .0 .1)) (yes (s .pre .1 .1)))
+    let s = c .before .before .before .before .before in
+    let g = s .good .1 .1 .1 .1 .1 .0 .1 .1 .0 .1 .1 in
+    (refl, refl, seeking _ _ (s .args .from) (yes (g .0 .1), yes (g .1 .0 .1)) (yes (s .pre .1 .1 .1)))
 
 propose-requires : tie.Need-propose-requires Inv-loop μ-loop
 propose-requires c κs =
     let i = c .before .before .loop .inv in
-    let p = c .before .before .before .before .before .before .before .before .before .before .before .before .pre .0 in
-    (p .0, (p .1 .0, (p .1 .1 .0, (p .1 .1 .1 .0, (p .1 .1 .1 .1 .0, (i .0 ∙ p .1 .1 .1 .1 .1 .0, i .1 ∙ p .1 .1 .1 .1 .1 .1))))))
+    let p = c .before .before .before .before .before .before .before .before .pre in
+    ((p .0 .0, (p .0 .1 .0, (i .0 ∙ p .0 .1 .1 .0, i .1 ∙ p .0 .1 .1 .1))), p .1 .0)
 
 follow-requires : tie.Need-follow-requires Inv-loop μ-loop
-follow-requires c κs = let i = c .before .before .before .before .before .before .before .loop .inv .2 in omega (arith, few _ _ _ i, i .later, c .before .before .before .before .before .before .before .before .before .before .before .before .before .before .before .before .before .pre .1 .0)
+follow-requires c κs =
+    let i = c .before .before .before .before .before .before .before .loop .inv .2 in
+    omega (arith, few _ _ _ i, i .later, c .before .before .before .before .before .before .before .before .before .before .before .before .before .pre .1 .1 .0)
 
 enum-known-left : tie.Need-enum-known-left Inv-loop μ-loop
 enum-known-left c = search needs
@@ -87,14 +93,18 @@ enum-known-y : tie.Need-enum-known-y Inv-loop μ-loop
 enum-known-y c = search needs
 
 loop-less : tie.Need-loop-less Inv-loop μ-loop
-loop-less c = let k = c .before .before .before in let g = grown-to k _ (c .before .y .given .1) in omega (arith, g .one-more, inv k .later, few _ _ _ (inv k))
+loop-less c =
+    let k = c .before .before .before in
+    let g = grown-to k _ (c .before .y .given .1) in
+    omega (arith, g .one-more, inv k .later, few _ _ _ (inv k))
 
 loop-again : tie.Need-loop-again Inv-loop μ-loop
 loop-again c =
     let k = c .before .before .before in
     let i = c .before .before .before .before .before .before .before .before .before .before .before .loop .inv in
-    let l = c .before .before .before .before .before .before .before .before .propose .kept .1 .1 .1 .1 .1 .1 .1 .1 .1 .1 in
-    (l .0 ∙ i .0, l .1 .0 ∙ i .1, seek-on _ _ _ (inv k) (grown-to k _ (c .before .y .given .1)) (whole k _ (c .before .y .given .1)))
+    let l = c .before .before .before .before .before .before .before .before .propose .kept .1 .1 .1 .1 .1 .1 in
+    let y = c .before .y .given .1 in
+    (l .0 ∙ i .0, l .1 .0 ∙ i .1, seek-on _ _ _ (inv k) (grown-to k _ y) (whole k _ y))
 
 same-length : tie.Need-same-length Inv-loop μ-loop
 same-length c = search needs

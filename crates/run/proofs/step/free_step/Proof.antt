@@ -1,4 +1,5 @@
--- `free_step` meets its contract: the weights along the directions decide, then whether the step and what pulls against it are finite; the multipliers end it.
+-- `free_step` meets its contract: the weights along the directions decide, then whether the step and what pulls against it
+-- are finite; the multipliers end it.
 use mathlib.Core.Path.{_∙_, refl}
 use lib.Ieee.{ofBits}
 use native.Mathlib.Omega.{arith}
@@ -29,7 +30,7 @@ slice-aggregate-finite-pull c = search needs
 
 finite-pull-requires : tie.Need-finite-pull-requires
 unfolding ofBits
-finite-pull-requires c κs = (search needs, refl)
+finite-pull-requires c κs = (c .before .before .before .before .before .before .before .before .before .before .before .before .before .before .before .pre .0 .few-kept, refl)
 
 slice-aggregate-multipliers : tie.Need-slice-aggregate-multipliers
 slice-aggregate-multipliers c = search needs
@@ -49,11 +50,16 @@ same-length-2 c = search needs
 returns : tie.Need-returns
 unfolding bind
 returns c =
-    let s = c .before .before .before .before .before .before .before .before .before .before .before .before .before .before .before .before .before .before .before .before .before .before .before .before in
-    let p = s .pre in
+    let a = c .before .before .before .before .before .before .before .before .before .before .before .before .before .before .before .before .before .before .before .before .before .before .before .before .args in
+    let p = c .before .before .before .before .before .before .before .before .before .before .before .before .before .before .before .before .before .before .before .before .before .before .before .before .pre in
     let e = c .before .before .before .before .before .before .before .before .finite-pull .ensures in
-    let m = c .before .before .before .multipliers .ensures ∙ multipliers-part (s .args .k) (s .args .r) (s .args .frame .now) _ (p .0) (p .1 .0) (omega (arith, p .1 .1 .1 .1 .0)) (s .args .order .now) ∙ multipliers-reads _ _ _ in
-    c .multiplied .ensures _ _ ∙ stepped-on _ _ _ (e .0) (e .1) (c .before .before .before .before .before .before .if1 .taken) m ∙ free-step _ _ _ _ (rw (c .before .before .before .before .before .before .before .before .before .before .before .enum-told .given .1) at (c .before .before .before .before .before .before .before .before .before .before .before .before .before .before .before .free-part .ensures))
+    let m = c .before .before .before .multipliers .ensures
+    ∙ multipliers-part (a .d .kept) (a .d .independent) (a .factors .now) _ (p .0 .few-kept) (p .0 .few-independent)
+    (omega (arith, p .1 .1 .0)) (a .order .now)
+    ∙ multipliers-reads _ _ _ in
+    c .multiplied .ensures _ _
+    ∙ stepped-on _ _ _ (e .0) (e .1) (c .before .before .before .before .before .before .if1 .taken) m
+    ∙ free-step _ _ _ _ (rw (c .before .before .before .before .before .before .before .before .before .before .before .enum-told .given .1) at (c .before .before .before .before .before .before .before .before .before .before .before .before .before .before .before .free-part .ensures))
 
 same-length-3 : tie.Need-same-length-3
 same-length-3 c = search needs
@@ -62,7 +68,8 @@ returns-2 : tie.Need-returns-2
 unfolding bind
 returns-2 c =
     let e = c .before .before .finite-pull .ensures in
-    stepped-not _ _ _ (e .0) (e .1) (c .if1 .left) ∙ free-step _ _ _ _ (rw (c .before .before .before .before .before .enum-told .given .1) at (c .before .before .before .before .before .before .before .before .before .free-part .ensures))
+    stepped-not _ _ _ (e .0) (e .1) (c .if1 .left)
+    ∙ free-step _ _ _ _ (rw (c .before .before .before .before .before .enum-told .given .1) at (c .before .before .before .before .before .before .before .before .before .free-part .ensures))
 
 enum-told-2 : tie.Need-enum-told-2
 enum-told-2 c = search needs

@@ -1,20 +1,35 @@
 -- `prepare` meets its contract: the kept variables, the problem, from clear arrays, and what follows from its constraints.
-use mathlib.Core.Path.{refl, ap, _∙_}
+use mathlib.Core.List.{List}
+use mathlib.Core.Path.{_≡_, refl, ap, _∙_}
 use native.Mathlib.Omega.{arith}
-use lib.Ieee.{ofBits}
+use lib.Ieee.{Float, ofBits}
 use lib.ListN.{length}
-use Rattle.run.proofs.AreaLaws.{length-clear}
+use Rattle.run.specs.program.Problem.{KeptFits}
+use Rattle.run.proofs.Concatenation.{length-both}
+use Rattle.run.proofs.EndingLaws.{cut-length}
 use Rattle.run.proofs.ProblemLaws.{kept-few, kept-near}
-use Rattle.run.proofs.StepLaws.{prepared-is}
+use Rattle.run.proofs.StepLaws.{clear-long, first-clear, with-first, first-long, second-clear, both-written, prepared-is}
 use borrow.Author.Needs.{needs}
 use Rattle.run.proofs.step.prepare.Statement.{statement}
 use Rattle.run.proofs.step.prepare.Tie as tie
+
+-- what is undamped, which keeps its length
+abbrev undamped : tie.After-problem → List Float
+undamped k = k .problem .last .1 .1 .1 .1 .1 .1 .1 .0
+
+undamped-long : (k : tie.After-problem) → length (undamped k) ≡ 336
+undamped-long k =
+    let s = k .before .before .before .before .before .before .before .before .before .before .before .before .before in
+    k .problem .kept .1 .1 .1 .1 .1 .1 .1 .0
+    ∙ cut-length 336 0 (s .args .fixed .now) (omega (arith, clear-long (s .args .fixed .now) (s .pre .1 .1 .1)))
 
 slice-aggregate-keep : tie.Need-slice-aggregate-keep
 slice-aggregate-keep c = search needs
 
 keep-requires : tie.Need-keep-requires
-keep-requires c κs = let p = c .before .before .before .before .before .before .before .pre in (p .0, (p .1 .1 .1 .0, refl))
+keep-requires c κs =
+    let p = c .before .before .before .before .before .before .pre in
+    (p .0 .few-variables, (p .1 .0, refl))
 
 slice-aggregate-problem : tie.Need-slice-aggregate-problem
 slice-aggregate-problem c = search needs
@@ -25,12 +40,27 @@ slice-aggregate-problem-2 c = search needs
 slice-aggregate-problem-3 : tie.Need-slice-aggregate-problem-3
 slice-aggregate-problem-3 c = search needs
 
+sub-problem : tie.Need-sub-problem
+sub-problem c = search needs
+
+part-problem-start : tie.Need-part-problem-start
+part-problem-start c = search needs
+
+part-problem-end : tie.Need-part-problem-end
+part-problem-end c = let s = c .before .before .before .before .before .before .before .before .before .before .before in omega (arith, clear-long (s .args .fixed .now) (s .pre .1 .1 .1))
+
 problem-requires : tie.Need-problem-requires
 unfolding ofBits
 problem-requires c κs =
-    let p = c .before .before .before .before .before .before .before .before .before .before .before .before .before .pre in
+    let s = c .before .before .before .before .before .before .before .before .before .before .before .before in
+    let few = s .pre .0 .few-variables in
     let k = c .before .before .before .before .before .keep in
-    (p .0, (p .1 .0, (p .1 .1 .0, (omega (arith, kept-few _ _ (k .ensures), p .0), (k .kept .1 .1 .0, (kept-near _ _ (k .ensures) (p .0), (refl, (refl, p .1 .1 .1 .1 .1 .0))))))))
+    let fits : KeptFits (k .result) (k .last .1 .1 .0) = record {
+      few = omega (arith, kept-few _ _ (k .ensures), few);
+      long = k .kept .1 .1 .0;
+      near = kept-near _ _ (k .ensures) few;
+    } in
+    ((s .pre .0, fits), (refl, (refl, first-clear (s .args .fixed .now) (s .pre .1 .1 .1))))
 
 slice-aggregate-prepare-kept : tie.Need-slice-aggregate-prepare-kept
 slice-aggregate-prepare-kept c = search needs
@@ -41,10 +71,23 @@ slice-aggregate-prepare-kept-2 c = search needs
 constraints-requires : tie.Need-constraints-requires
 constraints-requires c κs = search needs
 
+sub-prepare-kept : tie.Need-sub-prepare-kept
+sub-prepare-kept c = search needs
+
+part-prepare-kept-start : tie.Need-part-prepare-kept-start
+part-prepare-kept-start c = search needs
+
+part-prepare-kept-end : tie.Need-part-prepare-kept-end
+part-prepare-kept-end c =
+    let s = c .before .before .before .before .before .before .before .before .before .before .before .before .before .before .before .before .before .before .before .before .before in
+    omega (arith, first-long (s .args .fixed .now) (s .pre .1 .1 .1) (undamped (c .before .before .before .before .before .before .before .before)) (undamped-long (c .before .before .before .before .before .before .before .before)))
+
 prepare-kept-requires : tie.Need-prepare-kept-requires
 prepare-kept-requires c κs =
-    let p = c .before .before .before .before .before .before .before .before .before .before .before .before .before .before .before .before .before .before .before .before .before .before .before .pre in
-    (omega (arith, kept-few _ _ (c .before .before .before .before .before .before .before .before .before .before .before .before .before .before .before .keep .ensures), p .0), (p .1 .0, (p .1 .1 .1 .1 .0, p .1 .1 .1 .1 .1 .1)))
+    let s = c .before .before .before .before .before .before .before .before .before .before .before .before .before .before .before .before .before .before .before .before .before .before in
+    let p = s .pre in
+    let clear = second-clear (s .args .fixed .now) (p .1 .1 .1) (undamped (c .before .before .before .before .before .before .before .before .before)) (undamped-long (c .before .before .before .before .before .before .before .before .before)) in
+    (omega (arith, kept-few _ _ (c .before .before .before .before .before .before .before .before .before .before .before .before .before .before .before .keep .ensures), p .0 .few-variables), (p .0 .few-constraints, (p .1 .1 .0, clear)))
 
 same-length : tie.Need-same-length
 same-length c = search needs
@@ -52,18 +95,29 @@ same-length c = search needs
 same-length-2 : tie.Need-same-length-2
 same-length-2 c = search needs
 
-same-length-3 : tie.Need-same-length-3
-same-length-3 c = search needs
-
 returns : tie.Need-returns
 returns c =
-    let p = c .before .before .before .before .before .before .before .before .before .before .before .before .before .before .before .before .before .before .before .before .before .before .before .before .before .before .before .before .pre in
+    let s = c .before .before .before .before .before .before .before .before .before .before .before .before .before .before .before .before .before .before .before .before .before .before .before .before .before .before .before in
+    let p = s .pre in
+    let a = s .args .fixed .now in
     let k = c .before .before .before .before .before .before .before .before .before .before .before .before .before .before .before .before .before .before .before .before .keep in
-    let q = c .before .before .before .before .before .before .before .before .before .before .before .before .before .before .problem in
+    let q = c .before .before .before .before .before .before .before .before .before .before .before .before .before .before in
     let f = c .before .before .before .before .prepare-kept in
+    let lu = undamped-long q in
+    let l = first-long a (p .1 .1 .1) (undamped q) lu in
+    let lf = f .kept .1 .1 .1 .1 .1 .1 .1 .0
+    ∙ cut-length 888 336 (with-first a (p .1 .1 .1) (undamped q) lu) (omega (arith, l)) in
+    let factors = f .last .1 .1 .1 .1 .1 .1 .1 .0 in
+    let e = both-written a (p .1 .1 .1) (undamped q) lu factors in
     record {
-      framed = record { few = f .ensures .1; order-length = f .kept .1 .1 .1 .1 .1 .1 .0 ∙ ap length (p .1 .1 .1 .1 .0); curve-length = q .kept .1 .1 .1 .1 .1 .1 .1 .1 .1 .0 ∙ ap length (p .1 .1 .1 .1 .1 .0) ∙ length-clear 336; frame-length = f .kept .1 .1 .1 .1 .1 .1 .1 .0 ∙ ap length (p .1 .1 .1 .1 .1 .1) ∙ length-clear 888 };
-      steps = λ mu. prepared-is _ _ _ _ _ _ mu (k .ensures) _ _ _ _ _ _ (q .ensures mu) (rw (c .before .before .before .before .before .before .before .constraints .ensures) at (f .ensures .0));
+      sizes = record {
+        few = f .ensures .1;
+        order-length = f .kept .1 .1 .1 .1 .1 .1 .0 ∙ ap length (p .1 .1 .0);
+        fixed-length = ap length e ∙ length-both (undamped q) factors lu lf;
+      };
+      steps = λ mu.
+          prepared-is _ mu _ (undamped q) factors e lu lf _ _ _ _ (k .ensures) _ _ _ _ _ _ (q .problem .ensures mu)
+          (rw (c .before .before .before .before .before .before .before .constraints .ensures) at (f .ensures .0));
     }
 
 pub prepare-spec : {M : Type 1} → statement M
@@ -75,12 +129,17 @@ prepare-spec =
     slice-aggregate-problem
     slice-aggregate-problem-2
     slice-aggregate-problem-3
+    sub-problem
+    part-problem-start
+    part-problem-end
     problem-requires
     slice-aggregate-prepare-kept
     slice-aggregate-prepare-kept-2
     constraints-requires
+    sub-prepare-kept
+    part-prepare-kept-start
+    part-prepare-kept-end
     prepare-kept-requires
     same-length
     same-length-2
-    same-length-3
     returns)

@@ -1,8 +1,8 @@
 -- `prepared_step` meets its contract: the correction is copied and the step goes on from it, or the refusal stands.
 use mathlib.Core.Path.{_∙_}
+use native.Mathlib.Omega.{arith}
 use lib.ListN.{take, drop}
 use Rattle.run.specs.program.Reduced.{curved}
-use native.Mathlib.Omega.{arith}
 use Rattle.run.proofs.EndingLaws.{cut-length, written-all}
 use Rattle.run.proofs.StepLaws.{ready-on, ready-refused}
 use borrow.Author.Needs.{needs}
@@ -12,14 +12,14 @@ use Rattle.run.proofs.step.prepared_step.Tie as tie
 enum-known-prepared : tie.Need-enum-known-prepared
 enum-known-prepared c = search needs
 
-sub-place : tie.Need-sub-write
-sub-place c = search needs
+sub-write : tie.Need-sub-write
+sub-write c = search needs
 
-part-place-start : tie.Need-part-write-start
-part-place-start c = search needs
+part-write-start : tie.Need-part-write-start
+part-write-start c = search needs
 
-part-place-end : tie.Need-part-write-end
-part-place-end c = search needs
+part-write-end : tie.Need-part-write-end
+part-write-end c = search needs
 
 write-requires : tie.Need-write-requires
 write-requires c κs = search needs
@@ -28,7 +28,11 @@ free-step-requires : tie.Need-free-step-requires
 free-step-requires c κs =
     let p = c .before .before .before .before .before .before .before .before .before .before .before .before .before .before .before .before .pre in
     let g = c .before .before .before .before .before .before .before .before .prepared .given .1 in
-    (p .0, (rw g at (p .1 .0 .independent), (rw g at (p .1 .0 .free), (p .1 .1 .0, (p .1 .1 .1 .0, p .1 .1 .1 .1 .1)))))
+    let r = rw g at (p .1 .0 .independent) in
+    let count = rw g at (p .1 .0 .free) in (
+      record { few-kept = p .0; few-independent = r; few-free = count },
+      (p .1 .1 .0, (p .1 .1 .1 .0, p .1 .1 .1 .1 .1)),
+    )
 
 same-length : tie.Need-same-length
 same-length c = search needs
@@ -38,25 +42,30 @@ same-length-2 c = search needs
 
 returns : tie.Need-returns
 returns c =
-    let s = c .before .before .before .before .before .before .before .before .before .before .before .before .before .before .before .before .before .before .before .before .before in
-    let p = s .pre in
-    let l = cut-length 24 576 (s .args .frame .now) (omega (arith, p .1 .1 .1 .0)) in
-    ready-on (curved (s .args .k) (s .args .h .now) (s .args .g .now)) (s .args .order .now) (s .args .frame .now) (c .before .before .before .before .before .before .before .before .before .before .before .before .before .prepared .given .1) (c .before .before .before .before .before .before .before .before .before .write .ensures ∙ written-all (s .args .kept .now) (take 24 (drop 576 (s .args .frame .now))) (omega (arith, l, p .1 .1 .1 .1 .0))) (c .before .before .before .before .free-step .ensures)
+    let a = c .before .before .before .before .before .before .before .before .before .before .before .before .before .before .before .before .before .before .before .before .before .args in
+    let p = c .before .before .before .before .before .before .before .before .before .before .before .before .before .before .before .before .before .before .before .before .before .pre in
+    let l = cut-length 24 576 (a .factors .now) (omega (arith, p .1 .1 .1 .0)) in
+    let copied = c .before .before .before .before .before .before .before .before .before .write .ensures
+    ∙ written-all (a .kept .now) (take 24 (drop 576 (a .factors .now))) (omega (arith, l, p .1 .1 .1 .1 .0)) in
+    ready-on (curved (a .k) (a .h .now) (a .g .now)) (a .order .now) (a .factors .now) (c .before .before .before .before .before .before .before .before .before .before .before .before .before .prepared .given .1) copied
+    (c .before .before .before .before .free-step .ensures)
 
 enum-known-prepared-2 : tie.Need-enum-known-prepared-2
 enum-known-prepared-2 c = search needs
 
 returns-2 : tie.Need-returns-2
-returns-2 c = let a = c .before .before .before .before .before .before .before .before .before .args in ready-refused (curved (a .k) (a .h .now) (a .g .now)) (a .order .now) (a .frame .now) (c .before .prepared2 .given .1)
+returns-2 c =
+    let a = c .before .before .before .before .before .before .before .before .before .args in
+    ready-refused (curved (a .k) (a .h .now) (a .g .now)) (a .order .now) (a .factors .now) (c .before .prepared2 .given .1)
 
 pub prepared-step-spec : {M : Type 1} → statement M
 prepared-step-spec =
     tie.close
     (tie.spec
     enum-known-prepared
-    sub-place
-    part-place-start
-    part-place-end
+    sub-write
+    part-write-start
+    part-write-end
     write-requires
     free-step-requires
     same-length

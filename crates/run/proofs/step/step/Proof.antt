@@ -11,14 +11,11 @@ slice-aggregate-prepare c = search needs
 slice-aggregate-prepare-2 : tie.Need-slice-aggregate-prepare-2
 slice-aggregate-prepare-2 c = search needs
 
-slice-aggregate-prepare-3 : tie.Need-slice-aggregate-prepare-3
-slice-aggregate-prepare-3 c = search needs
-
 prepare-requires : tie.Need-prepare-requires
 unfolding ofBits
 prepare-requires c κs =
-    let p = c .before .before .before .before .before .before .before .before .pre in
-    (p .0, (p .1 .0, (p .1 .1 .0, (p .1 .1 .1 .0, (refl, (refl, refl))))))
+    let p = c .before .before .before .before .before .before .before .pre in
+    (p .0, (p .1 .0, (refl, refl)))
 
 slice-aggregate-damped-step : tie.Need-slice-aggregate-damped-step
 slice-aggregate-damped-step c = search needs
@@ -26,13 +23,10 @@ slice-aggregate-damped-step c = search needs
 slice-aggregate-damped-step-2 : tie.Need-slice-aggregate-damped-step-2
 slice-aggregate-damped-step-2 c = search needs
 
-slice-aggregate-damped-step-3 : tie.Need-slice-aggregate-damped-step-3
-slice-aggregate-damped-step-3 c = search needs
-
 damped-step-requires : tie.Need-damped-step-requires
 damped-step-requires c κs =
-    let p = c .before .before .before .before .before .before .before .before .before .before .before .before .before .before .before .before .before .pre in
-    (p .0, (p .1 .1 .1 .0, (c .before .before .before .before .before .before .before .before .prepare .ensures .framed, (p .1 .1 .1 .1 .0, p .1 .1 .1 .1 .1))))
+    let p = c .before .before .before .before .before .before .before .before .before .before .before .before .before .before .pre in
+    (p .0 .few-variables, (p .1 .0, (c .before .before .before .before .before .before .prepare .ensures .sizes, p .1 .1)))
 
 same-length : tie.Need-same-length
 same-length c = search needs
@@ -41,7 +35,7 @@ same-length-2 : tie.Need-same-length-2
 same-length-2 c = search needs
 
 returns : tie.Need-returns
-returns c = c .before .before .before .before .damped-step .ensures ∙ c .before .before .before .before .before .before .before .before .before .before .before .before .before .prepare .ensures .steps (c .before .before .before .before .before .before .before .before .before .before .before .before .before .before .before .before .before .before .before .before .before .before .args .mu)
+returns c = c .before .before .before .before .damped-step .ensures ∙ c .before .before .before .before .before .before .before .before .before .before .before .prepare .ensures .steps (c .before .before .before .before .before .before .before .before .before .before .before .before .before .before .before .before .before .before .before .args .mu)
 
 pub step-spec : {M : Type 1} → statement M
 step-spec =
@@ -49,11 +43,9 @@ step-spec =
     (tie.spec
     slice-aggregate-prepare
     slice-aggregate-prepare-2
-    slice-aggregate-prepare-3
     prepare-requires
     slice-aggregate-damped-step
     slice-aggregate-damped-step-2
-    slice-aggregate-damped-step-3
     damped-step-requires
     same-length
     same-length-2

@@ -1,0 +1,35 @@
+-- `search_start` meets its contract: the sum is worked out from the rows.
+use borrow.Author.Needs.{needs}
+use Rattle.run.proofs.iterate.search_start.Statement.{statement}
+use Rattle.run.proofs.iterate.search_start.Tie as tie
+
+row-counts-requires : tie.Need-row-counts-requires
+row-counts-requires c κs = search needs
+
+sub-rows : tie.Need-sub-rows
+sub-rows c = search needs
+
+part-rows-start : tie.Need-part-rows-start
+part-rows-start c = search needs
+
+part-rows-end : tie.Need-part-rows-end
+part-rows-end c = search needs
+
+sum-squared-requires : tie.Need-sum-squared-requires
+sum-squared-requires c κs =
+    let f = c .before .before .before .pre .1 in
+    rw (c .before .row-counts .ensures) (f .few-variables, (f .few-constraints, f .few-sums))
+
+returns : tie.Need-returns
+returns c = rw (c .before .before .sum-squared .ensures, c .before .before .before .before .row-counts .ensures)
+
+pub search-start-spec : {M : Type 1} → statement M
+search-start-spec =
+    tie.close
+    (tie.spec
+    row-counts-requires
+    sub-rows
+    part-rows-start
+    part-rows-end
+    sum-squared-requires
+    returns)
