@@ -80,18 +80,6 @@ fn decision_of(t: TruthResult) -> Decision
     }
 }
 
-fn decision_of(t: TruthResult) -> Decision
-    ensures { λ r. ⌜ r ≡ decisionOf (truthOf t) ⌝ }
-{
-    match t {
-        TruthResult::Value(holds) => Decision { number: 0, holds },
-        TruthResult::Refused(e) => Decision {
-            number: number_of(e),
-            holds: false,
-        },
-    }
-}
-
 fn judged_of(j: Judgement) -> JudgedStep
     ensures { λ r. ⌜ r ≡ judgedOf (judgementOf j) ⌝ }
 {

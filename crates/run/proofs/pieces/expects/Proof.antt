@@ -1,7 +1,6 @@
 -- `expects` meets its contract: where the checks passed the counts and lengths fit.
-
 use Rattle.run.specs.Pieces.{expectsReply}
-use Rattle.run.proofs.PieceLaws.{finished, bounds, fits-passed}
+use Rattle.run.proofs.PieceLaws.{finished, fits-passed}
 use borrow.Author.Needs.{needs}
 use Rattle.run.proofs.pieces.expects.Statement.{statement}
 use Rattle.run.proofs.pieces.expects.Tie as tie
@@ -21,8 +20,7 @@ enum-told c = search needs
 
 expects-requires : tie.Need-expects-requires
 expects-requires c κs =
-    let z = fits-passed (finished (c .enum-told .given .1)) (c .before .before .fits2 .ensures) .sized in
-    bounds z
+    fits-passed (finished (c .enum-told .given .1)) (c .before .before .fits2 .ensures) .sized .counts
 
 returns-2 : tie.Need-returns-2
 unfolding expectsReply
