@@ -297,7 +297,8 @@ fn gradient(xs: &[f64], e: RowSet, index: &[usize], k: usize, undamped: &mut [f6
 fn slopes(xs: &[f64], e: RowSet, index: &[usize], k: usize, wide: &mut [f64], narrow: &mut [f64])
     requires { ⌜ Small e × ((k ≤ VARIABLES) × (length (now index) ≡ 12)) ⌝ }
     ensures { λ _. ⌜
-        (now (wide .exit) ≡ squeezedOf (keptBy k (now (index .entry))) (rowsIn (now (xs .entry)) e) (now (wide .entry))) ×
+        (now (wide .exit)
+        ≡ squeezedOf (keptBy k (now (index .entry))) (rowsIn (now (xs .entry)) e) (now (wide .entry))) ×
         (now (narrow .exit) ≡ chosenOf (now (narrow .entry)) (now (wide .exit)) 0 (12 * e .count)) ⌝ }
 {
     squeeze(xs, e, index, k, false, wide);

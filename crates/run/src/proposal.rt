@@ -245,7 +245,7 @@ pub fn propose(
     prepared: Prepared,
     order: &[usize],
     fixed: &[f64],
-    from: Search,
+    state: Search,
     delta: &mut [f64],
     lambda: &mut [f64],
 ) -> Proposal
@@ -255,7 +255,7 @@ pub fn propose(
         (curvatureFor (start .plain) (now area)) (start .moving) prepared (now order) (now fixed) ⌝ }
     ensures { λ r. ⌜ proposalResult r (now (delta .exit)) (now (lambda .exit))
         (nextIn start (now (area .entry)) (now (delta .exit)))
-        ≡ proposalOf (standingIn start (now (area .entry))) (from .mu) (from .radius) ⌝ }
+        ≡ proposalOf (standingIn start (now (area .entry))) (state .mu) (state .radius) ⌝ }
 {
     let point = start.point;
     let moving = start.moving;
@@ -265,7 +265,7 @@ pub fn propose(
         prepared,
         order,
         fixed,
-        from.mu,
+        state.mu,
         delta,
         lambda,
     ) {
@@ -276,7 +276,7 @@ pub fn propose(
                 TruthResult::Value(drop) => {
                     if drop {
                         let x = &area[area::STANDING_AT..area::LANDED_AT];
-                        return within(point, rows, x, b, from.radius, delta);
+                        return within(point, rows, x, b, state.radius, delta);
                     }
                     return Proposal::NoDrop(r);
                 }

@@ -1,5 +1,6 @@
 // The step over the kept variables and over all: what no damping changes of it is prepared once, then each damping has
-// its own step from that. A step that is not finite, or whose H is not, is none: a search then goes on with more damping.
+// its own step from that. A step that is not finite, or whose H is not, is none: a search then goes on with more
+// damping.
 ghost use Prim.Native.Nat.{_≤_};
 ghost use mathlib.Core.Bool.{_&&_};
 ghost use mathlib.Core.List.{List, []};
@@ -69,7 +70,7 @@ const FACTORS_AT: usize = 336;
 
 pub const FIXED_LEN: usize = 1224;
 
-// Where each part of a frame begins, behind the basis.
+// Where each part of the factors begins, behind Q.
 const COEFFICIENTS: usize = 288;
 
 const CORRECTION: usize = 576;

@@ -11,7 +11,8 @@ use Rattle.linear.specs.Answers.{numberOf}
 use Rattle.linear.specs.Flat.{at}
 use Rattle.linear.specs.Norm.{normOf}
 use Rattle.linear.specs.Results.{bind}
-use Rattle.run.specs.Area.{POINT-LEN, ROWS-LEN, CURVATURE-LEN, STANDING-AT, STANDING-ROWS-AT, CURVATURE-AT, SPARE-AT}
+use Rattle.run.specs.Area.{POINT-LEN, ROWS-LEN, CURVATURE-LEN, STANDING-AT, STANDING-ROWS-AT, CURVATURE-AT}
+use Rattle.run.specs.Area.{SPARE-AT}
 use Rattle.run.specs.Proposal.{Standing, Proposal, noChange, ask, notPositive, noDrop, unresolved}
 use Rattle.run.specs.Residuals.{predictedOf}
 use Rattle.run.specs.Rows.{Evaluation, evaluationBy, Rows}

@@ -35,11 +35,14 @@ same-length-2 c = search needs
 
 returns : tie.Need-returns
 returns c w h =
-    let st = c .before .before .before .before .before .before .before .before .before .before .before .before .before .before .before .args .st in
+    let st = c .before .before .before .before .before .before .before .before .before .before .before .before .before
+    .before .before .args .st in
     let k = c .before .before .before .before .seek in
     let l = k .last .1 .1 .1 in
-    let v = sym (h .standing-is) ∙ ap resultOf (c .before .before .before .before .before .before .before .before .before .standing .given .1) in
-    sought-by st (l .0) (l .1 .0) (k .result) (h .uses .holds) (c .before .before .before .before .before .before .before .search-start .ensures) v (k .ensures)
+    let v = sym (h .standing-is)
+    ∙ ap resultOf (c .before .before .before .before .before .before .before .before .before .standing .given .1) in
+    sought-by st (l .0) (l .1 .0) (k .result) (h .uses .holds)
+    (c .before .before .before .before .before .before .before .search-start .ensures) v (k .ensures)
 
 enum-known-standing-2 : tie.Need-enum-known-standing-2
 enum-known-standing-2 c = search needs

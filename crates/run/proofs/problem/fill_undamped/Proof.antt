@@ -16,7 +16,9 @@ use Rattle.run.proofs.problem.fill_undamped.Statement.{statement}
 use Rattle.run.proofs.problem.fill_undamped.Tie as tie
 
 abbrev Inv-loop : tie.InvT-loop
-Inv-loop n index k jr s b undamped₀ i₀ undamped i = (i ≤ k) × (length undamped ≡ length undamped₀) × (undamped ≡ fillRows (zeros 336) (undampedBetween n index jr s b) k i)
+Inv-loop n index k jr s b undamped₀ i₀ undamped i =
+    (i ≤ k) × (length undamped ≡ length undamped₀) ×
+    (undamped ≡ fillRows (zeros 336) (undampedBetween n index jr s b) k i)
 
 abbrev μ-loop : tie.MeasureT-loop
 μ-loop n index k jr s b undamped₀ i₀ undamped i = k - i
@@ -52,7 +54,9 @@ loop-less : tie.Need-loop-less Inv-loop μ-loop
 loop-less c = search needs
 
 loop-again : tie.Need-loop-again Inv-loop μ-loop
-loop-again c = let l = c .before .before .before .before .before .loop in (search needs, search needs, c .before .before .undamped-row .ensures ∙ fill-rows-turn _ _ _ (l .i) (l .inv .2))
+loop-again c =
+    let l = c .before .before .before .before .before .loop in
+    (search needs, search needs, c .before .before .undamped-row .ensures ∙ fill-rows-turn _ _ _ (l .i) (l .inv .2))
 
 same-length : tie.Need-same-length Inv-loop μ-loop
 same-length c = search needs

@@ -21,7 +21,8 @@ abbrev entryAt : ℕ → List ℕ → List Float → ℕ → List Float → ℕ 
 entryAt n index jr s b i j = undampedAt jr s (curvatureAt n b (getD index i 0) (getD index j 0)) i j
 
 abbrev Inv-loop : tie.InvT-loop
-Inv-loop n index k jr s b h₀ i row j₀ h j = (j ≤ k) × (length h ≡ length h₀) × (h ≡ fillTo h₀ (12 * i) (entryAt n index jr s b i) j)
+Inv-loop n index k jr s b h₀ i row j₀ h j =
+    (j ≤ k) × (length h ≡ length h₀) × (h ≡ fillTo h₀ (12 * i) (entryAt n index jr s b i) j)
 
 abbrev μ-loop : tie.MeasureT-loop
 μ-loop n index k jr s b h₀ i row j₀ h j = k - j

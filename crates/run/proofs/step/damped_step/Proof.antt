@@ -38,7 +38,8 @@ slice-aggregate-spread-2 c = search needs
 
 spread-requires : tie.Need-spread-requires
 spread-requires c κs =
-    let p = c .before .before .before .before .before .before .before .before .before .before .before .before .before .before .before .before .before .pre in
+    let p = c .before .before .before .before .before .before .before .before .before .before .before .before .before
+    .before .before .before .before .pre in
     let k = c .before .before .before .before .before .before .before .before .before .before .keep in
     (p .1 .1 .1 .0, inside (kept-few _ _ (k .ensures)) (p .0) (k .kept .1 .1 .0))
 
@@ -51,7 +52,9 @@ same-length-2 c = search needs
 returns : tie.Need-returns
 returns c =
     let k = c .before .before .before .before .before .before .before .before .before .kept-step in
-    prepared-by _ _ _ _ _ _ (c .before .before .before .before .before .before .before .before .before .before .before .before .before .keep .ensures) (k .ensures) (end-spread (k .result) _ _ _ (c .before .before .spread .ensures))
+    prepared-by _ _ _ _ _ _
+    (c .before .before .before .before .before .before .before .before .before .before .before .before .before .keep
+    .ensures) (k .ensures) (end-spread (k .result) _ _ _ (c .before .before .spread .ensures))
 
 pub damped-step-spec : {M : Type 1} → statement M
 damped-step-spec =

@@ -49,7 +49,8 @@ part-prepared-step-end-2 c = search needs
 
 prepared-step-requires : tie.Need-prepared-step-requires
 prepared-step-requires c κs =
-    let s = c .before .before .before .before .before .before .before .before .before .before .before .before .before .before .before in
+    let s = c .before .before .before .before .before .before .before .before .before .before .before .before .before
+    .before .before in
     let p = s .pre in
     let z = p .1 .0 in
     let long = cut-length 888 336 (s .args .fixed .now) (omega (arith, z .fixed-length)) in
@@ -63,12 +64,19 @@ same-length-2 c = search needs
 
 returns : tie.Need-returns
 returns c =
-    damped-on _ _ _ _ _ (c .before .before .before .before .before .before .before .before .before .before .before .before .before .before .before .before .before .before .before .before .pre .0) (c .before .before .before .before .before .before .before .before .before .before .before .before .before .before .damped .ensures) (c .before .before .before .before .before .before .before .before .before .before .before .all-finite .ensures) (c .before .before .before .before .before .before .before .before .before .before .if1 .taken)
+    damped-on _ _ _ _ _
+    (c .before .before .before .before .before .before .before .before .before .before .before .before .before .before
+    .before .before .before .before .before .before .pre .0)
+    (c .before .before .before .before .before .before .before .before .before .before .before .before .before .before
+    .damped .ensures)
+    (c .before .before .before .before .before .before .before .before .before .before .before .all-finite .ensures)
+    (c .before .before .before .before .before .before .before .before .before .before .if1 .taken)
     (c .before .before .before .before .prepared-step .ensures)
 
 returns-2 : tie.Need-returns-2
 returns-2 c =
-    damped-not _ _ _ _ _ (c .before .before .before .before .before .before .before .before .before .before .pre .0) (c .before .before .before .before .damped .ensures) (c .before .all-finite .ensures) (c .if1 .left)
+    damped-not _ _ _ _ _ (c .before .before .before .before .before .before .before .before .before .before .pre .0)
+    (c .before .before .before .before .damped .ensures) (c .before .all-finite .ensures) (c .if1 .left)
 
 pub kept-step-spec : {M : Type 1} → statement M
 kept-step-spec =

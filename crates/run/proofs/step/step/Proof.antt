@@ -25,8 +25,11 @@ slice-aggregate-damped-step-2 c = search needs
 
 damped-step-requires : tie.Need-damped-step-requires
 damped-step-requires c κs =
-    let p = c .before .before .before .before .before .before .before .before .before .before .before .before .before .before .pre in
-    (p .0 .few-variables, (p .1 .0, (c .before .before .before .before .before .before .prepare .ensures .sizes, p .1 .1)))
+    let p = c .before .before .before .before .before .before .before .before .before .before .before .before .before
+    .before .pre in (
+      p .0 .few-variables,
+      (p .1 .0, (c .before .before .before .before .before .before .prepare .ensures .sizes, p .1 .1)),
+    )
 
 same-length : tie.Need-same-length
 same-length c = search needs
@@ -35,7 +38,11 @@ same-length-2 : tie.Need-same-length-2
 same-length-2 c = search needs
 
 returns : tie.Need-returns
-returns c = c .before .before .before .before .damped-step .ensures ∙ c .before .before .before .before .before .before .before .before .before .before .before .prepare .ensures .steps (c .before .before .before .before .before .before .before .before .before .before .before .before .before .before .before .before .before .before .before .args .mu)
+returns c =
+    c .before .before .before .before .damped-step .ensures
+    ∙ c .before .before .before .before .before .before .before .before .before .before .before .prepare .ensures .steps
+    (c .before .before .before .before .before .before .before .before .before .before .before .before .before .before
+    .before .before .before .before .before .args .mu)
 
 pub step-spec : {M : Type 1} → statement M
 step-spec =
