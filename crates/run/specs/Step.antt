@@ -16,7 +16,6 @@ use Rattle.run.specs.Problem.{Problem, Kept, keptTo, problemOf}
 use Rattle.run.specs.Reduced.{pullOf, Weights, weights, none, forceOf, reducedOf, againstOf, weightsOf}
 use Rattle.run.specs.Rows.{Evaluation}
 use Rattle.run.specs.Vectors.{allFinite, combinedTo, spreadTo}
-use Rattle.run.specs.declared.null_space.Found.the-variants as f
 
 pub record Step : Type 0 where
   pub delta : List Float

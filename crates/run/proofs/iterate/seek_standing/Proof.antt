@@ -12,7 +12,7 @@ use Rattle.run.proofs.iterate.seek_standing.Tie as tie
 -- the counts of its rows are within the limits
 few : (s : tie.Start) → FewRows (rowCounts (s .args .st .sizes))
 few s =
-    let b = s .pre .1 .0 in
+    let b = s .pre .1 in
     record { few-variables = b .few-variables; few-constraints = b .few-constraints; few-sums = b .few-sums }
 
 enum-known-standing : tie.Need-enum-known-standing
@@ -24,8 +24,8 @@ search-start-requires c κs = let s = c .before .before .before .before .before 
 seek-requires : tie.Need-seek-requires
 seek-requires c κs =
     let s = c .before .before .before .before .before .before .before .before .before .before in
-    let b = s .pre .1 .0 in
-    rw (c .before .before .search-start .ensures) ((few s, (s .pre .0, s .pre .1 .1)), (b .few-turned, b .damping))
+    let b = s .pre .1 in
+    rw (c .before .before .search-start .ensures) ((few s, s .pre .0, s .pre .2), (b .few-turned, b .damping))
 
 same-length : tie.Need-same-length
 same-length c = search needs

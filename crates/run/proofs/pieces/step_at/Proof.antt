@@ -34,7 +34,8 @@ step-requires c κs =
     let r = fits-passed (q .0) (c .before .before .before .before .before .before .fits2 .ensures) in
     let z = r .0 in (
       record { few-variables = z .few-variables; few-constraints = z .few-constraints; few-sums = z .few-residuals },
-      (r .1 .1, (q .1, p .1)),
+      r .1 .1,
+      record { delta-length = q .1; lambda-length = p .1 },
     )
 
 enum-told-2 : tie.Need-enum-told-2

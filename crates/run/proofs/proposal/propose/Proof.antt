@@ -36,7 +36,8 @@ module _ (k : tie.After-damped-step) where
   mu = k .before .before .before .before .before .before .before .before .before .before .before .args .state .mu
 
   abbrev radius : Scalar
-  radius = k .before .before .before .before .before .before .before .before .before .before .before .args .state .radius
+  radius =
+      k .before .before .before .before .before .before .before .before .before .before .before .args .state .radius
 
   abbrev raw : List Float
   raw = k .damped-step .last .1 .1 .1 .1 .1 .1 .0
@@ -73,7 +74,7 @@ damped-step-requires : tie.Need-damped-step-requires
 damped-step-requires c κs =
     let s = c .before .before .before .before .before .before .before .before .before .before in
     let p = s .pre in
-    (p .0 .0 .few-variables, (marks s, (p .1 .sizes, p .0 .1 .1)))
+    (p .0 .0 .few-variables, marks s, p .1 .sizes, p .0 .2)
 
 enum-known-r : tie.Need-enum-known-r
 enum-known-r c = search needs
@@ -108,7 +109,7 @@ part-x-end : tie.Need-part-x-end
 part-x-end c =
     let p = c .before .before .before .before .before .before .before .before .before .before .before .before .before
     .before .before .before .before .before .before .before .before .before .before .before .before .before .pre .0 in
-    omega (arith, p .1 .0)
+    omega (arith, p .1)
 
 within-requires : tie.Need-within-requires
 within-requires c κs =
@@ -117,7 +118,7 @@ within-requires c κs =
     .before .pre .0 in
     let k = c .before .before .before .before .before .before .before .before .before .before .before .before .before
     .before .before .before .before .damped-step .kept .1 .1 .1 .1 .1 .1 .0 in
-    (p .0, k ∙ p .1 .1 .0)
+    (p .0, k ∙ p .2 .delta-length)
 
 same-length : tie.Need-same-length
 same-length c = search needs

@@ -37,7 +37,7 @@ prepare-requires : tie.Need-prepare-requires
 unfolding ofBits
 prepare-requires c κs =
     let s = c .before .before .before .before .before .before .before .before .before .before in
-    (s .pre .0 .0, (marks s, (refl, refl)))
+    (s .pre .0 .0, marks s, refl, refl)
 
 slice-aggregate-seek-from : tie.Need-slice-aggregate-seek-from
 slice-aggregate-seek-from c = search needs

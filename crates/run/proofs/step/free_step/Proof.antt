@@ -62,7 +62,7 @@ returns c =
     let e = c .before .before .before .before .before .before .before .before .finite-pull .ensures in
     let m = c .before .before .before .multipliers .ensures
     ∙ multipliers-part (a .d .kept) (a .d .independent) (a .factors .now) _ (p .0 .few-kept) (p .0 .few-independent)
-    (omega (arith, p .1 .1 .0)) (a .order .now)
+    (omega (arith, p .1 .factors-length)) (a .order .now)
     ∙ multipliers-reads _ _ _ in
     c .multiplied .ensures _ _
     ∙ stepped-on _ _ _ (e .0) (e .1) (c .before .before .before .before .before .before .if1 .taken) m

@@ -15,7 +15,7 @@ damped-requires : tie.Need-damped-requires
 unfolding ofBits
 damped-requires c κs =
     let p = c .before .before .before .before .before .pre in
-    (p .0, (omega (arith, p .1 .0 .fixed-length), refl))
+    (p .0, (omega (arith, p .1 .fixed-length), refl))
 
 slice-aggregate-all-finite : tie.Need-slice-aggregate-all-finite
 slice-aggregate-all-finite c = search needs
@@ -52,9 +52,9 @@ prepared-step-requires c κs =
     let s = c .before .before .before .before .before .before .before .before .before .before .before .before .before
     .before .before in
     let p = s .pre in
-    let z = p .1 .0 in
+    let z = p .1 in
     let long = cut-length 888 336 (s .args .fixed .now) (omega (arith, z .fixed-length)) in
-    (p .0, (z .few, (z .order-length, (long, p .1 .1))))
+    (p .0, z .few, record { order-length = z .order-length; factors-length = long }, p .2)
 
 same-length : tie.Need-same-length
 same-length c = search needs

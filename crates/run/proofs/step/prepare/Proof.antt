@@ -23,7 +23,7 @@ undamped-long : (k : tie.After-problem) → length (undamped k) ≡ 336
 undamped-long k =
     let s = k .before .before .before .before .before .before .before .before .before .before .before .before .before in
     k .problem .kept .1 .1 .1 .1 .1 .1 .1 .0
-    ∙ cut-length 336 0 (s .args .fixed .now) (omega (arith, clear-long (s .args .fixed .now) (s .pre .1 .1 .1)))
+    ∙ cut-length 336 0 (s .args .fixed .now) (omega (arith, clear-long (s .args .fixed .now) (s .pre .3)))
 
 slice-aggregate-keep : tie.Need-slice-aggregate-keep
 slice-aggregate-keep c = search needs
@@ -31,7 +31,7 @@ slice-aggregate-keep c = search needs
 keep-requires : tie.Need-keep-requires
 keep-requires c κs =
     let p = c .before .before .before .before .before .before .pre in
-    (p .0 .few-variables, (p .1 .0, refl))
+    (p .0 .few-variables, (p .1, refl))
 
 slice-aggregate-problem : tie.Need-slice-aggregate-problem
 slice-aggregate-problem c = search needs
@@ -51,7 +51,7 @@ part-problem-start c = search needs
 part-problem-end : tie.Need-part-problem-end
 part-problem-end c =
     let s = c .before .before .before .before .before .before .before .before .before .before .before in
-    omega (arith, clear-long (s .args .fixed .now) (s .pre .1 .1 .1))
+    omega (arith, clear-long (s .args .fixed .now) (s .pre .3))
 
 problem-requires : tie.Need-problem-requires
 unfolding ofBits
@@ -64,7 +64,7 @@ problem-requires c κs =
       long = k .kept .1 .1 .0;
       near = kept-near _ _ (k .ensures) few;
     } in
-    ((s .pre .0, fits), (refl, (refl, first-clear (s .args .fixed .now) (s .pre .1 .1 .1))))
+    ((s .pre .0, fits), (refl, (refl, first-clear (s .args .fixed .now) (s .pre .3))))
 
 slice-aggregate-prepare-kept : tie.Need-slice-aggregate-prepare-kept
 slice-aggregate-prepare-kept c = search needs
@@ -86,7 +86,7 @@ part-prepare-kept-end c =
     let s = c .before .before .before .before .before .before .before .before .before .before .before .before .before
     .before .before .before .before .before .before .before .before in
     let q = c .before .before .before .before .before .before .before .before in
-    omega (arith, first-long (s .args .fixed .now) (s .pre .1 .1 .1) (undamped q) (undamped-long q))
+    omega (arith, first-long (s .args .fixed .now) (s .pre .3) (undamped q) (undamped-long q))
 
 prepare-kept-requires : tie.Need-prepare-kept-requires
 prepare-kept-requires c κs =
@@ -96,8 +96,8 @@ prepare-kept-requires c κs =
     let q = c .before .before .before .before .before .before .before .before .before in
     let k = c .before .before .before .before .before .before .before .before .before .before .before .before .before
     .before .before .keep in
-    let clear = second-clear (s .args .fixed .now) (p .1 .1 .1) (undamped q) (undamped-long q) in
-    (omega (arith, kept-few _ _ (k .ensures), p .0 .few-variables), (p .0 .few-constraints, (p .1 .1 .0, clear)))
+    let clear = second-clear (s .args .fixed .now) (p .3) (undamped q) (undamped-long q) in
+    (omega (arith, kept-few _ _ (k .ensures), p .0 .few-variables), (p .0 .few-constraints, (p .2, clear)))
 
 same-length : tie.Need-same-length
 same-length c = search needs
@@ -117,15 +117,15 @@ returns c =
     c .before .before .before .before .before .before .before .before .before .before .before .before .before .before in
     let f = c .before .before .before .before .prepare-kept in
     let lu = undamped-long q in
-    let l = first-long a (p .1 .1 .1) (undamped q) lu in
+    let l = first-long a (p .3) (undamped q) lu in
     let lf = f .kept .1 .1 .1 .1 .1 .1 .1 .0
-    ∙ cut-length 888 336 (with-first a (p .1 .1 .1) (undamped q) lu) (omega (arith, l)) in
+    ∙ cut-length 888 336 (with-first a (p .3) (undamped q) lu) (omega (arith, l)) in
     let factors = f .last .1 .1 .1 .1 .1 .1 .1 .0 in
-    let e = both-written a (p .1 .1 .1) (undamped q) lu factors in
+    let e = both-written a (p .3) (undamped q) lu factors in
     record {
       sizes = record {
         few = f .ensures .1;
-        order-length = f .kept .1 .1 .1 .1 .1 .1 .0 ∙ ap length (p .1 .1 .0);
+        order-length = f .kept .1 .1 .1 .1 .1 .1 .0 ∙ ap length (p .2);
         fixed-length = ap length e ∙ length-both (undamped q) factors lu lf;
       };
       steps = λ mu.

@@ -29,10 +29,11 @@ free-step-requires c κs =
     let p = c .before .before .before .before .before .before .before .before .before .before .before .before .before
     .before .before .before .pre in
     let g = c .before .before .before .before .before .before .before .before .prepared .given .1 in
-    let r = rw g at (p .1 .0 .independent) in
-    let count = rw g at (p .1 .0 .free) in (
+    let r = rw g at (p .1 .independent) in
+    let count = rw g at (p .1 .free) in (
       record { few-kept = p .0; few-independent = r; few-free = count },
-      (p .1 .1 .0, (p .1 .1 .1 .0, p .1 .1 .1 .1 .1)),
+      p .2,
+      p .3 .lambda-length,
     )
 
 same-length : tie.Need-same-length
@@ -47,9 +48,9 @@ returns c =
     .before .before .before .before .before .before .before .before .args in
     let p = c .before .before .before .before .before .before .before .before .before .before .before .before .before
     .before .before .before .before .before .before .before .before .pre in
-    let l = cut-length 24 576 (a .factors .now) (omega (arith, p .1 .1 .1 .0)) in
+    let l = cut-length 24 576 (a .factors .now) (omega (arith, p .2 .factors-length)) in
     let copied = c .before .before .before .before .before .before .before .before .before .write .ensures
-    ∙ written-all (a .kept .now) (take 24 (drop 576 (a .factors .now))) (omega (arith, l, p .1 .1 .1 .1 .0)) in
+    ∙ written-all (a .kept .now) (take 24 (drop 576 (a .factors .now))) (omega (arith, l, p .3 .delta-length)) in
     ready-on (curved (a .k) (a .h .now) (a .g .now)) (a .order .now) (a .factors .now)
     (c .before .before .before .before .before .before .before .before .before .before .before .before .before .prepared
     .given .1) copied

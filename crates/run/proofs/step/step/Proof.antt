@@ -15,7 +15,7 @@ prepare-requires : tie.Need-prepare-requires
 unfolding ofBits
 prepare-requires c κs =
     let p = c .before .before .before .before .before .before .before .pre in
-    (p .0, (p .1 .0, (refl, refl)))
+    (p .0, p .1, refl, refl)
 
 slice-aggregate-damped-step : tie.Need-slice-aggregate-damped-step
 slice-aggregate-damped-step c = search needs
@@ -26,10 +26,8 @@ slice-aggregate-damped-step-2 c = search needs
 damped-step-requires : tie.Need-damped-step-requires
 damped-step-requires c κs =
     let p = c .before .before .before .before .before .before .before .before .before .before .before .before .before
-    .before .pre in (
-      p .0 .few-variables,
-      (p .1 .0, (c .before .before .before .before .before .before .prepare .ensures .sizes, p .1 .1)),
-    )
+    .before .pre in
+    (p .0 .few-variables, p .1, c .before .before .before .before .before .before .prepare .ensures .sizes, p .2)
 
 same-length : tie.Need-same-length
 same-length c = search needs
