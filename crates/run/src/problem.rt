@@ -50,7 +50,7 @@ fn keep_next(moves: bool, index: &mut [usize], count: usize, i: usize) -> usize
 // The variables that move, in order, into a clear slice. Returns how many. One that no residual depends on has no slope
 // and no scaling, so no damping would make H positive along it: it is left out.
 pub fn keep(moving: &[bool], n: usize, index: &mut [usize]) -> usize
-    requires { ⌜ (n ≤ VARIABLES) × ((length (now moving) ≡ 12) × (now index ≡ replicate 12 0)) ⌝ }
+    requires { ⌜ (n ≤ VARIABLES) × (length (now moving) ≡ 12) × (now index ≡ replicate 12 0) ⌝ }
     ensures { λ r. ⌜ keptBy r (now (index .exit)) ≡ keptTo (now (moving .entry)) n ⌝ }
 {
     let mut count = 0;
@@ -85,7 +85,7 @@ fn squeeze_row(
     to: &mut [f64],
     t0: usize,
 )
-    requires { ⌜ (Small e × (i < 65536)) × ((k ≤ VARIABLES) × ((length (now index) ≡ 12) × (t0 < 65536))) ⌝ }
+    requires { ⌜ Small e × (i < 65536) × (k ≤ VARIABLES) × (length (now index) ≡ 12) × (t0 < 65536) ⌝ }
     ensures { λ _. ⌜ now (to .exit) ≡ fillTo (now (to .entry)) t0 (λ p. chosenIf «is_chosen»
         (slopeAt (rowsIn (now (xs .entry)) e) i (getD (now (index .entry)) p 0))) k ⌝ }
 {
@@ -96,7 +96,7 @@ fn squeeze_row(
 
 // The slopes by the kept variables, chosen as they are read where only the choices are used.
 pub fn squeeze(xs: &[f64], e: RowSet, index: &[usize], k: usize, is_chosen: bool, to: &mut [f64])
-    requires { ⌜ Small e × ((k ≤ VARIABLES) × (length (now index) ≡ 12)) ⌝ }
+    requires { ⌜ Small e × (k ≤ VARIABLES) × (length (now index) ≡ 12) ⌝ }
     ensures { λ _. ⌜ now (to .exit) ≡ squeezedAs «is_chosen» (keptBy k (now (index .entry)))
         (rowsIn (now (xs .entry)) e) (now (to .entry)) ⌝ }
 {
@@ -181,7 +181,7 @@ fn undamped_from(
     i: usize,
     j: usize,
 ) -> Scalar
-    requires { ⌜ (i < 12) × ((j < 12) × (j < i → at (now h) (12 * j + i) ≡ undampedAt (now jr) s across j i)) ⌝ }
+    requires { ⌜ (i < 12) × (j < 12) × (j < i → at (now h) (12 * j + i) ≡ undampedAt (now jr) s across j i) ⌝ }
     ensures { λ r. ⌜ r ≡ undampedAt (now (jr .entry)) s b i j ⌝ }
 {
     if is_mirrored(b, across, i, j) {
@@ -201,9 +201,9 @@ fn undamped_row(
     h: &mut [f64],
     i: usize,
 )
-    requires { ⌜ (k ≤ VARIABLES) × ((length (now index) ≡ 12) × ((i < k) ×
+    requires { ⌜ (k ≤ VARIABLES) × (length (now index) ≡ 12) × (i < k) ×
         ((t j : ℕ) → t < i → j < k →
-        at (now h) (12 * t + j) ≡ undampedBetween n (now index) (now jr) s (now b) t j))) ⌝ }
+        at (now h) (12 * t + j) ≡ undampedBetween n (now index) (now jr) s (now b) t j) ⌝ }
     ensures { λ _. ⌜ now (h .exit)
         ≡ fillTo (now (h .entry)) (12 * i)
         (undampedBetween n (now (index .entry)) (now (jr .entry)) s (now (b .entry)) i) k ⌝ }
@@ -228,7 +228,7 @@ fn fill_undamped(
     b: &[f64],
     undamped: &mut [f64],
 )
-    requires { ⌜ (k ≤ VARIABLES) × ((length (now index) ≡ 12) × (now undamped ≡ zeros 336)) ⌝ }
+    requires { ⌜ (k ≤ VARIABLES) × (length (now index) ≡ 12) × (now undamped ≡ zeros 336) ⌝ }
     ensures { λ _. ⌜ now (undamped .exit)
         ≡ fillRows (zeros 336)
         (undampedBetween n (now (index .entry)) (now (jr .entry)) s (now (b .entry))) k k ⌝ }
@@ -266,7 +266,7 @@ fn damped_row(k: usize, undamped: &[f64], mu: Scalar, h: &mut [f64], i: usize)
 
 // H = J_rᵀ J_r + B + mu D, from the slice that begins with what is undamped, into a clear matrix.
 pub fn damped(k: usize, undamped: &[f64], mu: Scalar, h: &mut [f64])
-    requires { ⌜ (k ≤ VARIABLES) × ((336 ≤ length (now undamped)) × (now h ≡ matrix)) ⌝ }
+    requires { ⌜ (k ≤ VARIABLES) × (336 ≤ length (now undamped)) × (now h ≡ matrix) ⌝ }
     ensures { λ _. ⌜ now (h .exit) ≡ dampedFrom k (now (undamped .entry)) mu ⌝ }
 {
     for i in 0..k {
@@ -298,7 +298,7 @@ fn gradient(xs: &[f64], e: RowSet, index: &[usize], k: usize, undamped: &mut [f6
 
 // The slopes by the kept variables as they are, and the same chosen.
 fn slopes(xs: &[f64], e: RowSet, index: &[usize], k: usize, wide: &mut [f64], narrow: &mut [f64])
-    requires { ⌜ Small e × ((k ≤ VARIABLES) × (length (now index) ≡ 12)) ⌝ }
+    requires { ⌜ Small e × (k ≤ VARIABLES) × (length (now index) ≡ 12) ⌝ }
     ensures { λ _. ⌜
         (now (wide .exit)
         ≡ squeezedOf (keptBy k (now (index .entry))) (rowsIn (now (xs .entry)) e) (now (wide .entry))) ×
@@ -321,7 +321,7 @@ pub fn problem(
     undamped: &mut [f64],
 )
     requires { ⌜ FewRows c × KeptFits k (now index) ⌝ }
-    requires { ⌜ (now wide ≡ matrix) × ((now jc ≡ matrix) × (now undamped ≡ zeros 336)) ⌝ }
+    requires { ⌜ (now wide ≡ matrix) × (now jc ≡ matrix) × (now undamped ≡ zeros 336) ⌝ }
     ensures { λ _. ⌜ ((mu : Scalar) →
         problemIn k (c .m) (valueAt (constraintsOf (c .n) (c .m) (now (xs .entry)))) (now (wide .exit)) (now (jc .exit))
         (dampedFrom k (now (undamped .exit)) mu) (gradientIn (now (undamped .exit)))

@@ -136,7 +136,7 @@ fn asked(predicted: Scalar, length: Answer) -> Proposal
 
 // The trial of a step whose choices are made: none where the point would be the same.
 fn tried(n: usize, m: usize, rows: &[f64], x: &[f64], delta: &[f64]) -> Proposal
-    requires { ⌜ (n ≤ VARIABLES) × ((m ≤ CONSTRAINTS) × (length (now delta) ≡ 24)) ⌝ }
+    requires { ⌜ (n ≤ VARIABLES) × (m ≤ CONSTRAINTS) × (length (now delta) ≡ 24) ⌝ }
     ensures { λ r. ⌜ ((lambda : List Float) →
         proposalResult r (now (delta .entry)) lambda (movedOf n (now (x .entry)) (now (delta .entry)))
         ≡ triedOf (pointOf n (now (x .entry)) (constraintsOf n m (now (rows .entry)))) (now (delta .entry)) lambda) ⌝ }
@@ -158,7 +158,7 @@ fn tried(n: usize, m: usize, rows: &[f64], x: &[f64], delta: &[f64]) -> Proposal
 
 // The trial of a step, after each of its entries is chosen in its place.
 fn trial(n: usize, m: usize, rows: &[f64], x: &[f64], delta: &mut [f64]) -> Proposal
-    requires { ⌜ (n ≤ VARIABLES) × ((m ≤ CONSTRAINTS) × (length (now delta) ≡ 24)) ⌝ }
+    requires { ⌜ (n ≤ VARIABLES) × (m ≤ CONSTRAINTS) × (length (now delta) ≡ 24) ⌝ }
     ensures { λ r. ⌜ ((lambda : List Float) →
         proposalResult r (now (delta .exit)) lambda (movedOf n (now (x .entry)) (now (delta .exit)))
         ≡ trialOf (pointOf n (now (x .entry)) (constraintsOf n m (now (rows .entry)))) (now (delta .entry)) lambda) ⌝ }

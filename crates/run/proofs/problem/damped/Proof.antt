@@ -22,7 +22,7 @@ abbrev μ-loop : tie.MeasureT-loop
 
 loop-holds : tie.Need-loop-holds Inv-loop μ-loop
 unfolding fillRows
-loop-holds c = (search needs, search needs, c .before .before .pre .1 .1)
+loop-holds c = (search needs, search needs, c .before .before .pre .2)
 
 damped-row-requires : tie.Need-damped-row-requires Inv-loop μ-loop
 damped-row-requires c κs = search needs
@@ -45,7 +45,7 @@ returns : tie.Need-returns Inv-loop μ-loop
 returns c =
     let s = c .before .before .before .before in
     rw (le-antisymm (c .before .loop .inv .0) (c .loop-test .left)) at (c .before .loop .inv .2)
-    ∙ damped-read (s .args .k) (s .args .undamped .now) (s .args .mu) (s .pre .0) (s .pre .1 .0)
+    ∙ damped-read (s .args .k) (s .args .undamped .now) (s .args .mu) (s .pre .0) (s .pre .1)
 
 pub damped-spec : {M : Type 1} → statement M
 damped-spec =

@@ -25,7 +25,7 @@ abbrev μ-loop : tie.MeasureT-loop
 
 loop-holds : tie.Need-loop-holds Inv-loop μ-loop
 unfolding fillRows
-loop-holds c = (search needs, search needs, c .before .before .before .before .pre .1 .1)
+loop-holds c = (search needs, search needs, c .before .before .before .before .pre .2)
 
 undamped-row-requires : tie.Need-undamped-row-requires Inv-loop μ-loop
 undamped-row-requires c κs =
@@ -35,16 +35,12 @@ undamped-row-requires c κs =
     let z : length (zeros 336) ≡ 336 = refl in
     let f : ℕ → ℕ → Scalar = undampedBetween (a .n) (a .index .now) (a .jr .now) (a .s) (a .b .now) in (
       p .0,
-      (
-        p .1 .0,
-        (
-          c .before .loop-test .taken,
-          λ t j ht hj.
-              ap (λ (x : List Float). at x (12 * t + j)) (l .inv .2)
-              ∙ at-fill-rows (zeros 336) f (a .k) (l .i) t j (p .0) ht hj (omega
-              (arith, z, p .0, c .before .loop-test .taken)),
-        ),
-      ),
+      p .1,
+      c .before .loop-test .taken,
+      λ t j ht hj.
+          ap (λ (x : List Float). at x (12 * t + j)) (l .inv .2)
+          ∙ at-fill-rows (zeros 336) f (a .k) (l .i) t j (p .0) ht hj (omega
+          (arith, z, p .0, c .before .loop-test .taken)),
     )
 
 add-i : tie.Need-add-i Inv-loop μ-loop

@@ -21,7 +21,7 @@ abbrev μ-loop : tie.MeasureT-loop
 
 loop-holds : tie.Need-loop-holds Inv-loop μ-loop
 unfolding keptTo
-loop-holds c = (search needs, search needs, search needs, ap (keptBy 0) (c .before .before .pre .1 .1))
+loop-holds c = (search needs, search needs, search needs, ap (keptBy 0) (c .before .before .pre .2))
 
 shared-slice-read-keep-next : tie.Need-shared-slice-read-keep-next Inv-loop μ-loop
 shared-slice-read-keep-next c = search needs
@@ -29,7 +29,7 @@ shared-slice-read-keep-next c = search needs
 keep-next-requires : tie.Need-keep-next-requires Inv-loop μ-loop
 keep-next-requires c κs =
     let s = c .before .before .before .before .before .before in
-    let z : length (s .args .index .now) ≡ 12 = ap length (s .pre .1 .1) in (
+    let z : length (s .args .index .now) ≡ 12 = ap length (s .pre .2) in (
       omega (
         arith,
         c .before .before .loop-test .taken,

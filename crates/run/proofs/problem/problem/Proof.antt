@@ -28,7 +28,7 @@ slopes-requires : tie.Need-slopes-requires
 slopes-requires c κs =
     let p = c .before .before .before .before .before .before .before .before .before .before .pre .0 in
     let near = constraints-small (p .0 .few-variables) (p .0 .few-constraints) in
-    (subst Small (sym (c .before .before .constraints .ensures)) near, (p .1 .few, p .1 .long))
+    (subst Small (sym (c .before .before .constraints .ensures)) near, p .1 .few, p .1 .long)
 
 slice-aggregate-squeeze : tie.Need-slice-aggregate-squeeze
 slice-aggregate-squeeze c = search needs
@@ -37,7 +37,7 @@ squeeze-requires : tie.Need-squeeze-requires
 squeeze-requires c κs =
     let p = c .before .before .before .before .before .before .before .before .before .before .before .before .before
     .before .before .before .pre .0 .1 in
-    (sum-near (c .before .before .before .before .before .before .before .before .before), (p .few, p .long))
+    (sum-near (c .before .before .before .before .before .before .before .before .before), p .few, p .long)
 
 slice-aggregate-fill-undamped : tie.Need-slice-aggregate-fill-undamped
 slice-aggregate-fill-undamped c = search needs
@@ -46,7 +46,7 @@ fill-undamped-requires : tie.Need-fill-undamped-requires
 fill-undamped-requires c κs =
     let p = c .before .before .before .before .before .before .before .before .before .before .before .before .before
     .before .before .before .before .before .before .before .pre in
-    (p .0 .1 .few, (p .0 .1 .long, p .1 .1 .1))
+    (p .0 .1 .few, p .0 .1 .long, p .1 .2)
 
 slice-aggregate-scalings : tie.Need-slice-aggregate-scalings
 slice-aggregate-scalings c = search needs
@@ -101,7 +101,7 @@ returns c =
     problem-is _ _ _ k _ _ mu (s .sum .ensures)
     (c .before .before .before .before .before .before .before .before .before .before .before .before .before .before
     .before .before .before .before .before .before .before .before .before .before .before .constraints .ensures)
-    (p .1 .0) (p .1 .1 .0) (l .0) (l .1) jr
+    (p .1 .0) (p .1 .1) (l .0) (l .1) jr
     (undamped-damped _ k _ _ _ _ _ _ u mu few) (undamped-gradient _ k _ _ _ _ _ _ u)
 
 pub problem-spec : {M : Type 1} → statement M

@@ -34,8 +34,11 @@ squeeze-row-requires : tie.Need-squeeze-row-requires Inv-loop μ-loop
 squeeze-row-requires c κs =
     let s = c .before .before .before .before .before .before in
     let t = c .before .loop-test .taken in (
-      (s .pre .0, omega (arith, t, s .pre .0 .few-rows)),
-      (s .pre .1 .0, (s .pre .1 .1, omega (arith, t, s .pre .0 .few-rows))),
+      s .pre .0,
+      omega (arith, t, s .pre .0 .few-rows),
+      s .pre .1,
+      s .pre .2,
+      omega (arith, t, s .pre .0 .few-rows),
     )
 
 add-i : tie.Need-add-i Inv-loop μ-loop

@@ -46,13 +46,9 @@ enum-known-drop c = search needs
 trial-requires : tie.Need-trial-requires
 trial-requires c κs =
     let p = c .before .before .before .before .before .before .before .before .before .before .before .before .before
-    .before .before .before .pre in (
-      p .0 .few-variables,
-      (
-        p .0 .few-constraints,
-        omega (arith, c .before .before .before .before .before .before .before .before .before .cut .kept, p .1),
-      ),
-    )
+    .before .before .before .pre in
+    let k = c .before .before .before .before .before .before .before .before .before .cut .kept in
+    (p .0 .few-variables, p .0 .few-constraints, omega (arith, k, p .1))
 
 same-length : tie.Need-same-length
 same-length c = search needs

@@ -63,7 +63,7 @@ loop-again c =
 tried-requires : tie.Need-tried-requires Inv-loop μ-loop
 tried-requires c κs =
     let p = c .before .before .before .before .before .before .pre in
-    (p .0, (p .1 .0, c .before .before .loop .inv .1 ∙ p .1 .1))
+    (p .0, p .1, c .before .before .loop .inv .1 ∙ p .2)
 
 same-length : tie.Need-same-length Inv-loop μ-loop
 same-length c = search needs
@@ -75,7 +75,7 @@ returns c lambda =
     let e : c .before .before .before .loop .delta ≡ chosenOf vector (a .delta .now) 0 (a .n) =
     rw (le-antisymm (c .before .before .before .loop .inv .0)
     (c .before .before .loop-test .left)) at (c .before .before .before .loop .inv .2)
-    ∙ chosen-in-place (a .delta .now) (a .n) (s .pre .1 .1) (s .pre .0) in
+    ∙ chosen-in-place (a .delta .now) (a .n) (s .pre .2) (s .pre .0) in
     c .tried .ensures lambda ∙ trial-is (pointOf (a .n) (a .x .now) (constraintsOf (a .n) (a .m) (a .rows .now)))
     (a .delta .now) (c .before .before .before .loop .delta) lambda e
 

@@ -19,7 +19,7 @@ slice-aggregate-keep c = search needs
 keep-requires : tie.Need-keep-requires
 keep-requires c κs =
     let p = c .before .before .before .before .before .before .pre in
-    (p .0, (p .1, refl))
+    (p .0, p .1, refl)
 
 slice-aggregate-kept-step : tie.Need-slice-aggregate-kept-step
 slice-aggregate-kept-step c = search needs

@@ -15,7 +15,7 @@ damped-requires : tie.Need-damped-requires
 unfolding ofBits
 damped-requires c κs =
     let p = c .before .before .before .before .before .pre in
-    (p .0, (omega (arith, p .1 .fixed-length), refl))
+    (p .0, omega (arith, p .1 .fixed-length), refl)
 
 slice-aggregate-all-finite : tie.Need-slice-aggregate-all-finite
 slice-aggregate-all-finite c = search needs

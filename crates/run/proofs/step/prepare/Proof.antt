@@ -31,7 +31,7 @@ slice-aggregate-keep c = search needs
 keep-requires : tie.Need-keep-requires
 keep-requires c κs =
     let p = c .before .before .before .before .before .before .pre in
-    (p .0 .few-variables, (p .1, refl))
+    (p .0 .few-variables, p .1, refl)
 
 slice-aggregate-problem : tie.Need-slice-aggregate-problem
 slice-aggregate-problem c = search needs
@@ -64,7 +64,7 @@ problem-requires c κs =
       long = k .kept .1 .1 .0;
       near = kept-near _ _ (k .ensures) few;
     } in
-    ((s .pre .0, fits), (refl, (refl, first-clear (s .args .fixed .now) (s .pre .3))))
+    ((s .pre .0, fits), (refl, refl, first-clear (s .args .fixed .now) (s .pre .3)))
 
 slice-aggregate-prepare-kept : tie.Need-slice-aggregate-prepare-kept
 slice-aggregate-prepare-kept c = search needs
