@@ -39,7 +39,7 @@ use Rattle.run.specs.Reduced.{forceOf, pullOf, reducedOf, againstOf, Wei
 use Rattle.run.specs.program.Reduced.{curved, spanned, solvedWith, addedTo, freePart}
 use Rattle.run.specs.program.Step.{withMultipliers, endOf, spreadEnd, basisFor, stepFromCorrection, stepFromBasis}
 use Rattle.run.specs.program.Step.{testedStep, rankOf, Few, readyOf, readyStep, stepFromFactors, dampedStep}
-use Rattle.run.specs.program.Step.{factorsIn, preparedStep}
+use Rattle.run.specs.program.Step.{basisWith, directionsWith, factorsIn, preparedStep}
 use Rattle.run.proofs.AreaLaws.{length-clear}
 use Rattle.run.proofs.BasisLaws.{basis-reads, rank-small, take-replicate}
 use Rattle.run.proofs.NullSpaceLaws.{directions-few}
@@ -234,15 +234,15 @@ module _ (k r : ℕ) (q z : List Float) (hk : k ≤ 12) (hr : r ≤ 12) where
   ready-few d f ex e = rw ex (few-found d f e)
 
 -- the step from it, where the correction is copied, or the refusal
-module _ {x : Prepared} (P : Problem) (order : List ℕ) (frame : List Float) where
+module _ {x : Prepared} (P : Problem) (order : List ℕ) (factors : List Float) where
   pub ready-on : {r count : ℕ} {kept : List Float} {y : Res Stepped} → x ≡ prepared.Ready r count →
-      kept ≡ take 24 (drop 576 frame)
-      → y ≡ freeStep P (basisFor r (take 288 frame) (take 288 (drop 288 frame)) order) kept
-      (spanned count (take 288 (drop 600 frame))) → y ≡ stepFromFactors x P order frame
+      kept ≡ take 24 (drop 576 factors) →
+      y ≡ freeStep P (basisWith r order factors) kept (directionsWith count factors) →
+      y ≡ stepFromFactors x P order factors
   ready-on ex ek ey = rw ex (rw ek at ey)
 
   pub ready-refused : {e : LinearError} → x ≡ prepared.Refused e →
-      refused (numberOf e) ≡ stepFromFactors x P order frame
+      refused (numberOf e) ≡ stepFromFactors x P order factors
   ready-refused ex = rw ex
 
 -- H is finite where its first k rows are: behind them it is clear
