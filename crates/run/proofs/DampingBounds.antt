@@ -1,4 +1,5 @@
--- A search from a positive damping never uses up what `searchTo` allows, and a new iteration's damping is positive again.
+-- A search from a positive damping never uses up what `searchTo` allows, and a new iteration's damping is positive
+-- again.
 use Prim.Native.Nat.{ℕ, zero, suc, _+_, _≤_}
 use mathlib.Core.Bool.{Bool, true, false}
 use mathlib.Core.Path.{_≡_, refl, sym, _∙_}
@@ -35,10 +36,13 @@ module _ (S : Standing) (max : Scalar) where
   -- two searches that agree on what has grown once more
   module _ (first : Scalar) (g : ℕ) (x : Search) (w : Growth first (x .mu) g) (on on′ : Search → Found)
       (same : (y : Search) → Growth first (y .mu) (suc g) → on y ≡ on′ y) where
-    damped-same : (radius : Scalar) (r : Rejection) → damped on (λ y s. stops y s) (rejectedFor (withRadius x radius) r) ≡ damped on′ (λ y s. stops y s) (rejectedFor (withRadius x radius) r)
+    damped-same : (radius : Scalar) (r : Rejection) → damped on (λ y s. stops y s) (rejectedFor (withRadius x radius) r)
+        ≡ damped on′ (λ y s. stops y s) (rejectedFor (withRadius x radius) r)
     damped-same radius r = go (isFinite (quadrupled (x .mu))) refl
       where
-        go : (b : Bool) → isFinite (quadrupled (x .mu)) ≡ b → pick b (on (grownFor x radius r)) (stops (grownFor x radius r) (stop.Damped r)) ≡ pick b (on′ (grownFor x radius r)) (stops (grownFor x radius r) (stop.Damped r))
+        go : (b : Bool) → isFinite (quadrupled (x .mu)) ≡ b →
+            pick b (on (grownFor x radius r)) (stops (grownFor x radius r) (stop.Damped r))
+            ≡ pick b (on′ (grownFor x radius r)) (stops (grownFor x radius r) (stop.Damped r))
         go true e = same (grownFor x radius r) (growth-more w e)
         go false e = refl
 
@@ -62,17 +66,21 @@ module _ (S : Standing) (max : Scalar) where
       (proposalOf S (x .mu) (x .radius))
 
 -- from a positive damping, to allow more changes nothing
-pub search-enough : (t : ℕ) (S : Standing) (max : Scalar) (x : Search) → Fits (x .mu) → isPositive (x .mu) ≡ true → 1049 ≤ t → searchTo t S max x ≡ searchOf S max x
+pub search-enough : (t : ℕ) (S : Standing) (max : Scalar) (x : Search) → Fits (x .mu) → isPositive (x .mu) ≡ true →
+    1049 ≤ t → searchTo t S max x ≡ searchOf S max x
 unfolding searchOf
 search-enough t S max x f h k = enough S max t DAMPINGS 0 (x .mu) x (started (x .mu) f h) (omega arith) (omega arith)
 
 -- so the search goes on until a question, a stop or a refusal
-pub search-follows : (S : Standing) (max : Scalar) (x : Search) → Fits (x .mu) → isPositive (x .mu) ≡ true → searchOf S max x ≡ follow (λ y. searchOf S max y) (S .e .constraints .count) max x (proposalOf S (x .mu) (x .radius))
+pub search-follows : (S : Standing) (max : Scalar) (x : Search) → Fits (x .mu) → isPositive (x .mu) ≡ true →
+    searchOf S max x ≡ follow (λ y. searchOf S max y) (S .e .constraints .count) max x
+    (proposalOf S (x .mu) (x .radius))
 unfolding searchOf
 search-follows S max x f h = sym (search-enough (suc DAMPINGS) S max x f h (omega arith)) ∙ (unfold searchTo in refl)
 
 -- four times a positive damping, where finite, is positive
-pub quadrupled-sound : (mu : Scalar) → Fits mu → isPositive mu ≡ true → isFinite (quadrupled mu) ≡ true → isPositive (quadrupled mu) ≡ true
+pub quadrupled-sound : (mu : Scalar) → Fits mu → isPositive mu ≡ true → isFinite (quadrupled mu) ≡ true →
+    isPositive (quadrupled mu) ≡ true
 quadrupled-sound mu t h f = growth-positive (growth-more (started mu t h) f)
 
 -- ---- the damping of a new iteration
@@ -83,5 +91,6 @@ shrunk-fits mu q t = go (definitelyGreater (sharpen q) zeroS)
     go true = (div-fits binary64 _ _, div-fits binary64 _ _)
     go false = t
 
-pub shrunk-positive : (mu q : Scalar) → Fits mu → isPositive mu ≡ true → divOf mu (degenerate three64) ≡ ok q → isPositive (shrunk mu q) ≡ true
+pub shrunk-positive : (mu q : Scalar) → Fits mu → isPositive mu ≡ true → divOf mu (degenerate three64) ≡ ok q →
+    isPositive (shrunk mu q) ≡ true
 shrunk-positive mu q t h e = growth-positive (growth-third (started mu t h) e)

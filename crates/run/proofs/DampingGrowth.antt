@@ -1,4 +1,5 @@
--- The damping of an iteration: its first is positive, and each growth is four times the one before while that is finite. So a search grows it at most 1,049 times, and only the last of these is not finite.
+-- The damping of an iteration: its first is positive, and each growth is four times the one before while that is
+-- finite. So a search grows it at most 1,049 times, and only the last of these is not finite.
 use Prim.Native.Nat.{ℕ, zero, suc, _+_, _≤_, _<_}
 use mathlib.Core.Bool.{Bool, true, false, _||_}
 use mathlib.Core.Logic.{⊎-elim}
@@ -18,8 +19,10 @@ use Rattle.interval.specs.Step.{nextUp}
 use Rattle.interval.proofs.Given.{yes}
 use Rattle.interval.proofs.OneSided.Ends.{outward-fits}
 use Rattle.interval.proofs.Results.{ok-inj}
-use Rattle.interval.proofs.Scaling.Positive.{Positive, positive-of, positive-is, quadrupled-positive, third-positive, quadrupled-few}
-use Rattle.run.specs.Proposal.{Standing, Trial, Proposal, notPositive, noDrop, unresolved, noChange, ask, proposalOf}
+use Rattle.interval.proofs.Scaling.Positive.{Positive, positive-of, positive-is, quadrupled-positive, third-positive}
+use Rattle.interval.proofs.Scaling.Positive.{quadrupled-few}
+use Rattle.run.specs.Proposal.{Standing, Trial, Proposal, notPositive, noDrop, unresolved, noChange, ask}
+use Rattle.run.specs.Proposal.{proposalOf}
 use Rattle.run.specs.State.{rejectedFor, withRadius}
 use Rattle.run.specs.Damping.{grown, damped}
 use Rattle.run.specs.Search.{Found, asks, stops, refuses, follow, searchTo, searchOf}
@@ -40,10 +43,13 @@ pub record Growth (first mu : Scalar) (g : ℕ) : Type 0 where
   pub is : mu ≡ quadrupledTimes first g
   pub all-finite : (i : ℕ) → i ≤ g → T (finite (quadrupledTimes first i .lo))
 
-times-positive : (x : Scalar) → Positive x → (g : ℕ) → ((i : ℕ) → i ≤ g → T (finite (quadrupledTimes x i .lo))) → Positive (quadrupledTimes x g)
+times-positive : (x : Scalar) → Positive x → (g : ℕ) → ((i : ℕ) → i ≤ g → T (finite (quadrupledTimes x i .lo))) →
+    Positive (quadrupledTimes x g)
 unfolding quadrupledTimes
 times-positive x p zero h = p
-times-positive x p (suc g) h = quadrupled-positive (quadrupledTimes x g) (times-positive x p g (λ i k. h i (omega arith))) (h (suc g) (le-refl (suc g)))
+times-positive x p (suc g) h =
+    quadrupled-positive (quadrupledTimes x g) (times-positive x p g (λ i k. h i (omega arith)))
+    (h (suc g) (le-refl (suc g)))
 
 now-positive : {first mu : Scalar} {g : ℕ} → Growth first mu g → Positive mu
 now-positive {first} {mu} {g} w = subst Positive (sym (w .is)) (times-positive first (w .positive) g (w .all-finite))
@@ -59,7 +65,9 @@ unfolding quadrupledTimes
 growth-new {mu} p = record { positive = p; is = refl; all-finite = λ i h. at-none i h }
   where
     at-none : (i : ℕ) → i ≤ 0 → T (finite (quadrupledTimes mu i .lo))
-    at-none i h = let e : i ≡ 0 = omega arith in subst (λ (j : ℕ). T (finite (quadrupledTimes mu j .lo))) (sym e) (p .lo-pattern .is-finite)
+    at-none i h =
+        let e : i ≡ 0 = omega arith in
+        subst (λ (j : ℕ). T (finite (quadrupledTimes mu j .lo))) (sym e) (p .lo-pattern .is-finite)
 
 -- a damping that has not grown is the first
 pub growth-none : {first mu : Scalar} {g : ℕ} → Growth first mu g → g ≡ 0 → mu ≡ first
@@ -82,7 +90,9 @@ growth-more {first} {mu} {g} w e =
     }
   where
     one-more : T (finite (quadrupledTimes first (suc g) .lo))
-    one-more = subst (λ (z : Scalar). T (finite (quadrupled z .lo))) (w .is) (yes (and-left (finite (quadrupled mu .lo)) (finite (quadrupled mu .hi)) e))
+    one-more =
+        subst (λ (z : Scalar). T (finite (quadrupled z .lo))) (w .is)
+        (yes (and-left (finite (quadrupled mu .lo)) (finite (quadrupled mu .hi)) e))
 
 -- mu / 3, or mu where that is not definitely positive: a new iteration's first damping
 pub growth-third :
@@ -97,7 +107,11 @@ growth-third {first} {mu} {q} w e = by (definitelyGreater (sharpen q) zeroS) ref
     by :
         (b : Bool) →
         definitelyGreater (sharpen q) zeroS ≡ b → Growth (pick b (sharpen q) mu) (pick b (sharpen q) mu) 0
-    by true p = growth-new (subst Positive is-third (third-positive mu (now-positive w) (subst (λ (z : Scalar). T (definitelyGreater z zeroS)) (sym is-third) (yes p))))
+    by true p =
+        growth-new
+        (subst Positive is-third
+        (third-positive mu (now-positive w) (subst (λ (z : Scalar). T (definitelyGreater z zeroS)) (sym is-third)
+        (yes p))))
     by false p = growth-new (now-positive w)
 
 -- as demand 3 says it

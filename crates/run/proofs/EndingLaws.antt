@@ -46,11 +46,14 @@ cut-length n base a h = length-take-le n (drop base a) (simp length-drop (omega 
 
 -- a run over a whole slice
 pub written-all : (d s : List Float) → length d ≤ length s → written d 0 s ≡ s
-written-all d s l = let h : length d ≤ 0 + length s = omega arith in ap (λ (u : List Float). s ++ u) (drop-of-length-le d h) ∙ append-nil s
+written-all d s l =
+    let h : length d ≤ 0 + length s = omega arith in
+    ap (λ (u : List Float). s ++ u) (drop-of-length-le d h) ∙ append-nil s
 
 -- ---- what a call leaves
 
-module _ {A : Type 0} (st : State) (w : Memory) (next : A → AfterSlots) {x : Res A} {o : Returned} {a : List Float} where
+module _ {A : Type 0} (st : State) (w : Memory) (next : A → AfterSlots) {x : Res A} {o : Returned}
+    {a : List Float} where
   pub or-next : {v : A} → x ≡ ok v → Leaves (next v) o a → Leaves (orRefuse st w x next) o a
   or-next e l = subst (λ (y : Res A). Leaves (orRefuse st w y next) o a) (sym e) l
 

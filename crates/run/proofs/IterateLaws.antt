@@ -46,11 +46,13 @@ use Rattle.run.specs.declared.state.Stop.the-variants as stop
 use Rattle.run.proofs.AreaLaws.{slots-of, spare-drop}
 use Rattle.run.proofs.BasisLaws.{take-replicate}
 use Rattle.run.proofs.DampingBounds.{quadrupled-sound}
-use Rattle.run.proofs.EndingLaws.{standing-read, standing-rows-read, curvature-read, or-next, or-refused, when, unless}
+use Rattle.run.proofs.EndingLaws.{standing-read, standing-rows-read, curvature-read, or-next, or-refused, when}
+use Rattle.run.proofs.EndingLaws.{unless}
 use Rattle.run.proofs.SearchLaws.{damped-ap}
 
 -- another search, with a positive damping
-pub searched : {t u : ℕ} {st : State} (x : Search) → Bounded t st → x .«turned_down» < u → isPositive (x .mu) ≡ true → Bounded u (searching st x)
+pub searched : {t u : ℕ} {st : State} (x : Search) → Bounded t st → x .«turned_down» < u → isPositive (x .mu) ≡ true →
+    Bounded u (searching st x)
 searched x b l e = record {
   few-variables = b .few-variables;
   few-constraints = b .few-constraints;
@@ -68,25 +70,33 @@ abbrev pub after : {A : Type 0} → (Search → A) → (Search → Stop → A) �
 after on stopAt (d.On y) = on y
 after on stopAt (d.Stop y s) = stopAt y s
 
-pub damped-by : {A : Type 0} (on : Search → A) (stopAt : Search → Stop → A) (x : Search) {r : Damped} → r ≡ damped goesOn stopsAt x → after on stopAt r ≡ damped on stopAt x
+pub damped-by : {A : Type 0} (on : Search → A) (stopAt : Search → Stop → A) (x : Search) {r : Damped} →
+    r ≡ damped goesOn stopsAt x → after on stopAt r ≡ damped on stopAt x
 damped-by on stopAt x e = ap (after on stopAt) e ∙ damped-ap (after on stopAt) goesOn stopsAt x
 
 -- with more damping, which is positive still
-pub grown-bounded : {t u : ℕ} {st : State} (y : Search) → Bounded t st → t + 1 < u → Fits (st .search .mu) → d.On y ≡ damped goesOn stopsAt (st .search) → Bounded u (searching st y)
+pub grown-bounded : {t u : ℕ} {st : State} (y : Search) → Bounded t st → t + 1 < u → Fits (st .search .mu) →
+    d.On y ≡ damped goesOn stopsAt (st .search) → Bounded u (searching st y)
 grown-bounded {t} {u} {st} y b l f e = go (isFinite (quadrupled (st .search .mu))) refl e
   where
     x : Search
     x = st .search
 
-    go : (k : Bool) → isFinite (quadrupled (x .mu)) ≡ k → d.On y ≡ pick k (d.On (grown x)) (d.Stop (grown x) (stop.Damped (x .rejected))) → Bounded u (searching st y)
+    go : (k : Bool) → isFinite (quadrupled (x .mu)) ≡ k →
+        d.On y ≡ pick k (d.On (grown x)) (d.Stop (grown x) (stop.Damped (x .rejected))) → Bounded u (searching st y)
     go true h q =
         let i : y ≡ grown x = cc in
-        subst (λ (z : Search). Bounded u (searching st z)) (cc) (searched (grown x) b (omega (arith, b .few-turned, l)) (quadrupled-sound (x .mu) f (b .damping) h))
+        subst (λ (z : Search). Bounded u (searching st z)) (cc) (searched (grown x) b (omega (arith, b .few-turned, l))
+        (quadrupled-sound (x .mu) f (b .damping) h))
     go false h q = let z : _≡_ {A = ℕ} 0 1 = cc in absurd (omega arith)
 
 -- the violation that is read of the slot
-pub standing-violation : (st : State) {w : Memory} {a : List Float} {x : Res Scalar} → Holds w a → x ≡ violationOf (constraintsOf (st .sizes .n) (st .sizes .m) (take 936 (drop 72 a))) → violationOf (standingAt st w .constraints) ≡ x
-standing-violation st h e = sym (e ∙ ap (λ (xs : List Float). violationOf (constraintsOf (st .sizes .n) (st .sizes .m) xs)) (standing-rows-read h))
+pub standing-violation : (st : State) {w : Memory} {a : List Float} {x : Res Scalar} → Holds w a →
+    x ≡ violationOf (constraintsOf (st .sizes .n) (st .sizes .m) (take 936 (drop 72 a))) →
+    violationOf (standingAt st w .constraints) ≡ x
+standing-violation st h e =
+    sym (e ∙ ap (λ (xs : List Float). violationOf (constraintsOf (st .sizes .n) (st .sizes .m) xs))
+    (standing-rows-read h))
 
 -- the curvature that is read, from its slot or of the last numbers
 curvature-for-read : (plain : Bool) {w : Memory} {a : List Float} → Holds w a →
@@ -116,45 +126,64 @@ module _ (st : State) {theta : Scalar} {w : Memory} {a : List Float} {z : Start}
 module _ (st : State) (w : Memory) {o : Returned} {a : List Float} where
   pub search-by : {f : Found} → f ≡ soughtOf st w → Leaves (leftAt st w f) o a → Leaves (search st w) o a
   unfolding search leftAt
-  search-by e l = go (violationOf (standingAt st w .constraints)) (subst (λ (f : Found). Leaves (leftAt st w f) o a) e l)
+  search-by e l =
+      go (violationOf (standingAt st w .constraints)) (subst (λ (f : Found). Leaves (leftAt st w f) o a) e l)
     where
-      go : (v : Res Scalar) → Leaves (leftAt st w (soughtWith st w v)) o a → Leaves (orRefuse st w v (λ theta. leftAt st w (searchOf (standingOf st w theta) (st .«max_step») (st .search)))) o a
+      go : (v : Res Scalar) → Leaves (leftAt st w (soughtWith st w v)) o a →
+          Leaves
+          (orRefuse st w v (λ theta. leftAt st w (searchOf (standingOf st w theta) (st .«max_step») (st .search)))) o a
       go (ok theta) l = l
       go (refused k) l = l
 
-  grow-by : {r : Damped} → r ≡ damped goesOn stopsAt (st .search) → Leaves (after (λ y. search (searching st y) w) (λ y s. finish (searching st y) w s) r) o a → Leaves (grow st w) o a
+  grow-by : {r : Damped} → r ≡ damped goesOn stopsAt (st .search) →
+      Leaves (after (λ y. search (searching st y) w) (λ y s. finish (searching st y) w s) r) o a →
+      Leaves (grow st w) o a
   unfolding grow
-  grow-by e l = subst (λ x. Leaves x o a) (damped-by (λ y. search (searching st y) w) (λ y s. finish (searching st y) w s) (st .search) e) l
+  grow-by e l =
+      subst (λ x. Leaves x o a) (damped-by (λ y. search (searching st y) w) (λ y s. finish (searching st y) w s)
+      (st .search) e) l
 
-  pub grow-on : {t : State} {y : Search} → d.On y ≡ damped goesOn stopsAt (st .search) → t ≡ searching st y → Leaves (search t w) o a → Leaves (grow st w) o a
+  pub grow-on : {t : State} {y : Search} → d.On y ≡ damped goesOn stopsAt (st .search) → t ≡ searching st y →
+      Leaves (search t w) o a → Leaves (grow st w) o a
   grow-on e et l = grow-by e (subst (λ (z : State). Leaves (search z w) o a) et l)
 
-  pub grow-stops : {t : State} {y : Search} {s : Stop} → d.Stop y s ≡ damped goesOn stopsAt (st .search) → t ≡ searching st y → Leaves (finish t w s) o a → Leaves (grow st w) o a
+  pub grow-stops : {t : State} {y : Search} {s : Stop} → d.Stop y s ≡ damped goesOn stopsAt (st .search) →
+      t ≡ searching st y → Leaves (finish t w s) o a → Leaves (grow st w) o a
   grow-stops {s = s} e et l = grow-by e (subst (λ (z : State). Leaves (finish z w s) o a) et l)
 
   module _ (r : Rejection) {x : Search} (ex : x ≡ rejectedFor (st .search) r) where
-    pub turn-next : {q radius : Scalar} {y : Search} {t : State} → divOf (st .trial .tried) (degenerate four64) ≡ ok q → radius ≡ sharpen q → y ≡ withRadius x radius → t ≡ searching st y → Leaves (grow t w) o a
+    pub turn-next : {q radius : Scalar} {y : Search} {t : State} → divOf (st .trial .tried) (degenerate four64) ≡ ok q →
+        radius ≡ sharpen q → y ≡ withRadius x radius → t ≡ searching st y → Leaves (grow t w) o a
         → Leaves (turnDown st w r) o a
     unfolding turnDown
     turn-next {q} {radius} {y} {t} e er ey et l =
         let x₀ : Search = rejectedFor (st .search) r in
         let es : t ≡ searching st (withRadius x₀ (sharpen q)) = rw (et, ey, er, ex) in
-        or-next (searching st x₀) w (λ q. grow (searching st (withRadius x₀ (sharpen q))) w) e (subst (λ (z : State). Leaves (grow z w) o a) es l)
+        or-next (searching st x₀) w (λ q. grow (searching st (withRadius x₀ (sharpen q))) w) e
+        (subst (λ (z : State). Leaves (grow z w) o a) es l)
 
-    pub turn-refused : {k : ℕ} {t : State} → divOf (st .trial .tried) (degenerate four64) ≡ refused k → t ≡ searching st x → Leaves (refuse t w k) o a → Leaves (turnDown st w r) o a
+    pub turn-refused : {k : ℕ} {t : State} → divOf (st .trial .tried) (degenerate four64) ≡ refused k →
+        t ≡ searching st x → Leaves (refuse t w k) o a → Leaves (turnDown st w r) o a
     unfolding turnDown
     turn-refused {k} {t} e et l =
         let x₀ : Search = rejectedFor (st .search) r in
         let es : t ≡ searching st x₀ = rw (et, ex) in
-        or-refused (searching st x₀) w (λ q. grow (searching st (withRadius x₀ (sharpen q))) w) e (subst (λ (z : State). Leaves (refuse z w k) o a) es l)
+        or-refused (searching st x₀) w (λ q. grow (searching st (withRadius x₀ (sharpen q))) w) e
+        (subst (λ (z : State). Leaves (refuse z w k) o a) es l)
 
-  pub retries : {x y : Search} {t : State} → (not (st .search .plain) && learnedOf (st .sizes .n) (w .curvature)) ≡ true → x ≡ rejectedFor (st .search) why.NotLower → y ≡ retried x → t ≡ searching st y → Leaves (search t w) o a
-      → Leaves (notLower st w) o a
+  pub retries : {x y : Search} {t : State} →
+      (not (st .search .plain) && learnedOf (st .sizes .n) (w .curvature)) ≡ true →
+      x ≡ rejectedFor (st .search) why.NotLower → y ≡ retried x → t ≡ searching st y → Leaves (search t w) o a →
+      Leaves (notLower st w) o a
   unfolding notLower
   retries {x} {y} {t} e ex ey et l =
       let es : t ≡ searching st (retried (rejectedFor (st .search) why.NotLower)) = rw (et, ey, ex) in
-      when (search (searching st (retried (rejectedFor (st .search) why.NotLower))) w) (turnDown st w why.NotLower) e (subst (λ (z : State). Leaves (search z w) o a) es l)
+      when (search (searching st (retried (rejectedFor (st .search) why.NotLower))) w) (turnDown st w why.NotLower) e
+      (subst (λ (z : State). Leaves (search z w) o a) es l)
 
-  pub turns-down : (not (st .search .plain) && learnedOf (st .sizes .n) (w .curvature)) ≡ false → Leaves (turnDown st w why.NotLower) o a → Leaves (notLower st w) o a
+  pub turns-down : (not (st .search .plain) && learnedOf (st .sizes .n) (w .curvature)) ≡ false →
+      Leaves (turnDown st w why.NotLower) o a → Leaves (notLower st w) o a
   unfolding notLower
-  turns-down e l = unless (search (searching st (retried (rejectedFor (st .search) why.NotLower))) w) (turnDown st w why.NotLower) e l
+  turns-down e l =
+      unless (search (searching st (retried (rejectedFor (st .search) why.NotLower))) w) (turnDown st w why.NotLower)
+      e l

@@ -27,9 +27,11 @@ use Rattle.run.specs.Vectors.{vector, matrix, column, fillTo, fillRows, 
 use Rattle.run.specs.declared.rows.RowSet.{RowSet}
 use Rattle.run.proofs.Concatenation.{length-both, first-of-three, second-of-three, third-of-three}
 use Rattle.run.proofs.Sublists.{fill-front, fill-behind, rows-front, at-part}
-use Rattle.run.proofs.VectorLaws.{length-fillTo, at-fill-in, at-fill-other, filled, at-take, length-fillRows, fill-rows-ext, at-fill-rows, at-rows-behind, at-rows-through, at-clear}
+use Rattle.run.proofs.VectorLaws.{length-fillTo, at-fill-in, at-fill-other, filled, at-take, length-fillRows}
+use Rattle.run.proofs.VectorLaws.{fill-rows-ext, at-fill-rows, at-rows-behind, at-rows-through, at-clear}
 
-pub keep-turn : (moving : List Bool) (i : ℕ) {k k′ : Kept} → k ≡ keptTo moving i → k′ ≡ keepNext (getD moving i false) k i → k′ ≡ keptTo moving (i + 1)
+pub keep-turn : (moving : List Bool) (i : ℕ) {k k′ : Kept} → k ≡ keptTo moving i →
+    k′ ≡ keepNext (getD moving i false) k i → k′ ≡ keptTo moving (i + 1)
 unfolding keptTo
 keep-turn moving i e h = rw (add-one, ← e) h
 
@@ -54,7 +56,8 @@ set-below b (x ∷ l) zero a (suc j) h ha = h (suc j)
 set-below b (x ∷ l) (suc i) a zero h ha = h zero
 set-below b (x ∷ l) (suc i) a (suc j) h ha = set-below b l i a j (λ k. h (suc k)) ha
 
-next-below : (b : Bool) (n : ℕ) (k : Kept) → ((p : ℕ) → getD (k .index) p 0 ≤ n) → (p : ℕ) → getD (keepNext b k n .index) p 0 ≤ suc n
+next-below : (b : Bool) (n : ℕ) (k : Kept) → ((p : ℕ) → getD (k .index) p 0 ≤ n) → (p : ℕ) →
+    getD (keepNext b k n .index) p 0 ≤ suc n
 next-below true n k h p = set-below (suc n) (k .index) (k .count) n p (λ j. omega (arith, h j)) (omega arith)
 next-below false n k h p = omega (arith, h p)
 
@@ -81,7 +84,8 @@ unfolding along
 curvature-along n b i j = let e : j + i * n ≡ i * n + j = omega arith in rw e
 
 -- an entry that is not damped, and one of H, from what each call gives
-module _ (jr : List Float) (s : ℕ) (b : Scalar) (i j : ℕ) {v : Scalar} (ev : v ≡ plusTo (column jr i) (column jr j) b s) where
+module _ (jr : List Float) (s : ℕ) (b : Scalar) (i j : ℕ) {v : Scalar}
+    (ev : v ≡ plusTo (column jr i) (column jr j) b s) where
   pub undamped-on : i ≡ j → v ≡ undampedAt jr s b i j
   unfolding undampedAt
   undamped-on h = rw (ev, eq-eqb _ _ h)
@@ -91,7 +95,8 @@ module _ (jr : List Float) (s : ℕ) (b : Scalar) (i j : ℕ) {v : Scalar} (ev :
   undamped-off h er = rw (er, ev, ne-eqb _ _ h)
 
 module _ (v d mu : Scalar) (i j : ℕ) where
-  pub damped-on : {p w r : Scalar} → i ≡ j → p ≡ mulOf mu d → w ≡ addOf v p → r ≡ chooseOf w → r ≡ dampedEntry v d mu i j
+  pub damped-on : {p w r : Scalar} → i ≡ j → p ≡ mulOf mu d → w ≡ addOf v p → r ≡ chooseOf w →
+      r ≡ dampedEntry v d mu i j
   unfolding dampedEntry
   damped-on h ep ew er = rw (er, ew, ep, eq-eqb _ _ h)
 
@@ -100,11 +105,14 @@ module _ (v d mu : Scalar) (i j : ℕ) where
   damped-off h = rw (ne-eqb _ _ h)
 
 -- damped after or at once: the same entry
-either : (diagonal : Bool) (v d mu : Scalar) → pick diagonal (chooseOf (addOf (pick diagonal v (chooseOf v)) (mulOf mu d))) (pick diagonal v (chooseOf v)) ≡ chooseOf (pick diagonal (addOf v (mulOf mu d)) v)
+either : (diagonal : Bool) (v d mu : Scalar) →
+    pick diagonal (chooseOf (addOf (pick diagonal v (chooseOf v)) (mulOf mu d))) (pick diagonal v (chooseOf v))
+    ≡ chooseOf (pick diagonal (addOf v (mulOf mu d)) v)
 either true v d mu = refl
 either false v d mu = refl
 
-entry-damped : (jr : List Float) (s : ℕ) (jc : List Float) (m : ℕ) (mu b : Scalar) (i j : ℕ) → dampedEntry (undampedAt jr s b i j) (scalingAt jr s jc m i) mu i j ≡ dampedAt jr s jc m mu b i j
+entry-damped : (jr : List Float) (s : ℕ) (jc : List Float) (m : ℕ) (mu b : Scalar) (i j : ℕ) →
+    dampedEntry (undampedAt jr s b i j) (scalingAt jr s jc m i) mu i j ≡ dampedAt jr s jc m mu b i j
 unfolding dampedEntry undampedAt dampedAt
 entry-damped jr s jc m mu b i j = either (eqb i j) (plusTo (column jr i) (column jr j) b s) (scalingAt jr s jc m i) mu
 
@@ -156,9 +164,10 @@ damped-read k undamped mu h l =
     fill-rows-ext matrix (λ i j. dampedEntry (at undamped (12 * i + j)) (at undamped (144 + i)) mu i j)
     (λ i j. dampedEntry (at (take 288 undamped) (12 * i + j)) (at (take 24 (drop 288 undamped)) i) mu i j) k k
     (λ i j hi hj.
-    rw
-    (at-take undamped 144 (12 * i + j) (omega arith) (omega (arith, l)),
-    at-part undamped 144 12 i (omega arith) (omega (arith, l))))
+    rw (
+      at-take undamped 144 (12 * i + j) (omega arith) (omega (arith, l)),
+      at-part undamped 144 12 i (omega arith) (omega (arith, l)),
+    ))
 
 module _ (n : ℕ) (k : Kept) (jr : List Float) (s : ℕ) (jc : List Float) (m : ℕ) (b : List Float) where
   -- what is filled before it is damped
@@ -205,9 +214,10 @@ module _ (n : ℕ) (k : Kept) (jr : List Float) (s : ℕ) (jc : List Float) (m :
           let u : List Float = undampedOf n k jr s b in
           let d : List Float = scalingsOf (k .count) jr s jc m in
           let g : List Float = gradientOf k e in
-          rw
-          (first-of-three undamped u d g length-undamped length-scalings length-gradient ec,
-          second-of-three undamped u d g length-undamped length-scalings length-gradient ec)
+          rw (
+            first-of-three undamped u d g length-undamped length-scalings length-gradient ec,
+            second-of-three undamped u d g length-undamped length-scalings length-gradient ec,
+          )
           (damped-is mu h)
 
       pub undamped-gradient : gradientIn undamped ≡ gradientOf k e

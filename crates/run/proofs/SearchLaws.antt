@@ -1,4 +1,5 @@
--- The search over dampings: how a proposal is followed, and that the loop ends because the damping is not finite after 1,048 growths.
+-- The search over dampings: how a proposal is followed, and that the loop ends because the damping is not finite after
+-- 1,048 growths.
 use mathlib.Core.Bool.{Bool, true, false}
 use mathlib.Core.List.{List}
 use mathlib.Core.Path.{_≡_, refl, ap, _∙_}
@@ -27,16 +28,21 @@ use Rattle.run.specs.declared.state.Stop.the-variants as stop
 use Rattle.run.proofs.DampingGrowth.{Growth, growth-new, growth-few, growth-more}
 
 -- what is made of more damping, or of the stop
-pub damped-ap : {A B : Type 0} (f : A → B) (on : Search → A) (stopAt : Search → Stop → A) (x : Search) → f (damped on stopAt x) ≡ damped (λ y. f (on y)) (λ y s. f (stopAt y s)) x
-damped-ap {A} {B} f on stopAt x = go (isFinite (grown x .mu)) (on (grown x)) (stopAt (grown x) (stop.Damped (x .rejected)))
+pub damped-ap : {A B : Type 0} (f : A → B) (on : Search → A) (stopAt : Search → Stop → A) (x : Search) →
+    f (damped on stopAt x) ≡ damped (λ y. f (on y)) (λ y s. f (stopAt y s)) x
+damped-ap {A} {B} f on stopAt x =
+    go (isFinite (grown x .mu)) (on (grown x)) (stopAt (grown x) (stop.Damped (x .rejected)))
   where
     go : (b : Bool) (y z : A) → f (pick b y z) ≡ pick b (f y) (f z)
     go true y z = refl
     go false y z = refl
 
-pub damped-turn : (x : Search) {r : Turn} → r ≡ turnOf (damped goesOn stopsAt x) → (on : Search → Found) (delta lambda next : List Float)
+pub damped-turn : (x : Search) {r : Turn} → r ≡ turnOf (damped goesOn stopsAt x) →
+    (on : Search → Found) (delta lambda next : List Float)
     → turnResult r on delta lambda next ≡ damped on (λ y s. stops y s) x
-damped-turn x e on delta lambda next = ap (λ (r : Turn). turnResult r on delta lambda next) e ∙ damped-ap (λ d. turnResult (turnOf d) on delta lambda next) goesOn stopsAt x
+damped-turn x e on delta lambda next =
+    ap (λ (r : Turn). turnResult r on delta lambda next) e ∙ damped-ap (λ d. turnResult (turnOf d) on delta lambda next)
+    goesOn stopsAt x
 
 -- y is x with more damping, which is finite
 pub record Grew (x y : Search) : Type 0 where
@@ -51,11 +57,13 @@ distinct e = absurd (omega arith)
 damped-grew : (x y : Search) → refuses y 0 ≡ damped (λ z. refuses z 0) (λ z s. stops z s) x → Grew x y
 damped-grew x y = go (isFinite (grown x .mu)) (stop.Damped (x .rejected)) refl
   where
-    go : (b : Bool) (s : Stop) → isFinite (grown x .mu) ≡ b → refuses y 0 ≡ pick b (refuses (grown x) 0) (stops (grown x) s) → Grew x y
+    go : (b : Bool) (s : Stop) → isFinite (grown x .mu) ≡ b →
+        refuses y 0 ≡ pick b (refuses (grown x) 0) (stops (grown x) s) → Grew x y
     go true s f e = let h : y ≡ grown x = cc in rw h (record { fourfold = refl; one-more = refl; still-finite = f })
     go false s f e = distinct (cc)
 
-pub grew : (m : ℕ) (max : Scalar) (x y : Search) (p : Res Proposal) → ((on : Search → Found) → on y ≡ follow on m max x p) → Grew x y
+pub grew : (m : ℕ) (max : Scalar) (x y : Search) (p : Res Proposal) →
+    ((on : Search → Found) → on y ≡ follow on m max x p) → Grew x y
 grew m max x y (refused k) h = let e = h (λ z. stops z stop.Budget) in distinct (cc)
 grew m max x y (ok (ask t)) h = let e = h (λ z. stops z stop.Budget) in distinct (cc)
 grew m max x y (ok noChange) h = let e = h (λ z. refuses z 0) in distinct (cc)
@@ -79,7 +87,11 @@ pub record Seeking (S : Standing) (max : Scalar) (from x : Search) : Type 0 wher
 
 module _ (S : Standing) (max : Scalar) (from : Search) where
   pub seeking : Fits (from .mu) → T (isPositive (from .mu)) → Seeking S max from from
-  seeking t p = let z : growths from from ≡ 0 = omega arith in record { later = omega arith; growth = rw z (growth-new (positive-of (from .mu) t p)); same = rw z }
+  seeking t p = let z : growths from from ≡ 0 = omega arith in record {
+    later = omega arith;
+    growth = rw z (growth-new (positive-of (from .mu) t p));
+    same = rw z;
+  }
 
   module _ {x : Search} (k : Seeking S max from x) where
     pub few : growths from x < 1049
@@ -89,11 +101,18 @@ module _ (S : Standing) (max : Scalar) (from : Search) where
     abbrev pub onward : Search → Found
     onward y = searchTo (DAMPINGS - suc (growths from x)) S max y
 
-    pub followed : follow onward (S .e .constraints .count) max x (proposalOf S (x .mu) (x .radius)) ≡ searchTo DAMPINGS S max from
+    pub followed : follow onward (S .e .constraints .count) max x (proposalOf S (x .mu) (x .radius)) ≡ searchTo DAMPINGS
+        S max from
     unfolding searchTo
-    followed = let e : DAMPINGS - growths from x ≡ suc (DAMPINGS - suc (growths from x)) = omega (arith, few) in rw e at (k .same)
+    followed =
+        let e : DAMPINGS - growths from x ≡ suc (DAMPINGS - suc (growths from x)) = omega (arith, few) in
+        rw e at (k .same)
 
     pub seek-on : {y : Search} → Grew x y → onward y ≡ searchTo DAMPINGS S max from → Seeking S max from y
     seek-on {y} g e =
         let n : growths from y ≡ suc (growths from x) = omega (arith, g .one-more, k .later) in
-        record { later = omega (arith, g .one-more, k .later); growth = rw (n, g .fourfold) (growth-more (k .growth) (rw (g .fourfold) at (g .still-finite))); same = rw n e }
+        record {
+          later = omega (arith, g .one-more, k .later);
+          growth = rw (n, g .fourfold) (growth-more (k .growth) (rw (g .fourfold) at (g .still-finite)));
+          same = rw n e;
+        }

@@ -1,4 +1,5 @@
--- The step, put together from its parts: along what is left free, with its multipliers, over the kept variables, and over all.
+-- The step, put together from its parts: along what is left free, with its multipliers, over the kept variables, and
+-- over all.
 use Prim.Native.Nat.{ℕ, _+_, _*_, _-_, _≤_}
 use mathlib.Core.Bool.{Bool, true, false, _&&_}
 use mathlib.Core.Path.{_≡_, refl, sym, ap, ap₂, _∙_}
@@ -36,7 +37,7 @@ use Rattle.run.specs.Reduced.{forceOf, pullOf, reducedOf, againstOf, Wei
 use Rattle.run.specs.program.Reduced.{curved, spanned, solvedWith, addedTo, freePart}
 use Rattle.run.specs.program.Step.{withMultipliers, endOf, spreadEnd, basisFor, stepFromCorrection, stepFromBasis}
 use Rattle.run.specs.program.Step.{testedStep, Few, readyOf, readyStep, stepFromFactors, dampedStep}
-use Rattle.run.specs.program.Step.{factorsIn, preparedStep}
+use Rattle.run.specs.program.Step.{basisWith, directionsWith, factorsIn, preparedStep}
 use Rattle.run.proofs.AreaLaws.{length-clear}
 use Rattle.run.proofs.BasisLaws.{basis-reads, take-replicate}
 use Rattle.run.proofs.NullSpaceLaws.{directions-few}
@@ -49,24 +50,31 @@ onward P b (weights kept) = steppedBy P b kept
 onward P b none = ok notPositive
 
 module _ (P : Problem) (b : Basis) (delta : List Float) (d : Directions) where
-  weighed : (y : Res Weights) → bind (bind y (λ w. ok (addedTo P delta d w))) (onward P b) ≡ bind y (λ w. alongZ P b delta d w)
+  weighed : (y : Res Weights) → bind (bind y (λ w. ok (addedTo P delta d w))) (onward P b)
+      ≡ bind y (λ w. alongZ P b delta d w)
   unfolding bind
   weighed (ok (weights w)) = refl
   weighed (ok none) = refl
   weighed (refused e) = refl
 
-  factored : (x : Res Factor) (g : Factor → Res Weights) → bind (bind (bind x g) (λ w. ok (addedTo P delta d w))) (onward P b) ≡ bind x (λ f. bind (g f) (λ w. alongZ P b delta d w))
+  factored : (x : Res Factor) (g : Factor → Res Weights) →
+      bind (bind (bind x g) (λ w. ok (addedTo P delta d w))) (onward P b)
+      ≡ bind x (λ f. bind (g f) (λ w. alongZ P b delta d w))
   unfolding bind
   factored (ok f) g = weighed (g f)
   factored (refused e) g = refl
 
   pub free-step : {x : Res Weights} → x ≡ freePart P delta d → bind x (onward P b) ≡ freeStep P b delta d
   unfolding freeStep freePart solvedWith
-  free-step e = rw e (factored (choleskyOf (d .count) (reducedOf P d)) (λ f. weightsOf (d .count) f (againstOf P d (forceOf P delta))))
+  free-step e =
+      rw e
+      (factored (choleskyOf (d .count) (reducedOf P d)) (λ f. weightsOf (d .count) f (againstOf P d (forceOf P delta))))
 
 -- only the curvature and the gradient are read, and of the directions no remainder
 module _ (P : Problem) (delta : List Float) (d : Directions) where
-  added : (x : Res Weights) → bind x (λ w. ok (addedTo (curved (P .k) (P .h) (P .g)) delta (spanned (d .count) (d .z)) w)) ≡ bind x (λ w. ok (addedTo P delta d w))
+  added : (x : Res Weights) →
+      bind x (λ w. ok (addedTo (curved (P .k) (P .h) (P .g)) delta (spanned (d .count) (d .z)) w))
+      ≡ bind x (λ w. ok (addedTo P delta d w))
   unfolding bind
   added (ok (weights w)) = refl
   added (ok none) = refl
@@ -77,21 +85,27 @@ module _ (P : Problem) (delta : List Float) (d : Directions) where
   free-curved = added (solvedWith (d .count) (reducedOf P d) (againstOf P d (forceOf P delta)))
 
 module _ (P : Problem) (b : Basis) where
-  onward-read : (x : Res Weights) → bind x (onward (curved (P .k) (P .h) (P .g)) (basisFor (b .rank) (b .q) (b .coefficients) (b .order))) ≡ bind x (onward P b)
+  onward-read : (x : Res Weights) →
+      bind x (onward (curved (P .k) (P .h) (P .g)) (basisFor (b .rank) (b .q) (b .coefficients) (b .order)))
+      ≡ bind x (onward P b)
   unfolding bind steppedBy pullOf multipliersOf multiplierStep
   onward-read (ok (weights w)) = refl
   onward-read (ok none) = refl
   onward-read (refused e) = refl
 
   pub free-read : (delta : List Float) (d : Directions)
-      → freeStep (curved (P .k) (P .h) (P .g)) (basisFor (b .rank) (b .q) (b .coefficients) (b .order)) delta (spanned (d .count) (d .z)) ≡ freeStep P b delta d
+      → freeStep (curved (P .k) (P .h) (P .g)) (basisFor (b .rank) (b .q) (b .coefficients) (b .order)) delta
+      (spanned (d .count) (d .z)) ≡ freeStep P b delta d
   free-read delta d =
-      sym (free-step (curved (P .k) (P .h) (P .g)) (basisFor (b .rank) (b .q) (b .coefficients) (b .order)) delta (spanned (d .count) (d .z)) (sym (free-curved P delta d)))
+      sym (free-step (curved (P .k) (P .h) (P .g)) (basisFor (b .rank) (b .q) (b .coefficients) (b .order)) delta
+      (spanned (d .count) (d .z)) (sym (free-curved P delta d)))
       ∙ onward-read (freePart P delta d)
       ∙ free-step P b delta d refl
 
 -- the multipliers, where the step and what pulls against it are finite
-module _ (P : Problem) (b : Basis) (kept : List Float) {pull : List Float} {finite : Bool} (ep : pull ≡ pullOf (curved (P .k) (P .h) (P .g)) kept) (ef : finite ≡ (allFinite kept 12 && allFinite pull 12)) where
+module _ (P : Problem) (b : Basis) (kept : List Float) {pull : List Float} {finite : Bool}
+    (ep : pull ≡ pullOf (curved (P .k) (P .h) (P .g)) kept)
+    (ef : finite ≡ (allFinite kept 12 && allFinite pull 12)) where
   both : finite ≡ (allFinite kept 12 && allFinite (pullOf P kept) 12)
   unfolding pullOf
   both = rw ep at ef
@@ -100,7 +114,8 @@ module _ (P : Problem) (b : Basis) (kept : List Float) {pull : List Float} {fini
   unfolding steppedBy
   stepped-not e = rw (← both, e)
 
-  pub stepped-on : {x : Res (List Float)} → finite ≡ true → x ≡ multipliersOf (P .k) b pull → withMultipliers kept (b .rank) x ≡ steppedBy P b kept
+  pub stepped-on : {x : Res (List Float)} → finite ≡ true → x ≡ multipliersOf (P .k) b pull →
+      withMultipliers kept (b .rank) x ≡ steppedBy P b kept
   unfolding steppedBy withMultipliers pullOf
   stepped-on e ex = rw (← both, e, ex, ep)
 
@@ -220,12 +235,15 @@ module _ (k r : ℕ) (q z : List Float) (hk : k ≤ 12) (hr : r ≤ 12) where
   ready-few d f ex e = rw ex (few-found d f e)
 
 -- the step from it, where the correction is copied, or the refusal
-module _ {x : Prepared} (P : Problem) (order : List ℕ) (frame : List Float) where
-  pub ready-on : {r count : ℕ} {kept : List Float} {y : Res Stepped} → x ≡ prepared.Ready r count → kept ≡ take 24 (drop 576 frame)
-      → y ≡ freeStep P (basisFor r (take 288 frame) (take 288 (drop 288 frame)) order) kept (spanned count (take 288 (drop 600 frame))) → y ≡ stepFromFactors x P order frame
+module _ {x : Prepared} (P : Problem) (order : List ℕ) (factors : List Float) where
+  pub ready-on : {r count : ℕ} {kept : List Float} {y : Res Stepped} → x ≡ prepared.Ready r count →
+      kept ≡ take 24 (drop 576 factors) →
+      y ≡ freeStep P (basisWith r order factors) kept (directionsWith count factors) →
+      y ≡ stepFromFactors x P order factors
   ready-on ex ek ey = rw ex (rw ek at ey)
 
-  pub ready-refused : {e : LinearError} → x ≡ prepared.Refused e → refused (numberOf e) ≡ stepFromFactors x P order frame
+  pub ready-refused : {e : LinearError} → x ≡ prepared.Refused e →
+      refused (numberOf e) ≡ stepFromFactors x P order factors
   ready-refused ex = rw ex
 
 -- H is finite where its first k rows are: behind them it is clear
@@ -268,7 +286,8 @@ end-spread (end.Found r) k kept lambda e = rw e
 end-spread end.NotPositive k kept lambda e = refl
 end-spread (end.Refused o) k kept lambda e = refl
 
-pub step-is : (n : ℕ) (e : Evaluation) (b : List Float) (moving : List Bool) (mu : Scalar) {k : Kept} {x y : Res Stepped} →
+pub step-is : (n : ℕ) (e : Evaluation) (b : List Float) (moving : List Bool) (mu : Scalar) {k : Kept}
+    {x y : Res Stepped} →
     k ≡ keptTo moving n → x ≡ testedStep (problemOf n k e b mu) → y ≡ spreadEnd k x → y ≡ stepOf n e b moving mu
 unfolding stepOf testedStep
 step-is n e b moving mu {k} ek ex ey =
@@ -320,7 +339,8 @@ module _ (a : List Float) (clear : a ≡ zeros 1224) where
     both-written f =
         let front : take 336 with-first ≡ u = ap (take 336) first-written ∙ take-at u (zeros 888) 336 lu in
         let rest : f ++ drop 888 (drop 336 with-first) ≡ f =
-        ap (λ (x : List Float). f ++ drop 888 x) behind-first ∙ ap (λ (x : List Float). f ++ x) none-left ∙ append-nil f in
+        ap (λ (x : List Float). f ++ drop 888 x) behind-first ∙ ap (λ (x : List Float). f ++ x) none-left
+        ∙ append-nil f in
         ap₂ _++_ front rest
 
 -- what is read of it

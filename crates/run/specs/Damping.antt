@@ -11,20 +11,25 @@ use Rattle.run.specs.declared.state.Search.{Search}
 use Rattle.run.specs.declared.state.Stop.{Stop}
 use Rattle.run.specs.declared.state.Stop.the-variants as stop
 
--- ---- begin
-
 -- the first damping, 1/1000 stepped outward
 abbrev pub firstMu : Scalar
 firstMu = orZero (fromRatio (pos 1) (pos 1000))
 
--- grow: first false, a turn-down, mu = 4 mu sharpened
+-- more damping: mu = 4 mu sharpened, a turn-down, and no longer the first damping
 abbrev pub grown : Search → Search
-grown x = record { mu = quadrupled (x .mu); radius = x .radius; «turned_down» = x .«turned_down» + 1; first = false; plain = x .plain; rejected = x .rejected }
+grown x = record {
+  mu = quadrupled (x .mu);
+  radius = x .radius;
+  «turned_down» = x .«turned_down» + 1;
+  first = false;
+  plain = x .plain;
+  rejected = x .rejected;
+}
 
--- grown, and on while the damping is finite
+-- the search goes on with more damping while that is finite, and stops where it is not
 abbrev pub damped : {A : Type 0} → (Search → A) → (Search → Stop → A) → Search → A
 damped on stopAt x = pick (isFinite (grown x .mu)) (on (grown x)) (stopAt (grown x) (stop.Damped (x .rejected)))
 
--- mu / 3 sharpened, if definitely positive
+-- the quotient mu / 3 sharpened, if that is definitely positive
 abbrev pub shrunk : Scalar → Scalar → Scalar
 shrunk mu q = pick (definitelyGreater (sharpen q) zeroS) (sharpen q) mu

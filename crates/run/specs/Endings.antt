@@ -10,24 +10,33 @@ use Rattle.run.specs.declared.state.Kind.{Kind}
 use Rattle.run.specs.declared.state.State.{State}
 use Rattle.run.specs.declared.state.Stop.{Stop}
 
--- what a call leaves: the state, the area and the answer
+-- what a call leaves: the state, the area and the event
 pub record AfterSlots : Type 0 where
   pub state : State
   pub memory : Memory
   pub event : Event
 
--- ---- how it ends: a question, the finish, a refusal
-
+-- the finish, with the counts of the run
 abbrev pub finish : State → Memory → Stop → AfterSlots
-finish st w s = record { state = over st; memory = onlyStanding w; event = event.Finish s (st .counts .iterations) (st .search .«turned_down») (st .counts .standing) }
+finish st w s = record {
+  state = over st;
+  memory = onlyStanding w;
+  event = event.Finish s (st .counts .iterations) (st .search .«turned_down») (st .counts .standing);
+}
 
+-- refusal k
 abbrev pub refuse : State → Memory → ℕ → AfterSlots
 refuse st w k = record { state = over st; memory = onlyStanding w; event = event.Refused k }
 
+-- the next question, over an area that has its point
 abbrev pub question : State → Memory → Kind → ℕ → AfterSlots
-question st w k corrections = record { state = asking st k corrections; memory = w; event = event.Question (st .counts .question + 1) k (st .counts .standing) }
+question st w k corrections = record {
+  state = asking st k corrections;
+  memory = w;
+  event = event.Question (st .counts .question + 1) k (st .counts .standing);
+}
 
--- what may be refused, and what follows it
+-- what follows a value, or the refusal
 abbrev pub orRefuse : {A : Type 0} → State → Memory → Res A → (A → AfterSlots) → AfterSlots
 orRefuse st w (ok x) next = next x
 orRefuse st w (refused k) next = refuse st w k

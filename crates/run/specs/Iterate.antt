@@ -12,6 +12,7 @@ use Rattle.run.specs.declared.state.Kind.the-variants as kind
 use Rattle.run.specs.declared.state.State.{State}
 use Rattle.run.specs.declared.state.Stop.the-variants as stop
 
+-- what the search stands on, with the violation of the standing point
 abbrev pub standingOf : State → Memory → Scalar → Standing
 standingOf st w theta = record {
   n = st .sizes .n;
@@ -23,16 +24,18 @@ standingOf st w theta = record {
   moving = st .moving;
 }
 
--- ---- the search
-
+-- the event where a search is left
 unfoldable pub leftAt : State → Memory → Found → AfterSlots
 leftAt st w (asks x t) = question (trying st x t) (withTrial w (t .next) (t .delta) (t .lambda)) kind.Trial 0
 leftAt st w (stops x s) = finish (searching st x) w s
 leftAt st w (refuses x k) = refuse (searching st x) w k
 
+-- the search from the standing point; a violation that is refused ends the run
 unfoldable pub search : State → Memory → AfterSlots
-search st w = orRefuse st w (violationOf (standingAt st w .constraints)) (λ theta. leftAt st w (searchOf (standingOf st w theta) (st .«max_step») (st .search)))
+search st w =
+    orRefuse st w (violationOf (standingAt st w .constraints))
+    (λ theta. leftAt st w (searchOf (standingOf st w theta) (st .«max_step») (st .search)))
 
--- a new iteration; limit reached: Budget
+-- a new iteration, or the finish with Budget where the limit is reached
 unfoldable pub iterate : State → Memory → AfterSlots
 iterate st w = pick (leb (st .sizes .limit) (st .counts .iterations)) (finish st w stop.Budget) (search st w)

@@ -1,4 +1,5 @@
--- The linearized problem over the variables that move: its slopes, its damped curvature H = J_rᵀ J_r + B + mu D, and the sum's gradient. All but the constraints' slopes are chosen.
+-- The linearized problem over the variables that move: its slopes, its damped curvature H = J_rᵀ J_r + B + mu D, and
+-- the sum's gradient. All but the constraints' slopes are chosen.
 use Prim.Native.Nat.{ℕ, _+_, zero, suc, _*_}
 use mathlib.Core.Bool.{Bool, false}
 use mathlib.Core.List.{List}
@@ -44,7 +45,9 @@ dampedAt jr s jc m mu b i j =
     chooseOf (pick (eqb i j) (addOf v (mulOf mu (scalingAt jr s jc m i))) v)
 
 unfoldable pub dampedOf : ℕ → Kept → List Float → ℕ → List Float → ℕ → List Float → Scalar → List Float
-dampedOf n k jr s jc m b mu = fillRows matrix (λ i j. dampedAt jr s jc m mu (curvatureAt n b (variable k i) (variable k j)) i j) (k .count) (k .count)
+dampedOf n k jr s jc m b mu =
+    fillRows matrix (λ i j. dampedAt jr s jc m mu (curvatureAt n b (variable k i) (variable k j)) i j) (k .count)
+    (k .count)
 
 -- the sum's gradient J_rᵀ r over the kept variables
 unfoldable pub gradientOf : Kept → Rows → List Float
@@ -69,4 +72,12 @@ problemOf n k e b mu =
     let wide = squeezedOf k (e .constraints) matrix in
     let jc = chosenOf matrix wide 0 (12 * m) in
     let jr = chosenOf (zeros 576) (squeezedOf k (e .sum) (zeros 576)) 0 (12 * s) in
-    record { k = k .count; m = m; c = valueAt (e .constraints); wide = wide; jc = jc; h = dampedOf n k jr s jc m b mu; g = gradientOf k (e .sum) }
+    record {
+      k = k .count;
+      m = m;
+      c = valueAt (e .constraints);
+      wide = wide;
+      jc = jc;
+      h = dampedOf n k jr s jc m b mu;
+      g = gradientOf k (e .sum);
+    }

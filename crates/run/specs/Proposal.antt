@@ -1,4 +1,5 @@
--- What one damping proposes (document 01, the search's points 1 to 4): a step, cut to the radius where it is definitely longer, and the point it leads to.
+-- What one damping proposes (document 01, the search's points 1 to 4): a step, cut to the radius where it is definitely
+-- longer, and the point it leads to.
 use Prim.Native.Nat.{ℕ}
 use mathlib.Core.Bool.{Bool, true}
 use mathlib.Core.List.{List}
@@ -18,7 +19,8 @@ use Rattle.run.specs.Step.{Stepped, found, stepOf}
 use Rattle.run.specs.Step as step
 use Rattle.run.specs.Vectors.{vector, chosenOf, movedOf, sameOf}
 
--- what a search stands on: the standing point x with its rows e, f and violation theta; the curvature b and the moving marks
+-- what a search stands on: the standing point x with its rows e, f and violation theta; the curvature b and the moving
+-- marks
 pub record Standing : Type 0 where
   pub n : ℕ
   pub x : List Float
@@ -37,7 +39,8 @@ unfoldable pub expectsOf : Standing → List Float → Res Bool
 unfolding bind
 expectsOf S delta =
     let drop = subOf (subOf (S .f) (squaredOf (S .e .sum) delta (S .n))) (curvatureAlong (S .n) (S .b) delta) in
-    pick (definitelyGreater drop zeroS) (ok true) (bind (predictedOf (S .e .constraints) delta) (λ v. ok (definitelyGreater (subOf (S .theta) v) zeroS)))
+    pick (definitelyGreater drop zeroS) (ok true)
+    (bind (predictedOf (S .e .constraints) delta) (λ v. ok (definitelyGreater (subOf (S .theta) v) zeroS)))
 
 -- a trial: the step and its multipliers, the point it leads to, the violation predicted there, and the step's length
 pub record Trial : Type 0 where
@@ -63,8 +66,15 @@ trialOf S step lambda =
     bind (predictedOf (S .e .constraints) delta)
     (λ predicted.
     pick (sameOf (S .n) next (S .x)) (ok noChange)
-    (bind (normOf (at delta) (S .n)) (λ tried. ok (ask (record { delta = delta; lambda = lambda; next = next; predicted = predicted; tried = tried })))))
+    (bind (normOf (at delta) (S .n)) (λ tried. ok (ask (record {
+      delta = delta;
+      lambda = lambda;
+      next = next;
+      predicted = predicted;
+      tried = tried;
+    })))))
 
+-- a step once it is cut, if the model still expects something of it
 unfoldable pub shortenedOf : Standing → List Float → List Float → Res Proposal
 unfolding bind
 shortenedOf S cut lambda = bind (expectsOf S cut) (λ drop. pick drop (trialOf S cut lambda) (ok unresolved))
@@ -74,10 +84,15 @@ unfoldable pub withinOf : Standing → Scalar → List Float → List Float → 
 unfolding bind
 withinOf S radius delta lambda =
     bind (normOf (at delta) (S .n))
-    (λ length. pick (definitelyGreater length radius) (bind (divOf radius length) (λ shrink. shortenedOf S (cutOf (S .n) delta shrink) lambda)) (trialOf S delta lambda))
+    (λ length.
+    pick (definitelyGreater length radius)
+    (bind (divOf radius length) (λ shrink. shortenedOf S (cutOf (S .n) delta shrink) lambda))
+    (trialOf S delta lambda))
 
 abbrev pub proposedBy : Standing → Scalar → Stepped → Res Proposal
-proposedBy S radius (found s) = bind (expectsOf S (s .delta)) (λ drop. pick drop (withinOf S radius (s .delta) (s .lambda)) (ok (noDrop (s .independent))))
+proposedBy S radius (found s) =
+    bind (expectsOf S (s .delta))
+    (λ drop. pick drop (withinOf S radius (s .delta) (s .lambda)) (ok (noDrop (s .independent))))
 proposedBy S radius step.notPositive = ok notPositive
 
 unfoldable pub proposalOf : Standing → Scalar → Scalar → Res Proposal

@@ -1,4 +1,5 @@
--- The search for a proposal, over dampings: left at the first question or stop (document 01, "A run by question and reply").
+-- The search for a proposal, over dampings: left at the first question or stop (document 01, "A run by question and
+-- reply").
 use Prim.Native.Nat.{ℕ, zero, suc}
 use Rattle.interval.specs.Result.{Res, ok, refused}
 use Rattle.interval.specs.Scalar.{pick}
@@ -24,6 +25,7 @@ pub data Found : Type 0 where
 abbrev pub flatOr : Search → ℕ → ℕ → Stop
 flatOr x independent m = pick (x .first) (stop.Flat independent m) (stop.Damped (x .rejected))
 
+-- what follows from a proposal: the search is left, or goes on with more damping
 abbrev pub follow : (Search → Found) → ℕ → Scalar → Search → Res Proposal → Found
 follow on m max x (refused k) = refuses x k
 follow on m max x (ok (ask t)) = asks x t
@@ -35,7 +37,8 @@ follow on m max x (ok notPositive) = damped on (λ y s. stops y s) (rejectedFor 
 -- at most so many dampings; the damping is not finite before they are used up
 unfoldable pub searchTo : ℕ → Standing → Scalar → Search → Found
 searchTo zero S max x = stops x (stop.Damped (x .rejected))
-searchTo (suc t) S max x = follow (λ y. searchTo t S max y) (S .e .constraints .count) max x (proposalOf S (x .mu) (x .radius))
+searchTo (suc t) S max x =
+    follow (λ y. searchTo t S max y) (S .e .constraints .count) max x (proposalOf S (x .mu) (x .radius))
 
 unfoldable pub searchOf : Standing → Scalar → Search → Found
 searchOf S max x = searchTo DAMPINGS S max x

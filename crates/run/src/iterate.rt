@@ -13,6 +13,7 @@ ghost use Rattle.run.specs.program.Endings.{Leaves, Bounded};
 ghost use Rattle.run.specs.program.Iterate.{soughtOf, searchStart};
 ghost use Rattle.run.specs.program.Rows.{FewRows};
 ghost use Rattle.run.specs.program.Search.{foundResult};
+ghost use Rattle.run.specs.program.Step.{StepLengths};
 use crate::area;
 use crate::endings::ask;
 use crate::endings::finish;
@@ -34,8 +35,7 @@ use linear::Answer;
 
 // The event that follows where a search was left, with the step and its multipliers.
 fn left_at(st: State, area: &mut [f64], found: Found, delta: &[f64], lambda: &[f64]) -> Returned
-    requires { ⌜ (length (now area) ≡ AREA) ×
-        (Bounded 2147483648 st × ((length (now delta) ≡ 24) × (length (now lambda) ≡ 24))) ⌝ }
+    requires { ⌜ (length (now area) ≡ AREA) × Bounded 2147483648 st × StepLengths (now delta) (now lambda) ⌝ }
     ensures { λ r. ⌜ ((w : Memory) → Working st w (now (area .entry)) →
         Leaves (leftAt st w (foundResult found (now (delta .entry)) (now (lambda .entry))
         (movedOf (st .sizes .n) (w .standing) (now (delta .entry))))) r (now (area .exit))) ⌝ }
@@ -54,7 +54,7 @@ fn left_at(st: State, area: &mut [f64], found: Found, delta: &[f64], lambda: &[f
     }
 }
 
-// What the search goes out from: the standing point, from its rows and their violation theta.
+// What the search goes out from: the standing point, with the sum from its rows and their violation theta.
 fn search_start(st: State, area: &[f64], theta: Scalar) -> Start
     requires { ⌜ (length (now area) ≡ AREA) × FewRows (rowCounts (st .sizes)) ⌝ }
     ensures { λ r. ⌜ r ≡ searchStart st (now (area .entry)) theta ⌝ }
@@ -81,8 +81,7 @@ fn seek_standing(
     delta: &mut [f64],
     lambda: &mut [f64],
 ) -> Found
-    requires { ⌜ (length (now area) ≡ AREA) ×
-        (Bounded 2147483648 st × ((length (now delta) ≡ 24) × (length (now lambda) ≡ 24))) ⌝ }
+    requires { ⌜ (length (now area) ≡ AREA) × Bounded 2147483648 st × StepLengths (now delta) (now lambda) ⌝ }
     ensures { λ r. ⌜ ((w : Memory) → StandingKnown st (resultOf standing) w (now (area .entry)) →
         foundResult r (now (delta .exit)) (now (lambda .exit))
         (movedOf (st .sizes .n) (w .standing) (now (delta .exit))) ≡ soughtOf st w) ⌝ }

@@ -7,7 +7,6 @@ ghost use mathlib.Core.Path.{_≡_};
 ghost use lib.ListN.{length, replicate, getD};
 ghost use Rattle.linear.specs.Flat.{at, zeros};
 ghost use Rattle.run.specs.Limits.{VARIABLES};
-ghost use Rattle.run.specs.Curvature.{curvatureAt};
 ghost use Rattle.run.specs.Problem.{keepNext, keptTo, scalingAt, squeezedOf, problemOf};
 ghost use Rattle.run.specs.Rows.{rowsIn, slopeAt, constraintsOf, evaluationBy, valueAt};
 ghost use Rattle.run.specs.Vectors.{fillTo, fillRows, matrix, chosenOf};
@@ -36,7 +35,7 @@ const FIRST_GRADIENT: usize = 156;
 
 // ---- the variables that move
 
-// Variable i is kept where it moves; the new count.
+// Keeps variable i where it moves, behind the `count` that are kept already. Returns how many are kept then.
 fn keep_next(moves: bool, index: &mut [usize], count: usize, i: usize) -> usize
     requires { ⌜ (count < length (now index)) × (count < 12) ⌝ }
     ensures { λ r. ⌜ keptBy r (now (index .exit)) ≡ keepNext moves (keptBy count (now (index .entry))) i ⌝ }
@@ -48,9 +47,10 @@ fn keep_next(moves: bool, index: &mut [usize], count: usize, i: usize) -> usize
     count
 }
 
-// The variables that move, in order, into a clear slice, and how many.
+// The variables that move, in order, into a clear slice. Returns how many. One that no residual depends on has no slope
+// and no scaling, so no damping would make H positive along it: it is left out.
 pub fn keep(moving: &[bool], n: usize, index: &mut [usize]) -> usize
-    requires { ⌜ (n ≤ VARIABLES) × ((length (now moving) ≡ 12) × (now index ≡ replicate 12 0)) ⌝ }
+    requires { ⌜ (n ≤ VARIABLES) × (length (now moving) ≡ 12) × (now index ≡ replicate 12 0) ⌝ }
     ensures { λ r. ⌜ keptBy r (now (index .exit)) ≡ keptTo (now (moving .entry)) n ⌝ }
 {
     let mut count = 0;
@@ -85,7 +85,7 @@ fn squeeze_row(
     to: &mut [f64],
     t0: usize,
 )
-    requires { ⌜ (Small e × (i < 65536)) × ((k ≤ VARIABLES) × ((length (now index) ≡ 12) × (t0 < 65536))) ⌝ }
+    requires { ⌜ Small e × (i < 65536) × (k ≤ VARIABLES) × (length (now index) ≡ 12) × (t0 < 65536) ⌝ }
     ensures { λ _. ⌜ now (to .exit) ≡ fillTo (now (to .entry)) t0 (λ p. chosenIf «is_chosen»
         (slopeAt (rowsIn (now (xs .entry)) e) i (getD (now (index .entry)) p 0))) k ⌝ }
 {
@@ -96,7 +96,7 @@ fn squeeze_row(
 
 // The slopes by the kept variables, chosen as they are read where only the choices are used.
 pub fn squeeze(xs: &[f64], e: RowSet, index: &[usize], k: usize, is_chosen: bool, to: &mut [f64])
-    requires { ⌜ Small e × ((k ≤ VARIABLES) × (length (now index) ≡ 12)) ⌝ }
+    requires { ⌜ Small e × (k ≤ VARIABLES) × (length (now index) ≡ 12) ⌝ }
     ensures { λ _. ⌜ now (to .exit) ≡ squeezedAs «is_chosen» (keptBy k (now (index .entry)))
         (rowsIn (now (xs .entry)) e) (now (to .entry)) ⌝ }
 {
@@ -108,7 +108,8 @@ pub fn squeeze(xs: &[f64], e: RowSet, index: &[usize], k: usize, is_chosen: bool
 
 // ---- the curvature
 
-// D's entry for the i-th kept variable.
+// D's entry for the i-th kept variable: the squares of its slopes in all rows, so that a damping means the same
+// whatever unit a variable has.
 fn scaling(jr: &[f64], s: usize, jc: &[f64], m: usize, i: usize) -> Scalar
     ensures { λ r. ⌜ r ≡ scalingAt (now (jr .entry)) s (now (jc .entry)) m i ⌝ }
 {
@@ -127,7 +128,8 @@ fn scalings(k: usize, jr: &[f64], s: usize, jc: &[f64], m: usize, undamped: &mut
     }
 }
 
-// An entry of J_rᵀ J_r + B, from B's entry b; chosen off the diagonal.
+// An entry of J_rᵀ J_r + B, from B's entry b. Off the diagonal it is chosen at once; on the diagonal mu D is still to
+// be added.
 fn undamped_at(jr: &[f64], s: usize, b: Scalar, i: usize, j: usize) -> Scalar
     ensures { λ r. ⌜ r ≡ undampedAt (now (jr .entry)) s b i j ⌝ }
 {
@@ -138,7 +140,7 @@ fn undamped_at(jr: &[f64], s: usize, b: Scalar, i: usize, j: usize) -> Scalar
     choose(v)
 }
 
-// Whether two numbers have the same bits; a NaN has not.
+// Whether two numbers have the same bits. A NaN equals nothing, so its bits, which no rule fixes, are never asked.
 fn is_same(x: f64, y: f64) -> bool
     ensures { λ r. ⌜ (r ≡ true → x ≡ y) ⌝ }
 {
@@ -148,6 +150,7 @@ fn is_same(x: f64, y: f64) -> bool
     false
 }
 
+// Whether two scalars have the same bits at both ends.
 fn are_same(x: Scalar, y: Scalar) -> bool
     ensures { λ r. ⌜ (r ≡ true → x ≡ y) ⌝ }
 {
@@ -178,7 +181,7 @@ fn undamped_from(
     i: usize,
     j: usize,
 ) -> Scalar
-    requires { ⌜ (i < 12) × ((j < 12) × (j < i → at (now h) (12 * j + i) ≡ undampedAt (now jr) s across j i)) ⌝ }
+    requires { ⌜ (i < 12) × (j < 12) × (j < i → at (now h) (12 * j + i) ≡ undampedAt (now jr) s across j i) ⌝ }
     ensures { λ r. ⌜ r ≡ undampedAt (now (jr .entry)) s b i j ⌝ }
 {
     if is_mirrored(b, across, i, j) {
@@ -198,9 +201,9 @@ fn undamped_row(
     h: &mut [f64],
     i: usize,
 )
-    requires { ⌜ (k ≤ VARIABLES) × ((length (now index) ≡ 12) × ((i < k) ×
+    requires { ⌜ (k ≤ VARIABLES) × (length (now index) ≡ 12) × (i < k) ×
         ((t j : ℕ) → t < i → j < k →
-        at (now h) (12 * t + j) ≡ undampedBetween n (now index) (now jr) s (now b) t j))) ⌝ }
+        at (now h) (12 * t + j) ≡ undampedBetween n (now index) (now jr) s (now b) t j) ⌝ }
     ensures { λ _. ⌜ now (h .exit)
         ≡ fillTo (now (h .entry)) (12 * i)
         (undampedBetween n (now (index .entry)) (now (jr .entry)) s (now (b .entry)) i) k ⌝ }
@@ -225,7 +228,7 @@ fn fill_undamped(
     b: &[f64],
     undamped: &mut [f64],
 )
-    requires { ⌜ (k ≤ VARIABLES) × ((length (now index) ≡ 12) × (now undamped ≡ zeros 336)) ⌝ }
+    requires { ⌜ (k ≤ VARIABLES) × (length (now index) ≡ 12) × (now undamped ≡ zeros 336) ⌝ }
     ensures { λ _. ⌜ now (undamped .exit)
         ≡ fillRows (zeros 336)
         (undampedBetween n (now (index .entry)) (now (jr .entry)) s (now (b .entry))) k k ⌝ }
@@ -235,9 +238,9 @@ fn fill_undamped(
     }
 }
 
-// ---- damped
+// ---- with a damping
 
-// H's entry, from the entry v that is not damped, and D's entry d.
+// H's entry, from the entry v before it is damped and D's entry d: mu D is added on the diagonal alone.
 fn damped_at(v: Scalar, d: Scalar, mu: Scalar, i: usize, j: usize) -> Scalar
     ensures { λ r. ⌜ r ≡ dampedEntry v d mu i j ⌝ }
 {
@@ -263,7 +266,7 @@ fn damped_row(k: usize, undamped: &[f64], mu: Scalar, h: &mut [f64], i: usize)
 
 // H = J_rᵀ J_r + B + mu D, from the slice that begins with what is undamped, into a clear matrix.
 pub fn damped(k: usize, undamped: &[f64], mu: Scalar, h: &mut [f64])
-    requires { ⌜ (k ≤ VARIABLES) × ((336 ≤ length (now undamped)) × (now h ≡ matrix)) ⌝ }
+    requires { ⌜ (k ≤ VARIABLES) × (336 ≤ length (now undamped)) × (now h ≡ matrix) ⌝ }
     ensures { λ _. ⌜ now (h .exit) ≡ dampedFrom k (now (undamped .entry)) mu ⌝ }
 {
     for i in 0..k {
@@ -273,7 +276,7 @@ pub fn damped(k: usize, undamped: &[f64], mu: Scalar, h: &mut [f64])
 
 // ---- the gradient
 
-// The sum's gradient J_rᵀ r over the kept variables, chosen, at its place.
+// The gradient of the sum, J_rᵀ r over the kept variables, chosen, at its place.
 fn gradient(xs: &[f64], e: RowSet, index: &[usize], k: usize, undamped: &mut [f64])
     requires { ⌜ Small e × KeptFits k (now index) ⌝ }
     ensures { λ _. ⌜ now (undamped .exit)
@@ -293,11 +296,12 @@ fn gradient(xs: &[f64], e: RowSet, index: &[usize], k: usize, undamped: &mut [f6
 
 // ---- the problem
 
-// The slopes by the kept variables, and the same chosen.
+// The slopes by the kept variables as they are, and the same chosen.
 fn slopes(xs: &[f64], e: RowSet, index: &[usize], k: usize, wide: &mut [f64], narrow: &mut [f64])
-    requires { ⌜ Small e × ((k ≤ VARIABLES) × (length (now index) ≡ 12)) ⌝ }
+    requires { ⌜ Small e × (k ≤ VARIABLES) × (length (now index) ≡ 12) ⌝ }
     ensures { λ _. ⌜
-        (now (wide .exit) ≡ squeezedOf (keptBy k (now (index .entry))) (rowsIn (now (xs .entry)) e) (now (wide .entry))) ×
+        (now (wide .exit)
+        ≡ squeezedOf (keptBy k (now (index .entry))) (rowsIn (now (xs .entry)) e) (now (wide .entry))) ×
         (now (narrow .exit) ≡ chosenOf (now (narrow .entry)) (now (wide .exit)) 0 (12 * e .count)) ⌝ }
 {
     squeeze(xs, e, index, k, false, wide);
@@ -317,7 +321,7 @@ pub fn problem(
     undamped: &mut [f64],
 )
     requires { ⌜ FewRows c × KeptFits k (now index) ⌝ }
-    requires { ⌜ (now wide ≡ matrix) × ((now jc ≡ matrix) × (now undamped ≡ zeros 336)) ⌝ }
+    requires { ⌜ (now wide ≡ matrix) × (now jc ≡ matrix) × (now undamped ≡ zeros 336) ⌝ }
     ensures { λ _. ⌜ ((mu : Scalar) →
         problemIn k (c .m) (valueAt (constraintsOf (c .n) (c .m) (now (xs .entry)))) (now (wide .exit)) (now (jc .exit))
         (dampedFrom k (now (undamped .exit)) mu) (gradientIn (now (undamped .exit)))

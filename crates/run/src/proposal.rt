@@ -1,6 +1,5 @@
 // What one damping proposes: a step, cut to the radius where it is definitely longer, and the point it leads to. A step
-// that the model expects nothing of is not tried: a trial costs the caller an answer, and its model says already that
-// it cannot be taken.
+// that the model expects nothing of is not asked about: an answer is the caller's work.
 ghost use Prim.Native.Nat.{_≤_};
 ghost use mathlib.Core.List.{List};
 ghost use mathlib.Core.Path.{_≡_};
@@ -14,12 +13,12 @@ ghost use Rattle.run.specs.Limits.{AREA, VARIABLES, CONSTRAINTS};
 ghost use Rattle.run.specs.Proposal.{curvatureAlong, expectsOf, ask, trialOf, shortenedOf, withinOf, proposalOf};
 ghost use Rattle.run.specs.Radius.{cutOf};
 ghost use Rattle.run.specs.Results.{truthOf};
-ghost use Rattle.run.specs.Rows.{constraintsOf, evaluationBy};
+ghost use Rattle.run.specs.Rows.{constraintsOf};
 ghost use Rattle.run.specs.Vectors.{movedOf};
 ghost use Rattle.run.specs.program.Proposal.{modelFor, proposalResult, triedOf, pointOf, stillFor, standingIn};
-ghost use Rattle.run.specs.program.Proposal.{nextIn, rowsOf, curvatureFor};
+ghost use Rattle.run.specs.program.Proposal.{nextIn, curvatureFor, PreparedAt};
 ghost use Rattle.run.specs.program.Rows.{FewRows};
-ghost use Rattle.run.specs.program.Step.{PreparedFor};
+ghost use Rattle.run.specs.program.Step.{StepLengths};
 use crate::area;
 use crate::curvature::products;
 use crate::radius::cut;
@@ -61,7 +60,7 @@ pub struct Start {
     pub max_step: Scalar,
 }
 
-// With `NoDrop` how many rows are independent.
+// What a damping proposes: a trial, or why there is none. `NoDrop` says how many rows are independent.
 pub enum Proposal {
     NotPositive,
     NoDrop(usize),
@@ -82,7 +81,7 @@ pub fn curvature_for(plain: bool, area: &[f64]) -> &[f64]
     &area[area::CURVATURE_AT..area::FILTER_AT]
 }
 
-// deltaᵀ B delta.
+// The curvature along a step, deltaᵀ B delta.
 fn curvature_along(n: usize, b: &[f64], delta: &[f64]) -> Scalar
     requires { ⌜ n ≤ VARIABLES ⌝ }
     ensures { λ r. ⌜ r ≡ curvatureAlong n (now (b .entry)) (now (delta .entry)) ⌝ }
@@ -117,7 +116,7 @@ pub fn expects(point: StandingPoint, rows: &[f64], b: &[f64], delta: &[f64]) -> 
     falls(point.theta, predicted(rows, c.n, c.m, delta))
 }
 
-// The question, once the step's length is known.
+// The trial, once the step's length is known or refused.
 fn asked(predicted: Scalar, length: Answer) -> Proposal
     ensures { λ r. ⌜ ((delta lambda next : List Float) →
         proposalResult r delta lambda next
@@ -135,9 +134,9 @@ fn asked(predicted: Scalar, length: Answer) -> Proposal
     }
 }
 
-// The point that a chosen step leads to.
+// The trial of a step whose choices are made: none where the point would be the same.
 fn tried(n: usize, m: usize, rows: &[f64], x: &[f64], delta: &[f64]) -> Proposal
-    requires { ⌜ (n ≤ VARIABLES) × ((m ≤ CONSTRAINTS) × (length (now delta) ≡ 24)) ⌝ }
+    requires { ⌜ (n ≤ VARIABLES) × (m ≤ CONSTRAINTS) × (length (now delta) ≡ 24) ⌝ }
     ensures { λ r. ⌜ ((lambda : List Float) →
         proposalResult r (now (delta .entry)) lambda (movedOf n (now (x .entry)) (now (delta .entry)))
         ≡ triedOf (pointOf n (now (x .entry)) (constraintsOf n m (now (rows .entry)))) (now (delta .entry)) lambda) ⌝ }
@@ -157,9 +156,9 @@ fn tried(n: usize, m: usize, rows: &[f64], x: &[f64], delta: &[f64]) -> Proposal
     }
 }
 
-// The point that a step leads to; it is chosen in its place.
+// The trial of a step, after each of its entries is chosen in its place.
 fn trial(n: usize, m: usize, rows: &[f64], x: &[f64], delta: &mut [f64]) -> Proposal
-    requires { ⌜ (n ≤ VARIABLES) × ((m ≤ CONSTRAINTS) × (length (now delta) ≡ 24)) ⌝ }
+    requires { ⌜ (n ≤ VARIABLES) × (m ≤ CONSTRAINTS) × (length (now delta) ≡ 24) ⌝ }
     ensures { λ r. ⌜ ((lambda : List Float) →
         proposalResult r (now (delta .exit)) lambda (movedOf n (now (x .entry)) (now (delta .exit)))
         ≡ trialOf (pointOf n (now (x .entry)) (constraintsOf n m (now (rows .entry)))) (now (delta .entry)) lambda) ⌝ }
@@ -171,7 +170,7 @@ fn trial(n: usize, m: usize, rows: &[f64], x: &[f64], delta: &mut [f64]) -> Prop
     tried(n, m, rows, x, delta)
 }
 
-// The point that a step leads to once it is cut, if the model still expects something of it.
+// The trial of a step once it is cut, if the model still expects something of it.
 fn shortened(
     point: StandingPoint,
     rows: &[f64],
@@ -201,7 +200,7 @@ fn shortened(
     }
 }
 
-// The point that a step leads to, cut where it is definitely longer than the radius.
+// The trial of a step, cut where it is definitely longer than the radius: further off the model is not to be trusted.
 fn within(
     point: StandingPoint,
     rows: &[f64],
@@ -245,17 +244,15 @@ pub fn propose(
     prepared: Prepared,
     order: &[usize],
     fixed: &[f64],
-    from: Search,
+    state: Search,
     delta: &mut [f64],
     lambda: &mut [f64],
 ) -> Proposal
-    requires { ⌜ FewRows (start .point .counts) × ((length (now area) ≡ AREA) ×
-        ((length (now delta) ≡ 24) × (length (now lambda) ≡ 24))) ⌝ }
-    requires { ⌜ PreparedFor (start .point .counts .n) (evaluationBy (start .point .counts) (rowsOf (now area)))
-        (curvatureFor (start .plain) (now area)) (start .moving) prepared (now order) (now fixed) ⌝ }
+    requires { ⌜ FewRows (start .point .counts) × (length (now area) ≡ AREA) × StepLengths (now delta) (now lambda) ⌝ }
+    requires { ⌜ PreparedAt start (now area) prepared (now order) (now fixed) ⌝ }
     ensures { λ r. ⌜ proposalResult r (now (delta .exit)) (now (lambda .exit))
         (nextIn start (now (area .entry)) (now (delta .exit)))
-        ≡ proposalOf (standingIn start (now (area .entry))) (from .mu) (from .radius) ⌝ }
+        ≡ proposalOf (standingIn start (now (area .entry))) (state .mu) (state .radius) ⌝ }
 {
     let point = start.point;
     let moving = start.moving;
@@ -265,7 +262,7 @@ pub fn propose(
         prepared,
         order,
         fixed,
-        from.mu,
+        state.mu,
         delta,
         lambda,
     ) {
@@ -276,7 +273,7 @@ pub fn propose(
                 TruthResult::Value(drop) => {
                     if drop {
                         let x = &area[area::STANDING_AT..area::LANDED_AT];
-                        return within(point, rows, x, b, from.radius, delta);
+                        return within(point, rows, x, b, state.radius, delta);
                     }
                     return Proposal::NoDrop(r);
                 }

@@ -1,5 +1,5 @@
 // The search for a proposal, over dampings: left at the first question or stop. What no damping changes is worked out
-// once, before the loop: it is most of the work of a step.
+// once, before the loop, so that another damping costs only what it changes.
 ghost use Prim.Native.Nat.{_^_, _<_};
 ghost use mathlib.Core.Bool.{true};
 ghost use mathlib.Core.List.{List};
@@ -9,15 +9,14 @@ ghost use lib.ListN.{length};
 ghost use Rattle.interval.specs.Scaling.{isPositive};
 ghost use Rattle.run.specs.Damping.{damped};
 ghost use Rattle.run.specs.Limits.{AREA};
-ghost use Rattle.run.specs.Rows.{evaluationBy};
 ghost use Rattle.run.specs.Search.{flatOr, follow, searchOf};
 ghost use Rattle.run.specs.Search as defined;
 ghost use Rattle.run.specs.State.{rejectedFor, withRadius};
 ghost use Rattle.run.specs.program.Damping.{goesOn, stopsAt};
-ghost use Rattle.run.specs.program.Proposal.{proposalResult, standingIn, nextIn, rowsOf, curvatureFor};
+ghost use Rattle.run.specs.program.Proposal.{proposalResult, standingIn, nextIn, PreparedAt};
 ghost use Rattle.run.specs.program.Rows.{FewRows};
 ghost use Rattle.run.specs.program.Search.{turnOf, turnResult, foundResult};
-ghost use Rattle.run.specs.program.Step.{PreparedFor};
+ghost use Rattle.run.specs.program.Step.{StepLengths};
 use crate::area;
 use crate::damping::Damped;
 use crate::damping::damp;
@@ -74,7 +73,8 @@ fn damp_or_leave(x: Search, radius: Scalar, why: Rejection) -> Turn
     }
 }
 
-// What a proposal makes of the search.
+// What a proposal makes of the search: a trial or a stop ends it, and a rejected step asks for more damping. Where a
+// step was rejected since its cut told nothing, the radius is the longest step again.
 fn follow(p: Proposal, x: Search, m: usize, max: Scalar) -> Turn
     requires { ⌜ x .«turned_down» < 2 ^ 32 ⌝ }
     ensures { λ r. ⌜ ((on : Search → defined.Found) (delta lambda next : List Float) →
@@ -114,10 +114,8 @@ fn seek_from(
     delta: &mut [f64],
     lambda: &mut [f64],
 ) -> Found
-    requires { ⌜ FewRows (start .point .counts) × ((length (now area) ≡ AREA) ×
-        ((length (now delta) ≡ 24) × (length (now lambda) ≡ 24))) ⌝ }
-    requires { ⌜ PreparedFor (start .point .counts .n) (evaluationBy (start .point .counts) (rowsOf (now area)))
-        (curvatureFor (start .plain) (now area)) (start .moving) prepared (now order) (now fixed) ⌝ }
+    requires { ⌜ FewRows (start .point .counts) × (length (now area) ≡ AREA) × StepLengths (now delta) (now lambda) ⌝ }
+    requires { ⌜ PreparedAt start (now area) prepared (now order) (now fixed) ⌝ }
     requires { ⌜ (from .«turned_down» < 2 ^ 31) × (isPositive (from .mu) ≡ true) ⌝ }
     ensures { λ r. ⌜ foundResult r (now (delta .exit)) (now (lambda .exit))
         (nextIn start (now (area .entry)) (now (delta .exit)))
@@ -146,8 +144,7 @@ pub fn seek(
     delta: &mut [f64],
     lambda: &mut [f64],
 ) -> Found
-    requires { ⌜ FewRows (start .point .counts) × ((length (now area) ≡ AREA) ×
-        ((length (now delta) ≡ 24) × (length (now lambda) ≡ 24))) ⌝ }
+    requires { ⌜ FewRows (start .point .counts) × (length (now area) ≡ AREA) × StepLengths (now delta) (now lambda) ⌝ }
     requires { ⌜ (from .«turned_down» < 2 ^ 31) × (isPositive (from .mu) ≡ true) ⌝ }
     ensures { λ r. ⌜ foundResult r (now (delta .exit)) (now (lambda .exit))
         (nextIn start (now (area .entry)) (now (delta .exit)))

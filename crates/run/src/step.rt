@@ -1,5 +1,6 @@
 // The step over the kept variables and over all: what no damping changes of it is prepared once, then each damping has
-// its own step from that. A step that is not finite, or whose H is not, is none: a search then goes on with more damping.
+// its own step from that. A step that is not finite, or whose H is not, is none: a search then goes on with more
+// damping.
 ghost use Prim.Native.Nat.{_≤_};
 ghost use mathlib.Core.Bool.{_&&_};
 ghost use mathlib.Core.List.{List, []};
@@ -19,7 +20,7 @@ ghost use Rattle.run.specs.program.Reduced.{curved};
 ghost use Rattle.run.specs.program.Rows.{FewRows};
 ghost use Rattle.run.specs.program.Step.{endOf, withMultipliers, readyOf, stepFromBasis, Few, stepFromFactors};
 ghost use Rattle.run.specs.program.Step.{DimensionsFit, basisWith, directionsWith, dampedStep, preparedStep};
-ghost use Rattle.run.specs.program.Step.{FIXED-LEN, PreparedSizes, PreparedFor};
+ghost use Rattle.run.specs.program.Step.{FactorLengths, StepLengths, FIXED-LEN, PreparedSizes, PreparedFor};
 use crate::area::write;
 use crate::basis::Shape;
 use crate::basis::basis;
@@ -42,14 +43,14 @@ use interval::Scalar;
 use linear::Done;
 use linear::LinearError;
 
-// A step with its number of independent rows, or none.
+// A step with its number of independent rows, no step where H is not positive along the free directions, or a refusal.
 pub enum StepEnd {
     Found(usize),
     NotPositive,
     Refused(LinearError),
 }
 
-// What no damping changes: with `Ready` how many rows are independent, and how many directions are free.
+// What no damping changes: `Ready` says how many rows are independent and how many directions are free.
 pub enum Prepared {
     Ready(usize, usize),
     Refused(LinearError),
@@ -69,7 +70,7 @@ const FACTORS_AT: usize = 336;
 
 pub const FIXED_LEN: usize = 1224;
 
-// Where each part of a frame begins, behind the basis.
+// Where each part of the factors begins, behind Q.
 const COEFFICIENTS: usize = 288;
 
 const CORRECTION: usize = 576;
@@ -78,7 +79,7 @@ const DIRECTIONS: usize = 600;
 
 const FRAME: usize = 888;
 
-// What pulls against the kept step, and whether both are finite.
+// What pulls against the kept step, and whether both are finite: a step is none where they are not.
 pub fn finite_pull(k: usize, h: &[f64], g: &[f64], kept: &[f64], out: &mut [f64]) -> bool
     requires { ⌜ (k ≤ VARIABLES) × (now out ≡ vector) ⌝ }
     ensures { λ r. ⌜
@@ -114,8 +115,7 @@ fn free_step(
     delta: &mut [f64],
     lambda: &mut [f64],
 ) -> StepEnd
-    requires { ⌜ DimensionsFit d ×
-        ((length (now order) ≡ 24) × ((length (now factors) ≡ 888) × (length (now lambda) ≡ 24))) ⌝ }
+    requires { ⌜ DimensionsFit d × FactorLengths (now order) (now factors) × (length (now lambda) ≡ 24) ⌝ }
     ensures { λ e. ⌜ endOf e (now (delta .exit)) (now (lambda .exit))
         ≡ freeStep (curved (d .kept) (now (h .entry)) (now (g .entry)))
         (basisWith (d .independent) (now (order .entry)) (now (factors .entry))) (now (delta .entry))
@@ -255,8 +255,8 @@ pub fn prepare(
     order: &mut [usize],
     fixed: &mut [f64],
 ) -> Prepared
-    requires { ⌜ FewRows c ×
-        ((length (now moving) ≡ 12) × ((now order ≡ replicate 24 0) × (now fixed ≡ zeros FIXED-LEN))) ⌝ }
+    requires { ⌜ FewRows c × (length (now moving) ≡ 12) × (now order ≡ replicate 24 0) ×
+        (now fixed ≡ zeros FIXED-LEN) ⌝ }
     ensures { λ x. ⌜ PreparedFor (c .n) (evaluationBy c (now (rows .entry))) (now (b .entry)) (now (moving .entry))
         x (now (order .exit)) (now (fixed .exit)) ⌝ }
 {
@@ -286,7 +286,7 @@ pub fn prepare(
     )
 }
 
-// ---- damped
+// ---- with a damping
 
 // The step from what was prepared, for an H that is finite.
 fn prepared_step(
@@ -299,9 +299,8 @@ fn prepared_step(
     kept: &mut [f64],
     lambda: &mut [f64],
 ) -> StepEnd
-    requires { ⌜ (k ≤ VARIABLES) × (Few prepared ×
-        ((length (now order) ≡ 24) × ((length (now factors) ≡ 888) ×
-        ((length (now kept) ≡ 24) × (length (now lambda) ≡ 24))))) ⌝ }
+    requires { ⌜ (k ≤ VARIABLES) × Few prepared × FactorLengths (now order) (now factors) ×
+        StepLengths (now kept) (now lambda) ⌝ }
     ensures { λ x. ⌜ endOf x (now (kept .exit)) (now (lambda .exit))
         ≡ stepFromFactors prepared (curved k (now (h .entry)) (now (g .entry))) (now (order .entry))
         (now (factors .entry)) ⌝ }
@@ -332,8 +331,8 @@ fn kept_step(
     kept: &mut [f64],
     lambda: &mut [f64],
 ) -> StepEnd
-    requires { ⌜ (k ≤ VARIABLES) × (PreparedSizes prepared (now order) (now fixed) ×
-        ((length (now kept) ≡ 24) × (length (now lambda) ≡ 24))) ⌝ }
+    requires { ⌜ (k ≤ VARIABLES) × PreparedSizes prepared (now order) (now fixed) ×
+        StepLengths (now kept) (now lambda) ⌝ }
     ensures { λ x. ⌜ endOf x (now (kept .exit)) (now (lambda .exit))
         ≡ dampedStep k prepared (now (order .entry)) (now (fixed .entry)) mu ⌝ }
 {
@@ -368,9 +367,8 @@ pub fn damped_step(
     delta: &mut [f64],
     lambda: &mut [f64],
 ) -> StepEnd
-    requires { ⌜ (n ≤ VARIABLES) × ((length (now moving) ≡ 12) ×
-        (PreparedSizes prepared (now order) (now fixed) ×
-        ((length (now delta) ≡ 24) × (length (now lambda) ≡ 24)))) ⌝ }
+    requires { ⌜ (n ≤ VARIABLES) × (length (now moving) ≡ 12) × PreparedSizes prepared (now order) (now fixed) ×
+        StepLengths (now delta) (now lambda) ⌝ }
     ensures { λ x. ⌜ endOf x (now (delta .exit)) (now (lambda .exit))
         ≡ preparedStep n (now (moving .entry)) prepared (now (order .entry)) (now (fixed .entry)) mu ⌝ }
 {
@@ -393,8 +391,7 @@ pub fn step(
     delta: &mut [f64],
     lambda: &mut [f64],
 ) -> StepEnd
-    requires { ⌜ FewRows c ×
-        ((length (now moving) ≡ 12) × ((length (now delta) ≡ 24) × (length (now lambda) ≡ 24))) ⌝ }
+    requires { ⌜ FewRows c × (length (now moving) ≡ 12) × StepLengths (now delta) (now lambda) ⌝ }
     ensures { λ r. ⌜ endOf r (now (delta .exit)) (now (lambda .exit))
         ≡ stepOf (c .n) (evaluationBy c (now (rows .entry))) (now (b .entry)) (now (moving .entry)) mu ⌝ }
 {

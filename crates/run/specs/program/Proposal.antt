@@ -11,15 +11,18 @@ use Rattle.linear.specs.Answers.{numberOf}
 use Rattle.linear.specs.Flat.{at}
 use Rattle.linear.specs.Norm.{normOf}
 use Rattle.linear.specs.Results.{bind}
-use Rattle.run.specs.Area.{POINT-LEN, ROWS-LEN, CURVATURE-LEN, STANDING-AT, STANDING-ROWS-AT, CURVATURE-AT, SPARE-AT}
+use Rattle.run.specs.Area.{POINT-LEN, ROWS-LEN, CURVATURE-LEN, STANDING-AT, STANDING-ROWS-AT, CURVATURE-AT}
+use Rattle.run.specs.Area.{SPARE-AT}
 use Rattle.run.specs.Proposal.{Standing, Proposal, noChange, ask, notPositive, noDrop, unresolved}
 use Rattle.run.specs.Residuals.{predictedOf}
 use Rattle.run.specs.Rows.{Evaluation, evaluationBy, Rows}
 use Rattle.run.specs.Vectors.{movedOf, sameOf}
+use Rattle.run.specs.program.Step.{PreparedFor}
 use Rattle.run.specs.declared.proposal.Proposal as declared
 use Rattle.run.specs.declared.proposal.Proposal.the-variants as p
 use Rattle.run.specs.declared.proposal.StandingPoint.{StandingPoint}
 use Rattle.run.specs.declared.proposal.Start.{Start}
+use Rattle.run.specs.declared.step.Prepared.{Prepared}
 
 -- ---- a standing point
 
@@ -56,6 +59,12 @@ rowsOf a = take ROWS-LEN (drop STANDING-ROWS-AT a)
 -- the curvature that it goes by; in plain the last numbers, which are +0
 abbrev pub curvatureFor : Bool → List Float → List Float
 curvatureFor plain a = take CURVATURE-LEN (drop (pick plain SPARE-AT CURVATURE-AT) a)
+
+-- what is prepared gives the step of every damping of the search
+abbrev pub PreparedAt : Start → List Float → Prepared → List ℕ → List Float → Type 0
+PreparedAt z a x order fixed =
+    let c = z .point .counts in
+    PreparedFor (c .n) (evaluationBy c (rowsOf a)) (curvatureFor (z .plain) a) (z .moving) x order fixed
 
 -- what it stands on, and where a step leads
 abbrev pub standingIn : Start → List Float → Standing

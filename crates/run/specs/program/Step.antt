@@ -112,6 +112,16 @@ stepFromFactors x P order factors =
     readyStep x P (take 288 factors) (take 288 (drop 288 factors)) order (take 24 (drop 576 factors))
     (take 288 (drop 600 factors))
 
+-- the slices of the order of the rows and of the factors
+pub record FactorLengths (order : List ℕ) (factors : List Float) : Type 0 where
+  pub order-length : length order ≡ 24
+  pub factors-length : length factors ≡ 888
+
+-- the slices for a step and its multipliers
+pub record StepLengths (delta lambda : List Float) : Type 0 where
+  pub delta-length : length delta ≡ 24
+  pub lambda-length : length lambda ≡ 24
+
 -- at most so many variables, rows and directions
 pub record DimensionsFit (d : Dimensions) : Type 0 where
   pub few-kept : d .kept ≤ VARIABLES

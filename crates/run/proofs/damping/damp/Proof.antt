@@ -11,7 +11,10 @@ use Rattle.run.proofs.damping.damp.Tie as tie
 module _ (k : tie.After-is-finite) where
   quadruple : k .before .before .sharpen .result ≡ quadrupled (k .before .before .before .before .before .args .x .mu)
   unfolding ofBits
-  quadruple = k .before .before .sharpen .ensures ∙ ap sharpen (k .before .before .before .mul .ensures .value ∙ ap (mulOf (k .before .before .before .before .before .args .x .mu)) (k .before .before .before .before .degenerate .ensures))
+  quadruple =
+      k .before .before .sharpen .ensures ∙ ap sharpen (k .before .before .before .mul .ensures .value
+      ∙ ap (mulOf (k .before .before .before .before .before .args .x .mu))
+      (k .before .before .before .before .degenerate .ensures))
 
   tested : k .is-finite .result ≡ isFinite (quadrupled (k .before .before .before .before .before .args .x .mu))
   tested = k .is-finite .ensures ∙ ap isFinite quadruple

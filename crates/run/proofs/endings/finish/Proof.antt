@@ -14,7 +14,12 @@ same-length : tie.Need-same-length
 same-length c = search needs
 
 returns : tie.Need-returns
-returns c w h = record { state-is = c .with-phase .ensures; event-is = refl; held = c .before .before .before .keep-standing .ensures w h }
+returns c w h =
+    record {
+      state-is = c .with-phase .ensures;
+      event-is = refl;
+      held = c .before .before .before .keep-standing .ensures w h;
+    }
 
 pub finish-spec : {M : Type 1} → statement M
 finish-spec = tie.close (tie.spec keep-standing-requires with-phase-requires same-length returns)

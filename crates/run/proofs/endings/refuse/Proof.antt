@@ -18,7 +18,12 @@ same-length : tie.Need-same-length
 same-length c = search needs
 
 returns : tie.Need-returns
-returns c w h = record { state-is = c .before .with-phase .ensures; event-is = ap event.Refused (c .number-of .ensures); held = c .before .before .before .before .keep-standing .ensures w h }
+returns c w h =
+    record {
+      state-is = c .before .with-phase .ensures;
+      event-is = ap event.Refused (c .number-of .ensures);
+      held = c .before .before .before .before .keep-standing .ensures w h;
+    }
 
 pub refuse-spec : {M : Type 1} → statement M
 refuse-spec =

@@ -27,7 +27,8 @@ same-length-2 c = search needs
 
 returns-2 : tie.Need-returns-2
 unfolding iterate
-returns-2 c w h = unless _ _ (lt-leb _ _ (c .before .before .before .before .if1 .left)) (c .before .before .search .ensures w h)
+returns-2 c w h =
+    unless _ _ (lt-leb _ _ (c .before .before .before .before .if1 .left)) (c .before .before .search .ensures w h)
 
 pub iterate-spec : {M : Type 1} → statement M
 iterate-spec =

@@ -13,16 +13,10 @@ enum-known-found c = search needs
 
 write-trial-requires : tie.Need-write-trial-requires
 write-trial-requires c κs =
-    let p = c .before .before .before .before .before .before .before .pre in let b = p .1 .0 in (
-      p .0,
-      (
-        (
-          b .few-variables,
-          (b .few-constraints, b .few-sums),
-        ),
-        p .1 .1,
-      ),
-    )
+    let p = c .before .before .before .before .before .before .before .pre in
+    let b = p .1 in
+    let l = p .2 in
+    (p .0, ((b .few-variables, (b .few-constraints, b .few-sums)), (l .delta-length, l .lambda-length)))
 
 with-trial-of-requires : tie.Need-with-trial-of-requires
 with-trial-of-requires c κs = search needs
@@ -30,7 +24,7 @@ with-trial-of-requires c κs = search needs
 ask-requires : tie.Need-ask-requires
 ask-requires c κs =
     rw (c .with-trial-of .ensures [] [] []) (c .before .before .before .before .before .before .before .before .before
-    .before .before .pre .1 .0 .few-questions)
+    .before .before .pre .1 .few-questions)
 
 same-length : tie.Need-same-length
 same-length c = search needs
@@ -55,7 +49,7 @@ finish-requires : tie.Need-finish-requires
 finish-requires c κs =
     let p = c .before .before .before .before .before .before .before .before .pre in (
       p .0,
-      limits-as (c .before .with-search .ensures) (limits-of (p .1 .0)),
+      limits-as (c .before .with-search .ensures) (limits-of (p .1)),
     )
 
 same-length-2 : tie.Need-same-length-2
@@ -78,7 +72,7 @@ refuse-requires : tie.Need-refuse-requires
 refuse-requires c κs =
     let p = c .before .before .before .before .before .before .before .before .pre in (
       p .0,
-      limits-as (c .before .with-search2 .ensures) (limits-of (p .1 .0)),
+      limits-as (c .before .with-search2 .ensures) (limits-of (p .1)),
     )
 
 same-length-3 : tie.Need-same-length-3

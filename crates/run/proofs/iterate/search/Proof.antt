@@ -12,7 +12,9 @@ slice-aggregate-seek-standing-2 : tie.Need-slice-aggregate-seek-standing-2
 slice-aggregate-seek-standing-2 c = search needs
 
 seek-standing-requires : tie.Need-seek-standing-requires
-seek-standing-requires c κs = let p = c .before .before .before .before .pre in (p .0, (p .1, (refl, refl)))
+seek-standing-requires c κs =
+    let p = c .before .before .before .before .pre in
+    (p .0, p .1, record { delta-length = refl; lambda-length = refl })
 
 slice-aggregate-left-at : tie.Need-slice-aggregate-left-at
 slice-aggregate-left-at c = search needs
@@ -24,7 +26,7 @@ left-at-requires : tie.Need-left-at-requires
 left-at-requires c κs =
     let p = c .before .before .before .before .before .before .before .before .before .before .pre in
     let k = c .before .before .before .before .before .seek-standing .kept .1 .1 .1 in
-    (p .0, (p .1, (k .0, k .1 .0)))
+    (p .0, p .1, record { delta-length = k .0; lambda-length = k .1 .0 })
 
 same-length : tie.Need-same-length
 same-length c = search needs

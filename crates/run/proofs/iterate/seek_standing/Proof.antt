@@ -12,7 +12,7 @@ use Rattle.run.proofs.iterate.seek_standing.Tie as tie
 -- the counts of its rows are within the limits
 few : (s : tie.Start) → FewRows (rowCounts (s .args .st .sizes))
 few s =
-    let b = s .pre .1 .0 in
+    let b = s .pre .1 in
     record { few-variables = b .few-variables; few-constraints = b .few-constraints; few-sums = b .few-sums }
 
 enum-known-standing : tie.Need-enum-known-standing
@@ -24,8 +24,8 @@ search-start-requires c κs = let s = c .before .before .before .before .before 
 seek-requires : tie.Need-seek-requires
 seek-requires c κs =
     let s = c .before .before .before .before .before .before .before .before .before .before in
-    let b = s .pre .1 .0 in
-    rw (c .before .before .search-start .ensures) ((few s, (s .pre .0, s .pre .1 .1)), (b .few-turned, b .damping))
+    let b = s .pre .1 in
+    rw (c .before .before .search-start .ensures) ((few s, s .pre .0, s .pre .2), (b .few-turned, b .damping))
 
 same-length : tie.Need-same-length
 same-length c = search needs
@@ -35,11 +35,14 @@ same-length-2 c = search needs
 
 returns : tie.Need-returns
 returns c w h =
-    let st = c .before .before .before .before .before .before .before .before .before .before .before .before .before .before .before .args .st in
+    let st = c .before .before .before .before .before .before .before .before .before .before .before .before .before
+    .before .before .args .st in
     let k = c .before .before .before .before .seek in
     let l = k .last .1 .1 .1 in
-    let v = sym (h .standing-is) ∙ ap resultOf (c .before .before .before .before .before .before .before .before .before .standing .given .1) in
-    sought-by st (l .0) (l .1 .0) (k .result) (h .uses .holds) (c .before .before .before .before .before .before .before .search-start .ensures) v (k .ensures)
+    let v = sym (h .standing-is)
+    ∙ ap resultOf (c .before .before .before .before .before .before .before .before .before .standing .given .1) in
+    sought-by st (l .0) (l .1 .0) (k .result) (h .uses .holds)
+    (c .before .before .before .before .before .before .before .search-start .ensures) v (k .ensures)
 
 enum-known-standing-2 : tie.Need-enum-known-standing-2
 enum-known-standing-2 c = search needs

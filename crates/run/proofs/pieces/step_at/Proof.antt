@@ -32,7 +32,7 @@ step-requires c κs =
     let p = wants-passed _ _ _ (finished (c .before .before .enum-told .given .1)) (c .before .before .before .before .wants2 .ensures) in
     let q = wants-passed _ _ _ (p .0) (c .before .before .before .before .before .wants .ensures) in
     let r = fits-passed (q .0) (c .before .before .before .before .before .before .fits2 .ensures) in
-    (r .sized .counts, (r .second, (q .1, p .1)))
+    (r .sized .counts, r .second, record { delta-length = q .1; lambda-length = p .1 })
 
 enum-told-2 : tie.Need-enum-told-2
 enum-told-2 c = search needs

@@ -13,14 +13,16 @@ use Rattle.run.proofs.problem.damped.Statement.{statement}
 use Rattle.run.proofs.problem.damped.Tie as tie
 
 abbrev Inv-loop : tie.InvT-loop
-Inv-loop k undamped mu h₀ i₀ h i = (i ≤ k) × (length h ≡ length h₀) × (h ≡ fillRows matrix (λ t j. dampedEntry (at undamped (12 * t + j)) (at undamped (144 + t)) mu t j) k i)
+Inv-loop k undamped mu h₀ i₀ h i =
+    (i ≤ k) × (length h ≡ length h₀) ×
+    (h ≡ fillRows matrix (λ t j. dampedEntry (at undamped (12 * t + j)) (at undamped (144 + t)) mu t j) k i)
 
 abbrev μ-loop : tie.MeasureT-loop
 μ-loop k undamped mu h₀ i₀ h i = k - i
 
 loop-holds : tie.Need-loop-holds Inv-loop μ-loop
 unfolding fillRows
-loop-holds c = (search needs, search needs, c .before .before .pre .1 .1)
+loop-holds c = (search needs, search needs, c .before .before .pre .2)
 
 damped-row-requires : tie.Need-damped-row-requires Inv-loop μ-loop
 damped-row-requires c κs = search needs
@@ -32,13 +34,18 @@ loop-less : tie.Need-loop-less Inv-loop μ-loop
 loop-less c = search needs
 
 loop-again : tie.Need-loop-again Inv-loop μ-loop
-loop-again c = let l = c .before .before .before .before .before .loop in (search needs, search needs, c .before .before .damped-row .ensures ∙ fill-rows-turn _ _ _ (l .i) (l .inv .2))
+loop-again c =
+    let l = c .before .before .before .before .before .loop in
+    (search needs, search needs, c .before .before .damped-row .ensures ∙ fill-rows-turn _ _ _ (l .i) (l .inv .2))
 
 same-length : tie.Need-same-length Inv-loop μ-loop
 same-length c = search needs
 
 returns : tie.Need-returns Inv-loop μ-loop
-returns c = let s = c .before .before .before .before in rw (le-antisymm (c .before .loop .inv .0) (c .loop-test .left)) at (c .before .loop .inv .2) ∙ damped-read (s .args .k) (s .args .undamped .now) (s .args .mu) (s .pre .0) (s .pre .1 .0)
+returns c =
+    let s = c .before .before .before .before in
+    rw (le-antisymm (c .before .loop .inv .0) (c .loop-test .left)) at (c .before .loop .inv .2)
+    ∙ damped-read (s .args .k) (s .args .undamped .now) (s .args .mu) (s .pre .0) (s .pre .1)
 
 pub damped-spec : {M : Type 1} → statement M
 damped-spec =

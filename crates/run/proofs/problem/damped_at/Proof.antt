@@ -14,7 +14,9 @@ choose-requires : tie.Need-choose-requires
 choose-requires c κs = search needs
 
 returns : tie.Need-returns
-returns c = damped-on _ _ _ _ _ (c .before .before .before .if1 .taken) (c .before .before .mul .ensures .value) (c .before .add .ensures .value) (c .choose .ensures)
+returns c =
+    damped-on _ _ _ _ _ (c .before .before .before .if1 .taken) (c .before .before .mul .ensures .value)
+    (c .before .add .ensures .value) (c .choose .ensures)
 
 returns-2 : tie.Need-returns-2
 returns-2 c = damped-off _ _ _ _ _ (c .if1 .left)

@@ -1,8 +1,4 @@
-use borrow.Author.Needs.{needs}
-use Rattle.run.proofs.problem.damped_row.Statement.{statement}
-use Rattle.run.proofs.problem.damped_row.Tie as tie
 -- `damped_row` meets its contract: one place more is filled in each turn.
-use borrow.Author.Needs.{needs}
 use mathlib.Core.Path.{_≡_, _∙_}
 use Prim.Native.Nat.{_≤_, _-_, _+_, _*_}
 use native.Mathlib.Nat.{le-antisymm}
@@ -11,9 +7,14 @@ use Rattle.linear.specs.Flat.{at}
 use Rattle.run.specs.program.Problem.{dampedEntry}
 use Rattle.run.specs.Vectors.{fillTo}
 use Rattle.run.proofs.VectorLaws.{fill-turn}
+use borrow.Author.Needs.{needs}
+use Rattle.run.proofs.problem.damped_row.Statement.{statement}
+use Rattle.run.proofs.problem.damped_row.Tie as tie
 
 abbrev Inv-loop : tie.InvT-loop
-Inv-loop k undamped mu h₀ i scale j₀ h j = (j ≤ k) × (length h ≡ length h₀) × (h ≡ fillTo h₀ (12 * i) (λ t. dampedEntry (at undamped (12 * i + t)) (at undamped (144 + i)) mu i t) j)
+Inv-loop k undamped mu h₀ i scale j₀ h j =
+    (j ≤ k) × (length h ≡ length h₀) ×
+    (h ≡ fillTo h₀ (12 * i) (λ t. dampedEntry (at undamped (12 * i + t)) (at undamped (144 + i)) mu i t) j)
 
 abbrev μ-loop : tie.MeasureT-loop
 μ-loop k undamped mu h₀ i scale j₀ h j = k - j
@@ -52,8 +53,17 @@ loop-less c = search needs
 loop-again : tie.Need-loop-again Inv-loop μ-loop
 loop-again c =
     let a = c .before .before .before .before .before .before .before .before .before .before .before .args in
-    let l = c .before .before .before .before .before .before .before .loop in
-    (search needs, search needs, c .before .before .put .ensures ∙ fill-turn (a .h .now) (12 * a .i) (λ j. dampedEntry (at (a .undamped .now) (12 * a .i + j)) (at (a .undamped .now) (144 + a .i)) (a .mu) (a .i) j) (l .j) (l .inv .2) (rw (c .before .before .before .before .at2 .ensures, c .before .before .before .before .before .before .before .before .at .ensures) at (c .before .before .before .damped-at .ensures)))
+    let l = c .before .before .before .before .before .before .before .loop in (
+      search needs,
+      search needs,
+      c .before .before .put .ensures
+          ∙ fill-turn (a .h .now) (12 * a .i) (λ j. dampedEntry (at (a .undamped .now) (12 * a .i + j))
+          (at (a .undamped .now) (144 + a .i)) (a .mu) (a .i) j) (l .j) (l .inv .2)
+          (rw (
+            c .before .before .before .before .at2 .ensures,
+            c .before .before .before .before .before .before .before .before .at .ensures,
+          ) at (c .before .before .before .damped-at .ensures)),
+    )
 
 same-length : tie.Need-same-length Inv-loop μ-loop
 same-length c = search needs

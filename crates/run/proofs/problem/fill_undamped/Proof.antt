@@ -16,14 +16,16 @@ use Rattle.run.proofs.problem.fill_undamped.Statement.{statement}
 use Rattle.run.proofs.problem.fill_undamped.Tie as tie
 
 abbrev Inv-loop : tie.InvT-loop
-Inv-loop n index k jr s b undamped₀ i₀ undamped i = (i ≤ k) × (length undamped ≡ length undamped₀) × (undamped ≡ fillRows (zeros 336) (undampedBetween n index jr s b) k i)
+Inv-loop n index k jr s b undamped₀ i₀ undamped i =
+    (i ≤ k) × (length undamped ≡ length undamped₀) ×
+    (undamped ≡ fillRows (zeros 336) (undampedBetween n index jr s b) k i)
 
 abbrev μ-loop : tie.MeasureT-loop
 μ-loop n index k jr s b undamped₀ i₀ undamped i = k - i
 
 loop-holds : tie.Need-loop-holds Inv-loop μ-loop
 unfolding fillRows
-loop-holds c = (search needs, search needs, c .before .before .before .before .pre .1 .1)
+loop-holds c = (search needs, search needs, c .before .before .before .before .pre .2)
 
 undamped-row-requires : tie.Need-undamped-row-requires Inv-loop μ-loop
 undamped-row-requires c κs =
@@ -33,16 +35,12 @@ undamped-row-requires c κs =
     let z : length (zeros 336) ≡ 336 = refl in
     let f : ℕ → ℕ → Scalar = undampedBetween (a .n) (a .index .now) (a .jr .now) (a .s) (a .b .now) in (
       p .0,
-      (
-        p .1 .0,
-        (
-          c .before .loop-test .taken,
-          λ t j ht hj.
-              ap (λ (x : List Float). at x (12 * t + j)) (l .inv .2)
-              ∙ at-fill-rows (zeros 336) f (a .k) (l .i) t j (p .0) ht hj (omega
-              (arith, z, p .0, c .before .loop-test .taken)),
-        ),
-      ),
+      p .1,
+      c .before .loop-test .taken,
+      λ t j ht hj.
+          ap (λ (x : List Float). at x (12 * t + j)) (l .inv .2)
+          ∙ at-fill-rows (zeros 336) f (a .k) (l .i) t j (p .0) ht hj (omega
+          (arith, z, p .0, c .before .loop-test .taken)),
     )
 
 add-i : tie.Need-add-i Inv-loop μ-loop
@@ -52,7 +50,9 @@ loop-less : tie.Need-loop-less Inv-loop μ-loop
 loop-less c = search needs
 
 loop-again : tie.Need-loop-again Inv-loop μ-loop
-loop-again c = let l = c .before .before .before .before .before .loop in (search needs, search needs, c .before .before .undamped-row .ensures ∙ fill-rows-turn _ _ _ (l .i) (l .inv .2))
+loop-again c =
+    let l = c .before .before .before .before .before .loop in
+    (search needs, search needs, c .before .before .undamped-row .ensures ∙ fill-rows-turn _ _ _ (l .i) (l .inv .2))
 
 same-length : tie.Need-same-length Inv-loop μ-loop
 same-length c = search needs

@@ -1,8 +1,4 @@
-use borrow.Author.Needs.{needs}
-use Rattle.run.proofs.problem.gradient.Statement.{statement}
-use Rattle.run.proofs.problem.gradient.Tie as tie
 -- `gradient` meets its contract: the values chosen, into a clear array, then one place more is filled in each turn.
-use borrow.Author.Needs.{needs}
 use mathlib.Core.Path.{_≡_, ap, _∙_}
 use Prim.Native.Nat.{_≤_, _-_}
 use native.Mathlib.Nat.{le-antisymm}
@@ -15,9 +11,15 @@ use Rattle.run.specs.Rows.{rowsIn, slopesBy}
 use Rattle.run.specs.Residuals.{transposedAt}
 use Rattle.run.specs.Vectors.{fillTo}
 use Rattle.run.proofs.VectorLaws.{fill-turn}
+use borrow.Author.Needs.{needs}
+use Rattle.run.proofs.problem.gradient.Statement.{statement}
+use Rattle.run.proofs.problem.gradient.Tie as tie
 
 abbrev Inv-loop : tie.InvT-loop
-Inv-loop xs e index k undamped₀ r p₀ undamped p = (p ≤ k) × (length undamped ≡ length undamped₀) × (undamped ≡ fillTo undamped₀ 156 (λ j. chooseOf (dotTo (slopesBy (rowsIn xs e) (getD index j 0)) (at r) (e .count))) p)
+Inv-loop xs e index k undamped₀ r p₀ undamped p =
+    (p ≤ k) × (length undamped ≡ length undamped₀) ×
+    (undamped ≡ fillTo undamped₀ 156 (λ j. chooseOf (dotTo (slopesBy (rowsIn xs e) (getD index j 0)) (at r) (e .count)))
+    p)
 
 abbrev μ-loop : tie.MeasureT-loop
 μ-loop xs e index k undamped₀ r p₀ undamped p = k - p
@@ -45,7 +47,9 @@ shared-slice-read-transposed-at : tie.Need-shared-slice-read-transposed-at Inv-l
 shared-slice-read-transposed-at c = search needs
 
 transposed-at-requires : tie.Need-transposed-at-requires Inv-loop μ-loop
-transposed-at-requires c κs = let s = c .before .before .before .before .before .before .before .before .before .before .before in (s .pre .0, s .pre .1 .near (c .before .before .before .before .loop .p))
+transposed-at-requires c κs =
+    let s = c .before .before .before .before .before .before .before .before .before .before .before in
+    (s .pre .0, s .pre .1 .near (c .before .before .before .before .loop .p))
 
 choose-requires : tie.Need-choose-requires Inv-loop μ-loop
 choose-requires c κs = search needs
@@ -62,10 +66,20 @@ loop-less c = search needs
 loop-again : tie.Need-loop-again Inv-loop μ-loop
 unfolding transposedAt
 loop-again c =
-    let a = c .before .before .before .before .before .before .before .before .before .before .before .before .before .before .before .before .args in
-    let r = c .before .before .before .before .before .before .before .before .before .before .before .chosen-values .last .1 .1 .0 in
-    let l = c .before .before .before .before .before .before .before .before .before .loop in
-    (search needs, search needs, c .before .before .put .ensures ∙ fill-turn (a .undamped .now) 156 (λ j. chooseOf (dotTo (slopesBy (rowsIn (a .xs .now) (a .e)) (getD (a .index .now) j 0)) (at r) (a .e .count))) (l .p) (l .inv .2) (c .before .before .before .choose .ensures ∙ ap chooseOf (c .before .before .before .before .transposed-at .ensures)))
+    let a = c .before .before .before .before .before .before .before .before .before .before .before .before .before
+    .before .before .before .args in
+    let r = c .before .before .before .before .before .before .before .before .before .before .before .chosen-values
+    .last .1 .1 .0 in
+    let l = c .before .before .before .before .before .before .before .before .before .loop in (
+      search needs,
+      search needs,
+      c .before .before .put .ensures
+          ∙ fill-turn (a .undamped .now) 156
+          (λ j. chooseOf (dotTo (slopesBy (rowsIn (a .xs .now) (a .e)) (getD (a .index .now) j 0)) (at r)
+          (a .e .count)))
+          (l .p) (l .inv .2) (c .before .before .before .choose .ensures
+          ∙ ap chooseOf (c .before .before .before .before .transposed-at .ensures)),
+    )
 
 same-length : tie.Need-same-length Inv-loop μ-loop
 same-length c = search needs

@@ -13,14 +13,15 @@ use Rattle.run.proofs.problem.keep.Statement.{statement}
 use Rattle.run.proofs.problem.keep.Tie as tie
 
 abbrev Inv-loop : tie.InvT-loop
-Inv-loop moving n index₀ count₀ i₀ index count i = (i ≤ n) × (count ≤ i) × (length index ≡ length index₀) × (keptBy count index ≡ keptTo moving i)
+Inv-loop moving n index₀ count₀ i₀ index count i =
+    (i ≤ n) × (count ≤ i) × (length index ≡ length index₀) × (keptBy count index ≡ keptTo moving i)
 
 abbrev μ-loop : tie.MeasureT-loop
 μ-loop moving n index₀ count₀ i₀ index count i = n - i
 
 loop-holds : tie.Need-loop-holds Inv-loop μ-loop
 unfolding keptTo
-loop-holds c = (search needs, search needs, search needs, ap (keptBy 0) (c .before .before .pre .1 .1))
+loop-holds c = (search needs, search needs, search needs, ap (keptBy 0) (c .before .before .pre .2))
 
 shared-slice-read-keep-next : tie.Need-shared-slice-read-keep-next Inv-loop μ-loop
 shared-slice-read-keep-next c = search needs
@@ -28,8 +29,17 @@ shared-slice-read-keep-next c = search needs
 keep-next-requires : tie.Need-keep-next-requires Inv-loop μ-loop
 keep-next-requires c κs =
     let s = c .before .before .before .before .before .before in
-    let z : length (s .args .index .now) ≡ 12 = ap length (s .pre .1 .1) in
-    (omega (arith, c .before .before .loop-test .taken, c .before .before .before .loop .inv .1, c .before .before .before .loop .inv .2, z, s .pre .0), omega (arith, c .before .before .loop-test .taken, c .before .before .before .loop .inv .1, s .pre .0))
+    let z : length (s .args .index .now) ≡ 12 = ap length (s .pre .2) in (
+      omega (
+        arith,
+        c .before .before .loop-test .taken,
+        c .before .before .before .loop .inv .1,
+        c .before .before .before .loop .inv .2,
+        z,
+        s .pre .0,
+      ),
+      omega (arith, c .before .before .loop-test .taken, c .before .before .before .loop .inv .1, s .pre .0),
+    )
 
 add-i : tie.Need-add-i Inv-loop μ-loop
 add-i c = search needs
@@ -41,8 +51,16 @@ loop-again : tie.Need-loop-again Inv-loop μ-loop
 loop-again c =
     let a = c .before .before .before .before .before .before .before .before .before .args in
     let l = c .before .before .before .before .before .before .loop in
-    let m = getD (a .moving .now) (l .i) false in
-    (search needs, omega (arith, l .inv .1, count-more m (keptBy (l .count) (l .index)) (l .i) (c .before .before .keep-next .ensures)), search needs, keep-turn (a .moving .now) (l .i) (l .inv .3) (c .before .before .keep-next .ensures))
+    let m = getD (a .moving .now) (l .i) false in (
+      search needs,
+      omega (
+        arith,
+        l .inv .1,
+        count-more m (keptBy (l .count) (l .index)) (l .i) (c .before .before .keep-next .ensures),
+      ),
+      search needs,
+      keep-turn (a .moving .now) (l .i) (l .inv .3) (c .before .before .keep-next .ensures),
+    )
 
 same-length : tie.Need-same-length Inv-loop μ-loop
 same-length c = search needs

@@ -3,7 +3,8 @@ use mathlib.Core.Path.{refl, sym, subst}
 use lib.Ieee.{ofBits}
 use Rattle.run.specs.program.Problem.{keptBy}
 use Rattle.run.specs.program.Rows.{Small}
-use Rattle.run.proofs.ProblemLaws.{squeezed-chosen, undamped-filled, undamped-damped, undamped-gradient, problem-is}
+use Rattle.run.proofs.ProblemLaws.{squeezed-chosen, undamped-filled, undamped-damped, undamped-gradient}
+use Rattle.run.proofs.ProblemLaws.{problem-is}
 use Rattle.run.proofs.RowLaws.{constraints-small, sum-small}
 use borrow.Author.Needs.{needs}
 use Rattle.run.proofs.problem.problem.Statement.{statement}
@@ -27,32 +28,43 @@ slopes-requires : tie.Need-slopes-requires
 slopes-requires c κs =
     let p = c .before .before .before .before .before .before .before .before .before .before .pre .0 in
     let near = constraints-small (p .0 .few-variables) (p .0 .few-constraints) in
-    (subst Small (sym (c .before .before .constraints .ensures)) near, (p .1 .few, p .1 .long))
+    (subst Small (sym (c .before .before .constraints .ensures)) near, p .1 .few, p .1 .long)
 
 slice-aggregate-squeeze : tie.Need-slice-aggregate-squeeze
 slice-aggregate-squeeze c = search needs
 
 squeeze-requires : tie.Need-squeeze-requires
 squeeze-requires c κs =
-    let p = c .before .before .before .before .before .before .before .before .before .before .before .before .before .before .before .before .pre .0 .1 in
-    (sum-near (c .before .before .before .before .before .before .before .before .before), (p .few, p .long))
+    let p = c .before .before .before .before .before .before .before .before .before .before .before .before .before
+    .before .before .before .pre .0 .1 in
+    (sum-near (c .before .before .before .before .before .before .before .before .before), p .few, p .long)
 
 slice-aggregate-fill-undamped : tie.Need-slice-aggregate-fill-undamped
 slice-aggregate-fill-undamped c = search needs
 
 fill-undamped-requires : tie.Need-fill-undamped-requires
 fill-undamped-requires c κs =
-    let p = c .before .before .before .before .before .before .before .before .before .before .before .before .before .before .before .before .before .before .before .before .pre in
-    (p .0 .1 .few, (p .0 .1 .long, p .1 .1 .1))
+    let p = c .before .before .before .before .before .before .before .before .before .before .before .before .before
+    .before .before .before .before .before .before .before .pre in
+    (p .0 .1 .few, p .0 .1 .long, p .1 .2)
 
 slice-aggregate-scalings : tie.Need-slice-aggregate-scalings
 slice-aggregate-scalings c = search needs
 
 scalings-requires : tie.Need-scalings-requires
-scalings-requires c κs = c .before .before .before .before .before .before .before .before .before .before .before .before .before .before .before .before .before .before .before .before .before .before .before .before .before .before .pre .0 .1 .few
+scalings-requires c κs =
+    c .before .before .before .before .before .before .before .before .before .before .before .before .before .before
+    .before .before .before .before .before .before .before .before .before .before .before .before .pre .0 .1 .few
 
 gradient-requires : tie.Need-gradient-requires
-gradient-requires c κs = (sum-near (c .before .before .before .before .before .before .before .before .before .before .before .before .before .before .before .before .before .before .before .before .before .before .before), c .before .before .before .before .before .before .before .before .before .before .before .before .before .before .before .before .before .before .before .before .before .before .before .before .before .before .before .before .before .before .pre .0 .1)
+gradient-requires c κs = (
+  sum-near
+      (c .before .before .before .before .before .before .before .before .before .before .before .before .before .before
+      .before .before .before .before .before .before .before .before .before),
+  c .before .before .before .before .before .before .before .before .before .before .before .before .before .before
+      .before .before .before .before .before .before .before .before .before .before .before .before .before .before
+      .before .before .pre .0 .1,
+)
 
 same-length : tie.Need-same-length
 same-length c = search needs
@@ -66,17 +78,30 @@ same-length-3 c = search needs
 returns : tie.Need-returns
 unfolding ofBits
 returns c =
-    let a = c .before .before .before .before .before .before .before .before .before .before .before .before .before .before .before .before .before .before .before .before .before .before .before .before .before .before .before .before .before .before .before .before .before .args in
-    let p = c .before .before .before .before .before .before .before .before .before .before .before .before .before .before .before .before .before .before .before .before .before .before .before .before .before .before .before .before .before .before .before .before .before .pre in
+    let a = c .before .before .before .before .before .before .before .before .before .before .before .before .before
+    .before .before .before .before .before .before .before .before .before .before .before .before .before .before
+    .before .before .before .before .before .before .args in
+    let p = c .before .before .before .before .before .before .before .before .before .before .before .before .before
+    .before .before .before .before .before .before .before .before .before .before .before .before .before .before
+    .before .before .before .before .before .before .pre in
     let few = p .0 .1 .few in
-    let s = c .before .before .before .before .before .before .before .before .before .before .before .before .before .before .before .before .before .before .before .before .before .before .before .before .before .before in
-    let l = c .before .before .before .before .before .before .before .before .before .before .before .before .before .before .before .before .before .before .before .before .before .before .slopes .ensures in
+    let s = c .before .before .before .before .before .before .before .before .before .before .before .before .before
+    .before .before .before .before .before .before .before .before .before .before .before .before .before in
+    let l = c .before .before .before .before .before .before .before .before .before .before .before .before .before
+    .before .before .before .before .before .before .before .before .before .slopes .ensures in
     let k = keptBy (a .k) (a .index .now) in
-    let u = undamped-filled (a .c .n) k _ _ _ (a .c .m) (a .b .now) _ few (c .before .before .before .before .before .before .before .before .before .before .before .before .fill-undamped .ensures)
+    let u = undamped-filled (a .c .n) k _ _ _ (a .c .m) (a .b .now) _ few
+    (c .before .before .before .before .before .before .before .before .before .before .before .before .fill-undamped
+    .ensures)
     (c .before .before .before .before .before .before .scalings .ensures) (c .before .before .gradient .ensures) in
-    let jr = squeezed-chosen k _ few (sum-near s .few-rows) refl (c .before .before .before .before .before .before .before .before .before .before .before .before .before .before .before .before .squeeze .ensures) in
+    let jr = squeezed-chosen k _ few (sum-near s .few-rows) refl
+    (c .before .before .before .before .before .before .before .before .before .before .before .before .before .before
+    .before .before .squeeze .ensures) in
     λ mu.
-    problem-is _ _ _ k _ _ mu (s .sum .ensures) (c .before .before .before .before .before .before .before .before .before .before .before .before .before .before .before .before .before .before .before .before .before .before .before .before .before .constraints .ensures) (p .1 .0) (p .1 .1 .0) (l .0) (l .1) jr
+    problem-is _ _ _ k _ _ mu (s .sum .ensures)
+    (c .before .before .before .before .before .before .before .before .before .before .before .before .before .before
+    .before .before .before .before .before .before .before .before .before .before .before .constraints .ensures)
+    (p .1 .0) (p .1 .1) (l .0) (l .1) jr
     (undamped-damped _ k _ _ _ _ _ _ u mu few) (undamped-gradient _ k _ _ _ _ _ _ u)
 
 pub problem-spec : {M : Type 1} → statement M

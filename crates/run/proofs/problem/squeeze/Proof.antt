@@ -27,16 +27,27 @@ unfolding fillRows
 loop-holds c = search needs
 
 mul-squeeze-row : tie.Need-mul-squeeze-row Inv-loop μ-loop
-mul-squeeze-row c = omega (arith, c .before .loop-test .taken, c .before .before .before .before .before .before .pre .0 .few-rows)
+mul-squeeze-row c =
+    omega (arith, c .before .loop-test .taken, c .before .before .before .before .before .before .pre .0 .few-rows)
 
 squeeze-row-requires : tie.Need-squeeze-row-requires Inv-loop μ-loop
 squeeze-row-requires c κs =
     let s = c .before .before .before .before .before .before in
-    let t = c .before .loop-test .taken in
-    ((s .pre .0, omega (arith, t, s .pre .0 .few-rows)), (s .pre .1 .0, (s .pre .1 .1, omega (arith, t, s .pre .0 .few-rows))))
+    let t = c .before .loop-test .taken in (
+      s .pre .0,
+      omega (arith, t, s .pre .0 .few-rows),
+      s .pre .1,
+      s .pre .2,
+      omega (arith, t, s .pre .0 .few-rows),
+    )
 
 add-i : tie.Need-add-i Inv-loop μ-loop
-add-i c = omega (arith, c .before .before .before .before .loop-test .taken, c .before .before .before .before .before .before .before .before .before .pre .0 .few-rows)
+add-i c =
+    omega (
+      arith,
+      c .before .before .before .before .loop-test .taken,
+      c .before .before .before .before .before .before .before .before .before .pre .0 .few-rows,
+    )
 
 loop-less : tie.Need-loop-less Inv-loop μ-loop
 loop-less c = search needs
@@ -60,4 +71,6 @@ unfolding squeezedAs
 returns c = rw (le-antisymm (c .before .loop .inv .0) (c .loop-test .left)) at (c .before .loop .inv .2)
 
 pub squeeze-spec : {M : Type 1} → statement M
-squeeze-spec = tie.close (tie.spec Inv-loop μ-loop loop-holds mul-squeeze-row squeeze-row-requires add-i loop-less loop-again same-length returns)
+squeeze-spec =
+    tie.close (tie.spec Inv-loop μ-loop loop-holds mul-squeeze-row squeeze-row-requires add-i loop-less loop-again
+    same-length returns)

@@ -34,7 +34,9 @@ shared-slice-read-kept-slope : tie.Need-shared-slice-read-kept-slope Inv-loop μ
 shared-slice-read-kept-slope c = search needs
 
 kept-slope-requires : tie.Need-kept-slope-requires Inv-loop μ-loop
-kept-slope-requires c κs = c .before .before .before .before .before .before .before .pre .0
+kept-slope-requires c κs =
+    let p = c .before .before .before .before .before .before .before .pre in
+    (p .0, p .1)
 
 put-requires : tie.Need-put-requires Inv-loop μ-loop
 put-requires c κs = search needs

@@ -25,7 +25,7 @@ returns c =
     let p = c .before .before .before .before .before .pre in
     let m = c .before .before .is-mirrored .ensures (c .before .if1 .taken) in
     c .at .ensures
-    ∙ p .1 .1 (m .0)
+    ∙ p .2 (m .0)
     ∙ ap (λ (z : Scalar). undampedAt (a .jr .now) (a .s) z (a .j) (a .i)) (sym (m .1))
     ∙ undamped-across (a .jr .now) (a .s) (a .b) (a .i) (a .j) (m .0)
 

@@ -1,14 +1,11 @@
 -- `undamped_row` meets its contract: one place more is filled in each turn.
 use borrow.Author.Needs.{needs}
 use mathlib.Core.Path.{_≡_, sym, ap, _∙_}
-use mathlib.Core.List.{List}
-use Prim.Native.Nat.{ℕ, _*_, _≤_, _-_}
+use Prim.Native.Nat.{_*_, _≤_, _-_}
 use native.Mathlib.Nat.{le-antisymm, le-trans}
-use lib.Ieee.{Float}
 use lib.ListN.{length, getD}
 use Rattle.interval.specs.declared.Scalar.{Scalar}
-use Rattle.run.specs.Curvature.{curvatureAt}
-use Rattle.run.specs.program.Problem.{undampedAt}
+use Rattle.run.specs.program.Problem.{undampedAt, undampedBetween}
 use Rattle.run.specs.Vectors.{fillTo}
 use Rattle.run.proofs.ProblemLaws.{curvature-along}
 use Rattle.run.proofs.VectorLaws.{fill-turn}
@@ -16,12 +13,9 @@ use Rattle.run.proofs.Symmetry.{across-kept}
 use Rattle.run.proofs.problem.undamped_row.Statement.{statement}
 use Rattle.run.proofs.problem.undamped_row.Tie as tie
 
--- an entry
-abbrev entryAt : ℕ → List ℕ → List Float → ℕ → List Float → ℕ → ℕ → Scalar
-entryAt n index jr s b i j = undampedAt jr s (curvatureAt n b (getD index i 0) (getD index j 0)) i j
-
 abbrev Inv-loop : tie.InvT-loop
-Inv-loop n index k jr s b h₀ i row j₀ h j = (j ≤ k) × (length h ≡ length h₀) × (h ≡ fillTo h₀ (12 * i) (entryAt n index jr s b i) j)
+Inv-loop n index k jr s b h₀ i row j₀ h j =
+    (j ≤ k) × (length h ≡ length h₀) × (h ≡ fillTo h₀ (12 * i) (undampedBetween n index jr s b i) j)
 
 abbrev μ-loop : tie.MeasureT-loop
 μ-loop n index k jr s b h₀ i row j₀ h j = k - j
@@ -53,19 +47,16 @@ undamped-from-requires c κs =
     let a = c .before .before .before .before .before .before .before .before .before .before .before .args in
     let p = c .before .before .before .before .before .before .before .before .before .before .before .pre in
     let l = c .before .before .before .before .before .loop in
-    let hi = le-trans (p .1 .1 .0) (p .0) in
+    let hi = le-trans (p .2) (p .0) in
     let e = c .before .along2 .ensures
     ∙ curvature-along (a .n) (a .b .now) (getD (a .index .now) (l .j) 0) (getD (a .index .now) (a .i) 0) in (
       hi,
-      (
-        le-trans (c .before .before .before .before .loop-test .taken) (p .0),
-        λ q.
-            across-kept (a .h .now) (entryAt (a .n) (a .index .now) (a .jr .now) (a .s) (a .b .now) (a .i)) (a .i)
-            (l .j)
-            (l .inv .2) hi q
-            ∙ p .1 .1 .1 (l .j) (a .i) q (p .1 .1 .0)
-            ∙ ap (λ (z : Scalar). undampedAt (a .jr .now) (a .s) z (l .j) (a .i)) (sym e),
-      ),
+      le-trans (c .before .before .before .before .loop-test .taken) (p .0),
+      λ q.
+          across-kept (a .h .now) (undampedBetween (a .n) (a .index .now) (a .jr .now) (a .s) (a .b .now) (a .i)) (a .i)
+          (l .j) (l .inv .2) hi q
+          ∙ p .3 (l .j) (a .i) q (p .2)
+          ∙ ap (λ (z : Scalar). undampedAt (a .jr .now) (a .s) z (l .j) (a .i)) (sym e),
     )
 
 mul-put : tie.Need-mul-put Inv-loop μ-loop
@@ -95,7 +86,8 @@ loop-again c =
       search needs,
       search needs,
       c .before .before .put .ensures
-          ∙ fill-turn (a .h .now) (12 * a .i) (entryAt (a .n) (a .index .now) (a .jr .now) (a .s) (a .b .now) (a .i))
+          ∙ fill-turn (a .h .now) (12 * a .i) (undampedBetween (a .n) (a .index .now) (a .jr .now) (a .s) (a .b .now)
+          (a .i))
           (l .j)
           (l .inv .2) e,
     )

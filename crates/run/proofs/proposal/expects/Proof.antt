@@ -21,13 +21,18 @@ module _ (k : tie.After-definitely-greater) where
       squaredOf (sumOf n (a .point .counts .m) (a .point .counts .s) (a .rows .now)) (a .delta .now) n
 
   abbrev bent : Scalar
-  bent = let a = k .before .before .before .before .before .before .before .before .before .before .args in curvatureAlong (a .point .counts .n) (a .b .now) (a .delta .now)
+  bent =
+      let a = k .before .before .before .before .before .before .before .before .before .before .args in
+      curvatureAlong (a .point .counts .n) (a .b .now) (a .delta .now)
 
-  dropped : k .definitely-greater .result ≡ definitelyGreater (subOf (subOf (k .before .before .before .before .before .before .before .before .before .before .args .point .f) sum-left) bent) zeroS
+  dropped : k .definitely-greater .result ≡ definitelyGreater
+      (subOf (subOf (k .before .before .before .before .before .before .before .before .before .before .args .point .f)
+      sum-left) bent) zeroS
   unfolding ofBits
   dropped =
       let a = k .before .before .before .before .before .before .before .before .before .before .args in
-      let left : k .before .before .before .before .squared .result ≡ sum-left = k .before .before .before .before .squared .ensures
+      let left : k .before .before .before .before .squared .result ≡ sum-left =
+      k .before .before .before .before .squared .ensures
       ∙ ap (λ (e : RowSet). squaredOf (rowsIn (a .rows .now) e) (a .delta .now) (a .point .counts .n))
       (k .before .before .before .before .before .sum .ensures) in
       let fall = k .before .before .before .sub .ensures .value ∙ ap (λ (x : Scalar). subOf (a .point .f) x) left in
@@ -69,7 +74,9 @@ falls-requires c κs = search needs
 
 returns-2 : tie.Need-returns-2
 unfolding expectsOf
-returns-2 c = rw (← dropped (c .before .before .before), c .before .before .if1 .left, ← c .before .predicted .ensures) (c .falls .ensures)
+returns-2 c =
+    rw (← dropped (c .before .before .before), c .before .before .if1 .left, ← c .before .predicted .ensures)
+    (c .falls .ensures)
 
 pub expects-spec : {M : Type 1} → statement M
 expects-spec =

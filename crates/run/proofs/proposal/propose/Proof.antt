@@ -28,13 +28,16 @@ marks s = length-unmapped Bool (s .args .start .moving) 12 (s .good .0 .1 .1 .1 
 -- what it stands on, the step, and its parts
 module _ (k : tie.After-damped-step) where
   abbrev from : Standing
-  from = let a = k .before .before .before .before .before .before .before .before .before .before .before .args in standingIn (a .start) (a .area .now)
+  from =
+      let a = k .before .before .before .before .before .before .before .before .before .before .before .args in
+      standingIn (a .start) (a .area .now)
 
   abbrev mu : Scalar
-  mu = k .before .before .before .before .before .before .before .before .before .before .before .args .from .mu
+  mu = k .before .before .before .before .before .before .before .before .before .before .before .args .state .mu
 
   abbrev radius : Scalar
-  radius = k .before .before .before .before .before .before .before .before .before .before .before .args .from .radius
+  radius =
+      k .before .before .before .before .before .before .before .before .before .before .before .args .state .radius
 
   abbrev raw : List Float
   raw = k .damped-step .last .1 .1 .1 .1 .1 .1 .0
@@ -47,10 +50,15 @@ module _ (k : tie.After-damped-step) where
 
   stepped : (r : declared.StepEnd) → k .damped-step .result ≡ r →
       stepOf (from .n) (from .e) (from .b) (from .moving) mu ≡ endOf r raw lambda
-  stepped r e = sym (k .damped-step .ensures ∙ k .before .before .before .before .before .before .before .before .before .before .before .pre .1 .steps mu) ∙ ap (λ s. endOf s raw lambda) e
+  stepped r e =
+      sym (k .damped-step .ensures
+      ∙ k .before .before .before .before .before .before .before .before .before .before .before .pre .1 .steps mu)
+      ∙ ap (λ s. endOf s raw lambda) e
 
 -- what the model expects of it
-expected : (k : tie.After-expects) → let s = k .before .before .before .before .before .before .before .before .before .before .before in expectsOf (from s) (raw s) ≡ truthOf (k .expects .result)
+expected : (k : tie.After-expects) →
+    let s = k .before .before .before .before .before .before .before .before .before .before .before in
+    expectsOf (from s) (raw s) ≡ truthOf (k .expects .result)
 expected k =
     let s = k .before .before .before .before .before .before .before .before .before .before .before in
     let a = s .before .before .before .before .before .before .before .before .before .before .before .args in
@@ -66,7 +74,7 @@ damped-step-requires : tie.Need-damped-step-requires
 damped-step-requires c κs =
     let s = c .before .before .before .before .before .before .before .before .before .before in
     let p = s .pre in
-    (p .0 .0 .few-variables, (marks s, (p .1 .sizes, p .0 .1 .1)))
+    (p .0 .0 .few-variables, marks s, p .1 .sizes, p .0 .2)
 
 enum-known-r : tie.Need-enum-known-r
 enum-known-r c = search needs
@@ -84,7 +92,9 @@ curvature-for-requires : tie.Need-curvature-for-requires
 curvature-for-requires c κs = search needs
 
 expects-requires : tie.Need-expects-requires
-expects-requires c κs = c .before .before .before .before .before .before .before .before .before .before .before .before .before .before .before .before .before .before .before .before .before .pre .0 .0
+expects-requires c κs =
+    c .before .before .before .before .before .before .before .before .before .before .before .before .before .before
+    .before .before .before .before .before .before .before .pre .0 .0
 
 enum-known-drop : tie.Need-enum-known-drop
 enum-known-drop c = search needs
@@ -96,12 +106,19 @@ part-x-start : tie.Need-part-x-start
 part-x-start c = search needs
 
 part-x-end : tie.Need-part-x-end
-part-x-end c = omega (arith, c .before .before .before .before .before .before .before .before .before .before .before .before .before .before .before .before .before .before .before .before .before .before .before .before .before .before .pre .0 .1 .0)
+part-x-end c =
+    let p = c .before .before .before .before .before .before .before .before .before .before .before .before .before
+    .before .before .before .before .before .before .before .before .before .before .before .before .before .pre .0 in
+    omega (arith, p .1)
 
 within-requires : tie.Need-within-requires
 within-requires c κs =
-    let p = c .before .before .before .before .before .before .before .before .before .before .before .before .before .before .before .before .before .before .before .before .before .before .before .before .before .before .before .before .pre .0 in
-    (p .0, c .before .before .before .before .before .before .before .before .before .before .before .before .before .before .before .before .before .damped-step .kept .1 .1 .1 .1 .1 .1 .0 ∙ p .1 .1 .0)
+    let p = c .before .before .before .before .before .before .before .before .before .before .before .before .before
+    .before .before .before .before .before .before .before .before .before .before .before .before .before .before
+    .before .pre .0 in
+    let k = c .before .before .before .before .before .before .before .before .before .before .before .before .before
+    .before .before .before .before .damped-step .kept .1 .1 .1 .1 .1 .1 .0 in
+    (p .0, k ∙ p .2 .delta-length)
 
 same-length : tie.Need-same-length
 same-length c = search needs
@@ -111,11 +128,17 @@ same-length-2 c = search needs
 
 returns : tie.Need-returns
 returns c =
-    let k = c .before .before .before .before .before .before .before .before .before .before .before .before .before .before .before .before .before .before .before .before in
-    let a = c .before .before .before .before .before .before .before .before .before .before .before .before .before .before .before .before .before .before .before .before .before .before .before .before .before .before .before .before .before .before .before .args in
-    let r = c .before .before .before .before .before .before .before .before .before .before .before .before .before .before .r .given in
+    let k = c .before .before .before .before .before .before .before .before .before .before .before .before .before
+    .before .before .before .before .before .before .before in
+    let a = c .before .before .before .before .before .before .before .before .before .before .before .before .before
+    .before .before .before .before .before .before .before .before .before .before .before .before .before .before
+    .before .before .before .before .args in
+    let r = c .before .before .before .before .before .before .before .before .before .before .before .before .before
+    .before .r .given in
     let x = step k (r .0 .0) in
-    let e = expected (c .before .before .before .before .before .before .before .before .before) ∙ ap truthOf (c .before .before .before .before .before .before .before .drop .given .1) ∙ ap ok (c .before .before .before .before .before .if1 .taken) in
+    let e = expected (c .before .before .before .before .before .before .before .before .before)
+    ∙ ap truthOf (c .before .before .before .before .before .before .before .drop .given .1)
+    ∙ ap ok (c .before .before .before .before .before .if1 .taken) in
     c .before .before .within .ensures (lambda k)
     ∙ ap
     (λ (b : List Float).
@@ -134,10 +157,12 @@ same-length-4 c = search needs
 
 returns-2 : tie.Need-returns-2
 returns-2 c =
-    let k = c .before .before .before .before .before .before .before .before .before .before .before .before .before .before .before in
+    let k = c .before .before .before .before .before .before .before .before .before .before .before .before .before
+    .before .before in
     let r = c .before .before .before .before .before .before .before .before .before .r .given in
     let x = step k (r .0 .0) in
-    let e = expected (c .before .before .before .before) ∙ ap truthOf (c .before .before .drop .given .1) ∙ ap ok (c .if1 .left) in
+    let e = expected (c .before .before .before .before) ∙ ap truthOf (c .before .before .drop .given .1)
+    ∙ ap ok (c .if1 .left) in
     sym (proposal-by (from k) (mu k) (radius k) (found x) (stepped k _ (r .1))
     ∙ proposed-not (from k) (mu k) (radius k) x e)
 
@@ -152,11 +177,13 @@ same-length-6 c = search needs
 
 returns-3 : tie.Need-returns-3
 returns-3 c =
-    let k = c .before .before .before .before .before .before .before .before .before .before .before .before .before .before in
+    let k =
+    c .before .before .before .before .before .before .before .before .before .before .before .before .before .before in
     let r = c .before .before .before .before .before .before .before .before .r .given in
     let x = step k (r .0 .0) in
     sym (proposal-by (from k) (mu k) (radius k) (found x) (stepped k _ (r .1))
-    ∙ proposed-refused (from k) (mu k) (radius k) x (expected (c .before .before .before) ∙ ap truthOf (c .before .e .given .1)))
+    ∙ proposed-refused (from k) (mu k) (radius k) x (expected (c .before .before .before)
+    ∙ ap truthOf (c .before .e .given .1)))
 
 enum-told : tie.Need-enum-told
 enum-told c = search needs

@@ -16,7 +16,9 @@ use Rattle.run.proofs.proposal.shortened.Tie as tie
 -- what it stands on, the step cut, and what the model expects of it
 module _ (k : tie.After-expects) where
   abbrev from : Standing
-  from = let a = k .before .before .before .before .before .before .before .before .before .before .before .args in stillFor (a .point) (a .rows .now) (a .b .now) (a .x .now)
+  from =
+      let a = k .before .before .before .before .before .before .before .before .before .before .before .args in
+      stillFor (a .point) (a .rows .now) (a .b .now) (a .x .now)
 
   abbrev cut : List Float
   cut = k .before .before .before .before .cut .last .1 .0
@@ -26,7 +28,10 @@ module _ (k : tie.After-expects) where
 
   -- the step that the definition cuts is this one
   cut-is : (lambda : List Float) →
-      shortenedOf from cut lambda ≡ shortenedOf from (cutOf (from .n) (k .before .before .before .before .before .before .before .before .before .before .before .args .delta .now) (k .before .before .before .before .before .before .before .before .before .before .before .args .shrink)) lambda
+      shortenedOf from cut lambda ≡ shortenedOf from
+      (cutOf (from .n)
+      (k .before .before .before .before .before .before .before .before .before .before .before .args .delta .now)
+      (k .before .before .before .before .before .before .before .before .before .before .before .args .shrink)) lambda
   cut-is lambda = ap (λ (d : List Float). shortenedOf from d lambda) (k .before .before .before .before .cut .ensures)
 
 cut-requires : tie.Need-cut-requires
@@ -40,8 +45,10 @@ enum-known-drop c = search needs
 
 trial-requires : tie.Need-trial-requires
 trial-requires c κs =
-    let p = c .before .before .before .before .before .before .before .before .before .before .before .before .before .before .before .before .pre in
-    (p .0 .few-variables, (p .0 .few-constraints, omega (arith, c .before .before .before .before .before .before .before .before .before .cut .kept, p .1)))
+    let p = c .before .before .before .before .before .before .before .before .before .before .before .before .before
+    .before .before .before .pre in
+    let k = c .before .before .before .before .before .before .before .before .before .cut .kept in
+    (p .0 .few-variables, p .0 .few-constraints, omega (arith, k, p .1))
 
 same-length : tie.Need-same-length
 same-length c = search needs
@@ -49,7 +56,8 @@ same-length c = search needs
 returns : tie.Need-returns
 returns c lambda =
     let k = c .before .before .before .before .before .before .before .before in
-    let e = expected k ∙ ap truthOf (c .before .before .before .before .before .before .drop .given .1) ∙ ap ok (c .before .before .before .before .if1 .taken) in
+    let e = expected k ∙ ap truthOf (c .before .before .before .before .before .before .drop .given .1)
+    ∙ ap ok (c .before .before .before .before .if1 .taken) in
     c .before .before .trial .ensures lambda
     ∙ trial-reads (from k) (cut k) lambda
     ∙ sym (shortened-drop (from k) (cut k) lambda e)

@@ -19,7 +19,9 @@ use Rattle.run.proofs.proposal.trial.Statement.{statement}
 use Rattle.run.proofs.proposal.trial.Tie as tie
 
 abbrev Inv-loop : tie.InvT-loop
-Inv-loop n m rows x delta₀ i₀ delta i = (i ≤ 12) × (length delta ≡ length delta₀) × (delta ≡ fillTo delta₀ 0 (λ j. pick (ltb j n) (chooseOf (at delta₀ j)) zeroS) i)
+Inv-loop n m rows x delta₀ i₀ delta i =
+    (i ≤ 12) × (length delta ≡ length delta₀) ×
+    (delta ≡ fillTo delta₀ 0 (λ j. pick (ltb j n) (chooseOf (at delta₀ j)) zeroS) i)
 
 abbrev μ-loop : tie.MeasureT-loop
 μ-loop n m rows x delta₀ i₀ delta i = 12 - i
@@ -49,11 +51,19 @@ loop-again c =
     let a = c .before .before .before .before .before .before .before .before .before .before .before .before .args in
     let f : ℕ → Scalar = λ j. pick (ltb j (a .n)) (chooseOf (at (a .delta .now) j)) zeroS in
     let z : 0 + l .i ≡ l .i = omega arith in
-    let v : c .before .before .before .choose-if .result ≡ f (l .i) = c .before .before .before .choose-if .ensures ∙ ap (λ (s : Scalar). pick (ltb (l .i) (a .n)) (chooseOf s) zeroS) (c .before .before .before .before .before .at .ensures ∙ at-next (a .delta .now) f (l .i) (l .inv .2)) in
-    (search needs, search needs, c .before .before .put .ensures ∙ rw z at (fill-turn (a .delta .now) 0 f (l .i) (l .inv .2) v))
+    let v : c .before .before .before .choose-if .result ≡ f (l .i) = c .before .before .before .choose-if .ensures
+    ∙ ap (λ (s : Scalar). pick (ltb (l .i) (a .n)) (chooseOf s) zeroS)
+    (c .before .before .before .before .before .at .ensures ∙ at-next (a .delta .now) f (l .i) (l .inv .2)) in (
+      search needs,
+      search needs,
+      c .before .before .put .ensures
+          ∙ rw z at (fill-turn (a .delta .now) 0 f (l .i) (l .inv .2) v),
+    )
 
 tried-requires : tie.Need-tried-requires Inv-loop μ-loop
-tried-requires c κs = let p = c .before .before .before .before .before .before .pre in (p .0, (p .1 .0, c .before .before .loop .inv .1 ∙ p .1 .1))
+tried-requires c κs =
+    let p = c .before .before .before .before .before .before .pre in
+    (p .0, p .1, c .before .before .loop .inv .1 ∙ p .2)
 
 same-length : tie.Need-same-length Inv-loop μ-loop
 same-length c = search needs
@@ -62,8 +72,12 @@ returns : tie.Need-returns Inv-loop μ-loop
 returns c lambda =
     let s = c .before .before .before .before .before .before .before in
     let a = s .args in
-    let e : c .before .before .before .loop .delta ≡ chosenOf vector (a .delta .now) 0 (a .n) = rw (le-antisymm (c .before .before .before .loop .inv .0) (c .before .before .loop-test .left)) at (c .before .before .before .loop .inv .2) ∙ chosen-in-place (a .delta .now) (a .n) (s .pre .1 .1) (s .pre .0) in
-    c .tried .ensures lambda ∙ trial-is (pointOf (a .n) (a .x .now) (constraintsOf (a .n) (a .m) (a .rows .now))) (a .delta .now) (c .before .before .before .loop .delta) lambda e
+    let e : c .before .before .before .loop .delta ≡ chosenOf vector (a .delta .now) 0 (a .n) =
+    rw (le-antisymm (c .before .before .before .loop .inv .0)
+    (c .before .before .loop-test .left)) at (c .before .before .before .loop .inv .2)
+    ∙ chosen-in-place (a .delta .now) (a .n) (s .pre .2) (s .pre .0) in
+    c .tried .ensures lambda ∙ trial-is (pointOf (a .n) (a .x .now) (constraintsOf (a .n) (a .m) (a .rows .now)))
+    (a .delta .now) (c .before .before .before .loop .delta) lambda e
 
 pub trial-spec : {M : Type 1} → statement M
 trial-spec =

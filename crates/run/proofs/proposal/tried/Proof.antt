@@ -15,12 +15,15 @@ use Rattle.run.proofs.proposal.tried.Tie as tie
 -- what it stands on, and the point that the step leads to
 module _ (k : tie.After-predicted) where
   abbrev from : Standing
-  from = let a = k .before .before .before .before .before .before .before .args in pointOf (a .n) (a .x .now) (constraintsOf (a .n) (a .m) (a .rows .now))
+  from =
+      let a = k .before .before .before .before .before .before .before .args in
+      pointOf (a .n) (a .x .now) (constraintsOf (a .n) (a .m) (a .rows .now))
 
   abbrev next : List Float
   next = k .before .before .moved .last .1 .1 .1 .0
 
-  next-is : next ≡ movedOf (from .n) (from .x) (k .before .before .before .before .before .before .before .args .delta .now)
+  next-is : next ≡ movedOf (from .n) (from .x)
+      (k .before .before .before .before .before .before .before .args .delta .now)
   next-is = k .before .before .moved .ensures
 
 slice-aggregate-moved : tie.Need-slice-aggregate-moved
@@ -42,7 +45,11 @@ same-requires : tie.Need-same-requires
 same-requires c κs = search needs
 
 returns : tie.Need-returns
-returns c lambda = let k = c .before .before .before .before .before .before in sym (tried-same (from k) _ _ lambda (next-is k) {p = c .before .before .before .before .p .given .0 .0} (sym (k .predicted .ensures) ∙ rw (c .before .before .before .before .p .given .1)) (sym (c .before .same .ensures) ∙ c .if1 .taken))
+returns c lambda =
+    let k = c .before .before .before .before .before .before in
+    sym (tried-same (from k) _ _ lambda (next-is k) {p = c .before .before .before .before .p .given .0 .0}
+    (sym (k .predicted .ensures) ∙ rw (c .before .before .before .before .p .given .1)) (sym (c .before .same .ensures)
+    ∙ c .if1 .taken))
 
 norm-of-requires : tie.Need-norm-of-requires
 norm-of-requires c κs = search needs
@@ -54,13 +61,19 @@ returns-2 : tie.Need-returns-2
 unfolding bind
 returns-2 c lambda =
     let k = c .before .before .before .before .before .before .before .before in
-    sym (tried-asks (from k) _ _ lambda (next-is k) {p = c .before .before .before .before .before .before .p .given .0 .0} (sym (k .predicted .ensures) ∙ rw (c .before .before .before .before .before .before .p .given .1)) (sym (c .before .before .before .same .ensures) ∙ c .before .before .if1 .left) ∙ rw (← c .before .norm-of .ensures) (sym (c .asked .ensures _ _ _)))
+    sym
+    (tried-asks (from k) _ _ lambda (next-is k) {p = c .before .before .before .before .before .before .p .given .0 .0}
+    (sym (k .predicted .ensures) ∙ rw (c .before .before .before .before .before .before .p .given .1))
+    (sym (c .before .before .before .same .ensures) ∙ c .before .before .if1 .left)
+    ∙ rw (← c .before .norm-of .ensures) (sym (c .asked .ensures _ _ _)))
 
 enum-known-e : tie.Need-enum-known-e
 enum-known-e c = search needs
 
 returns-3 : tie.Need-returns-3
-returns-3 c lambda = let k = c .before .before .before in sym (tried-refused (from k) _ _ lambda (next-is k) (sym (k .predicted .ensures) ∙ rw (c .before .e .given .1)))
+returns-3 c lambda =
+    let k = c .before .before .before in
+    sym (tried-refused (from k) _ _ lambda (next-is k) (sym (k .predicted .ensures) ∙ rw (c .before .e .given .1)))
 
 pub tried-spec : {M : Type 1} → statement M
 tried-spec =

@@ -19,7 +19,9 @@ use Rattle.run.proofs.proposal.within.Tie as tie
 -- what it stands on, the step, and its length
 module _ (k : tie.After-norm-of) where
   abbrev from : Standing
-  from = let a = k .before .before .before .before .before .before .before .args in stillFor (a .point) (a .rows .now) (a .b .now) (a .x .now)
+  from =
+      let a = k .before .before .before .before .before .before .before .args in
+      stillFor (a .point) (a .rows .now) (a .b .now) (a .x .now)
 
   abbrev radius : Scalar
   radius = k .before .before .before .before .before .before .before .args .radius
@@ -41,8 +43,9 @@ definitely-greater-requires c κs = search needs
 
 trial-requires : tie.Need-trial-requires
 trial-requires c κs =
-    let p = c .before .before .before .before .before .before .before .before .before .before .before .before .before .pre in
-    (p .0 .few-variables, (p .0 .few-constraints, p .1))
+    let p =
+    c .before .before .before .before .before .before .before .before .before .before .before .before .before .pre in
+    (p .0 .few-variables, p .0 .few-constraints, p .1)
 
 same-length : tie.Need-same-length
 same-length c = search needs
@@ -54,7 +57,8 @@ returns c lambda =
     c .before .before .trial .ensures lambda
     ∙ trial-reads (from k) (raw k) lambda
     ∙ sym (within-whole (from k) (radius k) (raw k) lambda (l .0 .0) (long k ∙ ap resultOf (l .1))
-    (sym (c .before .before .before .before .before .definitely-greater .ensures) ∙ not-true _ (c .before .before .before .before .if1 .taken)))
+    (sym (c .before .before .before .before .before .definitely-greater .ensures)
+    ∙ not-true _ (c .before .before .before .before .if1 .taken)))
 
 div-requires : tie.Need-div-requires
 div-requires c κs = search needs
@@ -63,7 +67,9 @@ enum-known-shrink : tie.Need-enum-known-shrink
 enum-known-shrink c = search needs
 
 shortened-requires : tie.Need-shortened-requires
-shortened-requires c κs = c .before .before .before .before .before .before .before .before .before .before .before .before .before .before .before .before .before .pre
+shortened-requires c κs =
+    c .before .before .before .before .before .before .before .before .before .before .before .before .before .before
+    .before .before .before .pre
 
 same-length-2 : tie.Need-same-length-2
 same-length-2 c = search needs
@@ -72,8 +78,11 @@ returns-2 : tie.Need-returns-2
 returns-2 c lambda =
     let k = c .before .before .before .before .before .before .before .before .before .before .before .before .before in
     let l = c .before .before .before .before .before .before .before .before .before .before .before .length .given in
-    let greater = sym (c .before .before .before .before .before .before .before .before .before .definitely-greater .ensures) ∙ not-false _ (c .before .before .before .before .before .before .before .before .if1 .left) in
-    let shrink = sym (c .before .before .before .before .before .before .before .div .ensures .value) ∙ ap scalar.resultOf (c .before .before .before .before .before .shrink .given .1) in
+    let greater = sym
+    (c .before .before .before .before .before .before .before .before .before .definitely-greater .ensures)
+    ∙ not-false _ (c .before .before .before .before .before .before .before .before .if1 .left) in
+    let shrink = sym (c .before .before .before .before .before .before .before .div .ensures .value)
+    ∙ ap scalar.resultOf (c .before .before .before .before .before .shrink .given .1) in
     c .before .before .shortened .ensures lambda
     ∙ sym (within-cut (from k) (radius k) (raw k) lambda (l .0 .0) (long k ∙ ap resultOf (l .1)) greater
     ∙ bind-ok _ shrink)
@@ -88,7 +97,8 @@ returns-3 : tie.Need-returns-3
 returns-3 c lambda =
     let k = c .before .before .before .before .before .before .before .before .before in
     let l = c .before .before .before .before .before .before .before .length .given in
-    let greater = sym (c .before .before .before .before .before .definitely-greater .ensures) ∙ not-false _ (c .before .before .before .before .if1 .left) in
+    let greater = sym (c .before .before .before .before .before .definitely-greater .ensures)
+    ∙ not-false _ (c .before .before .before .before .if1 .left) in
     let e = sym (c .before .before .before .div .ensures .value) ∙ ap scalar.resultOf (c .before .e .given .1) in
     sym (within-cut (from k) (radius k) (raw k) lambda (l .0 .0) (long k ∙ ap resultOf (l .1)) greater
     ∙ bind-refused _ e)

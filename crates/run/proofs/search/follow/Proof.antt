@@ -28,7 +28,9 @@ flat-requires : tie.Need-flat-requires
 flat-requires c κs = search needs
 
 returns-3 : tie.Need-returns-3
-returns-3 c on delta lambda next = rw (c .before .before .p2 .given .1) (ap (λ (s : Stop). stops (c .before .before .before .before .args .x) s) (c .flat .ensures))
+returns-3 c on delta lambda next =
+    rw (c .before .before .p2 .given .1) (ap (λ (s : Stop). stops (c .before .before .before .before .args .x) s)
+    (c .flat .ensures))
 
 enum-known-p-3 : tie.Need-enum-known-p-3
 enum-known-p-3 c = search needs
@@ -43,7 +45,10 @@ damp-or-leave-requires : tie.Need-damp-or-leave-requires
 damp-or-leave-requires c κs = c .before .before .pre
 
 returns-5 : tie.Need-returns-5
-returns-5 c on delta lambda next = let a = c .before .before .before .args in rw (c .before .enum-told2 .given .1) (damped-turn (rejectedFor (withRadius (a .x) (a .max)) why.Unresolved) (c .damp-or-leave .ensures) on delta lambda next)
+returns-5 c on delta lambda next =
+    let a = c .before .before .before .args in
+    rw (c .before .enum-told2 .given .1) (damped-turn (rejectedFor (withRadius (a .x) (a .max)) why.Unresolved)
+    (c .damp-or-leave .ensures) on delta lambda next)
 
 enum-told-3 : tie.Need-enum-told-3
 enum-told-3 c = search needs
@@ -52,7 +57,9 @@ damp-or-leave-requires-2 : tie.Need-damp-or-leave-requires-2
 damp-or-leave-requires-2 c κs = c .before .before .pre
 
 returns-6 : tie.Need-returns-6
-returns-6 c on delta lambda next = rw (c .before .enum-told3 .given .1) (damped-turn (rejectedFor (c .before .before .before .args .x) why.NotPositive) (c .damp-or-leave2 .ensures) on delta lambda next)
+returns-6 c on delta lambda next =
+    rw (c .before .enum-told3 .given .1) (damped-turn (rejectedFor (c .before .before .before .args .x) why.NotPositive)
+    (c .damp-or-leave2 .ensures) on delta lambda next)
 
 pub follow-spec : {M : Type 1} → statement M
 follow-spec =

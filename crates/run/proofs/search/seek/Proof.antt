@@ -37,7 +37,7 @@ prepare-requires : tie.Need-prepare-requires
 unfolding ofBits
 prepare-requires c κs =
     let s = c .before .before .before .before .before .before .before .before .before .before in
-    (s .pre .0 .0, (marks s, (refl, refl)))
+    (s .pre .0 .0, marks s, refl, refl)
 
 slice-aggregate-seek-from : tie.Need-slice-aggregate-seek-from
 slice-aggregate-seek-from c = search needs
@@ -47,8 +47,15 @@ slice-aggregate-seek-from-2 c = search needs
 
 seek-from-requires : tie.Need-seek-from-requires
 seek-from-requires c κs =
-    let p = c .before .before .before .before .before .before .before .before .before .before .before .before .before .before .before .before .before .pre in
-    (p .0, (rw (c .before .before .before .before .before .before .before .before .before .before .curvature-for .ensures) at (c .before .before .before .before .before .before .prepare .ensures), p .1))
+    let p = c .before .before .before .before .before .before .before .before .before .before .before .before .before
+    .before .before .before .before .pre in (
+      p .0,
+      (
+        rw (c .before .before .before .before .before .before .before .before .before .before .curvature-for
+            .ensures) at (c .before .before .before .before .before .before .prepare .ensures),
+        p .1,
+      ),
+    )
 
 same-length : tie.Need-same-length
 same-length c = search needs

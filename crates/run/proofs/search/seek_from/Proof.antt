@@ -1,4 +1,5 @@
--- `seek_from` meets its contract: at every turn the search that is left gives what the whole one gives, with fewer dampings.
+-- `seek_from` meets its contract: at every turn the search that is left gives what the whole one gives, with fewer
+-- dampings.
 use mathlib.Core.Path.{_≡_, refl, sym, ap, _∙_}
 use Prim.Native.Nat.{ℕ, _-_}
 use native.Mathlib.Omega.{arith}
@@ -30,16 +31,24 @@ abbrev μ-loop : tie.MeasureT-loop
 -- what it stands on, the question so far, and how it is followed
 module _ (k : tie.After-follow Inv-loop μ-loop) where
   abbrev standing : Standing
-  standing = let a = k .before .before .before .before .before .before .before .before .before .before .before .before .before .before .args in standingIn (a .start) (a .area .now)
+  standing =
+      let a = k .before .before .before .before .before .before .before .before .before .before .before .before .before
+      .before .args in standingIn (a .start) (a .area .now)
 
   abbrev count : ℕ
-  count = k .before .before .before .before .before .before .before .before .before .before .before .before .before .before .args .start .point .counts .m
+  count =
+      k .before .before .before .before .before .before .before .before .before .before .before .before .before .before
+      .args .start .point .counts .m
 
   abbrev max : Scalar
-  max = k .before .before .before .before .before .before .before .before .before .before .before .before .before .before .args .start .«max_step»
+  max =
+      k .before .before .before .before .before .before .before .before .before .before .before .before .before .before
+      .args .start .«max_step»
 
   abbrev start : Search
-  start = k .before .before .before .before .before .before .before .before .before .before .before .before .before .before .args .from
+  start =
+      k .before .before .before .before .before .before .before .before .before .before .before .before .before .before
+      .args .from
 
   abbrev here : Search
   here = k .before .before .before .before .before .before .before .before .loop .state
@@ -49,18 +58,21 @@ module _ (k : tie.After-follow Inv-loop μ-loop) where
 
   abbrev written : Turn → (Search → Found) → Found
   written r on =
-      let a = k .before .before .before .before .before .before .before .before .before .before .before .before .before .before .args in
+      let a = k .before .before .before .before .before .before .before .before .before .before .before .before .before
+      .before .args in
       let l = k .before .before .before .before .before .propose .last .1 .1 .1 .1 .1 .1 in
       turnResult r on (l .0) (l .1 .0) (nextIn (a .start) (a .area .now) (l .0))
 
   followed-as : (r : Turn) → k .follow .result ≡ r → (on : Search → Found) →
       written r on ≡ follow on count max here (proposalOf standing (here .mu) (here .radius))
   followed-as r e on =
-      let a = k .before .before .before .before .before .before .before .before .before .before .before .before .before .before .args in
+      let a = k .before .before .before .before .before .before .before .before .before .before .before .before .before
+      .before .args in
       let l = k .before .before .before .before .before .propose .last .1 .1 .1 .1 .1 .1 in
       sym (ap (λ (t : Turn). written t on) e)
       ∙ k .follow .ensures on (l .0) (l .1 .0) (nextIn (a .start) (a .area .now) (l .0))
-      ∙ ap (λ (p : Res Proposal). follow on count max here p) (k .before .before .before .before .before .propose .ensures)
+      ∙ ap (λ (p : Res Proposal). follow on count max here p)
+      (k .before .before .before .before .before .propose .ensures)
 
   grown-to : (y : Search) → k .follow .result ≡ t.On y → Grew here y
   grown-to y e = grew count max here y (proposalOf standing (here .mu) (here .radius)) (followed-as (t.On y) e)
@@ -79,12 +91,17 @@ propose-requires : tie.Need-propose-requires Inv-loop μ-loop
 propose-requires c κs =
     let i = c .before .before .loop .inv in
     let p = c .before .before .before .before .before .before .before .before .pre in
-    ((p .0 .0, (p .0 .1 .0, (i .0 ∙ p .0 .1 .1 .0, i .1 ∙ p .0 .1 .1 .1))), p .1 .0)
+    let l = p .0 .2 in
+    let d = i .0 ∙ l .delta-length in
+    let m = i .1 ∙ l .lambda-length in
+    ((p .0 .0, p .0 .1, record { delta-length = d; lambda-length = m }), p .1 .0)
 
 follow-requires : tie.Need-follow-requires Inv-loop μ-loop
 follow-requires c κs =
+    let p =
+    c .before .before .before .before .before .before .before .before .before .before .before .before .before .pre in
     let i = c .before .before .before .before .before .before .before .loop .inv .2 in
-    omega (arith, few _ _ _ i, i .later, c .before .before .before .before .before .before .before .before .before .before .before .before .before .pre .1 .1 .0)
+    omega (arith, few _ _ _ i, i .later, p .1 .1 .0)
 
 enum-known-left : tie.Need-enum-known-left Inv-loop μ-loop
 enum-known-left c = search needs

@@ -19,7 +19,7 @@ slice-aggregate-keep c = search needs
 keep-requires : tie.Need-keep-requires
 keep-requires c κs =
     let p = c .before .before .before .before .before .before .pre in
-    (p .0, (p .1 .0, refl))
+    (p .0, p .1, refl)
 
 slice-aggregate-kept-step : tie.Need-slice-aggregate-kept-step
 slice-aggregate-kept-step c = search needs
@@ -28,7 +28,8 @@ kept-step-requires : tie.Need-kept-step-requires
 unfolding ofBits
 kept-step-requires c κs =
     let p = c .before .before .before .before .before .before .before .before .before .before .pre in
-    (omega (arith, kept-few _ _ (c .before .before .before .keep .ensures), p .0), (p .1 .1 .0, (refl, p .1 .1 .1 .1)))
+    let few = kept-few _ _ (c .before .before .before .keep .ensures) in
+    (omega (arith, few, p .0), p .2, record { delta-length = refl; lambda-length = p .3 .lambda-length })
 
 slice-aggregate-spread : tie.Need-slice-aggregate-spread
 slice-aggregate-spread c = search needs
@@ -38,9 +39,10 @@ slice-aggregate-spread-2 c = search needs
 
 spread-requires : tie.Need-spread-requires
 spread-requires c κs =
-    let p = c .before .before .before .before .before .before .before .before .before .before .before .before .before .before .before .before .before .pre in
+    let p = c .before .before .before .before .before .before .before .before .before .before .before .before .before
+    .before .before .before .before .pre in
     let k = c .before .before .before .before .before .before .before .before .before .before .keep in
-    (p .1 .1 .1 .0, inside (kept-few _ _ (k .ensures)) (p .0) (k .kept .1 .1 .0))
+    (p .3 .delta-length, inside (kept-few _ _ (k .ensures)) (p .0) (k .kept .1 .1 .0))
 
 same-length : tie.Need-same-length
 same-length c = search needs
@@ -51,7 +53,9 @@ same-length-2 c = search needs
 returns : tie.Need-returns
 returns c =
     let k = c .before .before .before .before .before .before .before .before .before .kept-step in
-    prepared-by _ _ _ _ _ _ (c .before .before .before .before .before .before .before .before .before .before .before .before .before .keep .ensures) (k .ensures) (end-spread (k .result) _ _ _ (c .before .before .spread .ensures))
+    prepared-by _ _ _ _ _ _
+    (c .before .before .before .before .before .before .before .before .before .before .before .before .before .keep
+    .ensures) (k .ensures) (end-spread (k .result) _ _ _ (c .before .before .spread .ensures))
 
 pub damped-step-spec : {M : Type 1} → statement M
 damped-step-spec =

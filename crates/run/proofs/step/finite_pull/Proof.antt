@@ -16,7 +16,10 @@ same-length : tie.Need-same-length
 same-length c = search needs
 
 returns : tie.Need-returns
-returns c = (c .before .before .before .before .before .before .pull .ensures, rw (← c .before .before .before .all-finite .ensures, c .before .before .if1 .taken) (c .all-finite2 .ensures))
+returns c = (
+  c .before .before .before .before .before .before .pull .ensures,
+  rw (← c .before .before .before .all-finite .ensures, c .before .before .if1 .taken) (c .all-finite2 .ensures),
+)
 
 same-length-2 : tie.Need-same-length-2
 same-length-2 c = search needs

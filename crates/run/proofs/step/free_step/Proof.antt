@@ -1,4 +1,5 @@
--- `free_step` meets its contract: the weights along the directions decide, then whether the step and what pulls against it
+-- `free_step` meets its contract: the weights along the directions decide, then whether the step and what pulls against
+-- it
 -- are finite; the multipliers end it.
 use mathlib.Core.Path.{_∙_, refl}
 use lib.Ieee.{ofBits}
@@ -30,7 +31,11 @@ slice-aggregate-finite-pull c = search needs
 
 finite-pull-requires : tie.Need-finite-pull-requires
 unfolding ofBits
-finite-pull-requires c κs = (c .before .before .before .before .before .before .before .before .before .before .before .before .before .before .before .pre .0 .few-kept, refl)
+finite-pull-requires c κs = (
+  c .before .before .before .before .before .before .before .before .before .before .before .before .before .before
+      .before .pre .0 .few-kept,
+  refl,
+)
 
 slice-aggregate-multipliers : tie.Need-slice-aggregate-multipliers
 slice-aggregate-multipliers c = search needs
@@ -50,16 +55,21 @@ same-length-2 c = search needs
 returns : tie.Need-returns
 unfolding bind
 returns c =
-    let a = c .before .before .before .before .before .before .before .before .before .before .before .before .before .before .before .before .before .before .before .before .before .before .before .before .args in
-    let p = c .before .before .before .before .before .before .before .before .before .before .before .before .before .before .before .before .before .before .before .before .before .before .before .before .pre in
+    let a = c .before .before .before .before .before .before .before .before .before .before .before .before .before
+    .before .before .before .before .before .before .before .before .before .before .before .args in
+    let p = c .before .before .before .before .before .before .before .before .before .before .before .before .before
+    .before .before .before .before .before .before .before .before .before .before .before .pre in
     let e = c .before .before .before .before .before .before .before .before .finite-pull .ensures in
     let m = c .before .before .before .multipliers .ensures
     ∙ multipliers-part (a .d .kept) (a .d .independent) (a .factors .now) _ (p .0 .few-kept) (p .0 .few-independent)
-    (omega (arith, p .1 .1 .0)) (a .order .now)
+    (omega (arith, p .1 .factors-length)) (a .order .now)
     ∙ multipliers-reads _ _ _ in
     c .multiplied .ensures _ _
     ∙ stepped-on _ _ _ (e .0) (e .1) (c .before .before .before .before .before .before .if1 .taken) m
-    ∙ free-step _ _ _ _ (rw (c .before .before .before .before .before .before .before .before .before .before .before .enum-told .given .1) at (c .before .before .before .before .before .before .before .before .before .before .before .before .before .before .before .free-part .ensures))
+    ∙ free-step _ _ _ _
+    (rw (c .before .before .before .before .before .before .before .before .before .before .before .enum-told .given
+    .1) at (c .before .before .before .before .before .before .before .before .before .before .before .before .before
+    .before .before .free-part .ensures))
 
 same-length-3 : tie.Need-same-length-3
 same-length-3 c = search needs
@@ -69,7 +79,9 @@ unfolding bind
 returns-2 c =
     let e = c .before .before .finite-pull .ensures in
     stepped-not _ _ _ (e .0) (e .1) (c .if1 .left)
-    ∙ free-step _ _ _ _ (rw (c .before .before .before .before .before .enum-told .given .1) at (c .before .before .before .before .before .before .before .before .before .free-part .ensures))
+    ∙ free-step _ _ _ _
+    (rw (c .before .before .before .before .before .enum-told .given .1) at (c .before .before .before .before .before
+    .before .before .before .before .free-part .ensures))
 
 enum-told-2 : tie.Need-enum-told-2
 enum-told-2 c = search needs
@@ -79,7 +91,8 @@ same-length-4 c = search needs
 
 returns-3 : tie.Need-returns-3
 unfolding bind
-returns-3 c = free-step _ _ _ _ (rw (c .enum-told2 .given .1) at (c .before .before .before .before .free-part .ensures))
+returns-3 c =
+    free-step _ _ _ _ (rw (c .enum-told2 .given .1) at (c .before .before .before .before .free-part .ensures))
 
 enum-known-e : tie.Need-enum-known-e
 enum-known-e c = search needs
@@ -89,7 +102,8 @@ same-length-5 c = search needs
 
 returns-4 : tie.Need-returns-4
 unfolding bind
-returns-4 c = free-step _ _ _ _ (rw (c .before .e .given .1) at (c .before .before .before .before .before .free-part .ensures))
+returns-4 c =
+    free-step _ _ _ _ (rw (c .before .e .given .1) at (c .before .before .before .before .before .free-part .ensures))
 
 pub free-step-spec : {M : Type 1} → statement M
 free-step-spec =

@@ -15,7 +15,7 @@ damped-requires : tie.Need-damped-requires
 unfolding ofBits
 damped-requires c κs =
     let p = c .before .before .before .before .before .pre in
-    (p .0, (omega (arith, p .1 .0 .fixed-length), refl))
+    (p .0, omega (arith, p .1 .fixed-length), refl)
 
 slice-aggregate-all-finite : tie.Need-slice-aggregate-all-finite
 slice-aggregate-all-finite c = search needs
@@ -49,11 +49,12 @@ part-prepared-step-end-2 c = search needs
 
 prepared-step-requires : tie.Need-prepared-step-requires
 prepared-step-requires c κs =
-    let s = c .before .before .before .before .before .before .before .before .before .before .before .before .before .before .before in
+    let s = c .before .before .before .before .before .before .before .before .before .before .before .before .before
+    .before .before in
     let p = s .pre in
-    let z = p .1 .0 in
+    let z = p .1 in
     let long = cut-length 888 336 (s .args .fixed .now) (omega (arith, z .fixed-length)) in
-    (p .0, (z .few, (z .order-length, (long, p .1 .1))))
+    (p .0, z .few, record { order-length = z .order-length; factors-length = long }, p .2)
 
 same-length : tie.Need-same-length
 same-length c = search needs
@@ -63,12 +64,19 @@ same-length-2 c = search needs
 
 returns : tie.Need-returns
 returns c =
-    damped-on _ _ _ _ _ (c .before .before .before .before .before .before .before .before .before .before .before .before .before .before .before .before .before .before .before .before .pre .0) (c .before .before .before .before .before .before .before .before .before .before .before .before .before .before .damped .ensures) (c .before .before .before .before .before .before .before .before .before .before .before .all-finite .ensures) (c .before .before .before .before .before .before .before .before .before .before .if1 .taken)
+    damped-on _ _ _ _ _
+    (c .before .before .before .before .before .before .before .before .before .before .before .before .before .before
+    .before .before .before .before .before .before .pre .0)
+    (c .before .before .before .before .before .before .before .before .before .before .before .before .before .before
+    .damped .ensures)
+    (c .before .before .before .before .before .before .before .before .before .before .before .all-finite .ensures)
+    (c .before .before .before .before .before .before .before .before .before .before .if1 .taken)
     (c .before .before .before .before .prepared-step .ensures)
 
 returns-2 : tie.Need-returns-2
 returns-2 c =
-    damped-not _ _ _ _ _ (c .before .before .before .before .before .before .before .before .before .before .pre .0) (c .before .before .before .before .damped .ensures) (c .before .all-finite .ensures) (c .if1 .left)
+    damped-not _ _ _ _ _ (c .before .before .before .before .before .before .before .before .before .before .pre .0)
+    (c .before .before .before .before .damped .ensures) (c .before .all-finite .ensures) (c .if1 .left)
 
 pub kept-step-spec : {M : Type 1} → statement M
 kept-step-spec =

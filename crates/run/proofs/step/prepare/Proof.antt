@@ -1,4 +1,5 @@
--- `prepare` meets its contract: the kept variables, the problem, from clear arrays, and what follows from its constraints.
+-- `prepare` meets its contract: the kept variables, the problem, from clear arrays, and what follows from its
+-- constraints.
 use mathlib.Core.List.{List}
 use mathlib.Core.Path.{_≡_, refl, ap, _∙_}
 use native.Mathlib.Omega.{arith}
@@ -8,7 +9,8 @@ use Rattle.run.specs.program.Problem.{KeptFits}
 use Rattle.run.proofs.Concatenation.{length-both}
 use Rattle.run.proofs.EndingLaws.{cut-length}
 use Rattle.run.proofs.ProblemLaws.{kept-few, kept-near}
-use Rattle.run.proofs.StepLaws.{clear-long, first-clear, with-first, first-long, second-clear, both-written, prepared-is}
+use Rattle.run.proofs.StepLaws.{clear-long, first-clear, with-first, first-long, second-clear, both-written}
+use Rattle.run.proofs.StepLaws.{prepared-is}
 use borrow.Author.Needs.{needs}
 use Rattle.run.proofs.step.prepare.Statement.{statement}
 use Rattle.run.proofs.step.prepare.Tie as tie
@@ -21,7 +23,7 @@ undamped-long : (k : tie.After-problem) → length (undamped k) ≡ 336
 undamped-long k =
     let s = k .before .before .before .before .before .before .before .before .before .before .before .before .before in
     k .problem .kept .1 .1 .1 .1 .1 .1 .1 .0
-    ∙ cut-length 336 0 (s .args .fixed .now) (omega (arith, clear-long (s .args .fixed .now) (s .pre .1 .1 .1)))
+    ∙ cut-length 336 0 (s .args .fixed .now) (omega (arith, clear-long (s .args .fixed .now) (s .pre .3)))
 
 slice-aggregate-keep : tie.Need-slice-aggregate-keep
 slice-aggregate-keep c = search needs
@@ -29,7 +31,7 @@ slice-aggregate-keep c = search needs
 keep-requires : tie.Need-keep-requires
 keep-requires c κs =
     let p = c .before .before .before .before .before .before .pre in
-    (p .0 .few-variables, (p .1 .0, refl))
+    (p .0 .few-variables, p .1, refl)
 
 slice-aggregate-problem : tie.Need-slice-aggregate-problem
 slice-aggregate-problem c = search needs
@@ -47,7 +49,9 @@ part-problem-start : tie.Need-part-problem-start
 part-problem-start c = search needs
 
 part-problem-end : tie.Need-part-problem-end
-part-problem-end c = let s = c .before .before .before .before .before .before .before .before .before .before .before in omega (arith, clear-long (s .args .fixed .now) (s .pre .1 .1 .1))
+part-problem-end c =
+    let s = c .before .before .before .before .before .before .before .before .before .before .before in
+    omega (arith, clear-long (s .args .fixed .now) (s .pre .3))
 
 problem-requires : tie.Need-problem-requires
 unfolding ofBits
@@ -60,7 +64,7 @@ problem-requires c κs =
       long = k .kept .1 .1 .0;
       near = kept-near _ _ (k .ensures) few;
     } in
-    ((s .pre .0, fits), (refl, (refl, first-clear (s .args .fixed .now) (s .pre .1 .1 .1))))
+    ((s .pre .0, fits), (refl, refl, first-clear (s .args .fixed .now) (s .pre .3)))
 
 slice-aggregate-prepare-kept : tie.Need-slice-aggregate-prepare-kept
 slice-aggregate-prepare-kept c = search needs
@@ -79,15 +83,21 @@ part-prepare-kept-start c = search needs
 
 part-prepare-kept-end : tie.Need-part-prepare-kept-end
 part-prepare-kept-end c =
-    let s = c .before .before .before .before .before .before .before .before .before .before .before .before .before .before .before .before .before .before .before .before .before in
-    omega (arith, first-long (s .args .fixed .now) (s .pre .1 .1 .1) (undamped (c .before .before .before .before .before .before .before .before)) (undamped-long (c .before .before .before .before .before .before .before .before)))
+    let s = c .before .before .before .before .before .before .before .before .before .before .before .before .before
+    .before .before .before .before .before .before .before .before in
+    let q = c .before .before .before .before .before .before .before .before in
+    omega (arith, first-long (s .args .fixed .now) (s .pre .3) (undamped q) (undamped-long q))
 
 prepare-kept-requires : tie.Need-prepare-kept-requires
 prepare-kept-requires c κs =
-    let s = c .before .before .before .before .before .before .before .before .before .before .before .before .before .before .before .before .before .before .before .before .before .before in
+    let s = c .before .before .before .before .before .before .before .before .before .before .before .before .before
+    .before .before .before .before .before .before .before .before .before in
     let p = s .pre in
-    let clear = second-clear (s .args .fixed .now) (p .1 .1 .1) (undamped (c .before .before .before .before .before .before .before .before .before)) (undamped-long (c .before .before .before .before .before .before .before .before .before)) in
-    (omega (arith, kept-few _ _ (c .before .before .before .before .before .before .before .before .before .before .before .before .before .before .before .keep .ensures), p .0 .few-variables), (p .0 .few-constraints, (p .1 .1 .0, clear)))
+    let q = c .before .before .before .before .before .before .before .before .before in
+    let k = c .before .before .before .before .before .before .before .before .before .before .before .before .before
+    .before .before .keep in
+    let clear = second-clear (s .args .fixed .now) (p .3) (undamped q) (undamped-long q) in
+    (omega (arith, kept-few _ _ (k .ensures), p .0 .few-variables), (p .0 .few-constraints, (p .2, clear)))
 
 same-length : tie.Need-same-length
 same-length c = search needs
@@ -97,22 +107,25 @@ same-length-2 c = search needs
 
 returns : tie.Need-returns
 returns c =
-    let s = c .before .before .before .before .before .before .before .before .before .before .before .before .before .before .before .before .before .before .before .before .before .before .before .before .before .before .before in
+    let s = c .before .before .before .before .before .before .before .before .before .before .before .before .before
+    .before .before .before .before .before .before .before .before .before .before .before .before .before .before in
     let p = s .pre in
     let a = s .args .fixed .now in
-    let k = c .before .before .before .before .before .before .before .before .before .before .before .before .before .before .before .before .before .before .before .before .keep in
-    let q = c .before .before .before .before .before .before .before .before .before .before .before .before .before .before in
+    let k = c .before .before .before .before .before .before .before .before .before .before .before .before .before
+    .before .before .before .before .before .before .before .keep in
+    let q =
+    c .before .before .before .before .before .before .before .before .before .before .before .before .before .before in
     let f = c .before .before .before .before .prepare-kept in
     let lu = undamped-long q in
-    let l = first-long a (p .1 .1 .1) (undamped q) lu in
+    let l = first-long a (p .3) (undamped q) lu in
     let lf = f .kept .1 .1 .1 .1 .1 .1 .1 .0
-    ∙ cut-length 888 336 (with-first a (p .1 .1 .1) (undamped q) lu) (omega (arith, l)) in
+    ∙ cut-length 888 336 (with-first a (p .3) (undamped q) lu) (omega (arith, l)) in
     let factors = f .last .1 .1 .1 .1 .1 .1 .1 .0 in
-    let e = both-written a (p .1 .1 .1) (undamped q) lu factors in
+    let e = both-written a (p .3) (undamped q) lu factors in
     record {
       sizes = record {
         few = f .ensures .1;
-        order-length = f .kept .1 .1 .1 .1 .1 .1 .0 ∙ ap length (p .1 .1 .0);
+        order-length = f .kept .1 .1 .1 .1 .1 .1 .0 ∙ ap length (p .2);
         fixed-length = ap length e ∙ length-both (undamped q) factors lu lf;
       };
       steps = λ mu.

@@ -26,12 +26,14 @@ write-requires c κs = search needs
 
 free-step-requires : tie.Need-free-step-requires
 free-step-requires c κs =
-    let p = c .before .before .before .before .before .before .before .before .before .before .before .before .before .before .before .before .pre in
+    let p = c .before .before .before .before .before .before .before .before .before .before .before .before .before
+    .before .before .before .pre in
     let g = c .before .before .before .before .before .before .before .before .prepared .given .1 in
-    let r = rw g at (p .1 .0 .independent) in
-    let count = rw g at (p .1 .0 .free) in (
+    let r = rw g at (p .1 .independent) in
+    let count = rw g at (p .1 .free) in (
       record { few-kept = p .0; few-independent = r; few-free = count },
-      (p .1 .1 .0, (p .1 .1 .1 .0, p .1 .1 .1 .1 .1)),
+      p .2,
+      p .3 .lambda-length,
     )
 
 same-length : tie.Need-same-length
@@ -42,12 +44,16 @@ same-length-2 c = search needs
 
 returns : tie.Need-returns
 returns c =
-    let a = c .before .before .before .before .before .before .before .before .before .before .before .before .before .before .before .before .before .before .before .before .before .args in
-    let p = c .before .before .before .before .before .before .before .before .before .before .before .before .before .before .before .before .before .before .before .before .before .pre in
-    let l = cut-length 24 576 (a .factors .now) (omega (arith, p .1 .1 .1 .0)) in
+    let a = c .before .before .before .before .before .before .before .before .before .before .before .before .before
+    .before .before .before .before .before .before .before .before .args in
+    let p = c .before .before .before .before .before .before .before .before .before .before .before .before .before
+    .before .before .before .before .before .before .before .before .pre in
+    let l = cut-length 24 576 (a .factors .now) (omega (arith, p .2 .factors-length)) in
     let copied = c .before .before .before .before .before .before .before .before .before .write .ensures
-    ∙ written-all (a .kept .now) (take 24 (drop 576 (a .factors .now))) (omega (arith, l, p .1 .1 .1 .1 .0)) in
-    ready-on (curved (a .k) (a .h .now) (a .g .now)) (a .order .now) (a .factors .now) (c .before .before .before .before .before .before .before .before .before .before .before .before .before .prepared .given .1) copied
+    ∙ written-all (a .kept .now) (take 24 (drop 576 (a .factors .now))) (omega (arith, l, p .3 .delta-length)) in
+    ready-on (curved (a .k) (a .h .now) (a .g .now)) (a .order .now) (a .factors .now)
+    (c .before .before .before .before .before .before .before .before .before .before .before .before .before .prepared
+    .given .1) copied
     (c .before .before .before .before .free-step .ensures)
 
 enum-known-prepared-2 : tie.Need-enum-known-prepared-2
@@ -56,7 +62,8 @@ enum-known-prepared-2 c = search needs
 returns-2 : tie.Need-returns-2
 returns-2 c =
     let a = c .before .before .before .before .before .before .before .before .before .args in
-    ready-refused (curved (a .k) (a .h .now) (a .g .now)) (a .order .now) (a .factors .now) (c .before .prepared2 .given .1)
+    ready-refused (curved (a .k) (a .h .now) (a .g .now)) (a .order .now) (a .factors .now)
+    (c .before .prepared2 .given .1)
 
 pub prepared-step-spec : {M : Type 1} → statement M
 prepared-step-spec =

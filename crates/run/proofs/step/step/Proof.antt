@@ -15,7 +15,7 @@ prepare-requires : tie.Need-prepare-requires
 unfolding ofBits
 prepare-requires c κs =
     let p = c .before .before .before .before .before .before .before .pre in
-    (p .0, (p .1 .0, (refl, refl)))
+    (p .0, p .1, refl, refl)
 
 slice-aggregate-damped-step : tie.Need-slice-aggregate-damped-step
 slice-aggregate-damped-step c = search needs
@@ -25,8 +25,9 @@ slice-aggregate-damped-step-2 c = search needs
 
 damped-step-requires : tie.Need-damped-step-requires
 damped-step-requires c κs =
-    let p = c .before .before .before .before .before .before .before .before .before .before .before .before .before .before .pre in
-    (p .0 .few-variables, (p .1 .0, (c .before .before .before .before .before .before .prepare .ensures .sizes, p .1 .1)))
+    let p = c .before .before .before .before .before .before .before .before .before .before .before .before .before
+    .before .pre in
+    (p .0 .few-variables, p .1, c .before .before .before .before .before .before .prepare .ensures .sizes, p .2)
 
 same-length : tie.Need-same-length
 same-length c = search needs
@@ -35,7 +36,11 @@ same-length-2 : tie.Need-same-length-2
 same-length-2 c = search needs
 
 returns : tie.Need-returns
-returns c = c .before .before .before .before .damped-step .ensures ∙ c .before .before .before .before .before .before .before .before .before .before .before .prepare .ensures .steps (c .before .before .before .before .before .before .before .before .before .before .before .before .before .before .before .before .before .before .before .args .mu)
+returns c =
+    c .before .before .before .before .damped-step .ensures
+    ∙ c .before .before .before .before .before .before .before .before .before .before .before .prepare .ensures .steps
+    (c .before .before .before .before .before .before .before .before .before .before .before .before .before .before
+    .before .before .before .before .before .args .mu)
 
 pub step-spec : {M : Type 1} → statement M
 step-spec =
