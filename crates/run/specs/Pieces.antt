@@ -1,5 +1,5 @@
--- The pieces of a run as calls of their own: counts and lengths are checked (refusals 1 and 2, with nothing written), then
--- the piece is worked out. Where the scalars refuse, what is written is +0.
+-- The pieces of a run as calls of their own: counts and lengths are checked (refusals 1 and 2, with nothing written),
+-- then the piece is worked out. Where the scalars refuse, what is written is +0.
 use Prim.Native.Nat.{ℕ, _*_}
 use mathlib.Core.Bool.{Bool}
 use mathlib.Core.List.{List}

@@ -19,7 +19,11 @@ cutOf n delta shrink = fillTo delta 0 (λ i. chooseOf (mulOf (at delta i) shrink
 -- a step, cut where it is definitely longer than the radius
 unfoldable pub cutWithin : ℕ → Scalar → List Float → Res (List Float)
 unfolding bind
-cutWithin n radius delta = bind (normOf (at delta) n) (λ length. pick (definitelyGreater length radius) (bind (divOf radius length) (λ shrink. ok (cutOf n delta shrink))) (ok delta))
+cutWithin n radius delta =
+    bind (normOf (at delta) n)
+    (λ length.
+    pick (definitelyGreater length radius) (bind (divOf radius length) (λ shrink. ok (cutOf n delta shrink)))
+    (ok delta))
 
 -- the radius after a step of that length
 abbrev pub reachOf : Scalar → Scalar → Scalar → Bool → Scalar

@@ -117,8 +117,8 @@ pub fn not_lower(st: State, area: &mut [f64], standing: Answer) -> Returned
     turn_down(st, area, Rejection::NotLower, standing)
 }
 
-// Whether the constraints came as near as their linearization said: the violation fell by three quarters of the drop that was predicted, at
-// least.
+// Whether the constraints came as near as their linearization said: the violation fell by three quarters of the drop
+// that was predicted, at least.
 fn held(old: Scalar, predicted: Scalar, new: Scalar) -> bool
     ensures { λ r. ⌜ r ≡ held old predicted new ⌝ }
 {
@@ -170,11 +170,11 @@ fn learn(z: Sizes, plain: bool, area: &[f64], b: &mut [f64]) -> Done
     curvature_in_use(plain, z.n, area, b);
     update_curvature(
         row_counts(z),
-        b,
         area::step(area),
         area::standing_rows(area),
         area::landed_rows(area),
         area::multipliers(area),
+        b,
     )
 }
 

@@ -286,11 +286,11 @@ pub fn update_curvature(
     let Done::Finished = fit else {
         return fit;
     };
-    cleared(curvature::update_curvature(c, b, step, xs, next, lambda), b)
+    cleared(curvature::update_curvature(c, step, xs, next, lambda, b), b)
 }
 
-// The step of the problem linearized at the rows, with curvature b and damping mu, and its multipliers: 288 numbers in b,
-// 12 marks, 24 numbers in delta and lambda, which are +0 where there is none.
+// The step of the problem linearized at the rows, with curvature b and damping mu, and its multipliers: 288 numbers in
+// b, 12 marks, 24 numbers in delta and lambda, which are +0 where there is none.
 pub fn step_at(
     c: RowCounts,
     xs: &[f64],

@@ -47,7 +47,7 @@ returns-2 c =
     let q = wants-passed _ _ _ (p .0) (c .before .before .before .before .before .before .before .before .before .before .before .wants .ensures) in
     let r = fits-passed (q .0) (c .before .before .before .before .before .before .before .before .before .before .before .before .fits2 .ensures) in
     let k = c .before .before .before .before .before .before .update-curvature in
-    let size : length (k .last .1 .0) ≡ 288 = omega (arith, k .kept, r .second) in
+    let size : length (k .last .1 .1 .1 .1 .1 .0) ≡ 288 = omega (arith, k .kept, r .second) in
     rw (← c .before .before .before .before .before .before .before .before .before .before .before .before .fits2 .ensures, ← c .before .before .before .before .before .before .before .before .before .before .before .wants .ensures, ← c .before .before .before .before .before .before .before .before .before .before .wants2 .ensures, c .before .before .before .before .before .before .before .before .enum-told .given .1, ← k .ensures) (rw size at (c .before .before .cleared .ensures))
 
 pub update-curvature-spec : {M : Type 1} → statement M
