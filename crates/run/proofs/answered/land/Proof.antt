@@ -14,10 +14,13 @@ use Rattle.run.proofs.answered.land.Tie as tie
 
 -- what follows the standing violation
 abbrev next : tie.Start → Memory → Scalar → AfterSlots
-next s w theta = let a = s .args in pick (a .trial) (landTrial (a .st) w (a .rows .now) theta) (landCorrection (a .st) w (a .rows .now) theta)
+next s w theta =
+    let a = s .args in
+    pick (a .trial) (landTrial (a .st) w (a .rows .now) theta) (landCorrection (a .st) w (a .rows .now) theta)
 
 standing-violation-requires : tie.Need-standing-violation-requires
-standing-violation-requires c κs = let p = c .before .before .before .pre in (p .1 .1 .0 .bounded .few-constraints, p .0)
+standing-violation-requires c κs =
+    let p = c .before .before .before .pre in (p .1 .1 .0 .bounded .few-constraints, p .0)
 
 enum-known-theta : tie.Need-enum-known-theta
 enum-known-theta c = search needs

@@ -52,7 +52,8 @@ returns c w h =
     .ensures in
     let x = landed-with w (a .rows .now) in
     let hv = lands (a .st) (p .1 .1 .bounded) (a .rows .now) (p .1 .0) (h .uses)
-    (c .before .before .before .before .before .before .before .before .before .before .before .before .before .write-landed
+    (c .before .before .before .before .before .before .before .before .before .before .before .before .before
+    .write-landed
     .ensures w (h .uses .holds)) in
     let v = c .before .before .before .before .before .before .before .before .landed-violation .ensures x (hv .holds)
     in
@@ -70,7 +71,11 @@ refuse-requires c κs =
     let p = c .before .before .before .before .before .before .before .before .before .before .before .before .before
     .pre in
     let t = c .before .before .before .before .before .before .with-landed-number .ensures in (
-      omega (arith, c .before .before .before .before .before .before .before .before .before .write-landed .kept, p .0),
+      omega (
+        arith,
+        c .before .before .before .before .before .before .before .before .before .write-landed .kept,
+        p .0,
+      ),
       limits-as t (limits-of (p .1 .1 .bounded)),
     )
 
@@ -86,7 +91,8 @@ returns-2 c w h =
     let t = c .before .before .before .before .before .before .before .before .before .with-landed-number .ensures in
     let x = landed-with w (a .rows .now) in
     let hv = lands (a .st) (p .1 .1 .bounded) (a .rows .now) (p .1 .0) (h .uses)
-    (c .before .before .before .before .before .before .before .before .before .before .before .before .write-landed .ensures
+    (c .before .before .before .before .before .before .before .before .before .before .before .before .write-landed
+    .ensures
     w (h .uses .holds)) in
     let v = c .before .before .before .before .before .before .before .landed-violation .ensures x (hv .holds) in
     trial-refused (a .st) w (a .rows .now) (a .theta) t

@@ -1,4 +1,5 @@
--- `take` meets its contract: it is known whether the constraints came near, and a third of the damping, or that is refused.
+-- `take` meets its contract: it is known whether the constraints came near, and a third of the damping, or that is
+-- refused.
 use mathlib.Core.Bool.{true}
 use mathlib.Core.Path.{_≡_, sym, ap, subst, _∙_}
 use lib.Ieee.{ofBits}
