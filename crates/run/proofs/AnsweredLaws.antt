@@ -27,7 +27,7 @@ use Rattle.run.specs.program.Endings.{Leaves, Bounded, Underway}
 use Rattle.run.specs.Area.{curvatureOf, standingAt, landedAt, rowsAt}
 use Rattle.run.specs.Decide.{linearOf, notLower, take, wasTaken, decide, judge}
 use Rattle.run.specs.Damping.{shrunk}
-use Rattle.run.specs.Radius.{reachOf}
+use Rattle.run.specs.Radius.{radiusAfter}
 use Rattle.run.specs.Filter.{filterWith}
 use Rattle.run.specs.State.{standingOn, moves, landing}
 use Rattle.run.specs.Iterate.{iterate}
@@ -52,7 +52,7 @@ abbrev pub takenAs : State → Memory → Scalar → Scalar → Bool → AfterSl
 takenAs st w theta length linear =
     orRefuse st w (divOf (st .search .mu) (degenerate three64))
     (λ third. takenWith st w theta length (shrunk (st .search .mu) third)
-    (reachOf length (st .search .radius) (st .«max_step») linear))
+    (radiusAfter length (st .search .radius) (st .«max_step») linear))
 
 -- the landed point stands, with the curvature b
 abbrev pub stands : State → Memory → Scalar → Scalar → Scalar → Scalar → List Float → AfterSlots
@@ -75,13 +75,13 @@ module _ (st : State) (w : Memory) (theta length : Scalar) {o : Returned} {a : L
   module _ (linear : Bool) where
     pub third-known :
         {third mu radius : Scalar} → divOf (st .search .mu) (degenerate three64) ≡ ok third →
-        mu ≡ shrunk (st .search .mu) third → radius ≡ reachOf length (st .search .radius) (st .«max_step») linear →
+        mu ≡ shrunk (st .search .mu) third → radius ≡ radiusAfter length (st .search .radius) (st .«max_step») linear →
         Leaves (takenWith st w theta length mu radius) o a → Leaves (takenAs st w theta length linear) o a
     third-known {third} {mu} {radius} e m r l =
         or-next st w (λ q. takenWith st w theta length (shrunk (st .search .mu) q)
-        (reachOf length (st .search .radius) (st .«max_step») linear)) e
+        (radiusAfter length (st .search .radius) (st .«max_step») linear)) e
         (subst (λ (x : Scalar). Leaves
-        (takenWith st w theta length x (reachOf length (st .search .radius) (st .«max_step») linear)) o a) m
+        (takenWith st w theta length x (radiusAfter length (st .search .radius) (st .«max_step») linear)) o a) m
         (subst (λ (y : Scalar). Leaves (takenWith st w theta length mu y) o a) r l))
 
     pub third-refused :
@@ -89,7 +89,7 @@ module _ (st : State) (w : Memory) (theta length : Scalar) {o : Returned} {a : L
         Leaves (takenAs st w theta length linear) o a
     third-refused e l =
         or-refused st w (λ q. takenWith st w theta length (shrunk (st .search .mu) q)
-        (reachOf length (st .search .radius) (st .«max_step») linear)) e l
+        (radiusAfter length (st .search .radius) (st .«max_step») linear)) e l
 
   module _ (mu radius : Scalar) where
     pub learned-known :

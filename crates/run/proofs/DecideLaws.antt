@@ -3,11 +3,10 @@
 use mathlib.Core.Bool.{Bool, true, false, _||_}
 use mathlib.Core.Path.{_≡_, sym, ap, _∙_}
 use mathlib.Core.List.{List, _++_, map}
-use Prim.Native.Nat.{ℕ, _+_, _-_, _*_, _≤_}
+use Prim.Native.Nat.{ℕ, _+_, _-_, _≤_}
 use native.Mathlib.Omega.{arith}
 use lib.Ieee.{Float}
 use lib.ListN.{length, take, drop, length-map}
-use lib.Seq.{take-take}
 use Rattle.interval.specs.declared.Scalar.{Scalar}
 use Rattle.interval.specs.Result.{Res, ok, refused}
 use Rattle.interval.specs.Scalar.{two64, zeroS, degenerate, pick, addOf, subOf, mulOf, sharpen, upper}
@@ -17,21 +16,21 @@ use Rattle.run.specs.Area.{Memory, startOf, withAsked}
 use Rattle.run.specs.program.Area.{Holds, written}
 use Rattle.run.specs.program.Endings.{Bounded, Underway}
 use Rattle.run.specs.Decide.{held, linearOf}
-use Rattle.run.specs.Radius.{reachOf}
+use Rattle.run.specs.Radius.{radiusAfter}
 use Rattle.run.specs.State.{landing, standingOn}
 use Rattle.run.specs.Area.{landedAt}
 use Rattle.linear.specs.Flat.{at}
 use Rattle.run.specs.Corrected.{Shift, shiftOf, shiftFrom, shiftedStep}
 use Rattle.run.specs.Curvature.{updateCurvature}
 use Rattle.run.specs.Judgement.{Judged, judgeOf}
-use Rattle.run.specs.Rows.{rowCounts, constraintsOf, evaluationOf, evaluationBy}
+use Rattle.run.specs.Rows.{rowCounts, constraintsOf, evaluationBy}
 use Rattle.run.specs.Residuals.{violationOf}
 use Rattle.run.specs.declared.rows.RowCounts.{RowCounts}
 use Rattle.run.specs.declared.state.Last.{Last}
 use Rattle.run.specs.declared.state.Sizes.{Sizes}
 use Rattle.run.specs.declared.state.State.{State}
 use Rattle.run.proofs.AreaLaws.{slots-of, holds-of, wrote, slot-read, slot-length, part-back}
-use Rattle.run.proofs.EndingLaws.{pick-yes, pick-no, standing-rows-read, curvature-read, cut-length}
+use Rattle.run.proofs.EndingLaws.{pick-yes, pick-no}
 use Rattle.run.proofs.VectorLaws.{length-fillTo}
 
 -- ---- the slots of an area
@@ -144,7 +143,7 @@ module _ (st : State) (w : Memory) (theta : Scalar) {v : Res Scalar} (e : v ≡ 
 module _ (length radius max : Scalar) {reach : Scalar} (e : reach ≡ mulOf (degenerate two64) length) where
   pub reach-far :
       (linear : Bool) {b : Bool} → b ≡ definitelyGreater reach radius → b ≡ true →
-      (pick (linear || definitelyLess reach max) (upper reach) max) ≡ reachOf length radius max linear
+      (pick (linear || definitelyLess reach max) (upper reach) max) ≡ radiusAfter length radius max linear
   reach-far linear q t =
       ap (λ (x : Scalar). pick (linear || definitelyLess x max) (upper x) max) e
       ∙ sym (pick-yes (pick (linear || definitelyLess (mulOf (degenerate two64) length) max)
@@ -153,7 +152,7 @@ module _ (length radius max : Scalar) {reach : Scalar} (e : reach ≡ mulOf (deg
 
   pub reach-near :
       (linear : Bool) {b : Bool} → b ≡ definitelyGreater reach radius → b ≡ false →
-      radius ≡ reachOf length radius max linear
+      radius ≡ radiusAfter length radius max linear
   reach-near linear q t =
       sym (pick-no (pick (linear || definitelyLess (mulOf (degenerate two64) length) max)
       (upper (mulOf (degenerate two64) length)) max) radius (ap (λ (x : Scalar). definitelyGreater x radius) (sym e)

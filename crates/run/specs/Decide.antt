@@ -12,7 +12,7 @@ use Rattle.run.specs.Endings.{AfterSlots, finish, orRefuse}
 use Rattle.run.specs.Filter.{filterWith}
 use Rattle.run.specs.Iterate.{search, iterate}
 use Rattle.run.specs.Judgement.{Judged, judgeOf}
-use Rattle.run.specs.Radius.{reachOf}
+use Rattle.run.specs.Radius.{radiusAfter}
 use Rattle.run.specs.Residuals.{violationOf, sumSquared}
 use Rattle.run.specs.State.{searching, rejectedFor, withRadius, retried, standingOn}
 use Rattle.run.specs.declared.state.Last.{Last}
@@ -66,7 +66,7 @@ take st w theta length =
     (λ third.
     let learned =
     updateCurvature (st .sizes .n) (curvatureOf st w) (w .step) (standingAt st w) (landedAt st w) (w .multipliers) in
-    let radius = reachOf length (st .search .radius) (st .«max_step») linear in
+    let radius = radiusAfter length (st .search .radius) (st .«max_step») linear in
     orRefuse st w learned
     (λ b.
     iterate (standingOn st length (shrunk (st .search .mu) third) radius)

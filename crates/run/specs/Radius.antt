@@ -26,7 +26,7 @@ cutWithin n radius delta =
     (ok delta))
 
 -- the radius after a step of that length
-abbrev pub reachOf : Scalar → Scalar → Scalar → Bool → Scalar
-reachOf length radius max linear =
+abbrev pub radiusAfter : Scalar → Scalar → Scalar → Bool → Scalar
+radiusAfter length radius max linear =
     let reach = mulOf (degenerate two64) length in
     pick (definitelyGreater reach radius) (pick (linear || definitelyLess reach max) (upper reach) max) radius

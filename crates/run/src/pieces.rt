@@ -6,7 +6,7 @@ ghost use lib.ListN.{length};
 ghost use Rattle.linear.specs.Answers.{doneOf, resultOf};
 ghost use Rattle.linear.specs.Flat.{zeros};
 ghost use Rattle.linear.specs.Replies.{replied, replyOf};
-ghost use Rattle.run.specs.Pieces.{sizedOf, wantsOf, fitsTwo, reachOf, squaredReply, predictedReply};
+ghost use Rattle.run.specs.Pieces.{sizedOf, wantsOf, fitsTwo, variablesRead, squaredReply, predictedReply};
 ghost use Rattle.run.specs.Pieces.{transposedReply, movingReply, judgeReply, expectsReply, cutReply};
 ghost use Rattle.run.specs.Pieces.{alongReply, shiftReply, updateReply, stepReplied, stepReply, learnedReply};
 ghost use Rattle.run.specs.Results.{truthOf};
@@ -83,7 +83,7 @@ fn fits(c: RowCounts, xs: &[f64], a: usize, wanted_a: usize, b: usize, wanted_b:
 
 // How many variables d may say are read: none, or all.
 fn variables_read(n: usize, d: usize) -> usize
-    ensures { λ r. ⌜ r ≡ reachOf n d ⌝ }
+    ensures { λ r. ⌜ r ≡ variablesRead n d ⌝ }
 {
     if d == 0 {
         return 0;

@@ -20,20 +20,13 @@ next s w theta =
 
 standing-violation-requires : tie.Need-standing-violation-requires
 standing-violation-requires c κs =
-    let p = c .before .before .before .pre in (p .1 .1 .0 .bounded .few-constraints, p .0)
+    let p = c .before .before .before .pre in (p .0 .underway .bounded .few-constraints, p .0 .whole-area)
 
 enum-known-theta : tie.Need-enum-known-theta
 enum-known-theta c = search needs
 
 land-trial-requires : tie.Need-land-trial-requires
-land-trial-requires c κs =
-    let p = c .before .before .before .before .before .before .before .before .before .pre in (
-      p .0,
-      (
-        p .1 .0,
-        p .1 .1 .0,
-      ),
-    )
+land-trial-requires c κs = c .before .before .before .before .before .before .before .before .before .pre .0
 
 same-length : tie.Need-same-length
 same-length c = search needs
@@ -70,8 +63,8 @@ enum-known-e c = search needs
 refuse-requires : tie.Need-refuse-requires
 refuse-requires c κs =
     let p = c .before .before .before .before .before .before .before .before .pre in (
-      p .0,
-      limits-of (p .1 .1 .0 .bounded),
+      p .0 .whole-area,
+      limits-of (p .0 .underway .bounded),
     )
 
 same-length-3 : tie.Need-same-length-3

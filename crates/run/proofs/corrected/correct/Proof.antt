@@ -29,8 +29,15 @@ slice-aggregate-shift-from-2 c = search needs
 
 shift-from-requires : tie.Need-shift-from-requires
 shift-from-requires c κs =
-    let s = c .before .before .before .before .before .before .before in let b = s .pre .1 .bounded in
-    (b .few-variables, (b .few-constraints, (marks s, refl)))
+    let s = c .before .before .before .before .before .before .before in
+    let b = s .pre .1 .bounded in (
+      record {
+        few-variables = b .few-variables;
+        few-constraints = b .few-constraints;
+        marks = marks s;
+      },
+      refl,
+    )
 
 enum-told : tie.Need-enum-told
 enum-told c = search needs

@@ -26,7 +26,7 @@ abbrev μ-loop : tie.MeasureT-loop
 
 -- how many there are; where there is one, there is a variable
 room : (s : tie.Start Inv-loop μ-loop) → s .args .m * s .args .n ≤ 144
-room s = few (s .pre .1 .0) (s .pre .0)
+room s = few (s .pre .0 .few-constraints) (s .pre .0 .few-variables)
 
 some-variable : (s : tie.Start Inv-loop μ-loop) (p : ℕ) → p < s .args .m * s .args .n → 0 < s .args .n
 some-variable s p h = rows-positive (s .args .m) (s .args .n) {p = p} h
@@ -51,7 +51,8 @@ rem-slope-of c =
 slope-of-requires : tie.Need-slope-of-requires Inv-loop μ-loop
 slope-of-requires c κs =
     let s = c .before .before .before .before .before .before in (
-      rw (c .before .before .constraints .ensures) (constraints-small (s .pre .0) (s .pre .1 .0)),
+      rw (c .before .before .constraints .ensures)
+          (constraints-small (s .pre .0 .few-variables) (s .pre .0 .few-constraints)),
       omega
           (arith, room s, c .loop-test .taken, div-le-self (c .before .loop .p) (s .args .n)),
     )
@@ -89,11 +90,14 @@ loop-less c = search needs
 
 loop-again : tie.Need-loop-again Inv-loop μ-loop
 loop-again c =
-    let a = c .before .before .before .before .before .before .before .before .before .before .before .before .before .args in
+    let a = c .before .before .before .before .before .before .before .before .before .before .before .before .before
+    .args in
     let l = c .before .before .before .before .before .before .before .before .loop in
     let held = constraintsOf (a .n) (a .m) (a .xs .now) in
-    let read = rw (c .before .before .before .before .before .before .before .before .before .constraints .ensures) at (c .before .before .before .before .before .before .slope-of .ensures) in
-    let v = slope-is (a .moving .now) (a .xs .now) (a .n) (a .m) (l .p) read (c .before .before .before .choose-if .ensures) in
+    let read = rw (c .before .before .before .before .before .before .before .before .before .constraints .ensures)
+    at (c .before .before .before .before .before .before .slope-of .ensures) in
+    let v = slope-is (a .moving .now) (a .xs .now) (a .n) (a .m) (l .p) read
+    (c .before .before .before .choose-if .ensures) in
     let e = rw (l .inv .2, v) at (c .before .before .put .ensures) in
     let more =
     listTo-more (λ k. movingSlope (a .moving .now) held (k / a .n) (k % a .n)) (l .p) (a .jc .now) (omega arith) in
@@ -107,7 +111,7 @@ returns c =
     let a = c .before .before .before .before .before .before .args in
     let e = rw (le-antisymm (c .before .loop .inv .0) (c .loop-test .left)) at (c .before .loop .inv .2) in
     e ∙ listTo-all (λ k. movingSlope (a .moving .now) (constraintsOf (a .n) (a .m) (a .xs .now)) (k / a .n) (k % a .n))
-    (a .m * a .n) (a .jc .now) (c .before .before .before .before .before .before .pre .1 .1 .1)
+    (a .m * a .n) (a .jc .now) (c .before .before .before .before .before .before .pre .1)
 
 pub moving-slopes-spec : {M : Type 1} → statement M
 moving-slopes-spec =

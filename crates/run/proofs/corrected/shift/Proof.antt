@@ -14,13 +14,13 @@ use Rattle.run.proofs.corrected.shift.Statement.{statement}
 use Rattle.run.proofs.corrected.shift.Tie as tie
 
 room : (s : tie.Start) → 2 * (s .args .m * s .args .n) ≤ 288
-room s = omega (arith, few (s .pre .1 .0) (s .pre .0))
+room s = omega (arith, few (s .pre .0 .few-constraints) (s .pre .0 .few-variables))
 
 high : (s : tie.Start) → 2 * s .args .m ≤ 24
-high s = omega (arith, s .pre .1 .0)
+high s = omega (arith, s .pre .0 .few-constraints)
 
 short : (s : tie.Start) → 2 * s .args .n ≤ 24
-short s = omega (arith, s .pre .0)
+short s = omega (arith, s .pre .0 .few-variables)
 
 mul-q : tie.Need-mul-q
 mul-q c = omega (arith, room (c .before .before .before))
@@ -42,8 +42,8 @@ slice-aggregate-moving-slopes c = sym (length-take-le _ _ (room (c .before .befo
 
 moving-slopes-requires : tie.Need-moving-slopes-requires
 moving-slopes-requires c κs =
-    let s = c .before .before .before .before in let p = s .pre in
-    (p .0, (p .1 .0, (p .1 .1 .0, length-take-le _ _ (room s))))
+    let s = c .before .before .before .before in
+    (s .pre .0, length-take-le _ _ (room s))
 
 constraints-requires : tie.Need-constraints-requires
 constraints-requires c κs = tt
@@ -120,7 +120,7 @@ slice-aggregate-sharpened c =
 sharpened-requires : tie.Need-sharpened-requires
 sharpened-requires c κs =
     c .before .before .before .before .before .before .before .before .before .before .before .before .before .before
-    .before .before .before .before .pre .1 .1 .1
+    .before .before .before .before .pre .1
 
 same-length : tie.Need-same-length
 same-length c = search needs
@@ -131,7 +131,7 @@ returns c =
     let s = c .before .before .before .before .before .before .before .before .before .before .before .before .before
     .before .before .before .before .before .before .before .before in
     let a = s .args in
-    let p = s .pre in
+    let p = s .pre .0 in
     let fj = front-kept _
     (c .before .before .before .before .before .before .before .before .before .before .before .before .before .before
     .before .before .moving-slopes .last .1 .1 .1 .1 .0) _ (room s)
@@ -145,7 +145,7 @@ returns c =
     let fo = front-kept _ (c .before .before .before .before .before .before .minus-solved .last .1 .1 .1 .1 .1 .0) _
     (short s) (c .before .before .before .before .before .before .minus-solved .kept .1 .1 .1 .1 .1 .0) in
     shift-is (a .n) (a .m) (a .moving .now) (a .xs .now) _ _
-    (c .before .before .before .before .before .before .minus-solved .result) _ (p .0) (p .1 .0)
+    (c .before .before .before .before .before .before .minus-solved .result) _ (p .few-variables) (p .few-constraints)
     (length-take-le _ _ (short s)) (length-take-le _ _ (high s)) fj fc fo
     (c .before .before .before .before .before .before .before .before .before .before .before .before .before .before
     .constraints .ensures)

@@ -11,7 +11,7 @@ slice-aggregate-shift : tie.Need-slice-aggregate-shift
 slice-aggregate-shift c = search needs
 
 shift-requires : tie.Need-shift-requires
-shift-requires c κs = let p = c .before .before .before .before .before .pre in (p .0, (p .1 .0, (p .1 .1 .0, refl)))
+shift-requires c κs = (c .before .before .before .before .before .pre .0, refl)
 
 enum-known-e : tie.Need-enum-known-e
 enum-known-e c = search needs

@@ -43,12 +43,15 @@ loop-less c = search needs
 
 loop-again : tie.Need-loop-again Inv-loop μ-loop
 loop-again c =
-    let a = c .before .before .before .before .before .before .before .before .before .before .before .before .before .args in
+    let a = c .before .before .before .before .before .before .before .before .before .before .before .before .before
+    .args in
     let l = c .before .before .before .before .before .before .before .before .before .before .loop in
     let f = sharpSum (a .step .now) (a .d .now) in
-    let now = c .before .before .before .before .before .before .before .at .ensures ∙ at-next (a .step .now) f (l .i) (l .inv .2) in
+    let now = c .before .before .before .before .before .before .before .at .ensures
+    ∙ at-next (a .step .now) f (l .i) (l .inv .2) in
     let sum =
-    sharp-sum (a .step .now) (a .d .now) (l .i) now (c .before .before .before .before .before .before .at2 .ensures) (c .before .before .before .before .before .add .ensures .value)
+    sharp-sum (a .step .now) (a .d .now) (l .i) now (c .before .before .before .before .before .before .at2 .ensures)
+    (c .before .before .before .before .before .add .ensures .value)
     (c .before .before .before .sharpen .ensures) in
     let filled = c .before .before .put .ensures ∙ fill-first (a .step .now) f (l .i) (l .inv .2) sum in
     (search needs, search needs, filled)

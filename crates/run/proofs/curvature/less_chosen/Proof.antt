@@ -55,12 +55,15 @@ loop-less c = search needs
 
 loop-again : tie.Need-loop-again Inv-loop μ-loop
 loop-again c =
-    let a = c .before .before .before .before .before .before .before .before .before .before .before .before .before .args in
+    let a = c .before .before .before .before .before .before .before .before .before .before .before .before .before
+    .args in
     let l = c .before .before .before .before .before .before .before .before .before .loop in
     let v =
-    value (a .y .now) (a .bs .now) (l .i) (c .before .before .before .before .before .before .before .at .ensures) (c .before .before .before .before .before .at2 .ensures) (c .before .before .before .before .sub .ensures .value)
+    value (a .y .now) (a .bs .now) (l .i) (c .before .before .before .before .before .before .before .at .ensures)
+    (c .before .before .before .before .before .at2 .ensures) (c .before .before .before .before .sub .ensures .value)
     (c .before .before .before .choose .ensures) in
-    let filled = c .before .before .put .ensures ∙ fill-first vector (by (a .y .now) (a .bs .now)) (l .i) (l .inv .2) v in
+    let filled = c .before .before .put .ensures ∙ fill-first vector (by (a .y .now) (a .bs .now)) (l .i) (l .inv .2)
+    v in
     (search needs, search needs, filled)
 
 same-length : tie.Need-same-length Inv-loop μ-loop

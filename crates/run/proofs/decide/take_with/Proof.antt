@@ -30,7 +30,7 @@ learn-requires : tie.Need-learn-requires
 unfolding ofBits
 learn-requires c κs =
     let s = c .before .before .before in
-    let b = s .pre .1 .0 .bounded in
+    let b = s .pre .1 .bounded in
     let few : FewRows (rowCounts (s .args .st .sizes)) = record {
       few-variables = b .few-variables;
       few-constraints = b .few-constraints;
@@ -48,7 +48,7 @@ refuse-requires : tie.Need-refuse-requires
 refuse-requires c κs =
     let p = c .before .before .before .before .before .before .before .before .before .pre in (
       p .0,
-      limits-of (p .1 .0 .bounded),
+      limits-of (p .1 .bounded),
     )
 
 same-length : tie.Need-same-length
@@ -68,7 +68,7 @@ standing-rows-requires c κs = search needs
 
 sum-squared-requires : tie.Need-sum-squared-requires
 sum-squared-requires c κs =
-    let b = c .before .before .before .before .before .before .before .before .before .pre .1 .0 .bounded in
+    let b = c .before .before .before .before .before .before .before .before .before .pre .1 .bounded in
     (b .few-variables, (b .few-constraints, b .few-sums))
 
 slice-aggregate-with-taken : tie.Need-slice-aggregate-write-taken
@@ -77,7 +77,7 @@ slice-aggregate-with-taken c = search needs
 write-taken-requires : tie.Need-write-taken-requires
 write-taken-requires c κs =
     let s = c .before .before .before .before .before .before .before .before .before .before .before .before in let u =
-    s .pre .1 .0 in let b = u .bounded in (
+    s .pre .1 in let b = u .bounded in (
       s .pre .0,
       (
         (b .few-variables, (b .few-constraints, b .few-sums)),
@@ -95,7 +95,7 @@ write-taken-requires c κs =
 standing-on-requires : tie.Need-standing-on-requires
 standing-on-requires c κs =
     let u = c .before .before .before .before .before .before .before .before .before .before .before .before .before
-    .before .before .pre .1 .0 in omega (arith, u .below, u .bounded .few-iterations)
+    .before .before .pre .1 in omega (arith, u .below, u .bounded .few-iterations)
 
 iterate-requires : tie.Need-iterate-requires
 iterate-requires c κs =
@@ -105,7 +105,7 @@ iterate-requires c κs =
       omega (arith, c .before .before .before .before .write-taken .kept, s .pre .0),
       subst
           (λ (x : State). Bounded 2147483648 x) (sym (c .before .standing-on .ensures))
-          (stood (a .span) (a .mu) (a .radius) (s .pre .1 .0) (s .pre .1 .1)),
+          (stood (a .span) (a .mu) (a .radius) (s .pre .1) (s .pre .2)),
     )
 
 same-length-2 : tie.Need-same-length-2

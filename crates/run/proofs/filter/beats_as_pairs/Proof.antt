@@ -21,7 +21,8 @@ beats-first-requires c κs = search needs
 returns-2 : tie.Need-returns-2
 returns-2 c =
     let a = c .before .before .before .before .args in
-    c .beats-first .ensures ∙ ap (λ pairs. beatsPairs pairs (a .f) (a .theta)) (c .before .pairs-of .ensures) ∙ beats-same (a .filter .now) (a .f) (a .theta) (a .count)
+    c .beats-first .ensures ∙ ap (λ pairs. beatsPairs pairs (a .f) (a .theta)) (c .before .pairs-of .ensures)
+    ∙ beats-same (a .filter .now) (a .f) (a .theta) (a .count)
 
 pub beats-as-pairs-spec : {M : Type 1} → statement M
 beats-as-pairs-spec = tie.close (tie.spec beats-requires returns pairs-of-requires beats-first-requires returns-2)

@@ -28,7 +28,13 @@ definitely-less-requires-2 : tie.Need-definitely-less-requires-2
 definitely-less-requires-2 c κs = search needs
 
 returns-2 : tie.Need-returns-2
-returns-2 c = rw (← c .before .before .before .before .at .ensures, ← c .before .before .before .definitely-less .ensures, c .before .before .if1 .left, ← c .before .at2 .ensures) (c .definitely-less2 .ensures)
+returns-2 c =
+    rw (
+      ← c .before .before .before .before .at .ensures,
+      ← c .before .before .before .definitely-less .ensures,
+      c .before .before .if1 .left,
+      ← c .before .at2 .ensures,
+    ) (c .definitely-less2 .ensures)
 
 pub beats-pair-spec : {M : Type 1} → statement M
 beats-pair-spec =

@@ -36,7 +36,8 @@ loop-less : tie.Need-loop-less Inv-loop μ-loop
 loop-less c = search needs
 
 loop-again : tie.Need-loop-again Inv-loop μ-loop
-loop-again c = (search needs, search needs, pairs-turn _ _ _ (omega arith) (c .before .before .loop .inv .2) (c .pair-at .ensures))
+loop-again c =
+    (search needs, search needs, pairs-turn _ _ _ (omega arith) (c .before .before .loop .inv .2) (c .pair-at .ensures))
 
 returns : tie.Need-returns Inv-loop μ-loop
 returns c = rw (le-antisymm (c .before .loop .inv .0) (c .loop-test .left)) at (c .before .loop .inv .2)

@@ -13,14 +13,24 @@ definitely-less-requires c κs = search needs
 
 returns-2 : tie.Need-returns-2
 unfolding beatsPair
-returns-2 c = rw (not-false (c .before .before .before .args .so-far) (c .before .before .if1 .left), ← c .before .definitely-less .ensures, c .if2 .taken)
+returns-2 c =
+    rw (
+      not-false (c .before .before .before .args .so-far) (c .before .before .if1 .left),
+      ← c .before .definitely-less .ensures,
+      c .if2 .taken,
+    )
 
 definitely-less-requires-2 : tie.Need-definitely-less-requires-2
 definitely-less-requires-2 c κs = search needs
 
 returns-3 : tie.Need-returns-3
 unfolding beatsPair
-returns-3 c = rw (not-false (c .before .before .before .before .args .so-far) (c .before .before .before .if1 .left), ← c .before .before .definitely-less .ensures, c .before .if2 .left) (c .definitely-less2 .ensures)
+returns-3 c =
+    rw (
+      not-false (c .before .before .before .before .args .so-far) (c .before .before .before .if1 .left),
+      ← c .before .before .definitely-less .ensures,
+      c .before .if2 .left,
+    ) (c .definitely-less2 .ensures)
 
 pub still-beats-spec : {M : Type 1} → statement M
 still-beats-spec =

@@ -70,7 +70,13 @@ returns-3 c =
     let n = t .before .before .before .before .before .before .before .before .before .args .c .n in
     let long = t .if1 .left in
     let size : length (k .last .1 .1 .1 .1 .0) ≡ 2 * n = omega (arith, k .kept, long) in
-    rw (← t .before .before .before .before .before .sized .ensures, ← t .before .before .before .before .wants .ensures, t .before .before .enum-told .given .1, eq-eqb _ _ long, ← k .ensures)
+    rw (
+      ← t .before .before .before .before .before .sized .ensures,
+      ← t .before .before .before .before .wants .ensures,
+      t .before .before .enum-told .given .1,
+      eq-eqb _ _ long,
+      ← k .ensures,
+    )
     (rw size at (c .before .before .cleared .ensures))
 
 pub along-spec : {M : Type 1} → statement M

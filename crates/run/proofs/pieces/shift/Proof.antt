@@ -24,8 +24,8 @@ returns c = rw (← c .before .before .fits2 .ensures, c .enum-told2 .given .1)
 shift-requires : tie.Need-shift-requires
 shift-requires c κs =
     let p = fits-passed (finished (c .before .enum-told .given .1)) (c .before .before .before .fits2 .ensures) in
-    let z = p .sized in
-    (z .counts .few-variables, (z .counts .few-constraints, (p .first, p .second)))
+    let z = p .sized .counts in
+    (record { few-variables = z .few-variables; few-constraints = z .few-constraints; marks = p .first }, p .second)
 
 cleared-requires : tie.Need-cleared-requires
 cleared-requires c κs = search needs

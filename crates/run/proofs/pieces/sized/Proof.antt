@@ -1,5 +1,5 @@
 -- `sized` meets its contract: the sizes decide the definition's first three checks, the count its last.
-use mathlib.Core.Bool.{Bool, true, not, false}
+use mathlib.Core.Bool.{Bool, not, false}
 use mathlib.Core.Path.{_≡_, sym, _∙_}
 use native.Mathlib.Omega.{arith}
 use borrow.Author.Needs.{needs}

@@ -81,10 +81,12 @@ same-length-4 c = search needs
 returns-3 : tie.Need-returns-3
 unfolding stepReply
 returns-3 c =
-    let t = c .before .before .before .before .before .before .before .before .before .before .before .before .before .before .before .before in
+    let t = c .before .before .before .before .before .before .before .before .before .before .before .before .before
+    .before .before .before in
     let p = wants-passed _ _ _ (finished (t .enum-told .given .1)) (t .before .before .wants2 .ensures) in
     let q = wants-passed _ _ _ (p .0) (t .before .before .before .wants .ensures) in
-    let k = c .before .before .before .before .before .before .before .before .before .before .before .before .before .step in
+    let k = c .before .before .before .before .before .before .before .before .before .before .before .before .before
+    .step in
     let long : length (k .last .1 .1 .1 .1 .1 .1 .1 .0) ≡ 24 = omega (arith, k .kept, q .1) in
     let wide : length (k .last .1 .1 .1 .1 .1 .1 .1 .1 .0) ≡ 24 = omega (arith, k .kept, p .1) in
     rw (

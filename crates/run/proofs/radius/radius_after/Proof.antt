@@ -1,4 +1,4 @@
--- `reach` meets its contract: each way out is the definition's.
+-- `radius_after` meets its contract: each way out is the definition's.
 use Rattle.interval.specs.Scalar.{pick, upper, definitelyLess}
 use mathlib.Core.Bool.{Bool, _||_}
 use mathlib.Core.Path.{sym, ap, _∙_}
