@@ -27,7 +27,7 @@ use Rattle.run.specs.program.Endings.{Leaves, Bounded, Underway}
 use Rattle.run.specs.Area.{curvatureOf, standingAt, landedAt, rowsAt}
 use Rattle.run.specs.Decide.{linearOf, notLower, take, wasTaken, decide, judge}
 use Rattle.run.specs.Damping.{shrunk}
-use Rattle.run.specs.Radius.{reachOf}
+use Rattle.run.specs.Radius.{radiusAfter}
 use Rattle.run.specs.Filter.{filterWith}
 use Rattle.run.specs.State.{standingOn, moves, landing}
 use Rattle.run.specs.Iterate.{iterate}
@@ -51,37 +51,59 @@ use Rattle.run.proofs.EndingLaws.{or-next, or-refused, when, unless}
 abbrev pub takenAs : State → Memory → Scalar → Scalar → Bool → AfterSlots
 takenAs st w theta length linear =
     orRefuse st w (divOf (st .search .mu) (degenerate three64))
-    (λ third. takenWith st w theta length (shrunk (st .search .mu) third) (reachOf length (st .search .radius) (st .«max_step») linear))
+    (λ third. takenWith st w theta length (shrunk (st .search .mu) third)
+    (radiusAfter length (st .search .radius) (st .«max_step») linear))
 
 -- the landed point stands, with the curvature b
 abbrev pub stands : State → Memory → Scalar → Scalar → Scalar → Scalar → List Float → AfterSlots
-stands st w theta length mu radius b = iterate (standingOn st length mu radius) (withTaken w b (filterWith (w .filter) (st .counts .iterations) (sumSquared (standingAt st w .sum)) theta))
+stands st w theta length mu radius b =
+    iterate (standingOn st length mu radius)
+    (withTaken w b (filterWith (w .filter) (st .counts .iterations) (sumSquared (standingAt st w .sum)) theta))
 
 module _ (st : State) (w : Memory) (theta length : Scalar) {o : Returned} {a : List Float} where
-  pub take-known : {linear : Bool} → linearOf st w theta ≡ ok linear → Leaves (takenAs st w theta length linear) o a → Leaves (take st w theta length) o a
+  pub take-known :
+      {linear : Bool} → linearOf st w theta ≡ ok linear → Leaves (takenAs st w theta length linear) o a →
+      Leaves (take st w theta length) o a
   unfolding take
   take-known e l = or-next st w (λ linear. takenAs st w theta length linear) e l
 
-  pub take-refused : {k : ℕ} → linearOf st w theta ≡ refused k → Leaves (refuse st w k) o a → Leaves (take st w theta length) o a
+  pub take-refused :
+      {k : ℕ} → linearOf st w theta ≡ refused k → Leaves (refuse st w k) o a → Leaves (take st w theta length) o a
   unfolding take
   take-refused e l = or-refused st w (λ linear. takenAs st w theta length linear) e l
 
   module _ (linear : Bool) where
-    pub third-known : {third mu radius : Scalar} → divOf (st .search .mu) (degenerate three64) ≡ ok third → mu ≡ shrunk (st .search .mu) third → radius ≡ reachOf length (st .search .radius) (st .«max_step») linear
-        → Leaves (takenWith st w theta length mu radius) o a → Leaves (takenAs st w theta length linear) o a
+    pub third-known :
+        {third mu radius : Scalar} → divOf (st .search .mu) (degenerate three64) ≡ ok third →
+        mu ≡ shrunk (st .search .mu) third → radius ≡ radiusAfter length (st .search .radius) (st .«max_step») linear →
+        Leaves (takenWith st w theta length mu radius) o a → Leaves (takenAs st w theta length linear) o a
     third-known {third} {mu} {radius} e m r l =
-        or-next st w (λ q. takenWith st w theta length (shrunk (st .search .mu) q) (reachOf length (st .search .radius) (st .«max_step») linear)) e
-        (subst (λ (x : Scalar). Leaves (takenWith st w theta length x (reachOf length (st .search .radius) (st .«max_step») linear)) o a) m (subst (λ (y : Scalar). Leaves (takenWith st w theta length mu y) o a) r l))
+        or-next st w (λ q. takenWith st w theta length (shrunk (st .search .mu) q)
+        (radiusAfter length (st .search .radius) (st .«max_step») linear)) e
+        (subst (λ (x : Scalar). Leaves
+        (takenWith st w theta length x (radiusAfter length (st .search .radius) (st .«max_step») linear)) o a) m
+        (subst (λ (y : Scalar). Leaves (takenWith st w theta length mu y) o a) r l))
 
-    pub third-refused : {k : ℕ} → divOf (st .search .mu) (degenerate three64) ≡ refused k → Leaves (refuse st w k) o a → Leaves (takenAs st w theta length linear) o a
-    third-refused e l = or-refused st w (λ q. takenWith st w theta length (shrunk (st .search .mu) q) (reachOf length (st .search .radius) (st .«max_step») linear)) e l
+    pub third-refused :
+        {k : ℕ} → divOf (st .search .mu) (degenerate three64) ≡ refused k → Leaves (refuse st w k) o a →
+        Leaves (takenAs st w theta length linear) o a
+    third-refused e l =
+        or-refused st w (λ q. takenWith st w theta length (shrunk (st .search .mu) q)
+        (radiusAfter length (st .search .radius) (st .«max_step») linear)) e l
 
   module _ (mu radius : Scalar) where
-    pub learned-known : {b : List Float} → updateCurvature (st .sizes .n) (curvatureOf st w) (w .step) (standingAt st w) (landedAt st w) (w .multipliers) ≡ ok b → Leaves (stands st w theta length mu radius b) o a → Leaves (takenWith st w theta length mu radius) o a
+    pub learned-known :
+        {b : List Float} →
+        updateCurvature (st .sizes .n) (curvatureOf st w) (w .step) (standingAt st w) (landedAt st w) (w .multipliers)
+        ≡ ok b →
+        Leaves (stands st w theta length mu radius b) o a → Leaves (takenWith st w theta length mu radius) o a
     learned-known e l = or-next st w (stands st w theta length mu radius) e l
 
-    pub learned-refused : {k : ℕ} → updateCurvature (st .sizes .n) (curvatureOf st w) (w .step) (standingAt st w) (landedAt st w) (w .multipliers) ≡ refused k → Leaves (refuse st w k) o a
-        → Leaves (takenWith st w theta length mu radius) o a
+    pub learned-refused :
+        {k : ℕ} →
+        updateCurvature (st .sizes .n) (curvatureOf st w) (w .step) (standingAt st w) (landedAt st w) (w .multipliers)
+        ≡ refused k →
+        Leaves (refuse st w k) o a → Leaves (takenWith st w theta length mu radius) o a
     learned-refused e l = or-refused st w (stands st w theta length mu radius) e l
 
     pub stands-on :
@@ -90,7 +112,8 @@ module _ (st : State) (w : Memory) (theta length : Scalar) {o : Returned} {a : L
         f ≡ sumSquared (standingAt st w .sum) →
         StandingKnown (standingOn st length mu radius) v
         (withTaken w b (filterWith (w .filter) (st .counts .iterations) f theta)) c →
-        ((x : Memory) → StandingKnown t v x c → Leaves (iterate t x) o a) → Leaves (stands st w theta length mu radius b) o a
+        ((x : Memory) → StandingKnown t v x c → Leaves (iterate t x) o a) →
+        Leaves (stands st w theta length mu radius b) o a
     stands-on b {t} {f} {v} {c} e q h l =
         let next = standingOn st length mu radius in
         let after : Scalar → Memory = λ x. withTaken w b (filterWith (w .filter) (st .counts .iterations) x theta) in
@@ -101,42 +124,67 @@ module _ (st : State) (w : Memory) (theta length : Scalar) {o : Returned} {a : L
 -- ---- the judgement
 
 abbrev taken-or : State → Memory → Scalar → Judged → AfterSlots
-taken-or st w theta j = pick (j .lower || (st .search .first && j .undecided && j .contracting)) (take st w theta (j .length)) (notLower st w)
+taken-or st w theta j =
+    pick (j .lower || (st .search .first && j .undecided && j .contracting)) (take st w theta (j .length))
+    (notLower st w)
 
 -- a shift by the moving marks
-shift-is : (st : State) (w : Memory) {m : List Bool} {r : Res Shift} → m ≡ st .moving → r ≡ shiftFrom m (landedAt st w .constraints) (w .landed) → shiftFrom (st .moving) (landedAt st w .constraints) (w .landed) ≡ r
+shift-is :
+    (st : State) (w : Memory) {m : List Bool} {r : Res Shift} → m ≡ st .moving →
+    r ≡ shiftFrom m (landedAt st w .constraints) (w .landed) →
+    shiftFrom (st .moving) (landedAt st w .constraints) (w .landed) ≡ r
 shift-is st w em er = sym (er ∙ ap (λ (x : List Bool). shiftFrom x (landedAt st w .constraints) (w .landed)) em)
 
-shift-of : (st : State) (w : Memory) {m : List Bool} {r : Res (List Float)} → m ≡ st .moving → r ≡ shiftOf m (landedAt st w .constraints) → shiftOf (st .moving) (landedAt st w .constraints) ≡ r
+shift-of :
+    (st : State) (w : Memory) {m : List Bool} {r : Res (List Float)} → m ≡ st .moving →
+    r ≡ shiftOf m (landedAt st w .constraints) → shiftOf (st .moving) (landedAt st w .constraints) ≡ r
 shift-of st w em er = sym (er ∙ ap (λ (x : List Bool). shiftOf x (landedAt st w .constraints)) em)
 
 module _ (st : State) (w : Memory) (theta : Scalar) {o : Returned} {a : List Float} where
-  pub judge-known : {j : Judged} → judgeOf (st .sizes .n) (standingAt st w) (landedAt st w) theta (w .filter) (st .counts .iterations) (st .last) (w .step) ≡ ok j → Leaves (decide st w theta j) o a → Leaves (judge st w theta) o a
+  pub judge-known :
+      {j : Judged} →
+      judgeOf (st .sizes .n) (standingAt st w) (landedAt st w) theta (w .filter) (st .counts .iterations) (st .last)
+      (w .step) ≡ ok j →
+      Leaves (decide st w theta j) o a → Leaves (judge st w theta) o a
   unfolding judge
   judge-known e l = or-next st w (λ j. decide st w theta j) e l
 
-  pub judge-refused : {k : ℕ} → judgeOf (st .sizes .n) (standingAt st w) (landedAt st w) theta (w .filter) (st .counts .iterations) (st .last) (w .step) ≡ refused k → Leaves (refuse st w k) o a → Leaves (judge st w theta) o a
+  pub judge-refused :
+      {k : ℕ} →
+      judgeOf (st .sizes .n) (standingAt st w) (landedAt st w) theta (w .filter) (st .counts .iterations) (st .last)
+      (w .step) ≡ refused k →
+      Leaves (refuse st w k) o a → Leaves (judge st w theta) o a
   unfolding judge
   judge-refused e l = or-refused st w (λ j. decide st w theta j) e l
 
-  module _ (j : Judged) {s : Bool} (es : s ≡ (st .search .first && j .undecided && wasTaken (st .last) && not (j .contracting))) where
+  module _ (j : Judged) {s : Bool}
+      (es : s ≡ (st .search .first && j .undecided && wasTaken (st .last) && not (j .contracting))) where
     pub decide-stuck : s ≡ true → Leaves (finish st w stop.Undecided) o a → Leaves (decide st w theta j) o a
     unfolding decide
     decide-stuck e l = when (finish st w stop.Undecided) (taken-or st w theta j) (sym es ∙ e) l
 
-    module _ (f : s ≡ false) {b : Bool} (eb : b ≡ (j .lower || (st .search .first && j .undecided && j .contracting))) where
-      pub decide-better : b ≡ true → Leaves (take st w theta (j .length)) o a → Leaves (decide st w theta j) o a
-      unfolding decide
-      decide-better e l = unless (finish st w stop.Undecided) (taken-or st w theta j) (sym es ∙ f) (when (take st w theta (j .length)) (notLower st w) (sym eb ∙ e) l)
+    module _ (f : s ≡ false) {b : Bool} (eb : b ≡ (j .lower || (st .search .first && j .undecided && j .contracting)))
+      where
+        pub decide-better : b ≡ true → Leaves (take st w theta (j .length)) o a → Leaves (decide st w theta j) o a
+        unfolding decide
+        decide-better e l =
+            unless (finish st w stop.Undecided) (taken-or st w theta j) (sym es ∙ f)
+            (when (take st w theta (j .length)) (notLower st w) (sym eb ∙ e) l)
 
-      pub decide-not : b ≡ false → Leaves (notLower st w) o a → Leaves (decide st w theta j) o a
-      unfolding decide
-      decide-not e l = unless (finish st w stop.Undecided) (taken-or st w theta j) (sym es ∙ f) (unless (take st w theta (j .length)) (notLower st w) (sym eb ∙ e) l)
+        pub decide-not : b ≡ false → Leaves (notLower st w) o a → Leaves (decide st w theta j) o a
+        unfolding decide
+        decide-not e l =
+            unless (finish st w stop.Undecided) (taken-or st w theta j) (sym es ∙ f)
+            (unless (take st w theta (j .length)) (notLower st w) (sym eb ∙ e) l)
 
   -- ---- corrections
 
-  module _ {m : List Bool} {r : Res Shift} (em : m ≡ st .moving) (er : r ≡ shiftFrom m (landedAt st w .constraints) (w .landed)) where
-    pub correct-asks : {next : List Float} → r ≡ ok (to next) → Leaves (question st (withAsked w next) kind.Correction (st .counts .corrections)) o a → Leaves (correct st w theta) o a
+  module _ {m : List Bool} {r : Res Shift} (em : m ≡ st .moving)
+      (er : r ≡ shiftFrom m (landedAt st w .constraints) (w .landed)) where
+    pub correct-asks :
+        {next : List Float} → r ≡ ok (to next) →
+        Leaves (question st (withAsked w next) kind.Correction (st .counts .corrections)) o a →
+        Leaves (correct st w theta) o a
     unfolding correct
     correct-asks e l = rw (shift-is st w em er ∙ e) l
 
@@ -164,20 +212,31 @@ rose-or st v theta new = pick (definitelyGreater new theta) (correct st v theta)
 module _ (st : State) (w : Memory) (rows : List Float) (theta : Scalar) {o : Returned} {a : List Float} where
   -- a trial's
   module _ {t : State} (et : t ≡ landing st 0) where
-    pub trial-known : {new : Scalar} {b : Bool} → violationOf (landedAt st (landed-with w rows) .constraints) ≡ ok new → b ≡ definitelyGreater new theta
-        → Leaves (pick b (correct t (landed-with w rows) theta) (judge t (landed-with w rows) theta)) o a → Leaves (landTrial st w rows theta) o a
+    pub trial-known :
+        {new : Scalar} {b : Bool} → violationOf (landedAt st (landed-with w rows) .constraints) ≡ ok new →
+        b ≡ definitelyGreater new theta →
+        Leaves (pick b (correct t (landed-with w rows) theta) (judge t (landed-with w rows) theta)) o a →
+        Leaves (landTrial st w rows theta) o a
     unfolding landTrial
     trial-known {new} {b} e eb l =
         or-next (landing st 0) (landed-with w rows) (λ x. rose-or (landing st 0) (landed-with w rows) theta x) e
-        (subst (λ (x : State). Leaves (rose-or x (landed-with w rows) theta new) o a) et (subst (λ (x : Bool). Leaves (pick x (correct t (landed-with w rows) theta) (judge t (landed-with w rows) theta)) o a) eb l))
+        (subst (λ (x : State). Leaves (rose-or x (landed-with w rows) theta new) o a) et
+        (subst (λ (x : Bool). Leaves
+        (pick x (correct t (landed-with w rows) theta) (judge t (landed-with w rows) theta)) o a) eb l))
 
-    pub trial-refused : {k : ℕ} → violationOf (landedAt st (landed-with w rows) .constraints) ≡ refused k → Leaves (refuse t (landed-with w rows) k) o a → Leaves (landTrial st w rows theta) o a
+    pub trial-refused :
+        {k : ℕ} → violationOf (landedAt st (landed-with w rows) .constraints) ≡ refused k →
+        Leaves (refuse t (landed-with w rows) k) o a → Leaves (landTrial st w rows theta) o a
     unfolding landTrial
-    trial-refused {k} e l = or-refused (landing st 0) (landed-with w rows) (λ x. rose-or (landing st 0) (landed-with w rows) theta x) e (subst (λ (x : State). Leaves (refuse x (landed-with w rows) k) o a) et l)
+    trial-refused {k} e l =
+        or-refused (landing st 0) (landed-with w rows) (λ x. rose-or (landing st 0) (landed-with w rows) theta x) e
+        (subst (λ (x : State). Leaves (refuse x (landed-with w rows) k) o a) et l)
 
   -- a correction's
-  module _ {m : List Bool} {r : Res (List Float)} (em : m ≡ st .moving) (er : r ≡ shiftOf m (landedAt st w .constraints)) where
-    pub keep-known : {d : List Float} → r ≡ ok d → Leaves (keptBy st w rows theta d) o a → Leaves (keep st w rows theta) o a
+  module _ {m : List Bool} {r : Res (List Float)} (em : m ≡ st .moving)
+      (er : r ≡ shiftOf m (landedAt st w .constraints)) where
+    pub keep-known :
+        {d : List Float} → r ≡ ok d → Leaves (keptBy st w rows theta d) o a → Leaves (keep st w rows theta) o a
     unfolding keep
     keep-known e l = or-next st w (λ d. keptBy st w rows theta d) (shift-of st w em er ∙ e) l
 
@@ -192,8 +251,14 @@ module _ (st : State) (w : Memory) (rows : List Float) (theta : Scalar) {o : Ret
   unfolding landCorrection bind
   correction-by l = go (violationOf (rowsAt st rows .constraints)) (violationOf (landedAt st w .constraints)) l
     where
-      go : (x y : Res Scalar) → Leaves (orRefuse st w (bind x (λ new. bind y (λ old. ok (definitelyLess new old)))) (λ kept. pick kept (keep st w rows theta) (judge st w theta))) o a
-          → Leaves (orRefuse st w x (λ new. orRefuse st w y (λ old. pick (definitelyLess new old) (keep st w rows theta) (judge st w theta)))) o a
+      go :
+          (x y : Res Scalar) →
+          Leaves
+          (orRefuse st w (bind x (λ new. bind y (λ old. ok (definitelyLess new old))))
+          (λ kept. pick kept (keep st w rows theta) (judge st w theta))) o a →
+          Leaves
+          (orRefuse st w x
+          (λ new. orRefuse st w y (λ old. pick (definitelyLess new old) (keep st w rows theta) (judge st w theta)))) o a
       go (ok new) (ok old) l = l
       go (ok new) (refused k) l = l
       go (refused k) y l = l
@@ -210,21 +275,31 @@ turned-about {A} n x y = go (ltb n 4) refl
     go true e = rw (e, lt-leb 4 n (ltb-true n 4 e))
     go false e = rw (e, le-leb 4 n (ltb-false n 4 e))
 
-pub kept-known : (st : State) (w : Memory) (rows : List Float) (theta : Scalar) (d : List Float) {t : State} {o : Returned} {a : List Float} → t ≡ landing st (st .counts .corrections + 1)
-    → Leaves (pick (ltb (st .counts .corrections + 1) 4) (correct t (withLanded w rows (shiftedStep (st .sizes .n) (w .step) d)) theta) (judge t (withLanded w rows (shiftedStep (st .sizes .n) (w .step) d)) theta)) o a
-    → Leaves (keptBy st w rows theta d) o a
+pub kept-known :
+    (st : State) (w : Memory) (rows : List Float) (theta : Scalar) (d : List Float) {t : State} {o : Returned}
+    {a : List Float} →
+    t ≡ landing st (st .counts .corrections + 1) →
+    Leaves (pick (ltb (st .counts .corrections + 1) 4)
+    (correct t (withLanded w rows (shiftedStep (st .sizes .n) (w .step) d)) theta)
+    (judge t (withLanded w rows (shiftedStep (st .sizes .n) (w .step) d)) theta)) o a →
+    Leaves (keptBy st w rows theta d) o a
 kept-known st w rows theta d {t} {o} {a} e l =
     let v : Memory = withLanded w rows (shiftedStep (st .sizes .n) (w .step) d) in
     let u : State = landing st (st .counts .corrections + 1) in
-    subst (λ (x : AfterSlots). Leaves x o a) (turned-about (st .counts .corrections + 1) (correct u v theta) (judge u v theta))
-    (subst (λ (x : State). Leaves (pick (ltb (st .counts .corrections + 1) 4) (correct x v theta) (judge x v theta)) o a) e l)
+    subst (λ (x : AfterSlots). Leaves x o a) (turned-about (st .counts .corrections + 1) (correct u v theta)
+    (judge u v theta))
+    (subst (λ (x : State). Leaves (pick (ltb (st .counts .corrections + 1) 4) (correct x v theta) (judge x v theta)) o
+    a) e l)
 
 -- ---- an accepted answer
 
-pub started-known : (st : State) (w : Memory) (rows : List Float) {t : State} {m : List Bool} {o : Returned} {a : List Float} → t ≡ moves st m → m ≡ movingOf (st .sizes .n) (rowsAt st rows) → Leaves (iterate t (withStart w rows)) o a
-    → Leaves (started st w rows) o a
+pub started-known :
+    (st : State) (w : Memory) (rows : List Float) {t : State} {m : List Bool} {o : Returned} {a : List Float} →
+    t ≡ moves st m → m ≡ movingOf (st .sizes .n) (rowsAt st rows) → Leaves (iterate t (withStart w rows)) o a →
+    Leaves (started st w rows) o a
 unfolding started
-started-known st w rows {t} {m} {o} {a} e q l = subst (λ (x : State). Leaves (iterate x (withStart w rows)) o a) (e ∙ ap (λ (x : List Bool). moves st x) q) l
+started-known st w rows {t} {m} {o} {a} e q l =
+    subst (λ (x : State). Leaves (iterate x (withStart w rows)) o a) (e ∙ ap (λ (x : List Bool). moves st x) q) l
 
 pub moved-on : {st : State} (m : List Bool) → Bounded 1073741824 st → Bounded 2147483648 (moves st m)
 moved-on m b = record {
@@ -241,10 +316,14 @@ moved-on m b = record {
 
 module _ {st : State} (b : Bounded 1073741824 st) where
   pub trial-underway : {k : Kind} → k ≡ kind.Trial → phaseFits st (Open k) ≡ true → Underway st
-  trial-underway e f = let g : phaseFits st (Open kind.Trial) ≡ true = subst (λ (x : Kind). phaseFits st (Open x) ≡ true) e f in record { bounded = b; below = ltb-true _ _ (both (ltb (st .counts .iterations) (st .sizes .limit)) _ g .0) }
+  trial-underway e f =
+      let g : phaseFits st (Open kind.Trial) ≡ true = subst (λ (x : Kind). phaseFits st (Open x) ≡ true) e f in
+      record { bounded = b; below = ltb-true _ _ (both (ltb (st .counts .iterations) (st .sizes .limit)) _ g .0) }
 
   pub correction-underway : {k : Kind} → k ≡ kind.Correction → phaseFits st (Open k) ≡ true → Underway st
-  correction-underway e f = let g : phaseFits st (Open kind.Correction) ≡ true = subst (λ (x : Kind). phaseFits st (Open x) ≡ true) e f in record { bounded = b; below = ltb-true _ _ (both (ltb (st .counts .iterations) (st .sizes .limit)) _ g .0) }
+  correction-underway e f =
+      let g : phaseFits st (Open kind.Correction) ≡ true = subst (λ (x : Kind). phaseFits st (Open x) ≡ true) e f in
+      record { bounded = b; below = ltb-true _ _ (both (ltb (st .counts .iterations) (st .sizes .limit)) _ g .0) }
 
   pub rows-few : rowNumbers (st .sizes .n) (st .sizes .m) (st .sizes .s) ≤ 936
   rows-few =

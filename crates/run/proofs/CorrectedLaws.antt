@@ -29,16 +29,19 @@ use Rattle.run.proofs.VectorLaws.{fill-whole}
 use Rattle.run.proofs.LinearCalls.{minus-solved-result}
 
 -- a slope, from what was read of its row and variable
-pub slope-is : (moving : List Bool) (xs : List Float) (n m p : ℕ) {v r : Scalar}
-    → v ≡ slopeAt (constraintsOf n m xs) (p / n) (p % n) → r ≡ pick (getD moving (p % n) false) (chooseOf v) zeroS → r ≡ movingSlope moving (constraintsOf n m xs) (p / n) (p % n)
+pub slope-is :
+    (moving : List Bool) (xs : List Float) (n m p : ℕ) {v r : Scalar} →
+    v ≡ slopeAt (constraintsOf n m xs) (p / n) (p % n) → r ≡ pick (getD moving (p % n) false) (chooseOf v) zeroS →
+    r ≡ movingSlope moving (constraintsOf n m xs) (p / n) (p % n)
 slope-is moving xs n m p ev er = rw (er, ev)
 
-shift-solved : (n m : ℕ) (moving : List Bool) (xs jc c₀ c clear out : List Float) (r : Done) (x : List Float)
-    → n ≤ 12 → m ≤ 12 → length out ≡ 2 * n → length c₀ ≡ 2 * m
-    → jc ≡ listTo (λ p. movingSlope moving (constraintsOf n m xs) (p / n) (p % n)) (m * n) → c ≡ chosenOf c₀ xs 0 m → clear ≡ zeros (2 * n)
-    → replied r x ≡ minusSolvedReply m n jc c clear out
-    → doneOf r x
-    ≡ minusSolvedOf m n (listTo (λ p. movingSlope moving (constraintsOf n m xs) (p / n) (p % n)) (m * n)) (listTo (λ i. chooseOf (valueAt (constraintsOf n m xs) i)) m) (zeros (2 * n))
+shift-solved :
+    (n m : ℕ) (moving : List Bool) (xs jc c₀ c clear out : List Float) (r : Done) (x : List Float) → n ≤ 12 → m ≤ 12 →
+    length out ≡ 2 * n → length c₀ ≡ 2 * m →
+    jc ≡ listTo (λ p. movingSlope moving (constraintsOf n m xs) (p / n) (p % n)) (m * n) → c ≡ chosenOf c₀ xs 0 m →
+    clear ≡ zeros (2 * n) → replied r x ≡ minusSolvedReply m n jc c clear out →
+    doneOf r x ≡ minusSolvedOf m n (listTo (λ p. movingSlope moving (constraintsOf n m xs) (p / n) (p % n)) (m * n))
+    (listTo (λ i. chooseOf (valueAt (constraintsOf n m xs) i)) m) (zeros (2 * n))
 shift-solved n m moving xs jc c₀ c clear out r x hn hm lo lc ej ec ez e =
     let w = ec ∙ fill-whole c₀ _ m lc in
     let kj : length jc ≡ 2 * (m * n) = rw ej (length-listTo _ (m * n)) in
@@ -47,18 +50,23 @@ shift-solved n m moving xs jc c₀ c clear out r x hn hm lo lc ej ec ez e =
     rw (ej, w, ez) at (minus-solved-result r m n jc c clear out x (omega arith) (omega arith) kj kc kz lo e)
 
 -- what was solved for, sharpened, or its refusal
-shift-ends : (n : ℕ) (r : Done) (x : List Float) {d : List Float} {s : Res (List Float)}
-    → doneOf r x ≡ s → d ≡ fillTo vector 0 (λ i. sharpen (at x i)) n → doneOf r d ≡ bind s (λ y. ok (fillTo vector 0 (λ i. sharpen (at y i)) n))
+shift-ends :
+    (n : ℕ) (r : Done) (x : List Float) {d : List Float} {s : Res (List Float)} → doneOf r x ≡ s →
+    d ≡ fillTo vector 0 (λ i. sharpen (at x i)) n →
+    doneOf r d ≡ bind s (λ y. ok (fillTo vector 0 (λ i. sharpen (at y i)) n))
 unfolding bind
 shift-ends n done.Finished x e ed = rw (← e) (ap ok ed)
 shift-ends n (done.Refused k) x e ed = rw (← e)
 
 -- jc′, c′ and x′ are the fronts of the arrays that were written
-pub shift-is : (n m : ℕ) (moving : List Bool) (xs c₀ out : List Float) {jc c clear jc′ c′ x′ d : List Float} {set : RowSet} (r : Done) (x : List Float)
-    → n ≤ 12 → m ≤ 12 → length out ≡ 2 * n → length c₀ ≡ 2 * m → jc′ ≡ jc → c′ ≡ c → x′ ≡ x → set ≡ constraintSet n m
-    → jc ≡ listTo (λ p. movingSlope moving (constraintsOf n m xs) (p / n) (p % n)) (m * n) → c ≡ chosenOf c₀ xs (set .values) (set .count) → clear ≡ zeros (2 * n)
-    → replied r x ≡ minusSolvedReply m n jc′ c′ clear out → d ≡ fillTo vector 0 (λ i. sharpen (at x′ i)) n
-    → doneOf r d ≡ shiftOf moving (constraintsOf n m xs)
+pub shift-is :
+    (n m : ℕ) (moving : List Bool) (xs c₀ out : List Float) {jc c clear jc′ c′ x′ d : List Float} {set : RowSet}
+    (r : Done) (x : List Float) →
+    n ≤ 12 → m ≤ 12 → length out ≡ 2 * n → length c₀ ≡ 2 * m → jc′ ≡ jc → c′ ≡ c → x′ ≡ x → set ≡ constraintSet n m →
+    jc ≡ listTo (λ p. movingSlope moving (constraintsOf n m xs) (p / n) (p % n)) (m * n) →
+    c ≡ chosenOf c₀ xs (set .values) (set .count) → clear ≡ zeros (2 * n) →
+    replied r x ≡ minusSolvedReply m n jc′ c′ clear out → d ≡ fillTo vector 0 (λ i. sharpen (at x′ i)) n →
+    doneOf r d ≡ shiftOf moving (constraintsOf n m xs)
 unfolding shiftOf
 shift-is n m moving xs c₀ out {jc} {c} {clear} r x hn hm lo lc fj fc fx es ej ec ez e ed =
     let solved = shift-solved n m moving xs jc c₀ c clear out r x hn hm lo lc ej (rw es at ec) ez (rw (fj, fc) at e) in
@@ -66,21 +74,24 @@ shift-is n m moving xs c₀ out {jc} {c} {clear} r x hn hm lo lc fj fc fx es ej 
 
 -- where a shift d takes the landed point
 module _ (moving : List Bool) (c : Rows) (landed d : List Float) {r : Done} where
-  pub shift-refused : {k : LinearError} → r ≡ done.Refused k → doneOf r d ≡ shiftOf moving c → refused (numberOf k) ≡ shiftFrom moving c landed
+  pub shift-refused :
+      {k : LinearError} → r ≡ done.Refused k → doneOf r d ≡ shiftOf moving c →
+      refused (numberOf k) ≡ shiftFrom moving c landed
   unfolding shiftFrom bind
   shift-refused h es = rw (← es, h)
 
   module _ {t : Bool} (h : r ≡ done.Finished) (es : doneOf r d ≡ shiftOf moving c) (et : t ≡ allFinite d 12) where
-    module _ {next : List Float} {u : Bool} (en : next ≡ movedOf (c .n) landed d) (eu : u ≡ sameOf (c .n) next landed) where
-      decided : ok (pick t (pick u stay (to next)) stay) ≡ shiftFrom moving c landed
-      unfolding shiftFrom bind
-      decided = rw (← es, h, et, eu, en)
+    module _ {next : List Float} {u : Bool} (en : next ≡ movedOf (c .n) landed d) (eu : u ≡ sameOf (c .n) next landed)
+      where
+        decided : ok (pick t (pick u stay (to next)) stay) ≡ shiftFrom moving c landed
+        unfolding shiftFrom bind
+        decided = rw (← es, h, et, eu, en)
 
-      pub changes-nothing : t ≡ true → u ≡ true → ok stay ≡ shiftFrom moving c landed
-      changes-nothing e k = rw (e, k) at decided
+        pub changes-nothing : t ≡ true → u ≡ true → ok stay ≡ shiftFrom moving c landed
+        changes-nothing e k = rw (e, k) at decided
 
-      pub goes : t ≡ true → u ≡ false → ok (to next) ≡ shiftFrom moving c landed
-      goes e k = rw (e, k) at decided
+        pub goes : t ≡ true → u ≡ false → ok (to next) ≡ shiftFrom moving c landed
+        goes e k = rw (e, k) at decided
 
     pub not-finite : t ≡ false → ok stay ≡ shiftFrom moving c landed
     not-finite e = rw e at (decided {next = movedOf (c .n) landed d} refl refl)

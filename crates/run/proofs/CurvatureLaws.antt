@@ -51,11 +51,12 @@ module _ (n m : ℕ) (xs v jc rhs out : List Float) (hn : n ≤ 12) (hm : m ≤ 
   along-lists ej er = rw (prefix-list v n hv, er, ej)
 
   -- jc′ and rhs′ are the fronts of the arrays that were written
-  pub along-is : (jc₀ rhs₀ : List Float) {jc′ rhs′ : List Float} {set : RowSet} (r : Done) (x : List Float)
-      → length out ≡ 2 * n → length jc₀ ≡ 2 * (m * n) → length rhs₀ ≡ 2 * m → jc′ ≡ jc → rhs′ ≡ rhs
-      → set ≡ constraintSet n m → jc ≡ chosenOf jc₀ xs (set .slopes) (set .count * set .n) → rhs ≡ fillTo rhs₀ 0 (λ i. dotTo (along jc′ (i * n) 1) (at v) n) m
-      → replied r x ≡ minusSolvedReply m n jc′ rhs′ (take (2 * n) v) out
-      → doneOf r x ≡ alongOf (constraintsOf n m xs) v
+  pub along-is :
+      (jc₀ rhs₀ : List Float) {jc′ rhs′ : List Float} {set : RowSet} (r : Done) (x : List Float) → length out ≡ 2 * n →
+      length jc₀ ≡ 2 * (m * n) → length rhs₀ ≡ 2 * m → jc′ ≡ jc → rhs′ ≡ rhs → set ≡ constraintSet n m →
+      jc ≡ chosenOf jc₀ xs (set .slopes) (set .count * set .n) →
+      rhs ≡ fillTo rhs₀ 0 (λ i. dotTo (along jc′ (i * n) 1) (at v) n) m →
+      replied r x ≡ minusSolvedReply m n jc′ rhs′ (take (2 * n) v) out → doneOf r x ≡ alongOf (constraintsOf n m xs) v
   along-is jc₀ rhs₀ r x lo lj lr fj fr es ej₀ er₀ e₀ =
       let ej : jc ≡ chosenOf jc₀ xs m (m * n) = rw es at ej₀ in
       let er : rhs ≡ fillTo rhs₀ 0 (λ i. dotTo (along jc (i * n) 1) (at v) n) m = rw fj at er₀ in
@@ -64,26 +65,33 @@ module _ (n m : ℕ) (xs v jc rhs out : List Float) (hn : n ≤ 12) (hm : m ≤ 
       let wr = er ∙ fill-whole rhs₀ _ m lr in
       let kj : length jc ≡ 2 * (m * n) = rw wj (length-listTo _ (m * n)) in
       let kr : length rhs ≡ 2 * m = rw wr (length-listTo _ m) in
-      minus-solved-result r m n jc rhs (take (2 * n) v) out x (omega arith) (omega arith) kj kr (length-take-le _ _ hv) lo e ∙ along-lists wj wr
+      minus-solved-result r m n jc rhs (take (2 * n) v) out x (omega arith) (omega arith) kj kr (length-take-le _ _ hv)
+      lo e ∙ along-lists wj wr
 
 -- a refusal handed on, whatever the slices hold
-pub handed-on : {r : Done} {k : LinearError} (x y : List Float) {s : Res (List Float)} (f : List Float → Res (List Float)) → r ≡ done.Refused k → doneOf r x ≡ s → doneOf r y ≡ bind s f
+pub handed-on :
+    {r : Done} {k : LinearError} (x y : List Float) {s : Res (List Float)} (f : List Float → Res (List Float)) →
+    r ≡ done.Refused k → doneOf r x ≡ s → doneOf r y ≡ bind s f
 unfolding bind
 handed-on x y f h e = rw (← e, h)
 
 -- what follows a call that ended well; x′ is the front of the array that it wrote
-pub went-on : {r : Done} {x x′ : List Float} {s y : Res (List Float)} (f : List Float → Res (List Float)) → r ≡ done.Finished → doneOf r x ≡ s → x′ ≡ x → y ≡ f x′ → y ≡ bind s f
+pub went-on :
+    {r : Done} {x x′ : List Float} {s y : Res (List Float)} (f : List Float → Res (List Float)) → r ≡ done.Finished →
+    doneOf r x ≡ s → x′ ≡ x → y ≡ f x′ → y ≡ bind s f
 unfolding bind
 went-on f h e k ey = rw (← e, h, ← k) ey
 
-pub turned-is : (n : ℕ) (e e′ : Evaluation) (lambda : List Float) {r₀ r y : List Float}
-    → r₀ ≡ zeros 48 → r ≡ chosenOf r₀ (e′ .sum .list) (e′ .sum .values) (e′ .sum .count) → y ≡ fillTo vector 0 (lagrangianChangeAt e e′ lambda r) n
-    → y ≡ lagrangianChange n e e′ lambda
+pub turned-is :
+    (n : ℕ) (e e′ : Evaluation) (lambda : List Float) {r₀ r y : List Float} → r₀ ≡ zeros 48 →
+    r ≡ chosenOf r₀ (e′ .sum .list) (e′ .sum .values) (e′ .sum .count) →
+    y ≡ fillTo vector 0 (lagrangianChangeAt e e′ lambda r) n → y ≡ lagrangianChange n e e′ lambda
 unfolding lagrangianChange
 turned-is n e e′ lambda e₀ er ey = rw (ey, er, e₀)
 
 module _ (n : ℕ) (b y bs s : List Float) {v : List Float} {d vs : Scalar} {t : Bool}
-    (ev : v ≡ fillTo vector 0 (λ i. chooseOf (subOf (at y i) (at bs i))) n) (ed : d ≡ dotTo (at v) (at s) n) (es : vs ≡ chooseOf d) (et : t ≡ definitelyNotEqual vs zeroS) where
+    (ev : v ≡ fillTo vector 0 (λ i. chooseOf (subOf (at y i) (at bs i))) n) (ed : d ≡ dotTo (at v) (at s) n)
+    (es : vs ≡ chooseOf d) (et : t ≡ definitelyNotEqual vs zeroS) where
   decided : pick t (rankOneOf n b v vs) (ok b) ≡ correctedBy n b y bs s
   unfolding correctedBy
   decided = rw (et, es, ed, ev)
@@ -95,7 +103,9 @@ module _ (n : ℕ) (b y bs s : List Float) {v : List Float} {d vs : Scalar} {t :
   uncorrected h = rw h at decided
 
 -- B s, filled row by row
-bent-is : (n : ℕ) (b s : List Float) {bs₀ bs : List Float} → bs₀ ≡ vector → bs ≡ fillTo bs₀ 0 (λ i. dotTo (along b (i * n) 1) (at s) n) n → bs ≡ curvatureTimes n b s
+bent-is :
+    (n : ℕ) (b s : List Float) {bs₀ bs : List Float} → bs₀ ≡ vector →
+    bs ≡ fillTo bs₀ 0 (λ i. dotTo (along b (i * n) 1) (at s) n) n → bs ≡ curvatureTimes n b s
 bent-is n b s e₀ e =
     let same : (j : ℕ) → j * n + 0 ≡ j * n = λ j. omega arith in
     rw (e, e₀) (fill-ext vector 0 _ _ n (λ j h. rw (same j)))
@@ -114,12 +124,14 @@ bent-products n b s {bs₀} {bs} h e₀ e =
 
 module _ (n : ℕ) (c : Rows) (b y s : List Float) {bs₀ bs : List Float} {p q d : Scalar} {t : Bool}
     (e₀ : bs₀ ≡ vector) (eb : bs ≡ fillTo bs₀ 0 (λ i. dotTo (along b (i * n) 1) (at s) n) n)
-    (ep : p ≡ dotTo (at y) (at s) n) (eq : q ≡ dotTo (at bs) (at s) n) (ed : d ≡ subOf p q) (et : t ≡ definitelyNotEqual d zeroS) where
+    (ep : p ≡ dotTo (at y) (at s) n) (eq : q ≡ dotTo (at bs) (at s) n) (ed : d ≡ subOf p q)
+    (et : t ≡ definitelyNotEqual d zeroS) where
   asked : pick t (bind (alongOf c y) (λ z. correctedBy n b z bs s)) (ok b) ≡ updatedBy n c b y s
   unfolding updatedBy
   asked = rw (et, ed, ep, eq, bent-is n b s e₀ eb)
 
-  pub updates : {r : Res (List Float)} → t ≡ true → r ≡ bind (alongOf c y) (λ z. correctedBy n b z bs s) → r ≡ updatedBy n c b y s
+  pub updates :
+      {r : Res (List Float)} → t ≡ true → r ≡ bind (alongOf c y) (λ z. correctedBy n b z bs s) → r ≡ updatedBy n c b y s
   updates h e = e ∙ (rw h at asked)
 
   pub leaves : t ≡ false → ok b ≡ updatedBy n c b y s

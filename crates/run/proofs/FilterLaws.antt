@@ -1,11 +1,11 @@
 -- The pairs of a flat filter one after the other, and that beating each of them is beating the flat filter.
-use Prim.Native.Nat.{ℕ, zero, suc, _+_, _<_, _≤_}
+use Prim.Native.Nat.{ℕ, zero, suc, _+_, _<_}
 use native.Mathlib.Nat.{not-suc-le-zero, le-of-suc-le-suc, eq-or-lt-of-le, lt-suc-self}
 use native.Mathlib.Numerals.{add-one}
 use native.Mathlib.Omega.{arith}
 use mathlib.Core.Bool.{Bool}
 use mathlib.Core.Logic.{⊎-elim}
-use mathlib.Core.Path.{_≡_, refl, sym, _∙_, ap}
+use mathlib.Core.Path.{_≡_, refl, _∙_, ap}
 use mathlib.Core.List.{List, [], _∷_, _++_}
 use lib.Ieee.{Float}
 use lib.ListN.{length, getD, take, set, length-append}
@@ -22,14 +22,17 @@ take-set zero (x ∷ ps) p l = refl
 take-set (suc i) (x ∷ ps) p l = ap (λ zs. x ∷ zs) (take-set i ps p (le-of-suc-le-suc l))
 
 -- one pair more
-pub pairs-turn : (filter : List Float) (ps : List Pair) (i : ℕ) {p : Pair} → i < length ps → take i ps ≡ pairsTo filter i → p ≡ pairAt filter i → take (i + 1) (set ps i p) ≡ pairsTo filter (i + 1)
+pub pairs-turn :
+    (filter : List Float) (ps : List Pair) (i : ℕ) {p : Pair} → i < length ps → take i ps ≡ pairsTo filter i →
+    p ≡ pairAt filter i → take (i + 1) (set ps i p) ≡ pairsTo filter (i + 1)
 unfolding pairsTo
 pairs-turn filter ps i {p} l e h = rw (add-one, take-set i ps p l, e, h)
 
 length-pairsTo : (filter : List Float) (k : ℕ) → length (pairsTo filter k) ≡ k
 unfolding pairsTo
 length-pairsTo filter zero = refl
-length-pairsTo filter (suc k) = length-append (pairsTo filter k) (pairAt filter k ∷ []) ∙ omega (arith, length-pairsTo filter k)
+length-pairsTo filter (suc k) =
+    length-append (pairsTo filter k) (pairAt filter k ∷ []) ∙ omega (arith, length-pairsTo filter k)
 
 -- reading in a list that goes on
 append-front : (ps qs : List Pair) (i : ℕ) → i < length ps → getD (ps ++ qs) i noPair ≡ getD ps i noPair
@@ -47,7 +50,8 @@ pair-in filter zero i l = absurd (not-suc-le-zero l)
 pair-in filter (suc k) i l =
     ⊎-elim
     (λ e. rw e (rw (length-pairsTo filter k) at (append-next (pairsTo filter k) (pairAt filter k))))
-    (λ h. append-front (pairsTo filter k) (pairAt filter k ∷ []) i (rw (length-pairsTo filter k) h) ∙ pair-in filter k i h)
+    (λ h. append-front (pairsTo filter k) (pairAt filter k ∷ []) i (rw (length-pairsTo filter k) h)
+    ∙ pair-in filter k i h)
     (eq-or-lt-of-le (le-of-suc-le-suc l))
 
 all-ext : (p q : ℕ → Bool) (k : ℕ) → ((i : ℕ) → i < k → p i ≡ q i) → allTo p k ≡ allTo q k
@@ -56,6 +60,8 @@ all-ext p q zero h = refl
 all-ext p q (suc k) h = rw (all-ext p q k (λ i l. h i (omega arith)), h k (lt-suc-self k))
 
 -- each pair of the flat filter is beaten exactly where the flat filter is
-pub beats-same : (filter : List Float) (f theta : Scalar) (k : ℕ) → beatsPairs (pairsTo filter k) f theta ≡ beatsTo filter f theta k
+pub beats-same :
+    (filter : List Float) (f theta : Scalar) (k : ℕ) → beatsPairs (pairsTo filter k) f theta ≡ beatsTo filter f theta k
 unfolding beatsPairs beatsPair beatsTo
-beats-same filter f theta k = rw (length-pairsTo filter k) (all-ext _ _ k (λ i l. ap (λ p. beatsPair p f theta) (pair-in filter k i l)))
+beats-same filter f theta k =
+    rw (length-pairsTo filter k) (all-ext _ _ k (λ i l. ap (λ p. beatsPair p f theta) (pair-in filter k i l)))

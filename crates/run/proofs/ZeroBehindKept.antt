@@ -43,7 +43,7 @@ use Rattle.run.specs.Endings.{finish, refuse, orRefuse}
 use Rattle.run.specs.Decide.{grow}
 use Rattle.run.specs.Decide.{turnDown, notLower, linearOf, wasTaken, decide, judge}
 use Rattle.run.specs.Damping.{shrunk}
-use Rattle.run.specs.Radius.{reachOf}
+use Rattle.run.specs.Radius.{radiusAfter}
 use Rattle.run.specs.Filter.{filterWith}
 use Rattle.run.specs.Corrected.{correct, landTrial, keep, landCorrection}
 use Rattle.run.specs.Answered.{started, answered, answeredNone}
@@ -289,7 +289,7 @@ module _ (st : State) (w : Memory) (t : AtWork st w) where
       let pairs = filterWith (w .filter) (st .counts .iterations) (sumSquared (standingAt st w .sum)) theta in
       iterate-kept
       (standingOn st length (shrunk (st .search .mu) third)
-      (reachOf length (st .search .radius) (st .«max_step») linear)) (withTaken w b pairs)
+      (radiusAfter length (st .search .radius) (st .«max_step») linear)) (withTaken w b pairs)
       (taken-working b (sumSquared (standingAt st w .sum)) theta tidy-b))))
 
   -- ---- the judgement

@@ -1,4 +1,5 @@
--- `corrected`: a step that left the constraints further off is moved back onto them, by at most 4 corrections. Each is the shortest move that meets the constraints linearized where it begins.
+-- `corrected`: a step that left the constraints further off is moved back onto them, by at most 4 corrections. Each is
+-- the shortest move that meets the constraints linearized where it begins.
 use Prim.Native.Nat.{ℕ, _*_, _/_, _%_, _+_}
 use mathlib.Core.Bool.{Bool, false}
 use mathlib.Core.List.{List}
@@ -34,18 +35,22 @@ shiftOf moving c =
     let n = c .n in
     let m = c .count in
     let jc = listTo (λ p. movingSlope moving c (p / n) (p % n)) (m * n) in
-    bind (minusSolvedOf m n jc (listTo (λ i. chooseOf (valueAt c i)) m) (zeros (2 * n))) (λ d. ok (fillTo vector 0 (λ i. sharpen (at d i)) n))
+    bind (minusSolvedOf m n jc (listTo (λ i. chooseOf (valueAt c i)) m) (zeros (2 * n)))
+    (λ d. ok (fillTo vector 0 (λ i. sharpen (at d i)) n))
 
 pub data Shift : Type 0 where
   to : List Float → Shift
   stay : Shift
 
--- where the shift takes the landed point; a shift that is not finite, then one that changes nothing, ends the corrections
+-- where the shift takes the landed point; a shift that is not finite, then one that changes nothing, ends the
+-- corrections
 unfoldable pub shiftFrom : List Bool → Rows → List Float → Res Shift
 unfolding bind
 shiftFrom moving c landed =
     bind (shiftOf moving c)
-    (λ d. let next = movedOf (c .n) landed d in ok (pick (allFinite d 12) (pick (sameOf (c .n) next landed) stay (to next)) stay))
+    (λ d.
+    let next = movedOf (c .n) landed d in
+    ok (pick (allFinite d 12) (pick (sameOf (c .n) next landed) stay (to next)) stay))
 
 -- the step with a shift added, sharp
 unfoldable pub shiftedStep : ℕ → List Float → List Float → List Float
@@ -65,7 +70,8 @@ unfoldable pub landTrial : State → Memory → List Float → Scalar → AfterS
 landTrial st w rows theta =
     let t = landing st 0 in
     let v = withLanded w rows (w .step) in
-    orRefuse t v (violationOf (landedAt t v .constraints)) (λ new. pick (definitelyGreater new theta) (correct t v theta) (judge t v theta))
+    orRefuse t v (violationOf (landedAt t v .constraints))
+    (λ new. pick (definitelyGreater new theta) (correct t v theta) (judge t v theta))
 
 -- a correction's rows, nearer the constraints: kept
 unfoldable pub keep : State → Memory → List Float → Scalar → AfterSlots
@@ -80,4 +86,5 @@ unfoldable pub landCorrection : State → Memory → List Float → Scalar → A
 landCorrection st w rows theta =
     orRefuse st w (violationOf (rowsAt st rows .constraints))
     (λ new.
-    orRefuse st w (violationOf (landedAt st w .constraints)) (λ old. pick (definitelyLess new old) (keep st w rows theta) (judge st w theta)))
+    orRefuse st w (violationOf (landedAt st w .constraints))
+    (λ old. pick (definitelyLess new old) (keep st w rows theta) (judge st w theta)))

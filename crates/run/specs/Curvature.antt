@@ -1,4 +1,5 @@
--- The curvature B that Gauss-Newton leaves out: n rows of n, how it is updated from a step taken, and whether any was learned.
+-- The curvature B that Gauss-Newton leaves out: n rows of n, how it is updated from a step taken, and whether any was
+-- learned.
 use Prim.Native.Nat.{ℕ, _+_, _*_, _/_, _%_}
 use mathlib.Core.Bool.{Bool, not, _||_}
 use mathlib.Core.List.{List}
@@ -43,7 +44,8 @@ alongOf c v =
 -- by how much the gradient of the Lagrangian turned, beyond what J_rᵀ J_r explains; r has the sum's new values, chosen
 abbrev pub lagrangianChangeAt : Evaluation → Evaluation → List Float → List Float → ℕ → Scalar
 lagrangianChangeAt e e′ lambda r j =
-    subOf (addOf (subOf (transposedAt (e′ .constraints) lambda j) (transposedAt (e .constraints) lambda j)) (transposedAt (e′ .sum) r j)) (transposedAt (e .sum) r j)
+    let held = subOf (transposedAt (e′ .constraints) lambda j) (transposedAt (e .constraints) lambda j) in
+    subOf (addOf held (transposedAt (e′ .sum) r j)) (transposedAt (e .sum) r j)
 
 unfoldable pub lagrangianChange : ℕ → Evaluation → Evaluation → List Float → List Float
 lagrangianChange n e e′ lambda =
@@ -78,9 +80,12 @@ unfoldable pub updatedBy : ℕ → Rows → List Float → List Float → List F
 unfolding bind
 updatedBy n c b y s =
     let bs = curvatureTimes n b s in
-    pick (definitelyNotEqual (subOf (dotTo (at y) (at s) n) (dotTo (at bs) (at s) n)) zeroS) (bind (alongOf c y) (λ y′. correctedBy n b y′ bs s)) (ok b)
+    let unexplained = subOf (dotTo (at y) (at s) n) (dotTo (at bs) (at s) n) in
+    pick (definitelyNotEqual unexplained zeroS) (bind (alongOf c y) (λ y′. correctedBy n b y′ bs s)) (ok b)
 
 -- `update_curvature`, from the step between two points with their rows
 unfoldable pub updateCurvature : ℕ → List Float → List Float → Evaluation → Evaluation → List Float → Res (List Float)
 unfolding bind
-updateCurvature n b step e e′ lambda = bind (alongOf (e .constraints) step) (λ s. updatedBy n (e .constraints) b (lagrangianChange n e e′ lambda) s)
+updateCurvature n b step e e′ lambda =
+    bind (alongOf (e .constraints) step)
+    (λ s. updatedBy n (e .constraints) b (lagrangianChange n e e′ lambda) s)

@@ -12,7 +12,7 @@ use Rattle.run.specs.Endings.{AfterSlots, finish, orRefuse}
 use Rattle.run.specs.Filter.{filterWith}
 use Rattle.run.specs.Iterate.{search, iterate}
 use Rattle.run.specs.Judgement.{Judged, judgeOf}
-use Rattle.run.specs.Radius.{reachOf}
+use Rattle.run.specs.Radius.{radiusAfter}
 use Rattle.run.specs.Residuals.{violationOf, sumSquared}
 use Rattle.run.specs.State.{searching, rejectedFor, withRadius, retried, standingOn}
 use Rattle.run.specs.declared.state.Last.{Last}
@@ -32,23 +32,27 @@ grow st w = damped (λ y. search (searching st y) w) (λ y s. finish (searching 
 unfoldable pub turnDown : State → Memory → Rejection → AfterSlots
 turnDown st w r =
     let x = rejectedFor (st .search) r in
-    orRefuse (searching st x) w (divOf (st .trial .tried) (degenerate four64)) (λ q. grow (searching st (withRadius x (sharpen q))) w)
+    orRefuse (searching st x) w (divOf (st .trial .tried) (degenerate four64))
+    (λ q. grow (searching st (withRadius x (sharpen q))) w)
 
 -- not lower: tried again without the curvature learned, once in an iteration, or turned down
 unfoldable pub notLower : State → Memory → AfterSlots
 notLower st w =
-    pick (not (st .search .plain) && learnedOf (st .sizes .n) (w .curvature)) (search (searching st (retried (rejectedFor (st .search) why.NotLower))) w)
+    pick (not (st .search .plain) && learnedOf (st .sizes .n) (w .curvature))
+    (search (searching st (retried (rejectedFor (st .search) why.NotLower))) w)
     (turnDown st w why.NotLower)
 
 -- ---- a step taken
 
 -- the violation fell by three quarters of the drop that was predicted, at least
 abbrev pub held : Scalar → Scalar → Scalar → Bool
-held old predicted new = definitelyGreater (mulOf (subOf old new) (degenerate four64)) (mulOf (subOf old predicted) (degenerate three64))
+held old predicted new =
+    definitelyGreater (mulOf (subOf old new) (degenerate four64)) (mulOf (subOf old predicted) (degenerate three64))
 
 -- the constraints came as near as their linearization said; asked only where there was a violation
 abbrev pub linearOf : State → Memory → Scalar → Res Bool
-linearOf st w theta = pick (definitelyGreater theta zeroS) (heldAt (violationOf (landedAt st w .constraints))) (ok false)
+linearOf st w theta =
+    pick (definitelyGreater theta zeroS) (heldAt (violationOf (landedAt st w .constraints))) (ok false)
   where
     heldAt : Res Scalar → Res Bool
     heldAt (ok new) = ok (held theta (st .trial .predicted) new)
@@ -60,9 +64,12 @@ take st w theta length =
     (λ linear.
     orRefuse st w (divOf (st .search .mu) (degenerate three64))
     (λ third.
-    orRefuse st w (updateCurvature (st .sizes .n) (curvatureOf st w) (w .step) (standingAt st w) (landedAt st w) (w .multipliers))
+    let learned =
+    updateCurvature (st .sizes .n) (curvatureOf st w) (w .step) (standingAt st w) (landedAt st w) (w .multipliers) in
+    let radius = radiusAfter length (st .search .radius) (st .«max_step») linear in
+    orRefuse st w learned
     (λ b.
-    iterate (standingOn st length (shrunk (st .search .mu) third) (reachOf length (st .search .radius) (st .«max_step») linear))
+    iterate (standingOn st length (shrunk (st .search .mu) third) radius)
     (withTaken w b (filterWith (w .filter) (st .counts .iterations) (sumSquared (standingAt st w .sum)) theta)))))
 
 -- ---- the judgement of the landed point
@@ -74,8 +81,12 @@ wasTaken (last.Taken l) = true
 unfoldable pub decide : State → Memory → Scalar → Judged → AfterSlots
 decide st w theta j =
     pick (st .search .first && j .undecided && wasTaken (st .last) && not (j .contracting)) (finish st w stop.Undecided)
-    (pick (j .lower || (st .search .first && j .undecided && j .contracting)) (take st w theta (j .length)) (notLower st w))
+    (pick (j .lower || (st .search .first && j .undecided && j .contracting)) (take st w theta (j .length))
+    (notLower st w))
 
 unfoldable pub judge : State → Memory → Scalar → AfterSlots
 judge st w theta =
-    orRefuse st w (judgeOf (st .sizes .n) (standingAt st w) (landedAt st w) theta (w .filter) (st .counts .iterations) (st .last) (w .step)) (λ j. decide st w theta j)
+    orRefuse st w
+    (judgeOf (st .sizes .n) (standingAt st w) (landedAt st w) theta (w .filter) (st .counts .iterations) (st .last)
+    (w .step))
+    (λ j. decide st w theta j)

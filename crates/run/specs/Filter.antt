@@ -17,7 +17,8 @@ filterViolation filter i = at filter (2 * i + 1)
 
 -- for each of the first pairs, f or theta is definitely less
 unfoldable pub beatsTo : List Float → Scalar → Scalar → ℕ → Bool
-beatsTo filter f theta count = allTo (λ i. definitelyLess f (filterSum filter i) || definitelyLess theta (filterViolation filter i)) count
+beatsTo filter f theta count =
+    allTo (λ i. definitelyLess f (filterSum filter i) || definitelyLess theta (filterViolation filter i)) count
 
 -- the filter with the pair of the point that stood, behind those before it
 unfoldable pub filterWith : List Float → ℕ → Scalar → Scalar → List Float

@@ -49,4 +49,6 @@ judgeOf n e e′ theta filter count last step =
     bind (normOf (at step) n)
     (λ length.
     bind (violationOf (e′ .constraints))
-    (λ theta′. ok (judgedBy (sumChange (e .sum) (e′ .sum)) (subOf theta theta′) (beatsTo filter (sumSquared (e′ .sum)) theta′ count) length last)))
+    (λ theta′.
+    let beaten = beatsTo filter (sumSquared (e′ .sum)) theta′ count in
+    ok (judgedBy (sumChange (e .sum) (e′ .sum)) (subOf theta theta′) beaten length last)))

@@ -1,5 +1,5 @@
--- The pieces of a run as calls of their own: counts and lengths are checked (refusals 1 and 2, with nothing written), then
--- the piece is worked out. Where the scalars refuse, what is written is +0.
+-- The pieces of a run as calls of their own: counts and lengths are checked (refusals 1 and 2, with nothing written),
+-- then the piece is worked out. Where the scalars refuse, what is written is +0.
 use Prim.Native.Nat.{ℕ, _*_}
 use mathlib.Core.Bool.{Bool}
 use mathlib.Core.List.{List}
@@ -62,12 +62,12 @@ thenWrites (refused k) x r = record { ended = refused k; out = x }
 -- ---- of the rows
 
 -- over the first d variables, which are none or all
-abbrev pub reachOf : ℕ → ℕ → ℕ
-reachOf n d = pick (eqb d 0) 0 n
+abbrev pub variablesRead : ℕ → ℕ → ℕ
+variablesRead n d = pick (eqb d 0) 0 n
 
 unfoldable pub squaredReply : RowCounts → List Float → List Float → ℕ → Res Scalar
 squaredReply c rows delta d =
-    then (fitsTwo c rows (length delta) 24 d (reachOf (c .n) d)) (ok (squaredOf (evaluationBy c rows .sum) delta d))
+    then (fitsTwo c rows (length delta) 24 d (variablesRead (c .n) d)) (ok (squaredOf (evaluationBy c rows .sum) delta d))
 
 unfoldable pub predictedReply : RowCounts → List Float → List Float → Res Scalar
 predictedReply c rows delta =

@@ -19,10 +19,14 @@ cutOf n delta shrink = fillTo delta 0 (λ i. chooseOf (mulOf (at delta i) shrink
 -- a step, cut where it is definitely longer than the radius
 unfoldable pub cutWithin : ℕ → Scalar → List Float → Res (List Float)
 unfolding bind
-cutWithin n radius delta = bind (normOf (at delta) n) (λ length. pick (definitelyGreater length radius) (bind (divOf radius length) (λ shrink. ok (cutOf n delta shrink))) (ok delta))
+cutWithin n radius delta =
+    bind (normOf (at delta) n)
+    (λ length.
+    pick (definitelyGreater length radius) (bind (divOf radius length) (λ shrink. ok (cutOf n delta shrink)))
+    (ok delta))
 
 -- the radius after a step of that length
-abbrev pub reachOf : Scalar → Scalar → Scalar → Bool → Scalar
-reachOf length radius max linear =
+abbrev pub radiusAfter : Scalar → Scalar → Scalar → Bool → Scalar
+radiusAfter length radius max linear =
     let reach = mulOf (degenerate two64) length in
     pick (definitelyGreater reach radius) (pick (linear || definitelyLess reach max) (upper reach) max) radius

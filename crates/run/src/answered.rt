@@ -6,7 +6,7 @@ ghost use mathlib.Core.Bool.{true};
 ghost use mathlib.Core.Path.{_≡_};
 ghost use lib.ListN.{length};
 ghost use Rattle.interval.specs.Scalar.{pick};
-ghost use Rattle.run.specs.Limits.{AREA};
+ghost use Rattle.run.specs.Limits.{AREA, CORRECTIONS};
 ghost use Rattle.run.specs.declared.state.Kind.the-variants as kinds;
 ghost use Rattle.run.specs.declared.state.Phase.the-variants.{Open};
 ghost use Rattle.run.specs.Answered.{started, fromStanding, answered, answeredNone};
@@ -15,7 +15,8 @@ ghost use Rattle.run.specs.Checks.{phaseFits};
 ghost use Rattle.run.specs.Corrected.{landTrial, landCorrection};
 ghost use Rattle.run.specs.Rows.{rowNumbers};
 ghost use Rattle.run.specs.program.Area.{Uses, Working};
-ghost use Rattle.run.specs.program.Endings.{Leaves, Bounded, Underway};
+ghost use Rattle.run.specs.program.Corrected.{RowsToLand};
+ghost use Rattle.run.specs.program.Endings.{Leaves, Bounded};
 use crate::area;
 use crate::corrected::correction_none;
 use crate::corrected::land_correction;
@@ -37,9 +38,10 @@ use linear::Answer;
 // A start's rows: which variables they depend on is fixed for the whole run, and the first iteration follows. A
 // variable that no residual definitely depends on would make the curvature singular, so it keeps its place.
 fn started(st: State, area: &mut [f64], rows: &[f64]) -> Returned
-    requires { ⌜ (length (now area) ≡ AREA) ×
-        ((length (now rows) ≡ rowNumbers (st .sizes .n) (st .sizes .m) (st .sizes .s)) ×
-        (Bounded 1073741824 st × (st .phase ≡ Open kinds.Start))) ⌝ }
+    requires { ⌜ (length (now area) ≡ AREA)
+        × (length (now rows) ≡ rowNumbers (st .sizes .n) (st .sizes .m) (st .sizes .s))
+        × Bounded 1073741824 st
+        × (st .phase ≡ Open kinds.Start) ⌝ }
     ensures { λ r. ⌜ ((w : Memory) → Uses (usedIn st) w (now (area .entry)) →
         Leaves (started st w (now (rows .entry))) r (now (area .exit))) ⌝ }
 {
@@ -51,9 +53,7 @@ fn started(st: State, area: &mut [f64], rows: &[f64]) -> Returned
 
 // A trial's or a correction's rows land, once the violation of the standing point is known.
 fn land(st: State, area: &mut [f64], rows: &[f64], trial: bool) -> Returned
-    requires { ⌜ (length (now area) ≡ AREA) ×
-        ((length (now rows) ≡ rowNumbers (st .sizes .n) (st .sizes .m) (st .sizes .s)) ×
-        (Underway st × (st .counts .corrections ≤ 4))) ⌝ }
+    requires { ⌜ RowsToLand st (length (now area)) (length (now rows)) × (st .counts .corrections ≤ CORRECTIONS) ⌝ }
     ensures { λ r. ⌜ ((w : Memory) → Working st w (now (area .entry)) →
         Leaves (fromStanding st w (λ theta. pick trial (landTrial st w (now (rows .entry)) theta)
         (landCorrection st w (now (rows .entry)) theta))) r (now (area .exit))) ⌝ }
@@ -75,7 +75,7 @@ fn land(st: State, area: &mut [f64], rows: &[f64], trial: bool) -> Returned
 pub fn answered(kind: Kind, st: State, area: &mut [f64], rows: &[f64]) -> Returned
     requires { ⌜ (length (now area) ≡ AREA) ×
         ((length (now rows) ≡ rowNumbers (st .sizes .n) (st .sizes .m) (st .sizes .s)) ×
-        (Bounded 1073741824 st × ((st .counts .corrections ≤ 4) ×
+        (Bounded 1073741824 st × ((st .counts .corrections ≤ CORRECTIONS) ×
         ((phaseFits st (Open kind) ≡ true) × (st .phase ≡ Open kind))))) ⌝ }
     ensures { λ r. ⌜ ((w : Memory) → Uses (usedIn st) w (now (area .entry)) →
         Leaves (answered kind st w (now (rows .entry))) r (now (area .exit))) ⌝ }

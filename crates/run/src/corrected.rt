@@ -8,7 +8,7 @@ ghost use Rattle.interval.specs.Result.{ok};
 ghost use Rattle.interval.specs.Scalar.{pick, sharpen};
 ghost use Rattle.linear.specs.Answers.{doneOf, resultOf};
 ghost use Rattle.linear.specs.Flat.{listTo, at};
-ghost use Rattle.run.specs.Limits.{AREA, VARIABLES, CONSTRAINTS, CORRECTIONS};
+ghost use Rattle.run.specs.Limits.{AREA, CORRECTIONS};
 ghost use Rattle.run.specs.declared.state.Kind.the-variants as kinds;
 ghost use Rattle.run.specs.Answered.{answeredNone};
 ghost use Rattle.run.specs.Area.{Memory, rowsAt};
@@ -17,10 +17,10 @@ ghost use Rattle.run.specs.Corrected.{landCorrection, landTrial};
 ghost use Rattle.run.specs.Decide.{judge};
 ghost use Rattle.run.specs.Residuals.{violationOf};
 ghost use Rattle.run.specs.Results.{truthOf};
-ghost use Rattle.run.specs.Rows.{constraintsOf, rowNumbers};
+ghost use Rattle.run.specs.Rows.{constraintsOf};
 ghost use Rattle.run.specs.Vectors.{vector, fillTo};
 ghost use Rattle.run.specs.program.Area.{ViolationsKnown, StandingKnown, Working};
-ghost use Rattle.run.specs.program.Corrected.{shiftedOf, nearerOf};
+ghost use Rattle.run.specs.program.Corrected.{MarkedCounts, RowsToLand, shiftedOf, nearerOf};
 ghost use Rattle.run.specs.program.Endings.{Leaves, Underway};
 use crate::area;
 use crate::decide::judge_landed;
@@ -60,7 +60,7 @@ pub enum Shifted {
 
 // The slopes of the constraints by the variables that move, chosen, and zero by the others.
 fn moving_slopes(n: usize, m: usize, xs: &[f64], moving: &[bool], jc: &mut [f64])
-    requires { ⌜ (n ≤ VARIABLES) × ((m ≤ CONSTRAINTS) × ((length (now moving) ≡ 12) × (length (now jc) ≡ 2 * (m * n)))) ⌝ }
+    requires { ⌜ MarkedCounts n m (length (now moving)) × (length (now jc) ≡ 2 * (m * n)) ⌝ }
     ensures { λ _. ⌜ now (jc .exit) ≡ listTo
         (λ p. movingSlope (now (moving .entry)) (constraintsOf n m (now (xs .entry))) (p / n) (p % n)) (m * n) ⌝ }
 {
@@ -84,9 +84,9 @@ fn sharpened(n: usize, from: &[f64], to: &mut [f64])
     }
 }
 
-// The shortest move that meets the linearized constraints.
+// The shortest move that meets the linearized constraints, among the variables that move.
 pub fn shift(n: usize, m: usize, xs: &[f64], moving: &[bool], d: &mut [f64]) -> Done
-    requires { ⌜ (n ≤ VARIABLES) × ((m ≤ CONSTRAINTS) × ((length (now moving) ≡ 12) × (length (now d) ≡ 24))) ⌝ }
+    requires { ⌜ MarkedCounts n m (length (now moving)) × (length (now d) ≡ 24) ⌝ }
     ensures { λ r. ⌜ doneOf r (now (d .exit)) ≡ shiftOf (now (moving .entry)) (constraintsOf n m (now (xs .entry))) ⌝ }
 {
     let q = 2 * (m * n);
@@ -112,7 +112,7 @@ pub fn shift_from(
     landed: &[f64],
     next: &mut [f64],
 ) -> Shifted
-    requires { ⌜ (n ≤ VARIABLES) × ((m ≤ CONSTRAINTS) × ((length (now moving) ≡ 12) × (length (now next) ≡ 24))) ⌝ }
+    requires { ⌜ MarkedCounts n m (length (now moving)) × (length (now next) ≡ 24) ⌝ }
     ensures { λ r. ⌜ shiftedOf r (now (next .exit))
         ≡ shiftFrom (now (moving .entry)) (constraintsOf n m (now (xs .entry))) (now (landed .entry)) ⌝ }
 {
@@ -195,9 +195,7 @@ fn correct_or_judge(
 // A correction's rows that are nearer the constraints are kept, and the step is shifted as well, since its length and
 // the curvature are taken from where it led.
 fn keep(st: State, area: &mut [f64], rows: &[f64], theta: Scalar, landed: Answer) -> Returned
-    requires { ⌜ (length (now area) ≡ AREA) ×
-        ((length (now rows) ≡ rowNumbers (st .sizes .n) (st .sizes .m) (st .sizes .s)) ×
-        (Underway st × (st .counts .corrections ≤ CORRECTIONS))) ⌝ }
+    requires { ⌜ RowsToLand st (length (now area)) (length (now rows)) × (st .counts .corrections ≤ CORRECTIONS) ⌝ }
     ensures { λ r. ⌜ ((w : Memory) → StandingKnown st (ok theta) w (now (area .entry)) →
         resultOf landed ≡ violationOf (rowsAt st (now (rows .entry)) .constraints) →
         Leaves (keep st w (now (rows .entry)) theta) r (now (area .exit))) ⌝ }
@@ -249,9 +247,7 @@ fn is_nearer(new: Answer, old: Answer) -> TruthResult
 
 // A correction's rows, from a standing point with violation theta: kept where they are nearer than the landed ones.
 pub fn land_correction(st: State, area: &mut [f64], rows: &[f64], theta: Scalar) -> Returned
-    requires { ⌜ (length (now area) ≡ AREA) ×
-        ((length (now rows) ≡ rowNumbers (st .sizes .n) (st .sizes .m) (st .sizes .s)) ×
-        (Underway st × (st .counts .corrections ≤ CORRECTIONS))) ⌝ }
+    requires { ⌜ RowsToLand st (length (now area)) (length (now rows)) × (st .counts .corrections ≤ CORRECTIONS) ⌝ }
     ensures { λ r. ⌜ ((w : Memory) → StandingKnown st (ok theta) w (now (area .entry)) →
         Leaves (landCorrection st w (now (rows .entry)) theta) r (now (area .exit))) ⌝ }
 {
@@ -272,8 +268,7 @@ pub fn land_correction(st: State, area: &mut [f64], rows: &[f64], theta: Scalar)
 
 // A trial's rows, from a standing point with violation theta: corrected where the violation rose.
 pub fn land_trial(st: State, area: &mut [f64], rows: &[f64], theta: Scalar) -> Returned
-    requires { ⌜ (length (now area) ≡ AREA) ×
-        ((length (now rows) ≡ rowNumbers (st .sizes .n) (st .sizes .m) (st .sizes .s)) × Underway st) ⌝ }
+    requires { ⌜ RowsToLand st (length (now area)) (length (now rows)) ⌝ }
     ensures { λ r. ⌜ ((w : Memory) → StandingKnown st (ok theta) w (now (area .entry)) →
         Leaves (landTrial st w (now (rows .entry)) theta) r (now (area .exit))) ⌝ }
 {

@@ -1,6 +1,7 @@
 // The curvature that Gauss-Newton leaves out, n rows of n: that of the constraints, weighted by how hard the sum pulls
-// against them. It is learned from the steps taken, along the constraints only, and as often negative as positive. Without
-// it, where the sum cannot reach zero against curved constraints, steps along them overshoot and the run zig-zags.
+// against them. It is learned from the steps taken, along the constraints only, and is as often negative as positive.
+// Without it, where the sum cannot reach zero against curved constraints, steps along them overshoot and a run goes in
+// zigzags.
 ghost use Prim.Native.Nat.{_≤_, _*_, _<_};
 ghost use mathlib.Core.Bool.{not, _||_};
 ghost use mathlib.Core.List.{List};
@@ -296,11 +297,11 @@ fn update_factored(
 // gradient as the step did.
 pub fn update_curvature(
     c: RowCounts,
-    b: &mut [f64],
     step: &[f64],
     xs: &[f64],
     next: &[f64],
     lambda: &[f64],
+    b: &mut [f64],
 ) -> Done
     requires { ⌜ FewRows c × (length (now step) ≡ 24) ⌝ }
     ensures { λ r. ⌜ doneOf r (now (b .exit))

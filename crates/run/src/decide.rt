@@ -89,7 +89,7 @@ pub fn turn_down(st: State, area: &mut [f64], why: Rejection, standing: Answer) 
     }
 }
 
-// Whether a step that is not lower is tried again without the curvature learned.
+// Whether a step that is not lower may be tried again: only where there is curvature to leave out.
 fn may_retry(plain: bool, n: usize, area: &[f64]) -> bool
     requires { ⌜ (n ≤ VARIABLES) × (length (now area) ≡ AREA) ⌝ }
     ensures { λ r. ⌜ ((w : Memory) → Holds w (now (area .entry)) → r ≡ (not plain && learnedOf n (w .curvature))) ⌝ }
@@ -101,7 +101,8 @@ fn may_retry(plain: bool, n: usize, area: &[f64]) -> bool
 }
 
 // A step that is not lower is tried again without the curvature learned, once in an iteration, or turned down.
-// Curvature learned far away may point uphill here, and without it the damped step is one of descent.
+// Curvature learned from earlier steps may no longer hold here, as on the far side of a singular point, and without it
+// the step is one of descent; so this comes before more damping.
 pub fn not_lower(st: State, area: &mut [f64], standing: Answer) -> Returned
     requires { ⌜ (length (now area) ≡ AREA) × Bounded 1073741824 st ⌝ }
     ensures { λ r. ⌜ ((w : Memory) → StandingKnown st (resultOf standing) w (now (area .entry)) →
@@ -117,8 +118,8 @@ pub fn not_lower(st: State, area: &mut [f64], standing: Answer) -> Returned
     turn_down(st, area, Rejection::NotLower, standing)
 }
 
-// Whether the constraints came as near as their linearization said: the violation fell by three quarters of the drop that was predicted, at
-// least.
+// Whether the constraints came as near as their linearization said: the violation fell by three quarters of the drop
+// that was predicted, at least.
 fn held(old: Scalar, predicted: Scalar, new: Scalar) -> bool
     ensures { λ r. ⌜ r ≡ held old predicted new ⌝ }
 {
@@ -170,11 +171,11 @@ fn learn(z: Sizes, plain: bool, area: &[f64], b: &mut [f64]) -> Done
     curvature_in_use(plain, z.n, area, b);
     update_curvature(
         row_counts(z),
-        b,
         area::step(area),
         area::standing_rows(area),
         area::landed_rows(area),
         area::multipliers(area),
+        b,
     )
 }
 
@@ -188,7 +189,7 @@ fn take_with(
     mu: Scalar,
     radius: Scalar,
 ) -> Returned
-    requires { ⌜ (length (now area) ≡ AREA) × (Underway st × (isPositive mu ≡ true)) ⌝ }
+    requires { ⌜ (length (now area) ≡ AREA) × Underway st × (isPositive mu ≡ true) ⌝ }
     ensures { λ r. ⌜ ((w : Memory) → ViolationsKnown st theta (resultOf landed) w (now (area .entry)) →
         Leaves (takenWith st w theta span mu radius) r (now (area .exit))) ⌝ }
 {

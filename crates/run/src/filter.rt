@@ -1,5 +1,6 @@
 // The filter: f and the violation of every point that stood before the present one. A step is progress only where it is
-// definitely lower in one of the two than each of them, so a run cannot come back to where it was.
+// definitely lower in one of the two than each of them, so a run cannot come back to where it was. The two are not
+// weighed against each other: a weight would have to grow without bound where the constraints are singular.
 ghost use Prim.Native.Nat.{_<_, _≤_};
 ghost use mathlib.Core.Bool.{_||_, _&&_};
 ghost use mathlib.Core.Path.{_≡_};
@@ -13,6 +14,7 @@ use interval::Scalar;
 use linear::at;
 use linear::put;
 
+// Whether f or theta is definitely less than in pair i.
 fn beats_pair(filter: &[f64], f: Scalar, theta: Scalar, i: usize) -> bool
     requires { ⌜ i < 65536 ⌝ }
     ensures { λ r. ⌜ r ≡ definitelyLess f (filterSum (now (filter .entry)) i)

@@ -1,5 +1,5 @@
-// The judgement of a landed point: whether it is lower than where the step began and than every point that stood before,
-// whether that can be told at all, and whether the steps contract.
+// The judgement of a landed point: whether it is lower than where the step began and than every point that stood
+// before, whether that can be told at all, and whether the steps contract.
 ghost use Prim.Native.Nat.{_<_};
 ghost use mathlib.Core.Bool.{_&&_, _||_};
 ghost use mathlib.Core.Path.{_≡_};

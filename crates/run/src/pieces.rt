@@ -6,7 +6,7 @@ ghost use lib.ListN.{length};
 ghost use Rattle.linear.specs.Answers.{doneOf, resultOf};
 ghost use Rattle.linear.specs.Flat.{zeros};
 ghost use Rattle.linear.specs.Replies.{replied, replyOf};
-ghost use Rattle.run.specs.Pieces.{sizedOf, wantsOf, fitsTwo, reachOf, squaredReply, predictedReply};
+ghost use Rattle.run.specs.Pieces.{sizedOf, wantsOf, fitsTwo, variablesRead, squaredReply, predictedReply};
 ghost use Rattle.run.specs.Pieces.{transposedReply, movingReply, judgeReply, expectsReply, cutReply};
 ghost use Rattle.run.specs.Pieces.{alongReply, shiftReply, updateReply, stepReplied, stepReply, learnedReply};
 ghost use Rattle.run.specs.Results.{truthOf};
@@ -81,7 +81,7 @@ fn fits(c: RowCounts, xs: &[f64], a: usize, wanted_a: usize, b: usize, wanted_b:
 
 // How many variables d may say are read: none, or all.
 fn variables_read(n: usize, d: usize) -> usize
-    ensures { λ r. ⌜ r ≡ reachOf n d ⌝ }
+    ensures { λ r. ⌜ r ≡ variablesRead n d ⌝ }
 {
     if d == 0 {
         return 0;
@@ -282,11 +282,11 @@ pub fn update_curvature(
     let Done::Finished = fit else {
         return fit;
     };
-    cleared(curvature::update_curvature(c, b, step, xs, next, lambda), b)
+    cleared(curvature::update_curvature(c, step, xs, next, lambda, b), b)
 }
 
-// The step of the problem linearized at the rows, with curvature b and damping mu, and its multipliers: 288 numbers in b,
-// 12 marks, 24 numbers in delta and lambda, which are +0 where there is none.
+// The step of the problem linearized at the rows, with curvature b and damping mu, and its multipliers: 288 numbers in
+// b, 12 marks, 24 numbers in delta and lambda, which are +0 where there is none.
 pub fn step_at(
     c: RowCounts,
     xs: &[f64],

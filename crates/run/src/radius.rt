@@ -1,10 +1,11 @@
-// The radius: a step cut to it, and what it is after a step was taken.
+// The radius: a step cut to it, and what it is after a step was taken. It bounds the part of a step along the
+// constraints, which no damping shortens, since their linearization holds only so far.
 ghost use Prim.Native.Nat.{_≤_};
 ghost use mathlib.Core.Path.{_≡_};
 ghost use lib.ListN.{length};
 ghost use Rattle.linear.specs.Answers.{doneOf};
 ghost use Rattle.run.specs.Limits.{VARIABLES};
-ghost use Rattle.run.specs.Radius.{cutOf, cutWithin, reachOf};
+ghost use Rattle.run.specs.Radius.{cutOf, cutWithin, radiusAfter};
 use crate::vectors::norm_of;
 use interval::Scalar;
 use interval::ScalarResult;
@@ -25,7 +26,7 @@ pub fn cut(n: usize, delta: &mut [f64], shrink: Scalar)
     }
 }
 
-// `cut`, of at most 12 variables.
+// A step, cut to the radius where it is definitely longer.
 pub fn cut_within(n: usize, radius: Scalar, delta: &mut [f64]) -> Done
     requires { ⌜ (n ≤ VARIABLES) × (length (now delta) ≡ 24) ⌝ }
     ensures { λ r. ⌜ doneOf r (now (delta .exit)) ≡ cutWithin n radius (now (delta .entry)) ⌝ }
@@ -51,9 +52,11 @@ pub fn cut_within(n: usize, radius: Scalar, delta: &mut [f64]) -> Done
     }
 }
 
-// The radius after a step of that length.
+// The radius after a step of that length: the next may be twice as long. Beyond the longest step that the caller allows
+// it goes only where the constraints came as near as their linearization said, so that a start from far away is not
+// brought in by one such step at a time.
 pub fn radius_after(length: Scalar, radius: Scalar, max: Scalar, linear: bool) -> Scalar
-    ensures { λ r. ⌜ r ≡ reachOf length radius max linear ⌝ }
+    ensures { λ r. ⌜ r ≡ radiusAfter length radius max linear ⌝ }
 {
     let reach = Scalar::TWO.mul(length);
     if !reach.definitely_greater(radius) {

@@ -25,7 +25,7 @@ use Rattle.run.specs.Filter.{beatsTo}
 use Rattle.run.specs.Area.{standingAt, landedAt, curvatureOf}
 use Rattle.run.specs.Decide.{linearOf, take, notLower, wasTaken, decide, judge}
 use Rattle.run.specs.Damping.{shrunk}
-use Rattle.run.specs.Radius.{reachOf}
+use Rattle.run.specs.Radius.{radiusAfter}
 use Rattle.run.specs.State.{standingOn}
 use Rattle.run.specs.Filter.{filterWith}
 use Rattle.linear.specs.Norm.{normOf}
@@ -255,7 +255,7 @@ module _ (S : CallContext) (st : State) (w : Memory) (since : ℕ) (L : Landing 
       (λ linear u v.
       or-refuse-after S z st w (divOf mu (degenerate three64)) _ (div-yields mu (degenerate three64))
       (λ third is-third v.
-      let radius = reachOf length (st .search .radius) (st .«max_step») linear in
+      let radius = radiusAfter length (st .search .radius) (st .«max_step») linear in
       let next : shrunk mu third ≡ nextMu (S .run .state .search .mu) =
       next-mu-is mu third is-third ∙ ap nextMu (sym (L .mu-same)) in
       or-refuse-after S z st w

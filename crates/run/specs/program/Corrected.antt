@@ -1,6 +1,9 @@
--- For private functions: what a shift answers, and whether a correction is nearer the constraints.
+-- For private functions: what a shift and the answer to a trial are given, what a shift answers, and whether a
+-- correction is nearer the constraints.
+use Prim.Native.Nat.{ℕ, _≤_}
 use mathlib.Core.Bool.{Bool}
 use mathlib.Core.List.{List}
+use mathlib.Core.Path.{_≡_}
 use lib.Ieee.{Float}
 use Rattle.interval.specs.Result.{Res, ok, refused}
 use Rattle.interval.specs.Scalar.{definitelyLess}
@@ -8,8 +11,28 @@ use Rattle.interval.specs.declared.Scalar.{Scalar}
 use Rattle.linear.specs.Answers.{numberOf}
 use Rattle.linear.specs.Results.{bind}
 use Rattle.run.specs.Corrected.{Shift, to, stay}
+use Rattle.run.specs.Limits.{AREA, VARIABLES, CONSTRAINTS}
+use Rattle.run.specs.Rows.{rowNumbers}
+use Rattle.run.specs.program.Endings.{Underway}
 use Rattle.run.specs.declared.corrected.Shifted.{Shifted}
 use Rattle.run.specs.declared.corrected.Shifted.the-variants as shifted
+use Rattle.run.specs.declared.state.State.{State}
+
+-- ---- counts and lengths
+
+-- n variables and m constraints within the limits, and a mark for each variable that there may be
+pub record MarkedCounts (n m moving : ℕ) : Type 0 where
+  pub few-variables : n ≤ VARIABLES
+  pub few-constraints : m ≤ CONSTRAINTS
+  pub marks : moving ≡ 12
+
+-- the area and an answer's rows have their lengths, and a trial or a correction is open
+pub record RowsToLand (st : State) (area rows : ℕ) : Type 0 where
+  pub whole-area : area ≡ AREA
+  pub whole-rows : rows ≡ rowNumbers (st .sizes .n) (st .sizes .m) (st .sizes .s)
+  pub underway : Underway st
+
+-- ---- what is answered
 
 -- what an answer says, with what the slice for the point holds
 abbrev pub shiftedOf : Shifted → List Float → Res Shift

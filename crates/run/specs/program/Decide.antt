@@ -12,5 +12,9 @@ use Rattle.run.specs.declared.state.State.{State}
 -- a step taken, once the damping and the radius after it are known
 abbrev pub takenWith : State → Memory → Scalar → Scalar → Scalar → Scalar → AfterSlots
 takenWith st w theta length mu radius =
-    orRefuse st w (updateCurvature (st .sizes .n) (curvatureOf st w) (w .step) (standingAt st w) (landedAt st w) (w .multipliers))
-    (λ b. iterate (standingOn st length mu radius) (withTaken w b (filterWith (w .filter) (st .counts .iterations) (sumSquared (standingAt st w .sum)) theta)))
+    let learned =
+    updateCurvature (st .sizes .n) (curvatureOf st w) (w .step) (standingAt st w) (landedAt st w) (w .multipliers) in
+    orRefuse st w learned
+    (λ b.
+    iterate (standingOn st length mu radius)
+    (withTaken w b (filterWith (w .filter) (st .counts .iterations) (sumSquared (standingAt st w .sum)) theta)))

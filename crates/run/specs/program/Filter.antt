@@ -1,4 +1,5 @@
--- The filter as a list of pairs of intervals (document 01, "Proposal and judgement"), beside the flat numbers that it is kept in: what it means to beat each pair, and the pairs of the flat numbers.
+-- The filter as a list of pairs of intervals (document 01, "Proposal and judgement"), beside the flat numbers that it
+-- is kept in: what it means to beat each pair, and the pairs of the flat numbers.
 use Prim.Native.Nat.{ℕ, zero, suc}
 use mathlib.Core.Bool.{Bool, _||_}
 use mathlib.Core.List.{List, [], _∷_, _++_}

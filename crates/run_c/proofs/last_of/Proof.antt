@@ -1,5 +1,4 @@
 -- `last_of` meets its contract.
-use borrow.Author.Needs.{needs}
 use Rattle.run_c.proofs.last_of.Statement.{statement}
 use Rattle.run_c.proofs.last_of.Tie as tie
 

@@ -12,17 +12,8 @@ enum-told c = search needs
 
 started-requires : tie.Need-started-requires
 started-requires c κs =
-    let p = c .before .before .before .before .before .pre in (
-      p .0,
-      (
-        p .1 .0,
-        (
-          p .1 .1 .0,
-          p .1 .1 .1 .1 .1 ∙ ap Open
-              (c .before .enum-told .given .1),
-        ),
-      ),
-    )
+    let p = c .before .before .before .before .before .pre in
+    (p .0, p .1 .0, p .1 .1 .0, p .1 .1 .1 .1 .1 ∙ ap Open (c .before .enum-told .given .1))
 
 same-length : tie.Need-same-length
 same-length c = search needs
@@ -37,16 +28,9 @@ enum-told-2 c = search needs
 
 land-requires : tie.Need-land-requires
 land-requires c κs =
-    let p = c .before .before .before .before .before .pre in (
-      p .0,
-      (
-        p .1 .0,
-        (
-          trial-underway (p .1 .1 .0) (c .before .enum-told2 .given .1) (p .1 .1 .1 .1 .0),
-          p .1 .1 .1 .0,
-        ),
-      ),
-    )
+    let p = c .before .before .before .before .before .pre in
+    let underway = trial-underway (p .1 .1 .0) (c .before .enum-told2 .given .1) (p .1 .1 .1 .1 .0) in
+    (record { whole-area = p .0; whole-rows = p .1 .0; underway = underway }, p .1 .1 .1 .0)
 
 same-length-2 : tie.Need-same-length-2
 same-length-2 c = search needs
@@ -62,16 +46,9 @@ enum-told-3 c = search needs
 
 land-requires-2 : tie.Need-land-requires-2
 land-requires-2 c κs =
-    let p = c .before .before .before .before .before .pre in (
-      p .0,
-      (
-        p .1 .0,
-        (
-          correction-underway (p .1 .1 .0) (c .before .enum-told3 .given .1) (p .1 .1 .1 .1 .0),
-          p .1 .1 .1 .0,
-        ),
-      ),
-    )
+    let p = c .before .before .before .before .before .pre in
+    let underway = correction-underway (p .1 .1 .0) (c .before .enum-told3 .given .1) (p .1 .1 .1 .1 .0) in
+    (record { whole-area = p .0; whole-rows = p .1 .0; underway = underway }, p .1 .1 .1 .0)
 
 same-length-3 : tie.Need-same-length-3
 same-length-3 c = search needs

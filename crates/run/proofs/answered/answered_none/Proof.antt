@@ -15,7 +15,9 @@ same-length : tie.Need-same-length
 same-length c = search needs
 
 returns : tie.Need-returns
-returns c w h = none-as (c .before .before .before .before .before .before .before .args .st) w (c .before .before .before .before .enum-told .given .1) (c .before .before .finish .ensures w h)
+returns c w h =
+    none-as (c .before .before .before .before .before .before .before .args .st) w
+    (c .before .before .before .before .enum-told .given .1) (c .before .before .finish .ensures w h)
 
 enum-told-2 : tie.Need-enum-told-2
 enum-told-2 c = search needs
@@ -44,13 +46,17 @@ enum-told-3 : tie.Need-enum-told-3
 enum-told-3 c = search needs
 
 correction-none-requires : tie.Need-correction-none-requires
-correction-none-requires c κs = let p = c .before .before .before .before .pre in (p .0, correction-underway (p .1 .0) (c .before .enum-told3 .given .1) (p .1 .1))
+correction-none-requires c κs =
+    let p = c .before .before .before .before .pre in
+    (p .0, correction-underway (p .1 .0) (c .before .enum-told3 .given .1) (p .1 .1))
 
 same-length-3 : tie.Need-same-length-3
 same-length-3 c = search needs
 
 returns-3 : tie.Need-returns-3
-returns-3 c w h = none-as (c .before .before .before .before .before .before .before .args .st) w (c .before .before .before .before .enum-told3 .given .1) (c .before .before .correction-none .ensures w h)
+returns-3 c w h =
+    none-as (c .before .before .before .before .before .before .before .args .st) w
+    (c .before .before .before .before .enum-told3 .given .1) (c .before .before .correction-none .ensures w h)
 
 pub answered-none-spec : {M : Type 1} → statement M
 answered-none-spec =

@@ -14,23 +14,19 @@ use Rattle.run.proofs.answered.land.Tie as tie
 
 -- what follows the standing violation
 abbrev next : tie.Start → Memory → Scalar → AfterSlots
-next s w theta = let a = s .args in pick (a .trial) (landTrial (a .st) w (a .rows .now) theta) (landCorrection (a .st) w (a .rows .now) theta)
+next s w theta =
+    let a = s .args in
+    pick (a .trial) (landTrial (a .st) w (a .rows .now) theta) (landCorrection (a .st) w (a .rows .now) theta)
 
 standing-violation-requires : tie.Need-standing-violation-requires
-standing-violation-requires c κs = let p = c .before .before .before .pre in (p .1 .1 .0 .bounded .few-constraints, p .0)
+standing-violation-requires c κs =
+    let p = c .before .before .before .pre in (p .0 .underway .bounded .few-constraints, p .0 .whole-area)
 
 enum-known-theta : tie.Need-enum-known-theta
 enum-known-theta c = search needs
 
 land-trial-requires : tie.Need-land-trial-requires
-land-trial-requires c κs =
-    let p = c .before .before .before .before .before .before .before .before .before .pre in (
-      p .0,
-      (
-        p .1 .0,
-        p .1 .1 .0,
-      ),
-    )
+land-trial-requires c κs = c .before .before .before .before .before .before .before .before .before .pre .0
 
 same-length : tie.Need-same-length
 same-length c = search needs
@@ -67,8 +63,8 @@ enum-known-e c = search needs
 refuse-requires : tie.Need-refuse-requires
 refuse-requires c κs =
     let p = c .before .before .before .before .before .before .before .before .pre in (
-      p .0,
-      limits-of (p .1 .1 .0 .bounded),
+      p .0 .whole-area,
+      limits-of (p .0 .underway .bounded),
     )
 
 same-length-3 : tie.Need-same-length-3

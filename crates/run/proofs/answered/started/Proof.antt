@@ -14,18 +14,18 @@ use Rattle.run.proofs.answered.started.Tie as tie
 
 moving-requires : tie.Need-moving-requires
 moving-requires c κs =
-    let b = c .before .before .pre .1 .1 .0 in
+    let b = c .before .before .pre .2 in
     (b .few-variables, (b .few-constraints, b .few-sums))
 
 write-start-requires : tie.Need-write-start-requires
 write-start-requires c κs =
     let p = c .before .before .before .before .pre in
-    (p .0, omega (arith, rows-few (p .1 .1 .0), p .1 .0))
+    (p .0, omega (arith, rows-few (p .2), p .1))
 
 standing-violation-requires : tie.Need-standing-violation-requires
 standing-violation-requires c κs =
     let p = c .before .before .before .before .before .before .before .before .pre in
-    (p .1 .1 .0 .few-constraints, omega (arith, c .before .before .before .write-start .kept, p .0))
+    (p .2 .few-constraints, omega (arith, c .before .before .before .write-start .kept, p .0))
 
 with-moving-requires : tie.Need-with-moving-requires
 with-moving-requires c κs = search needs
@@ -35,7 +35,7 @@ iterate-requires c κs =
     let p = c .before .before .before .before .before .before .before .before .before .before .before .pre in
     let long = c .before .before .before .before .before .before .write-start .kept in
     let t = sym (c .before .with-moving .ensures) in
-    (omega (arith, long, p .0), subst (λ (x : State). Bounded 2147483648 x) t (moved-on _ (p .1 .1 .0)))
+    (omega (arith, long, p .0), subst (λ (x : State). Bounded 2147483648 x) t (moved-on _ (p .2)))
 
 same-length : tie.Need-same-length
 same-length c = search needs
@@ -48,7 +48,7 @@ returns c w h =
     .before .pre in
     let t = c .before .before .before .before .with-moving .ensures in
     let v = withStart w (a .rows .now) in
-    let hv = starts (a .st) (p .1 .1 .0) (a .rows .now) (p .1 .0) h (p .1 .1 .1)
+    let hv = starts (a .st) (p .2) (a .rows .now) (p .1) h (p .3)
     (c .before .before .before .before .before .before .before .before .before .write-start .ensures w
     (2 * a .st .sizes .n)) in
     let hs = measures (a .st) hv (c .before .before .before .before .before .standing-violation .ensures v (hv .holds))

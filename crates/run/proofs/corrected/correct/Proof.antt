@@ -28,7 +28,16 @@ slice-aggregate-shift-from-2 : tie.Need-slice-aggregate-shift-from-2
 slice-aggregate-shift-from-2 c = search needs
 
 shift-from-requires : tie.Need-shift-from-requires
-shift-from-requires c κs = let s = c .before .before .before .before .before .before .before in let b = s .pre .1 .bounded in (b .few-variables, (b .few-constraints, (marks s, refl)))
+shift-from-requires c κs =
+    let s = c .before .before .before .before .before .before .before in
+    let b = s .pre .1 .bounded in (
+      record {
+        few-variables = b .few-variables;
+        few-constraints = b .few-constraints;
+        marks = marks s;
+      },
+      refl,
+    )
 
 enum-told : tie.Need-enum-told
 enum-told c = search needs
@@ -37,18 +46,24 @@ enum-told-2 : tie.Need-enum-told-2
 enum-told-2 c = search needs
 
 judge-landed-requires : tie.Need-judge-landed-requires
-judge-landed-requires c κs = c .before .before .before .before .before .before .before .before .before .before .before .before .pre
+judge-landed-requires c κs =
+    c .before .before .before .before .before .before .before .before .before .before .before .before .pre
 
 same-length : tie.Need-same-length
 same-length c = search needs
 
 returns : tie.Need-returns
 returns c w h =
-    let a = c .before .before .before .before .before .before .before .before .before .before .before .before .before .before .before .args in
+    let a = c .before .before .before .before .before .before .before .before .before .before .before .before .before
+    .before .before .args in
     let x = c .before .before .before .before .before .before .before .shift-from in
     let k = h .measured .uses .holds in
-    correct-stays (a .st) w (a .theta) refl (shifted-read (a .st) w (c .before .before .before .before .before .before .before .before .before .before .before .landed-rows .ensures .read w k)
-    (c .before .before .before .before .before .before .before .before .before .landed-point .ensures .read w k) (x .ensures))
+    correct-stays (a .st) w (a .theta) refl
+    (shifted-read (a .st) w
+    (c .before .before .before .before .before .before .before .before .before .before .before .landed-rows .ensures
+    .read w k)
+    (c .before .before .before .before .before .before .before .before .before .landed-point .ensures .read w k)
+    (x .ensures))
     (ap (λ (r : Shifted). shiftedOf r (x .last .1 .1 .1 .1 .1 .0))
     (c .before .before .before .before .enum-told2 .given .1))
     (c .before .before .judge-landed .ensures w h)
@@ -66,11 +81,16 @@ same-length-2 c = search needs
 
 returns-2 : tie.Need-returns-2
 returns-2 c w h =
-    let a = c .before .before .before .before .before .before .before .before .before .before .before .before .before .before .before .before .args in
+    let a = c .before .before .before .before .before .before .before .before .before .before .before .before .before
+    .before .before .before .args in
     let x = c .before .before .before .before .before .before .before .before .shift-from in
     let k = h .measured .uses .holds in
-    correct-refused (a .st) w (a .theta) refl (shifted-read (a .st) w (c .before .before .before .before .before .before .before .before .before .before .before .before .landed-rows .ensures .read w k)
-    (c .before .before .before .before .before .before .before .before .before .before .landed-point .ensures .read w k) (x .ensures))
+    correct-refused (a .st) w (a .theta) refl
+    (shifted-read (a .st) w
+    (c .before .before .before .before .before .before .before .before .before .before .before .before .landed-rows
+    .ensures .read w k)
+    (c .before .before .before .before .before .before .before .before .before .before .landed-point .ensures .read w k)
+    (x .ensures))
     (ap (λ (r : Shifted). shiftedOf r (x .last .1 .1 .1 .1 .1 .0))
     (c .before .before .before .before .before .shifted .given .1))
     (c .before .before .refuse .ensures w (h .measured .uses))
@@ -79,22 +99,34 @@ slice-aggregate-place : tie.Need-slice-aggregate-write
 slice-aggregate-place c = search needs
 
 write-requires : tie.Need-write-requires
-write-requires c κs = omega (arith, c .before .before .before .before .before .before .before .before .before .before .before .before .before .pre .0, c .before .before .before .before .before .shift-from .kept .1 .1 .1 .1 .1 .0)
+write-requires c κs =
+    omega (
+      arith,
+      c .before .before .before .before .before .before .before .before .before .before .before .before .before .pre .0,
+      c .before .before .before .before .before .shift-from .kept .1 .1 .1 .1 .1 .0,
+    )
 
 ask-requires : tie.Need-ask-requires
-ask-requires c κs = c .before .before .before .before .before .before .before .before .before .before .before .before .before .before .before .before .pre .1 .bounded .few-questions
+ask-requires c κs =
+    c .before .before .before .before .before .before .before .before .before .before .before .before .before .before
+    .before .before .pre .1 .bounded .few-questions
 
 same-length-3 : tie.Need-same-length-3
 same-length-3 c = search needs
 
 returns-3 : tie.Need-returns-3
 returns-3 c w h =
-    let a = c .before .before .before .before .before .before .before .before .before .before .before .before .before .before .before .before .before .args in
+    let a = c .before .before .before .before .before .before .before .before .before .before .before .before .before
+    .before .before .before .before .args in
     let x = c .before .before .before .before .before .before .before .before .before .shift-from in
     let next = x .last .1 .1 .1 .1 .1 .0 in
     let k = h .measured .uses .holds in
-    correct-asks (a .st) w (a .theta) refl (shifted-read (a .st) w (c .before .before .before .before .before .before .before .before .before .before .before .before .before .landed-rows .ensures .read w k)
-    (c .before .before .before .before .before .before .before .before .before .before .before .landed-point .ensures .read w k) (x .ensures))
+    correct-asks (a .st) w (a .theta) refl
+    (shifted-read (a .st) w
+    (c .before .before .before .before .before .before .before .before .before .before .before .before .before
+    .landed-rows .ensures .read w k)
+    (c .before .before .before .before .before .before .before .before .before .before .before .landed-point .ensures
+    .read w k) (x .ensures))
     (ap (λ (r : Shifted). shiftedOf r (x .last .1 .1 .1 .1 .1 .0))
     (c .before .before .before .before .before .before .enum-told .given .1))
     (c .ask .ensures _ _ (asked-read k next (c .before .before .before .write .ensures) (x .kept .1 .1 .1 .1 .1 .0)))

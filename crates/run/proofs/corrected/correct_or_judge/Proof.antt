@@ -13,7 +13,10 @@ same-length : tie.Need-same-length
 same-length c = search needs
 
 returns : tie.Need-returns
-returns c w h = let a = c .before .before .before .before .before .before .args in when (correct (a .st) w (a .theta)) (judge (a .st) w (a .theta)) (c .before .before .before .before .if1 .taken) (c .before .before .correct .ensures w h)
+returns c w h =
+    let a = c .before .before .before .before .before .before .args in
+    when (correct (a .st) w (a .theta)) (judge (a .st) w (a .theta)) (c .before .before .before .before .if1 .taken)
+    (c .before .before .correct .ensures w h)
 
 judge-landed-requires : tie.Need-judge-landed-requires
 judge-landed-requires c κs = c .before .before .before .pre
@@ -22,7 +25,10 @@ same-length-2 : tie.Need-same-length-2
 same-length-2 c = search needs
 
 returns-2 : tie.Need-returns-2
-returns-2 c w h = let a = c .before .before .before .before .before .before .args in unless (correct (a .st) w (a .theta)) (judge (a .st) w (a .theta)) (c .before .before .before .before .if1 .left) (c .before .before .judge-landed .ensures w h)
+returns-2 c w h =
+    let a = c .before .before .before .before .before .before .args in
+    unless (correct (a .st) w (a .theta)) (judge (a .st) w (a .theta)) (c .before .before .before .before .if1 .left)
+    (c .before .before .judge-landed .ensures w h)
 
 pub correct-or-judge-spec : {M : Type 1} → statement M
 correct-or-judge-spec =

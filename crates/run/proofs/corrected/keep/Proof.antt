@@ -31,7 +31,16 @@ slice-aggregate-shift-2 : tie.Need-slice-aggregate-shift-2
 slice-aggregate-shift-2 c = search needs
 
 shift-requires : tie.Need-shift-requires
-shift-requires c κs = let s = c .before .before .before .before .before .before .before in let b = s .pre .1 .1 .0 .bounded in (b .few-variables, (b .few-constraints, (marks s, refl)))
+shift-requires c κs =
+    let s = c .before .before .before .before .before .before .before in
+    let b = s .pre .0 .underway .bounded in (
+      record {
+        few-variables = b .few-variables;
+        few-constraints = b .few-constraints;
+        marks = marks s;
+      },
+      refl,
+    )
 
 enum-told : tie.Need-enum-told
 enum-told c = search needs
@@ -42,16 +51,20 @@ enum-known-shift c = search needs
 refuse-requires : tie.Need-refuse-requires
 refuse-requires c κs =
     let p = c .before .before .before .before .before .before .before .before .before .before .before .before .before
-    .pre in (p .0, limits-of (p .1 .1 .0 .bounded))
+    .pre in (p .0 .whole-area, limits-of (p .0 .underway .bounded))
 
 same-length : tie.Need-same-length
 same-length c = search needs
 
 returns : tie.Need-returns
 returns c w h v =
-    let a = c .before .before .before .before .before .before .before .before .before .before .before .before .before .before .before .before .args in
+    let a = c .before .before .before .before .before .before .before .before .before .before .before .before .before
+    .before .before .before .args in
     let x = c .before .before .before .before .before .before .before .before .shift in
-    keep-refused (a .st) w (a .rows .now) (a .theta) refl (shift-read (a .st) w (c .before .before .before .before .before .before .before .before .before .before .before .landed-rows .ensures .read w (h .uses .holds)) (x .ensures))
+    keep-refused (a .st) w (a .rows .now) (a .theta) refl
+    (shift-read (a .st) w
+    (c .before .before .before .before .before .before .before .before .before .before .before .landed-rows .ensures
+    .read w (h .uses .holds)) (x .ensures))
     (ap (λ (r : Done). doneOf r (x .last .1 .1 .1 .1 .0)) (c .before .before .before .before .before .shift2 .given .1))
     (c .before .before .refuse .ensures w (h .uses))
 
@@ -74,25 +87,44 @@ write-landed-requires : tie.Need-write-landed-requires
 write-landed-requires c κs =
     let p = c .before .before .before .before .before .before .before .before .before .before .before .before .before
     .before .before .before .before .pre in
-    (search needs, omega (arith, rows-few (p .1 .1 .0 .bounded), p .1 .0))
+    (search needs, omega (arith, rows-few (p .0 .underway .bounded), p .0 .whole-rows))
 
 add-corrections : tie.Need-add-corrections
-add-corrections c = omega (arith, c .before .before .before .before .before .before .before .before .before .before .before .before .before .before .before .before .before .before .before .before .before .pre .1 .1 .1)
+add-corrections c =
+    omega (
+      arith,
+      c .before .before .before .before .before .before .before .before .before .before .before .before .before .before
+          .before .before .before .before .before .before .before .pre .1,
+    )
 
 with-landed-number-requires : tie.Need-with-landed-number-requires
 with-landed-number-requires c κs = search needs
 
 correct-or-judge-requires : tie.Need-correct-or-judge-requires
 correct-or-judge-requires c κs =
-    let p = c .before .before .before .before .before .before .before .before .before .before .before .before .before .before .before .before .before .before .before .before .before .before .before .pre in
-    (search needs, subst (λ (x : State). Underway x) (sym (c .before .with-landed-number .ensures)) (landed-again _ (omega (arith, p .1 .1 .1)) (p .1 .1 .0)))
+    let p = c .before .before .before .before .before .before .before .before .before .before .before .before .before
+    .before .before .before .before .before .before .before .before .before .before .pre in (
+      search needs,
+      subst (λ (x : State). Underway x) (sym (c .before .with-landed-number .ensures))
+          (landed-again _ (omega (arith, p .1)) (p .0 .underway)),
+    )
 
 same-length-2 : tie.Need-same-length-2
-same-length-2 c = omega (arith, c .before .before .correct-or-judge .kept, correct-or-judge-requires (c .before .before .before) (c .before .before .correct-or-judge .lifetimes) .0, c .before .before .before .before .before .before .before .before .before .before .before .before .before .before .before .before .before .before .before .before .before .before .before .before .before .before .pre .0)
+same-length-2 c =
+    omega (
+      arith,
+      c .before .before .correct-or-judge .kept,
+      correct-or-judge-requires (c .before .before .before)
+          (c .before .before .correct-or-judge .lifetimes) .0,
+      c .before .before .before .before .before .before .before .before .before .before .before .before .before .before
+          .before .before .before .before .before .before .before .before .before .before .before .before .pre .0
+          .whole-area,
+    )
 
 returns-2 : tie.Need-returns-2
 returns-2 c w h v =
-    let a = c .before .before .before .before .before .before .before .before .before .before .before .before .before .before .before .before .before .before .before .before .before .before .before .before .before .before .args in
+    let a = c .before .before .before .before .before .before .before .before .before .before .before .before .before
+    .before .before .before .before .before .before .before .before .before .before .before .before .before .args in
     let p = c .before .before .before .before .before .before .before .before .before .before .before .before .before
     .before .before .before .before .before .before .before .before .before .before .before .before .before .pre in
     let z = a .st .sizes in
@@ -104,10 +136,15 @@ returns-2 c w h v =
     let hs = shifts (a .st) d (h .uses) (stepped (z .n) d (h .uses .holds)
     (c .before .before .before .before .before .before .before .before .before .before .before .before .shifted-step
     .ensures)) in
-    let hv = lands (a .st) (p .1 .1 .0 .bounded) (a .rows .now) (p .1 .0) hs
-    (c .before .before .before .before .before .before .before .before .write-landed .ensures (withStep w s) (hs .holds)) in
-    let hj = compares (a .st) hv (h .standing-is) (v ∙ sym (violation-padded z (a .rows .now) (p .1 .0))) in
-    keep-known (a .st) w (a .rows .now) (a .theta) refl (shift-read (a .st) w (c .before .before .before .before .before .before .before .before .before .before .before .before .before .before .before .before .before .before .before .before .before .landed-rows .ensures .read w (h .uses .holds)) (x .ensures))
+    let hv = lands (a .st) (p .0 .underway .bounded) (a .rows .now) (p .0 .whole-rows) hs
+    (c .before .before .before .before .before .before .before .before .write-landed .ensures (withStep w s)
+    (hs .holds)) in
+    let hj = compares (a .st) hv (h .standing-is) (v ∙ sym (violation-padded z (a .rows .now) (p .0 .whole-rows))) in
+    keep-known (a .st) w (a .rows .now) (a .theta) refl
+    (shift-read (a .st) w
+    (c .before .before .before .before .before .before .before .before .before .before .before .before .before .before
+    .before .before .before .before .before .before .before .landed-rows .ensures .read w (h .uses .holds))
+    (x .ensures))
     (ap (λ (r : Done). doneOf r d) (c .before .before .before .before .before .before .before .before .before .before
     .before .before .before .before .before .enum-told .given .1))
     (kept-known (a .st) w (a .rows .now) (a .theta) d t

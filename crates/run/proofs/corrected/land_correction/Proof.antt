@@ -25,12 +25,12 @@ violation-requires : tie.Need-violation-requires
 violation-requires c κs =
     let p = c .before .before .pre in
     let z = c .before .before .args .st .sizes in
-    (p .1 .1 .0 .bounded .few-constraints, omega (arith, rows-enough (z .n) (z .m) (z .s), p .1 .0))
+    (p .0 .underway .bounded .few-constraints, omega (arith, rows-enough (z .n) (z .m) (z .s), p .0 .whole-rows))
 
 landed-violation-requires : tie.Need-landed-violation-requires
 landed-violation-requires c κs =
     let p = c .before .before .before .before .pre in
-    (p .1 .1 .0 .bounded .few-constraints, p .0)
+    (p .0 .underway .bounded .few-constraints, p .0 .whole-area)
 
 is-nearer-requires : tie.Need-is-nearer-requires
 is-nearer-requires c κs = search needs
@@ -63,7 +63,7 @@ returns c w h =
 judge-landed-requires : tie.Need-judge-landed-requires
 judge-landed-requires c κs =
     let p = c .before .before .before .before .before .before .before .before .before .before .before .pre in
-    (p .0, p .1 .1 .0)
+    (p .0 .whole-area, p .0 .underway)
 
 same-length-2 : tie.Need-same-length-2
 same-length-2 c = search needs
@@ -91,7 +91,7 @@ enum-known-e c = search needs
 refuse-requires : tie.Need-refuse-requires
 refuse-requires c κs =
     let p = c .before .before .before .before .before .before .before .before .before .before .pre in
-    (p .0, limits-of (p .1 .1 .0 .bounded))
+    (p .0 .whole-area, limits-of (p .0 .underway .bounded))
 
 same-length-3 : tie.Need-same-length-3
 same-length-3 c = search needs

@@ -15,15 +15,21 @@ use Rattle.run.proofs.corrected.land_trial.Tie as tie
 write-landed-requires : tie.Need-write-landed-requires
 write-landed-requires c κs =
     let p = c .before .before .before .pre in
-    (p .0, omega (arith, rows-few (p .1 .1 .bounded), p .1 .0))
+    (p .whole-area, omega (arith, rows-few (p .underway .bounded), p .whole-rows))
 
 with-landed-number-requires : tie.Need-with-landed-number-requires
 with-landed-number-requires c κs = search needs
 
 landed-violation-requires : tie.Need-landed-violation-requires
 landed-violation-requires c κs =
-    let p = c .before .before .before .before .before .before .before .before .pre in
-    (p .1 .1 .bounded .few-constraints, omega (arith, c .before .before .before .before .write-landed .kept, p .0))
+    let p = c .before .before .before .before .before .before .before .before .pre in (
+      p .underway .bounded .few-constraints,
+      omega (
+        arith,
+        c .before .before .before .before .write-landed .kept,
+        p .whole-area,
+      ),
+    )
 
 enum-known-landed : tie.Need-enum-known-landed
 enum-known-landed c = search needs
@@ -36,8 +42,14 @@ correct-or-judge-requires c κs =
     let p = c .before .before .before .before .before .before .before .before .before .before .before .before .before
     .before .pre in
     let t = sym (c .before .before .before .before .before .before .before .with-landed-number .ensures) in
-    let long = c .before .before .before .before .before .before .before .before .before .before .write-landed .kept in
-    (omega (arith, long, p .0), subst (λ (x : State). Underway x) t (landed-again 0 (omega arith) (p .1 .1)))
+    let underway = subst (λ (x : State). Underway x) t (landed-again 0 (omega arith) (p .underway)) in (
+      omega (
+        arith,
+        c .before .before .before .before .before .before .before .before .before .before .write-landed .kept,
+        p .whole-area,
+      ),
+      underway,
+    )
 
 same-length : tie.Need-same-length
 same-length c = search needs
@@ -51,8 +63,9 @@ returns c w h =
     let t = c .before .before .before .before .before .before .before .before .before .before .with-landed-number
     .ensures in
     let x = landed-with w (a .rows .now) in
-    let hv = lands (a .st) (p .1 .1 .bounded) (a .rows .now) (p .1 .0) (h .uses)
-    (c .before .before .before .before .before .before .before .before .before .before .before .before .before .write-landed
+    let hv = lands (a .st) (p .underway .bounded) (a .rows .now) (p .whole-rows) (h .uses)
+    (c .before .before .before .before .before .before .before .before .before .before .before .before .before
+    .write-landed
     .ensures w (h .uses .holds)) in
     let v = c .before .before .before .before .before .before .before .before .landed-violation .ensures x (hv .holds)
     in
@@ -70,8 +83,12 @@ refuse-requires c κs =
     let p = c .before .before .before .before .before .before .before .before .before .before .before .before .before
     .pre in
     let t = c .before .before .before .before .before .before .with-landed-number .ensures in (
-      omega (arith, c .before .before .before .before .before .before .before .before .before .write-landed .kept, p .0),
-      limits-as t (limits-of (p .1 .1 .bounded)),
+      omega (
+        arith,
+        c .before .before .before .before .before .before .before .before .before .write-landed .kept,
+        p .whole-area,
+      ),
+      limits-as t (limits-of (p .underway .bounded)),
     )
 
 same-length-2 : tie.Need-same-length-2
@@ -85,8 +102,9 @@ returns-2 c w h =
     .before .before .before .pre in
     let t = c .before .before .before .before .before .before .before .before .before .with-landed-number .ensures in
     let x = landed-with w (a .rows .now) in
-    let hv = lands (a .st) (p .1 .1 .bounded) (a .rows .now) (p .1 .0) (h .uses)
-    (c .before .before .before .before .before .before .before .before .before .before .before .before .write-landed .ensures
+    let hv = lands (a .st) (p .underway .bounded) (a .rows .now) (p .whole-rows) (h .uses)
+    (c .before .before .before .before .before .before .before .before .before .before .before .before .write-landed
+    .ensures
     w (h .uses .holds)) in
     let v = c .before .before .before .before .before .before .before .landed-violation .ensures x (hv .holds) in
     trial-refused (a .st) w (a .rows .now) (a .theta) t

@@ -27,7 +27,12 @@ clear-requires : tie.Need-clear-requires Inv-loop μ-loop
 clear-requires c κs = search needs
 
 loop-holds : tie.Need-loop-holds Inv-loop μ-loop
-loop-holds c = (search needs, search needs, rw (c .before .before .before .before .before .before .pre) at (c .before .before .clear .ensures) ∙ sym (fill-none _ _))
+loop-holds c = (
+  search needs,
+  search needs,
+  rw (c .before .before .before .before .before .before .pre)
+      at (c .before .before .clear .ensures) ∙ sym (fill-none _ _),
+)
 
 at-requires : tie.Need-at-requires Inv-loop μ-loop
 at-requires c κs = search needs
@@ -45,7 +50,17 @@ loop-less : tie.Need-loop-less Inv-loop μ-loop
 loop-less c = search needs
 
 loop-again : tie.Need-loop-again Inv-loop μ-loop
-loop-again c = (search needs, search needs, c .before .before .put .ensures ∙ fill-first vector (by (c .before .before .before .before .before .before .before .before .before .before .before .before .before .before .args .from .now)) (c .before .before .before .before .before .before .before .loop .i) (c .before .before .before .before .before .before .before .loop .inv .2) (c .before .before .before .sharpen .ensures ∙ ap (λ (v : Scalar). sharpen v) (c .before .before .before .before .before .at .ensures)))
+loop-again c = (
+  search needs,
+  search needs,
+  c .before .before .put .ensures
+      ∙ fill-first vector
+      (by (c .before .before .before .before .before .before .before .before .before .before .before .before .before
+      .before .args .from .now)) (c .before .before .before .before .before .before .before .loop .i)
+      (c .before .before .before .before .before .before .before .loop .inv .2)
+      (c .before .before .before .sharpen .ensures
+      ∙ ap (λ (v : Scalar). sharpen v) (c .before .before .before .before .before .at .ensures)),
+)
 
 same-length : tie.Need-same-length Inv-loop μ-loop
 same-length c = search needs

@@ -1,4 +1,5 @@
--- `shift` meets its contract: the parts of the arrays have the lengths asked, the solve is the definition's, and what it gives is sharpened.
+-- `shift` meets its contract: the parts of the arrays have the lengths asked, the solve is the definition's, and what
+-- it gives is sharpened.
 use mathlib.Core.Path.{sym}
 use Prim.Native.Nat.{_*_, _≤_}
 use native.Mathlib.Omega.{arith}
@@ -13,13 +14,13 @@ use Rattle.run.proofs.corrected.shift.Statement.{statement}
 use Rattle.run.proofs.corrected.shift.Tie as tie
 
 room : (s : tie.Start) → 2 * (s .args .m * s .args .n) ≤ 288
-room s = omega (arith, few (s .pre .1 .0) (s .pre .0))
+room s = omega (arith, few (s .pre .0 .few-constraints) (s .pre .0 .few-variables))
 
 high : (s : tie.Start) → 2 * s .args .m ≤ 24
-high s = omega (arith, s .pre .1 .0)
+high s = omega (arith, s .pre .0 .few-constraints)
 
 short : (s : tie.Start) → 2 * s .args .n ≤ 24
-short s = omega (arith, s .pre .0)
+short s = omega (arith, s .pre .0 .few-variables)
 
 mul-q : tie.Need-mul-q
 mul-q c = omega (arith, room (c .before .before .before))
@@ -40,7 +41,9 @@ slice-aggregate-moving-slopes : tie.Need-slice-aggregate-moving-slopes
 slice-aggregate-moving-slopes c = sym (length-take-le _ _ (room (c .before .before .before .before)))
 
 moving-slopes-requires : tie.Need-moving-slopes-requires
-moving-slopes-requires c κs = let s = c .before .before .before .before in let p = s .pre in (p .0, (p .1 .0, (p .1 .1 .0, length-take-le _ _ (room s))))
+moving-slopes-requires c κs =
+    let s = c .before .before .before .before in
+    (s .pre .0, length-take-le _ _ (room s))
 
 constraints-requires : tie.Need-constraints-requires
 constraints-requires c κs = tt
@@ -49,46 +52,75 @@ array-borrow-prefix-c : tie.Need-array-borrow-prefix-c
 array-borrow-prefix-c c = high (c .before .before .before .before .before .before .before)
 
 slice-aggregate-chosen-values : tie.Need-slice-aggregate-chosen-values
-slice-aggregate-chosen-values c = sym (length-take-le _ _ (high (c .before .before .before .before .before .before .before .before)))
+slice-aggregate-chosen-values c =
+    sym (length-take-le _ _ (high (c .before .before .before .before .before .before .before .before)))
 
 chosen-values-requires : tie.Need-chosen-values-requires
 chosen-values-requires c κs = tt
 
 array-share-prefix-jc : tie.Need-array-share-prefix-jc
-array-share-prefix-jc c = front-room _ (c .before .before .before .before .before .moving-slopes .last .1 .1 .1 .1 .0) _ (room (c .before .before .before .before .before .before .before .before .before .before)) (c .before .before .before .before .before .moving-slopes .kept .1 .1 .1 .1 .0)
+array-share-prefix-jc c =
+    front-room _ (c .before .before .before .before .before .moving-slopes .last .1 .1 .1 .1 .0) _
+    (room (c .before .before .before .before .before .before .before .before .before .before))
+    (c .before .before .before .before .before .moving-slopes .kept .1 .1 .1 .1 .0)
 
 slice-aggregate-minus-solved : tie.Need-slice-aggregate-minus-solved
-slice-aggregate-minus-solved c = sym (length-take-le _ _ (front-room _ (c .before .before .before .before .before .before .moving-slopes .last .1 .1 .1 .1 .0) _ (room (c .before .before .before .before .before .before .before .before .before .before .before)) (c .before .before .before .before .before .before .moving-slopes .kept .1 .1 .1 .1 .0)))
+slice-aggregate-minus-solved c =
+    sym (length-take-le _ _
+    (front-room _ (c .before .before .before .before .before .before .moving-slopes .last .1 .1 .1 .1 .0) _
+    (room (c .before .before .before .before .before .before .before .before .before .before .before))
+    (c .before .before .before .before .before .before .moving-slopes .kept .1 .1 .1 .1 .0)))
 
 array-share-prefix-c : tie.Need-array-share-prefix-c
-array-share-prefix-c c = front-room _ (c .before .before .chosen-values .last .1 .1 .0) _ (high (c .before .before .before .before .before .before .before .before .before .before .before)) (c .before .before .chosen-values .kept .1 .1 .0)
+array-share-prefix-c c =
+    front-room _ (c .before .before .chosen-values .last .1 .1 .0) _
+    (high (c .before .before .before .before .before .before .before .before .before .before .before))
+    (c .before .before .chosen-values .kept .1 .1 .0)
 
 slice-aggregate-minus-solved-2 : tie.Need-slice-aggregate-minus-solved-2
-slice-aggregate-minus-solved-2 c = sym (length-take-le _ _ (front-room _ (c .before .before .before .chosen-values .last .1 .1 .0) _ (high (c .before .before .before .before .before .before .before .before .before .before .before .before)) (c .before .before .before .chosen-values .kept .1 .1 .0)))
+slice-aggregate-minus-solved-2 c =
+    sym (length-take-le _ _ (front-room _ (c .before .before .before .chosen-values .last .1 .1 .0) _
+    (high (c .before .before .before .before .before .before .before .before .before .before .before .before))
+    (c .before .before .before .chosen-values .kept .1 .1 .0)))
 
 array-share-prefix-zero : tie.Need-array-share-prefix-zero
-array-share-prefix-zero c = short (c .before .before .before .before .before .before .before .before .before .before .before .before)
+array-share-prefix-zero c =
+    short (c .before .before .before .before .before .before .before .before .before .before .before .before)
 
 slice-aggregate-minus-solved-3 : tie.Need-slice-aggregate-minus-solved-3
-slice-aggregate-minus-solved-3 c = sym (length-take-le _ _ (short (c .before .before .before .before .before .before .before .before .before .before .before .before .before)))
+slice-aggregate-minus-solved-3 c =
+    sym (length-take-le _ _
+    (short (c .before .before .before .before .before .before .before .before .before .before .before .before .before)))
 
 array-borrow-prefix-out : tie.Need-array-borrow-prefix-out
-array-borrow-prefix-out c = short (c .before .before .before .before .before .before .before .before .before .before .before .before .before)
+array-borrow-prefix-out c =
+    short (c .before .before .before .before .before .before .before .before .before .before .before .before .before)
 
 slice-aggregate-minus-solved-4 : tie.Need-slice-aggregate-minus-solved-4
-slice-aggregate-minus-solved-4 c = sym (length-take-le _ _ (short (c .before .before .before .before .before .before .before .before .before .before .before .before .before .before)))
+slice-aggregate-minus-solved-4 c =
+    sym (length-take-le _ _
+    (short (c .before .before .before .before .before .before .before .before .before .before .before .before .before
+    .before)))
 
 minus-solved-requires : tie.Need-minus-solved-requires
 minus-solved-requires c κs = tt
 
 array-share-prefix-out : tie.Need-array-share-prefix-out
-array-share-prefix-out c = front-room _ (c .before .minus-solved .last .1 .1 .1 .1 .1 .0) _ (short (c .before .before .before .before .before .before .before .before .before .before .before .before .before .before .before .before)) (c .before .minus-solved .kept .1 .1 .1 .1 .1 .0)
+array-share-prefix-out c =
+    front-room _ (c .before .minus-solved .last .1 .1 .1 .1 .1 .0) _
+    (short (c .before .before .before .before .before .before .before .before .before .before .before .before .before
+    .before .before .before)) (c .before .minus-solved .kept .1 .1 .1 .1 .1 .0)
 
 slice-aggregate-sharpened : tie.Need-slice-aggregate-sharpened
-slice-aggregate-sharpened c = sym (length-take-le _ _ (front-room _ (c .before .before .minus-solved .last .1 .1 .1 .1 .1 .0) _ (short (c .before .before .before .before .before .before .before .before .before .before .before .before .before .before .before .before .before)) (c .before .before .minus-solved .kept .1 .1 .1 .1 .1 .0)))
+slice-aggregate-sharpened c =
+    sym (length-take-le _ _ (front-room _ (c .before .before .minus-solved .last .1 .1 .1 .1 .1 .0) _
+    (short (c .before .before .before .before .before .before .before .before .before .before .before .before .before
+    .before .before .before .before)) (c .before .before .minus-solved .kept .1 .1 .1 .1 .1 .0)))
 
 sharpened-requires : tie.Need-sharpened-requires
-sharpened-requires c κs = c .before .before .before .before .before .before .before .before .before .before .before .before .before .before .before .before .before .before .pre .1 .1 .1
+sharpened-requires c κs =
+    c .before .before .before .before .before .before .before .before .before .before .before .before .before .before
+    .before .before .before .before .pre .1
 
 same-length : tie.Need-same-length
 same-length c = search needs
@@ -96,13 +128,32 @@ same-length c = search needs
 returns : tie.Need-returns
 unfolding ofBits
 returns c =
-    let s = c .before .before .before .before .before .before .before .before .before .before .before .before .before .before .before .before .before .before .before .before .before in
+    let s = c .before .before .before .before .before .before .before .before .before .before .before .before .before
+    .before .before .before .before .before .before .before .before in
     let a = s .args in
-    let p = s .pre in
-    let fj = front-kept _ (c .before .before .before .before .before .before .before .before .before .before .before .before .before .before .before .before .moving-slopes .last .1 .1 .1 .1 .0) _ (room s) (c .before .before .before .before .before .before .before .before .before .before .before .before .before .before .before .before .moving-slopes .kept .1 .1 .1 .1 .0) in
-    let fc = front-kept _ (c .before .before .before .before .before .before .before .before .before .before .before .before .chosen-values .last .1 .1 .0) _ (high s) (c .before .before .before .before .before .before .before .before .before .before .before .before .chosen-values .kept .1 .1 .0) in
-    let fo = front-kept _ (c .before .before .before .before .before .before .minus-solved .last .1 .1 .1 .1 .1 .0) _ (short s) (c .before .before .before .before .before .before .minus-solved .kept .1 .1 .1 .1 .1 .0) in
-    shift-is (a .n) (a .m) (a .moving .now) (a .xs .now) _ _ (c .before .before .before .before .before .before .minus-solved .result) _ (p .0) (p .1 .0) (length-take-le _ _ (short s)) (length-take-le _ _ (high s)) fj fc fo (c .before .before .before .before .before .before .before .before .before .before .before .before .before .before .constraints .ensures) (c .before .before .before .before .before .before .before .before .before .before .before .before .before .before .before .before .moving-slopes .ensures) (c .before .before .before .before .before .before .before .before .before .before .before .before .chosen-values .ensures) (take-replicate _ _ _ (short s)) (c .before .before .before .before .before .before .minus-solved .ensures) (c .before .before .sharpened .ensures)
+    let p = s .pre .0 in
+    let fj = front-kept _
+    (c .before .before .before .before .before .before .before .before .before .before .before .before .before .before
+    .before .before .moving-slopes .last .1 .1 .1 .1 .0) _ (room s)
+    (c .before .before .before .before .before .before .before .before .before .before .before .before .before .before
+    .before .before .moving-slopes .kept .1 .1 .1 .1 .0) in
+    let fc = front-kept _
+    (c .before .before .before .before .before .before .before .before .before .before .before .before .chosen-values
+    .last .1 .1 .0) _ (high s)
+    (c .before .before .before .before .before .before .before .before .before .before .before .before .chosen-values
+    .kept .1 .1 .0) in
+    let fo = front-kept _ (c .before .before .before .before .before .before .minus-solved .last .1 .1 .1 .1 .1 .0) _
+    (short s) (c .before .before .before .before .before .before .minus-solved .kept .1 .1 .1 .1 .1 .0) in
+    shift-is (a .n) (a .m) (a .moving .now) (a .xs .now) _ _
+    (c .before .before .before .before .before .before .minus-solved .result) _ (p .few-variables) (p .few-constraints)
+    (length-take-le _ _ (short s)) (length-take-le _ _ (high s)) fj fc fo
+    (c .before .before .before .before .before .before .before .before .before .before .before .before .before .before
+    .constraints .ensures)
+    (c .before .before .before .before .before .before .before .before .before .before .before .before .before .before
+    .before .before .moving-slopes .ensures)
+    (c .before .before .before .before .before .before .before .before .before .before .before .before .chosen-values
+    .ensures) (take-replicate _ _ _ (short s))
+    (c .before .before .before .before .before .before .minus-solved .ensures) (c .before .before .sharpened .ensures)
 
 pub shift-spec : {M : Type 1} → statement M
 shift-spec =

@@ -11,13 +11,16 @@ slice-aggregate-shift : tie.Need-slice-aggregate-shift
 slice-aggregate-shift c = search needs
 
 shift-requires : tie.Need-shift-requires
-shift-requires c κs = let p = c .before .before .before .before .before .pre in (p .0, (p .1 .0, (p .1 .1 .0, refl)))
+shift-requires c κs = (c .before .before .before .before .before .pre .0, refl)
 
 enum-known-e : tie.Need-enum-known-e
 enum-known-e c = search needs
 
 returns : tie.Need-returns
-returns c = let a = c .before .before .before .before .before .before .before .before .before .before .args in shift-refused (a .moving .now) (constraintsOf (a .n) (a .m) (a .xs .now)) (a .landed .now) _ (c .before .e .given .1) (c .before .before .before .before .shift .ensures)
+returns c =
+    let a = c .before .before .before .before .before .before .before .before .before .before .args in
+    shift-refused (a .moving .now) (constraintsOf (a .n) (a .m) (a .xs .now)) (a .landed .now) _
+    (c .before .e .given .1) (c .before .before .before .before .shift .ensures)
 
 enum-told : tie.Need-enum-told
 enum-told c = search needs
@@ -29,7 +32,11 @@ all-finite-requires : tie.Need-all-finite-requires
 all-finite-requires c κs = search needs
 
 returns-2 : tie.Need-returns-2
-returns-2 c = let a = c .before .before .before .before .before .before .before .before .before .before .before .before .args in not-finite (a .moving .now) (constraintsOf (a .n) (a .m) (a .xs .now)) (a .landed .now) _ (c .before .before .before .enum-told .given .1) (c .before .before .before .before .before .before .shift .ensures) (c .before .all-finite .ensures) (not-true _ (c .if1 .taken))
+returns-2 c =
+    let a = c .before .before .before .before .before .before .before .before .before .before .before .before .args in
+    not-finite (a .moving .now) (constraintsOf (a .n) (a .m) (a .xs .now)) (a .landed .now) _
+    (c .before .before .before .enum-told .given .1) (c .before .before .before .before .before .before .shift .ensures)
+    (c .before .all-finite .ensures) (not-true _ (c .if1 .taken))
 
 moved-requires : tie.Need-moved-requires
 moved-requires c κs = search needs
@@ -41,13 +48,29 @@ same-length : tie.Need-same-length
 same-length c = search needs
 
 returns-3 : tie.Need-returns-3
-returns-3 c = let a = c .before .before .before .before .before .before .before .before .before .before .before .before .before .before .before .before .before .before .before .args in changes-nothing (a .moving .now) (constraintsOf (a .n) (a .m) (a .xs .now)) (a .landed .now) _ (c .before .before .before .before .before .before .before .before .before .before .enum-told .given .1) (c .before .before .before .before .before .before .before .before .before .before .before .before .before .shift .ensures) (c .before .before .before .before .before .before .before .before .all-finite .ensures) (c .before .before .before .before .before .moved .ensures) (c .before .same .ensures) (not-false _ (c .before .before .before .before .before .before .before .if1 .left)) (c .if2 .taken)
+returns-3 c =
+    let a = c .before .before .before .before .before .before .before .before .before .before .before .before .before
+    .before .before .before .before .before .before .args in
+    changes-nothing (a .moving .now) (constraintsOf (a .n) (a .m) (a .xs .now)) (a .landed .now) _
+    (c .before .before .before .before .before .before .before .before .before .before .enum-told .given .1)
+    (c .before .before .before .before .before .before .before .before .before .before .before .before .before .shift
+    .ensures) (c .before .before .before .before .before .before .before .before .all-finite .ensures)
+    (c .before .before .before .before .before .moved .ensures) (c .before .same .ensures)
+    (not-false _ (c .before .before .before .before .before .before .before .if1 .left)) (c .if2 .taken)
 
 same-length-2 : tie.Need-same-length-2
 same-length-2 c = search needs
 
 returns-4 : tie.Need-returns-4
-returns-4 c = let a = c .before .before .before .before .before .before .before .before .before .before .before .before .before .before .before .before .before .before .before .args in goes (a .moving .now) (constraintsOf (a .n) (a .m) (a .xs .now)) (a .landed .now) _ (c .before .before .before .before .before .before .before .before .before .before .enum-told .given .1) (c .before .before .before .before .before .before .before .before .before .before .before .before .before .shift .ensures) (c .before .before .before .before .before .before .before .before .all-finite .ensures) (c .before .before .before .before .before .moved .ensures) (c .before .same .ensures) (not-false _ (c .before .before .before .before .before .before .before .if1 .left)) (c .if2 .left)
+returns-4 c =
+    let a = c .before .before .before .before .before .before .before .before .before .before .before .before .before
+    .before .before .before .before .before .before .args in
+    goes (a .moving .now) (constraintsOf (a .n) (a .m) (a .xs .now)) (a .landed .now) _
+    (c .before .before .before .before .before .before .before .before .before .before .enum-told .given .1)
+    (c .before .before .before .before .before .before .before .before .before .before .before .before .before .shift
+    .ensures) (c .before .before .before .before .before .before .before .before .all-finite .ensures)
+    (c .before .before .before .before .before .moved .ensures) (c .before .same .ensures)
+    (not-false _ (c .before .before .before .before .before .before .before .if1 .left)) (c .if2 .left)
 
 pub shift-from-spec : {M : Type 1} → statement M
 shift-from-spec =

@@ -43,10 +43,18 @@ loop-less c = search needs
 
 loop-again : tie.Need-loop-again Inv-loop μ-loop
 loop-again c =
-    let a = c .before .before .before .before .before .before .before .before .before .before .before .before .before .args in
+    let a = c .before .before .before .before .before .before .before .before .before .before .before .before .before
+    .args in
     let l = c .before .before .before .before .before .before .before .before .before .before .loop in
     let f = sharpSum (a .step .now) (a .d .now) in
-    (search needs, search needs, c .before .before .put .ensures ∙ fill-first (a .step .now) f (l .i) (l .inv .2) (sharp-sum (a .step .now) (a .d .now) (l .i) (c .before .before .before .before .before .before .before .at .ensures ∙ at-next (a .step .now) f (l .i) (l .inv .2)) (c .before .before .before .before .before .before .at2 .ensures) (c .before .before .before .before .before .add .ensures .value) (c .before .before .before .sharpen .ensures)))
+    let now = c .before .before .before .before .before .before .before .at .ensures
+    ∙ at-next (a .step .now) f (l .i) (l .inv .2) in
+    let sum =
+    sharp-sum (a .step .now) (a .d .now) (l .i) now (c .before .before .before .before .before .before .at2 .ensures)
+    (c .before .before .before .before .before .add .ensures .value)
+    (c .before .before .before .sharpen .ensures) in
+    let filled = c .before .before .put .ensures ∙ fill-first (a .step .now) f (l .i) (l .inv .2) sum in
+    (search needs, search needs, filled)
 
 same-length : tie.Need-same-length Inv-loop μ-loop
 same-length c = search needs

@@ -12,7 +12,9 @@ use borrow.Author.Needs.{needs}
 use Rattle.run.proofs.curvature.add_chosen.Statement.{statement}
 use Rattle.run.proofs.curvature.add_chosen.Tie as tie
 
-added : (b : List Float) (p : ℕ) (v : Scalar) {t : List Float} {a s w : Scalar} → a ≡ at b p → s ≡ addOf a v → w ≡ chooseOf s → t ≡ put b p w → t ≡ put b p (chooseOf (addOf (at b p) v))
+added :
+    (b : List Float) (p : ℕ) (v : Scalar) {t : List Float} {a s w : Scalar} → a ≡ at b p → s ≡ addOf a v →
+    w ≡ chooseOf s → t ≡ put b p w → t ≡ put b p (chooseOf (addOf (at b p) v))
 added b p v ea es ew et = rw (et, ew, es, ea)
 
 enum-known-q : tie.Need-enum-known-q
@@ -34,7 +36,12 @@ same-length : tie.Need-same-length
 same-length c = search needs
 
 returns : tie.Need-returns
-returns c = let a = c .before .before .before .before .before .before .before .before .before .before .before .before .args in rw (c .before .before .before .before .before .before .before .before .before .q .given .1) (ap ok (added (a .b .now) (a .p) _ (c .before .before .before .before .before .before .at .ensures) (c .before .before .before .before .add .ensures .value) (c .before .before .before .choose .ensures) (c .before .before .put .ensures)))
+returns c =
+    let a = c .before .before .before .before .before .before .before .before .before .before .before .before .args in
+    rw (c .before .before .before .before .before .before .before .before .before .q .given .1)
+    (ap ok (added (a .b .now) (a .p) _ (c .before .before .before .before .before .before .at .ensures)
+    (c .before .before .before .before .add .ensures .value) (c .before .before .before .choose .ensures)
+    (c .before .before .put .ensures)))
 
 enum-known-q-2 : tie.Need-enum-known-q-2
 enum-known-q-2 c = search needs

@@ -12,7 +12,8 @@ module _ (v : Scalar) {s : Bool} (es : s ≡ isSharp v) where
   first : not s ≡ true → not s ≡ (not (isSharp v) || definitelyNotEqual v zeroS)
   first e = rw (← es, e)
 
-  second : {d : Bool} → not s ≡ false → d ≡ definitelyNotEqual v zeroS → d ≡ (not (isSharp v) || definitelyNotEqual v zeroS)
+  second :
+      {d : Bool} → not s ≡ false → d ≡ definitelyNotEqual v zeroS → d ≡ (not (isSharp v) || definitelyNotEqual v zeroS)
   second e ed = rw (← es, e) ed
 
 is-sharp-requires : tie.Need-is-sharp-requires
@@ -27,7 +28,9 @@ returns c = first (c .before .before .args .v) (c .before .is-sharp .ensures) (c
 
 returns-2 : tie.Need-returns-2
 unfolding ofBits
-returns-2 c = second (c .before .before .before .args .v) (c .before .before .is-sharp .ensures) (c .before .if1 .left) (c .definitely-not-equal .ensures)
+returns-2 c =
+    second (c .before .before .before .args .v) (c .before .before .is-sharp .ensures) (c .before .if1 .left)
+    (c .definitely-not-equal .ensures)
 
 pub bends-spec : {M : Type 1} → statement M
 bends-spec = tie.close (tie.spec is-sharp-requires definitely-not-equal-requires returns returns-2)

@@ -33,11 +33,24 @@ same-length c = search needs
 
 returns : tie.Need-returns
 unfolding ofBits
-returns c = let a = c .before .before .before .before .before .before .before .before .before .before .before .before .before .before .before .before .args in corrected (a .n) (a .b .now) (a .y .now) (a .bs .now) (a .s .now) (c .before .before .before .before .before .before .before .before .before .before .less-chosen .ensures) (c .before .before .before .before .before .before .before .dot-of .ensures) (c .before .before .before .before .before .before .choose .ensures) (c .before .before .before .before .before .definitely-not-equal .ensures) (c .before .before .before .before .if1 .taken) (c .before .before .rank-one .ensures)
+returns c =
+    let a = c .before .before .before .before .before .before .before .before .before .before .before .before .before
+    .before .before .before .args in
+    corrected (a .n) (a .b .now) (a .y .now) (a .bs .now) (a .s .now)
+    (c .before .before .before .before .before .before .before .before .before .before .less-chosen .ensures)
+    (c .before .before .before .before .before .before .before .dot-of .ensures)
+    (c .before .before .before .before .before .before .choose .ensures)
+    (c .before .before .before .before .before .definitely-not-equal .ensures)
+    (c .before .before .before .before .if1 .taken) (c .before .before .rank-one .ensures)
 
 returns-2 : tie.Need-returns-2
 unfolding ofBits
-returns-2 c = let a = c .before .before .before .before .before .before .before .before .before .before .before .before .args in uncorrected (a .n) (a .b .now) (a .y .now) (a .bs .now) (a .s .now) (c .before .before .before .before .before .before .less-chosen .ensures) (c .before .before .before .dot-of .ensures) (c .before .before .choose .ensures) (c .before .definitely-not-equal .ensures) (c .if1 .left)
+returns-2 c =
+    let a = c .before .before .before .before .before .before .before .before .before .before .before .before .args in
+    uncorrected (a .n) (a .b .now) (a .y .now) (a .bs .now) (a .s .now)
+    (c .before .before .before .before .before .before .less-chosen .ensures)
+    (c .before .before .before .dot-of .ensures) (c .before .before .choose .ensures)
+    (c .before .definitely-not-equal .ensures) (c .if1 .left)
 
 pub corrected-by-spec : {M : Type 1} → statement M
 corrected-by-spec =

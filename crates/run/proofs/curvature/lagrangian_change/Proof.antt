@@ -1,4 +1,5 @@
--- `lagrangian_change` meets its contract: the sum's new values, chosen, into a clear array, and then the vector is filled so
+-- `lagrangian_change` meets its contract: the sum's new values, chosen, into a clear array, and then the vector is
+-- filled so
 -- far.
 use mathlib.Core.Path.{_≡_, refl, sym, _∙_}
 use Prim.Native.Nat.{_≤_, _-_}
@@ -36,10 +37,17 @@ slice-aggregate-values : tie.Need-slice-aggregate-values Inv-loop μ-loop
 slice-aggregate-values c = search needs
 
 loop-holds : tie.Need-loop-holds Inv-loop μ-loop
-loop-holds c = (search needs, search needs, c .before .before .before .before .before .before .before .before .before .pre .1 ∙ sym (fill-none _ _))
+loop-holds c = (
+  search needs,
+  search needs,
+  c .before .before .before .before .before .before .before .before .before .pre .1
+      ∙ sym (fill-none _ _),
+)
 
 lagrangian-change-at-requires : tie.Need-lagrangian-change-at-requires Inv-loop μ-loop
-lagrangian-change-at-requires c κs = let p = c .before .before .before .before .before .before .before .before .before .before .before .before .pre .0 in (p, omega (arith, p .few-variables, c .before .loop-test .taken))
+lagrangian-change-at-requires c κs =
+    let p = c .before .before .before .before .before .before .before .before .before .before .before .before .pre .0 in
+    (p, omega (arith, p .few-variables, c .before .loop-test .taken))
 
 put-requires : tie.Need-put-requires Inv-loop μ-loop
 put-requires c κs = search needs
@@ -63,7 +71,8 @@ returns : tie.Need-returns Inv-loop μ-loop
 unfolding ofBits
 returns c =
     let a = c .before .before .before .before .before .before .before .before .before .before .before .args in
-    let r = rw (c .before .before .before .before .before .before .sum .ensures) at (c .before .before .before .before .chosen-values .ensures) in
+    let r = rw (c .before .before .before .before .before .before .sum .ensures)
+    at (c .before .before .before .before .chosen-values .ensures) in
     turned-is (a .c .n) (evaluationBy (a .c) (a .xs .now)) (evaluationBy (a .c) (a .next .now)) (a .lambda .now) refl r
     (rw (le-antisymm (c .before .loop .inv .0) (c .loop-test .left)) at (c .before .loop .inv .2))
 

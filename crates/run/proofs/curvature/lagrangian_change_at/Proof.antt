@@ -39,32 +39,46 @@ sum-requires : tie.Need-sum-requires
 sum-requires c κs = search needs
 
 transposed-at-requires : tie.Need-transposed-at-requires
-transposed-at-requires c κs = let s = c .before .before .before .before .before .before in (held-small s (c .before .constraints .ensures), s .pre .1)
+transposed-at-requires c κs =
+    let s = c .before .before .before .before .before .before in
+    (held-small s (c .before .constraints .ensures), s .pre .1)
 
 transposed-at-requires-2 : tie.Need-transposed-at-requires-2
-transposed-at-requires-2 c κs = let s = c .before .before .before .before .before .before .before in (held-small s (c .before .before .constraints .ensures), s .pre .1)
+transposed-at-requires-2 c κs =
+    let s = c .before .before .before .before .before .before .before in
+    (held-small s (c .before .before .constraints .ensures), s .pre .1)
 
 sub-requires : tie.Need-sub-requires
 sub-requires c κs = search needs
 
 transposed-at-requires-3 : tie.Need-transposed-at-requires-3
-transposed-at-requires-3 c κs = let s = c .before .before .before .before .before .before .before .before .before in (summed-small s (c .before .before .before .sum .ensures), s .pre .1)
+transposed-at-requires-3 c κs =
+    let s = c .before .before .before .before .before .before .before .before .before in
+    (summed-small s (c .before .before .before .sum .ensures), s .pre .1)
 
 add-requires : tie.Need-add-requires
 add-requires c κs = search needs
 
 transposed-at-requires-4 : tie.Need-transposed-at-requires-4
-transposed-at-requires-4 c κs = let s = c .before .before .before .before .before .before .before .before .before .before .before in (summed-small s (c .before .before .before .before .before .sum .ensures), s .pre .1)
+transposed-at-requires-4 c κs =
+    let s = c .before .before .before .before .before .before .before .before .before .before .before in
+    (summed-small s (c .before .before .before .before .before .sum .ensures), s .pre .1)
 
 sub-requires-2 : tie.Need-sub-requires-2
 sub-requires-2 c κs = search needs
 
 returns : tie.Need-returns
 returns c =
-    let a = c .before .before .before .before .before .before .before .before .before .before .before .before .before .args in
-    value (a .c) (a .xs .now) (a .next .now) (a .lambda .now) (a .r .now) (a .j) (c .before .before .before .before .before .before .before .before .constraints .ensures)
-    (c .before .before .before .before .before .before .before .sum .ensures) (c .before .before .before .before .before .before .transposed-at .ensures) (c .before .before .before .before .before .transposed-at2 .ensures) (c .before .before .before .before .sub .ensures .value)
-    (c .before .before .before .transposed-at3 .ensures) (c .before .before .add .ensures .value) (c .before .transposed-at4 .ensures) (c .sub2 .ensures .value)
+    let a = c .before .before .before .before .before .before .before .before .before .before .before .before .before
+    .args in
+    value (a .c) (a .xs .now) (a .next .now) (a .lambda .now) (a .r .now) (a .j)
+    (c .before .before .before .before .before .before .before .before .constraints .ensures)
+    (c .before .before .before .before .before .before .before .sum .ensures)
+    (c .before .before .before .before .before .before .transposed-at .ensures)
+    (c .before .before .before .before .before .transposed-at2 .ensures)
+    (c .before .before .before .before .sub .ensures .value)
+    (c .before .before .before .transposed-at3 .ensures) (c .before .before .add .ensures .value)
+    (c .before .transposed-at4 .ensures) (c .sub2 .ensures .value)
 
 pub lagrangian-change-at-spec : {M : Type 1} → statement M
 lagrangian-change-at-spec =

@@ -20,7 +20,9 @@ use Rattle.run.proofs.curvature.learned.Tie as tie
 abbrev bent : List Float → ℕ → Bool
 bent b p = not (isSharp (at b p)) || definitelyNotEqual (at b p) zeroS
 
-told : (b : List Float) (p : ℕ) {x : Scalar} {r : Bool} → x ≡ at b p → r ≡ (not (isSharp x) || definitelyNotEqual x zeroS) → bent b p ≡ r
+told :
+    (b : List Float) (p : ℕ) {x : Scalar} {r : Bool} → x ≡ at b p →
+    r ≡ (not (isSharp x) || definitelyNotEqual x zeroS) → bent b p ≡ r
 told b p ex er = rw (← ex, ← er)
 
 abbrev Inv-loop : tie.InvT-loop
@@ -44,16 +46,31 @@ bends-requires c κs = search needs
 
 returns : tie.Need-returns Inv-loop μ-loop
 unfolding learnedOf
-returns c = let a = c .before .before .before .before .before .before .args in sym (any-broke (bent (a .b .now)) (c .before .before .before .before .loop .p) (a .n * a .n) (c .before .before .before .loop-test .taken) (c .before .before .before .before .loop .inv .1) (told (a .b .now) (c .before .before .before .before .loop .p) (c .before .before .at .ensures) (c .before .bends .ensures) ∙ c .if1 .taken))
+returns c =
+    let a = c .before .before .before .before .before .before .args in
+    sym (any-broke (bent (a .b .now)) (c .before .before .before .before .loop .p) (a .n * a .n)
+    (c .before .before .before .loop-test .taken) (c .before .before .before .before .loop .inv .1)
+    (told (a .b .now) (c .before .before .before .before .loop .p) (c .before .before .at .ensures)
+    (c .before .bends .ensures) ∙ c .if1 .taken))
 
 add-p : tie.Need-add-p Inv-loop μ-loop
-add-p c = omega (arith, few (c .before .before .before .before .before .before .pre) (c .before .before .before .before .before .before .pre), c .before .before .before .loop-test .taken)
+add-p c =
+    omega (
+      arith,
+      few (c .before .before .before .before .before .before .pre)
+          (c .before .before .before .before .before .before .pre),
+      c .before .before .before .loop-test .taken,
+    )
 
 loop-less : tie.Need-loop-less Inv-loop μ-loop
 loop-less c = search needs
 
 loop-again : tie.Need-loop-again Inv-loop μ-loop
-loop-again c = let a = c .before .before .before .before .before .before .args in (search needs, any-turn (bent (a .b .now)) (c .before .before .before .before .loop .p) (c .before .before .before .before .loop .inv .1) (told (a .b .now) (c .before .before .before .before .loop .p) (c .before .before .at .ensures) (c .before .bends .ensures) ∙ c .if1 .left))
+loop-again c =
+    let b = c .before .before .before .before .before .before .args .b .now in
+    let l = c .before .before .before .before .loop in
+    let not-bent = told b (l .p) (c .before .before .at .ensures) (c .before .bends .ensures) ∙ c .if1 .left in
+    (search needs, any-turn (bent b) (l .p) (l .inv .1) not-bent)
 
 returns-2 : tie.Need-returns-2 Inv-loop μ-loop
 unfolding learnedOf

@@ -18,7 +18,9 @@ use Rattle.run.proofs.curvature.less_chosen.Tie as tie
 abbrev by : List Float → List Float → ℕ → Scalar
 by y bs i = chooseOf (subOf (at y i) (at bs i))
 
-value : (y bs : List Float) (i : ℕ) {a b d v : Scalar} → a ≡ at y i → b ≡ at bs i → d ≡ subOf a b → v ≡ chooseOf d → v ≡ by y bs i
+value :
+    (y bs : List Float) (i : ℕ) {a b d v : Scalar} → a ≡ at y i → b ≡ at bs i → d ≡ subOf a b → v ≡ chooseOf d →
+    v ≡ by y bs i
 value y bs i ea eb ed ev = rw (ev, ed, ea, eb)
 
 abbrev Inv-loop : tie.InvT-loop
@@ -53,9 +55,16 @@ loop-less c = search needs
 
 loop-again : tie.Need-loop-again Inv-loop μ-loop
 loop-again c =
-    let a = c .before .before .before .before .before .before .before .before .before .before .before .before .before .args in
+    let a = c .before .before .before .before .before .before .before .before .before .before .before .before .before
+    .args in
     let l = c .before .before .before .before .before .before .before .before .before .loop in
-    (search needs, search needs, c .before .before .put .ensures ∙ fill-first vector (by (a .y .now) (a .bs .now)) (l .i) (l .inv .2) (value (a .y .now) (a .bs .now) (l .i) (c .before .before .before .before .before .before .before .at .ensures) (c .before .before .before .before .before .at2 .ensures) (c .before .before .before .before .sub .ensures .value) (c .before .before .before .choose .ensures)))
+    let v =
+    value (a .y .now) (a .bs .now) (l .i) (c .before .before .before .before .before .before .before .at .ensures)
+    (c .before .before .before .before .before .at2 .ensures) (c .before .before .before .before .sub .ensures .value)
+    (c .before .before .before .choose .ensures) in
+    let filled = c .before .before .put .ensures ∙ fill-first vector (by (a .y .now) (a .bs .now)) (l .i) (l .inv .2)
+    v in
+    (search needs, search needs, filled)
 
 same-length : tie.Need-same-length Inv-loop μ-loop
 same-length c = search needs

@@ -13,7 +13,11 @@ use borrow.Author.Needs.{needs}
 use Rattle.run.proofs.curvature.rank_one_at.Statement.{statement}
 use Rattle.run.proofs.curvature.rank_one_at.Tie as tie
 
-step : (n : ℕ) (v : List Float) (vs : Scalar) (b : List Float) (p : ℕ) {x w y : Scalar} {q : Res Scalar} {r : Res (List Float)} → x ≡ at v (p / n) → w ≡ at v (p % n) → y ≡ mulOf x w → q ≡ divOf y vs → r ≡ storeR b p (chosenSum (at b p) q) → r ≡ rankOneStep n v vs b p
+step :
+    (n : ℕ) (v : List Float) (vs : Scalar) (b : List Float) (p : ℕ) {x w y : Scalar} {q : Res Scalar}
+    {r : Res (List Float)} →
+    x ≡ at v (p / n) → w ≡ at v (p % n) → y ≡ mulOf x w → q ≡ divOf y vs → r ≡ storeR b p (chosenSum (at b p) q) →
+    r ≡ rankOneStep n v vs b p
 unfolding rankOneStep
 step n v vs b p ex ew ey eq er = rw (er, eq, ey, ex, ew)
 

@@ -46,7 +46,8 @@ array-borrow-prefix-jc : tie.Need-array-borrow-prefix-jc
 array-borrow-prefix-jc c = room (c .before .before .before .before .before .before .before .before .before)
 
 slice-aggregate-chosen-slopes : tie.Need-slice-aggregate-chosen-slopes
-slice-aggregate-chosen-slopes c = sym (length-take-le _ _ (room (c .before .before .before .before .before .before .before .before .before .before)))
+slice-aggregate-chosen-slopes c =
+    sym (length-take-le _ _ (room (c .before .before .before .before .before .before .before .before .before .before)))
 
 chosen-slopes-requires : tie.Need-chosen-slopes-requires
 chosen-slopes-requires c κs =
@@ -56,30 +57,49 @@ chosen-slopes-requires c κs =
 array-share-prefix-jc : tie.Need-array-share-prefix-jc
 array-share-prefix-jc c =
     let k = c .before .chosen-slopes in
-    front-room _ (k .last .1 .1 .0) _ (room (c .before .before .before .before .before .before .before .before .before .before .before .before)) (k .kept .1 .1 .0)
+    front-room _ (k .last .1 .1 .0) _
+    (room (c .before .before .before .before .before .before .before .before .before .before .before .before))
+    (k .kept .1 .1 .0)
 
 slice-aggregate-gram-factor : tie.Need-slice-aggregate-gram-factor
 slice-aggregate-gram-factor c =
     let k = c .before .before .chosen-slopes in
-    sym (length-take-le _ _ (front-room _ (k .last .1 .1 .0) _ (room (c .before .before .before .before .before .before .before .before .before .before .before .before .before)) (k .kept .1 .1 .0)))
+    sym (length-take-le _ _
+    (front-room _ (k .last .1 .1 .0) _
+    (room (c .before .before .before .before .before .before .before .before .before .before .before .before .before))
+    (k .kept .1 .1 .0)))
 
 array-borrow-prefix-g : tie.Need-array-borrow-prefix-g
-array-borrow-prefix-g c = square (c .before .before .before .before .before .before .before .before .before .before .before .before .before)
+array-borrow-prefix-g c =
+    square (c .before .before .before .before .before .before .before .before .before .before .before .before .before)
 
 slice-aggregate-gram-factor-2 : tie.Need-slice-aggregate-gram-factor-2
-slice-aggregate-gram-factor-2 c = sym (length-take-le _ _ (square (c .before .before .before .before .before .before .before .before .before .before .before .before .before .before)))
+slice-aggregate-gram-factor-2 c =
+    sym (length-take-le _ _
+    (square (c .before .before .before .before .before .before .before .before .before .before .before .before .before
+    .before)))
 
 array-borrow-prefix-l : tie.Need-array-borrow-prefix-l
-array-borrow-prefix-l c = square (c .before .before .before .before .before .before .before .before .before .before .before .before .before .before)
+array-borrow-prefix-l c =
+    square (c .before .before .before .before .before .before .before .before .before .before .before .before .before
+    .before)
 
 slice-aggregate-gram-factor-3 : tie.Need-slice-aggregate-gram-factor-3
-slice-aggregate-gram-factor-3 c = sym (length-take-le _ _ (square (c .before .before .before .before .before .before .before .before .before .before .before .before .before .before .before)))
+slice-aggregate-gram-factor-3 c =
+    sym (length-take-le _ _
+    (square (c .before .before .before .before .before .before .before .before .before .before .before .before .before
+    .before .before)))
 
 array-borrow-prefix-left-out : tie.Need-array-borrow-prefix-left-out
-array-borrow-prefix-left-out c = c .before .before .before .before .before .before .before .before .before .before .before .before .before .before .before .pre .0 .few-constraints
+array-borrow-prefix-left-out c =
+    c .before .before .before .before .before .before .before .before .before .before .before .before .before .before
+    .before .pre .0 .few-constraints
 
 slice-aggregate-gram-factor-4 : tie.Need-slice-aggregate-gram-factor-4
-slice-aggregate-gram-factor-4 c = sym (length-take-le _ _ (c .before .before .before .before .before .before .before .before .before .before .before .before .before .before .before .before .pre .0 .few-constraints))
+slice-aggregate-gram-factor-4 c =
+    sym (length-take-le _ _
+    (c .before .before .before .before .before .before .before .before .before .before .before .before .before .before
+    .before .before .pre .0 .few-constraints))
 
 gram-factor-requires : tie.Need-gram-factor-requires
 gram-factor-requires c κs = tt
@@ -92,7 +112,8 @@ enum-told-2 c = search needs
 
 returns : tie.Need-returns
 returns c =
-    let s = c .before .before .before .before .before .before .before .before .before .before .before .before .before .before .before .before .before .before .before .before .before .before in
+    let s = c .before .before .before .before .before .before .before .before .before .before .before .before .before
+    .before .before .before .before .before .before .before .before .before in
     let a = s .args in
     let few-n = s .pre .0 .few-variables in
     let few-m = s .pre .0 .few-constraints in
@@ -100,39 +121,58 @@ returns c =
     let fj = front-kept _ (k .last .1 .1 .0) _ (room s) (k .kept .1 .1 .0) in
     let g = c .before .before .before .before .before .gram-factor in
     let l = length-take-le _ _ (square s) in
-    unfactored (a .c .n) (a .c .m) (a .xs .now) few-n few-m _ _ (factorOf (g .last .1 .1 .1 .1 .0) (g .last .1 .1 .1 .1 .1 .0)) _ (g .result)
-    (length-take-le _ _ (room s)) l l (length-take-le _ _ few-m) (c .before .before .before .before .before .before .before .before .before .before .before .before .before .constraints .ensures) (k .ensures) fj
+    unfactored (a .c .n) (a .c .m) (a .xs .now) few-n few-m _ _
+    (factorOf (g .last .1 .1 .1 .1 .0) (g .last .1 .1 .1 .1 .1 .0)) _ (g .result)
+    (length-take-le _ _ (room s)) l l (length-take-le _ _ few-m)
+    (c .before .before .before .before .before .before .before .before .before .before .before .before .before
+    .constraints .ensures) (k .ensures) fj
     (g .ensures) (a .c .s) (a .b .now) (a .step .now) (a .next .now) (a .lambda .now) _ (c .enum-told2 .given .1)
 
 array-share-prefix-jc-2 : tie.Need-array-share-prefix-jc-2
 array-share-prefix-jc-2 c =
     let k = c .before .before .before .before .before .before .before .before .before .before .before .chosen-slopes in
-    front-room _ (k .last .1 .1 .0) _ (room (c .before .before .before .before .before .before .before .before .before .before .before .before .before .before .before .before .before .before .before .before .before .before)) (k .kept .1 .1 .0)
+    front-room _ (k .last .1 .1 .0) _
+    (room (c .before .before .before .before .before .before .before .before .before .before .before .before .before
+    .before .before .before .before .before .before .before .before .before)) (k .kept .1 .1 .0)
 
 slice-aggregate-update-factored : tie.Need-slice-aggregate-update-factored
 slice-aggregate-update-factored c =
-    let k = c .before .before .before .before .before .before .before .before .before .before .before .before .chosen-slopes in
-    sym (length-take-le _ _ (front-room _ (k .last .1 .1 .0) _ (room (c .before .before .before .before .before .before .before .before .before .before .before .before .before .before .before .before .before .before .before .before .before .before .before)) (k .kept .1 .1 .0)))
+    let k = c .before .before .before .before .before .before .before .before .before .before .before .before
+    .chosen-slopes in
+    sym (length-take-le _ _
+    (front-room _ (k .last .1 .1 .0) _
+    (room (c .before .before .before .before .before .before .before .before .before .before .before .before .before
+    .before .before .before .before .before .before .before .before .before .before)) (k .kept .1 .1 .0)))
 
 array-share-prefix-l : tie.Need-array-share-prefix-l
 array-share-prefix-l c =
     let k = c .before .before .before .before .before .before .gram-factor in
-    front-room _ (k .last .1 .1 .1 .1 .0) _ (square (c .before .before .before .before .before .before .before .before .before .before .before .before .before .before .before .before .before .before .before .before .before .before .before)) (k .kept .1 .1 .1 .1 .0)
+    front-room _ (k .last .1 .1 .1 .1 .0) _
+    (square (c .before .before .before .before .before .before .before .before .before .before .before .before .before
+    .before .before .before .before .before .before .before .before .before .before)) (k .kept .1 .1 .1 .1 .0)
 
 slice-aggregate-update-factored-2 : tie.Need-slice-aggregate-update-factored-2
 slice-aggregate-update-factored-2 c =
     let k = c .before .before .before .before .before .before .before .gram-factor in
-    sym (length-take-le _ _ (front-room _ (k .last .1 .1 .1 .1 .0) _ (square (c .before .before .before .before .before .before .before .before .before .before .before .before .before .before .before .before .before .before .before .before .before .before .before .before)) (k .kept .1 .1 .1 .1 .0)))
+    sym (length-take-le _ _
+    (front-room _ (k .last .1 .1 .1 .1 .0) _
+    (square (c .before .before .before .before .before .before .before .before .before .before .before .before .before
+    .before .before .before .before .before .before .before .before .before .before .before)) (k .kept .1 .1 .1 .1 .0)))
 
 array-share-prefix-left-out : tie.Need-array-share-prefix-left-out
 array-share-prefix-left-out c =
     let k = c .before .before .before .before .before .before .before .gram-factor in
-    front-room _ (k .last .1 .1 .1 .1 .1 .0) _ (c .before .before .before .before .before .before .before .before .before .before .before .before .before .before .before .before .before .before .before .before .before .before .before .before .pre .0 .few-constraints) (k .kept .1 .1 .1 .1 .1 .0)
+    front-room _ (k .last .1 .1 .1 .1 .1 .0) _
+    (c .before .before .before .before .before .before .before .before .before .before .before .before .before .before
+    .before .before .before .before .before .before .before .before .before .before .pre .0 .few-constraints)
+    (k .kept .1 .1 .1 .1 .1 .0)
 
 slice-aggregate-update-factored-3 : tie.Need-slice-aggregate-update-factored-3
 slice-aggregate-update-factored-3 c =
     let k = c .before .before .before .before .before .before .before .before .gram-factor in
-    let few-m = c .before .before .before .before .before .before .before .before .before .before .before .before .before .before .before .before .before .before .before .before .before .before .before .before .before .pre .0 .few-constraints in
+    let few-m = c .before .before .before .before .before .before .before .before .before .before .before .before
+    .before .before .before .before .before .before .before .before .before .before .before .before .before .pre .0
+    .few-constraints in
     sym (length-take-le _ _ (front-room _ (k .last .1 .1 .1 .1 .1 .0) _ few-m (k .kept .1 .1 .1 .1 .1 .0)))
 
 slice-aggregate-update-factored-4 : tie.Need-slice-aggregate-update-factored-4
@@ -140,11 +180,15 @@ slice-aggregate-update-factored-4 c = search needs
 
 update-factored-requires : tie.Need-update-factored-requires
 update-factored-requires c κs =
-    let p = c .before .before .before .before .before .before .before .before .before .before .before .before .before .before .before .before .before .before .before .before .before .before .before .before .before .before .before .pre in
+    let p = c .before .before .before .before .before .before .before .before .before .before .before .before .before
+    .before .before .before .before .before .before .before .before .before .before .before .before .before .before
+    .pre in
     record {
       few-variables = p .0 .few-variables;
       few-constraints = p .0 .few-constraints;
-      y-is = c .before .before .before .before .before .before .before .before .before .before .before .before .before .before .before .before .before .before .before .before .lagrangian-change .kept .1 .1 .1 .1 .0;
+      y-is =
+          c .before .before .before .before .before .before .before .before .before .before .before .before .before
+          .before .before .before .before .before .before .before .lagrangian-change .kept .1 .1 .1 .1 .0;
       step-is = p .1;
     }
 
@@ -153,22 +197,34 @@ same-length c = search needs
 
 returns-2 : tie.Need-returns-2
 returns-2 c =
-    let s = c .before .before .before .before .before .before .before .before .before .before .before .before .before .before .before .before .before .before .before .before .before .before .before .before .before .before .before .before .before .before in
+    let s = c .before .before .before .before .before .before .before .before .before .before .before .before .before
+    .before .before .before .before .before .before .before .before .before .before .before .before .before .before
+    .before .before .before in
     let a = s .args in
     let few-n = s .pre .0 .few-variables in
     let few-m = s .pre .0 .few-constraints in
-    let k = c .before .before .before .before .before .before .before .before .before .before .before .before .before .before .before .before .before .before .before .chosen-slopes in
+    let k = c .before .before .before .before .before .before .before .before .before .before .before .before .before
+    .before .before .before .before .before .before .chosen-slopes in
     let fj = front-kept _ (k .last .1 .1 .0) _ (room s) (k .kept .1 .1 .0) in
-    let g = c .before .before .before .before .before .before .before .before .before .before .before .before .before .gram-factor in
+    let g = c .before .before .before .before .before .before .before .before .before .before .before .before .before
+    .gram-factor in
     let l = length-take-le _ _ (square s) in
     let m = length-take-le _ _ few-m in
     let d =
-    factored (a .c .n) (a .c .m) (a .xs .now) few-n few-m _ _ (factorOf (g .last .1 .1 .1 .1 .0) (g .last .1 .1 .1 .1 .1 .0)) _ (g .result)
-    (length-take-le _ _ (room s)) l l m (c .before .before .before .before .before .before .before .before .before .before .before .before .before .before .before .before .before .before .before .before .before .constraints .ensures) (k .ensures) fj (g .ensures) (g .kept .1 .1 .1 .1 .0 ∙ l)
-    (g .kept .1 .1 .1 .1 .1 .0 ∙ m) (c .before .before .before .before .before .before .before .before .enum-told .given .1) fj (front-kept _ (g .last .1 .1 .1 .1 .0) _ (square s) (g .kept .1 .1 .1 .1 .0))
+    factored (a .c .n) (a .c .m) (a .xs .now) few-n few-m _ _
+    (factorOf (g .last .1 .1 .1 .1 .0) (g .last .1 .1 .1 .1 .1 .0)) _ (g .result)
+    (length-take-le _ _ (room s)) l l m
+    (c .before .before .before .before .before .before .before .before .before .before .before .before .before .before
+    .before .before .before .before .before .before .before .constraints .ensures) (k .ensures) fj (g .ensures)
+    (g .kept .1 .1 .1 .1 .0 ∙ l)
+    (g .kept .1 .1 .1 .1 .1 .0 ∙ m)
+    (c .before .before .before .before .before .before .before .before .enum-told .given .1) fj
+    (front-kept _ (g .last .1 .1 .1 .1 .0) _ (square s) (g .kept .1 .1 .1 .1 .0))
     (front-kept _ (g .last .1 .1 .1 .1 .1 .0) _ few-m (g .kept .1 .1 .1 .1 .1 .0)) in
     update-is (a .c .n) (a .b .now) (a .step .now) (evaluationBy (a .c) (a .xs .now))
-    (evaluationBy (a .c) (a .next .now)) (a .lambda .now) (c .before .before .before .before .before .before .before .before .before .before .before .before .before .before .before .before .before .before .before .before .before .before .before .lagrangian-change .ensures)
+    (evaluationBy (a .c) (a .next .now)) (a .lambda .now)
+    (c .before .before .before .before .before .before .before .before .before .before .before .before .before .before
+    .before .before .before .before .before .before .before .before .before .lagrangian-change .ensures)
     (c .before .before .update-factored .ensures (a .xs .now) d)
 
 pub update-curvature-spec : {M : Type 1} → statement M

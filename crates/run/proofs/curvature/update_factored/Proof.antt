@@ -19,7 +19,8 @@ array-borrow-prefix-s-along : tie.Need-array-borrow-prefix-s-along
 array-borrow-prefix-s-along c = search needs
 
 slice-aggregate-along-factored : tie.Need-slice-aggregate-along-factored
-slice-aggregate-along-factored c = sym (length-take-le _ _ (short (c .before .before .before .before .before .before .before)))
+slice-aggregate-along-factored c =
+    sym (length-take-le _ _ (short (c .before .before .before .before .before .before .before)))
 
 along-factored-requires : tie.Need-along-factored-requires
 along-factored-requires c κs =
@@ -44,16 +45,22 @@ returns c xs f = handed-on _ _ _ (c .enum-told2 .given .1) (c .before .before .b
 array-share-prefix-s-along : tie.Need-array-share-prefix-s-along
 array-share-prefix-s-along c =
     let k = c .before .before .before .before .along-factored in
-    front-room _ (k .last .1 .1 .1 .1 .1 .1 .0) _ (short (c .before .before .before .before .before .before .before .before .before .before .before .before)) (k .kept .1 .1 .1 .1 .1 .1 .0)
+    front-room _ (k .last .1 .1 .1 .1 .1 .1 .0) _
+    (short (c .before .before .before .before .before .before .before .before .before .before .before .before))
+    (k .kept .1 .1 .1 .1 .1 .1 .0)
 
 slice-aggregate-updated : tie.Need-slice-aggregate-updated
 slice-aggregate-updated c =
     let k = c .before .before .before .before .before .along-factored in
-    sym (length-take-le _ _ (front-room _ (k .last .1 .1 .1 .1 .1 .1 .0) _ (short (c .before .before .before .before .before .before .before .before .before .before .before .before .before)) (k .kept .1 .1 .1 .1 .1 .1 .0)))
+    sym (length-take-le _ _
+    (front-room _ (k .last .1 .1 .1 .1 .1 .1 .0) _
+    (short (c .before .before .before .before .before .before .before .before .before .before .before .before .before))
+    (k .kept .1 .1 .1 .1 .1 .1 .0)))
 
 updated-requires : tie.Need-updated-requires
 updated-requires c κs =
-    let p = c .before .before .before .before .before .before .before .before .before .before .before .before .before .pre in
+    let p = c .before .before .before .before .before .before .before .before .before .before .before .before .before
+    .pre in
     (p .few-variables, p .few-constraints, p .y-is)
 
 same-length : tie.Need-same-length
@@ -62,8 +69,11 @@ same-length c = search needs
 returns-2 : tie.Need-returns-2
 returns-2 c xs f =
     let k = c .before .before .before .before .before .before .before .before .along-factored in
-    let front = front-kept _ (k .last .1 .1 .1 .1 .1 .1 .0) _ (short (c .before .before .before .before .before .before .before .before .before .before .before .before .before .before .before .before)) (k .kept .1 .1 .1 .1 .1 .1 .0) in
-    went-on _ (c .before .before .before .before .before .enum-told .given .1) (k .ensures xs f) front (c .before .before .updated .ensures xs f)
+    let front = front-kept _ (k .last .1 .1 .1 .1 .1 .1 .0) _
+    (short (c .before .before .before .before .before .before .before .before .before .before .before .before .before
+    .before .before .before)) (k .kept .1 .1 .1 .1 .1 .1 .0) in
+    went-on _ (c .before .before .before .before .before .enum-told .given .1) (k .ensures xs f) front
+    (c .before .before .updated .ensures xs f)
 
 pub update-factored-spec : {M : Type 1} → statement M
 update-factored-spec =

@@ -1,4 +1,5 @@
--- `updated` meets its contract: the test decides whether there is an update, by what lies along the constraints, or its refusal.
+-- `updated` meets its contract: the test decides whether there is an update, by what lies along the constraints, or its
+-- refusal.
 use mathlib.Core.Path.{refl, sym}
 use Prim.Native.Nat.{_*_, _≤_}
 use native.Mathlib.Omega.{arith}

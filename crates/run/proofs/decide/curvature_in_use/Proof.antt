@@ -19,7 +19,8 @@ room : (s : tie.Start) → 2 * (s .args .n * s .args .n) ≤ 288
 room s = omega (arith, few {m = s .args .n} {n = s .args .n} (s .pre .0) (s .pre .0))
 
 -- the entries in use fit the slice
-front-fits : (xs b : List Float) (e : ℕ) → e ≤ 288 → length xs ≡ 288 → length b ≡ 288 → 0 + length (take e xs) ≤ length b
+front-fits :
+    (xs b : List Float) (e : ℕ) → e ≤ 288 → length xs ≡ 288 → length b ≡ 288 → 0 + length (take e xs) ≤ length b
 front-fits xs b e h lx lb =
     let cut = length-take-le e xs (omega (arith, h, lx)) in
     omega (arith, cut, h, lb)
@@ -34,12 +35,19 @@ curvature-requires : tie.Need-curvature-requires
 curvature-requires c κs = search needs
 
 slice-aggregate-write : tie.Need-slice-aggregate-write
-slice-aggregate-write c = sym (length-take-le _ _ (omega (arith, room (c .before .before .before .before .before .before), c .before .before .curvature .ensures .long)))
+slice-aggregate-write c =
+    sym (length-take-le _ _
+    (omega (
+      arith,
+      room (c .before .before .before .before .before .before),
+      c .before .before .curvature .ensures .long,
+    )))
 
 write-requires : tie.Need-write-requires
 write-requires c κs =
     let s = c .before .before .before .before .before .before in
-    front-fits _ (s .args .b .now) _ (room s) (c .before .before .curvature .ensures .long) (ap length (s .pre .2) ∙ length-clear 288)
+    front-fits _ (s .args .b .now) _ (room s) (c .before .before .curvature .ensures .long) (ap length (s .pre .2)
+    ∙ length-clear 288)
 
 same-length : tie.Need-same-length
 same-length c = search needs
@@ -49,7 +57,8 @@ returns c w h t =
     let s = c .before .before .before .before .before .before .before .before .before in
     let n = s .args .n in
     clear-over 288 (2 * (n * n)) (room s) t (s .pre .2)
-    (ap (take (2 * (n * n))) (c .before .before .before .before .before .curvature .ensures .read w h)) (c .before .before .write .ensures)
+    (ap (take (2 * (n * n))) (c .before .before .before .before .before .curvature .ensures .read w h))
+    (c .before .before .write .ensures)
     ∙ sym (pick-no _ _ (negated (s .args .plain) (c .before .before .before .before .before .before .if1 .taken)))
 
 returns-2 : tie.Need-returns-2

@@ -30,7 +30,13 @@ same-length-2 : tie.Need-same-length-2
 same-length-2 c = search needs
 
 returns-2 : tie.Need-returns-2
-returns-2 c w h = let a = c .before .before .before .before .before .before .before .before .before .args in decide-better (a .st) w (a .theta) (a .j) (c .before .before .before .before .before .before .before .is-stuck .ensures) (c .before .before .before .before .before .before .if1 .left) (c .before .before .before .before .before .is-better .ensures) (c .before .before .before .before .if2 .taken) (c .before .before .take .ensures w h)
+returns-2 c w h =
+    let a = c .before .before .before .before .before .before .before .before .before .args in
+    decide-better (a .st) w (a .theta) (a .j)
+    (c .before .before .before .before .before .before .before .is-stuck .ensures)
+    (c .before .before .before .before .before .before .if1 .left)
+    (c .before .before .before .before .before .is-better .ensures) (c .before .before .before .before .if2 .taken)
+    (c .before .before .take .ensures w h)
 
 not-lower-requires : tie.Need-not-lower-requires
 not-lower-requires c κs = let p = c .before .before .before .before .before .before .pre in (p .0, p .1 .bounded)

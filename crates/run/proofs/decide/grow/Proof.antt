@@ -30,7 +30,12 @@ search-requires c κs =
     let s = c .before .before .before .before .before .before .before in
     let b = s .pre .1 in
     let g = s .good .0 .1 .1 .1 .1 .0 .1 .1 .0 .1 .1 in
-    rw (c .before .with-search .ensures) (s .pre .0, grown-bounded _ (searched (within s) b (b .few-turned) (b .damping)) (omega arith) (yes (g .0 .1), yes (g .1 .0 .1)) (sym (c .before .before .before .y .given .1) ∙ c .before .before .before .before .before .damp .ensures))
+    rw (c .before .with-search .ensures) (
+      s .pre .0,
+      grown-bounded _ (searched (within s) b (b .few-turned) (b .damping)) (omega arith)
+          (yes (g .0 .1), yes (g .1 .0 .1)) (sym (c .before .before .before .y .given .1)
+          ∙ c .before .before .before .before .before .damp .ensures),
+    )
 
 same-length : tie.Need-same-length
 same-length c = search needs

@@ -30,7 +30,10 @@ returns : tie.Need-returns
 unfolding ofBits
 returns c =
     let a = c .before .before .before .before .before .before .before .args in
-    held-is (a .old) (a .predicted) (a .new) (c .before .before .before .before .before .before .sub .ensures .value) (c .before .before .before .before .before .degenerate .ensures) (c .before .before .before .before .mul .ensures .value) (c .before .before .before .sub2 .ensures .value) (c .before .before .degenerate2 .ensures) (c .before .mul2 .ensures .value) (c .definitely-greater .ensures)
+    held-is (a .old) (a .predicted) (a .new) (c .before .before .before .before .before .before .sub .ensures .value)
+    (c .before .before .before .before .before .degenerate .ensures)
+    (c .before .before .before .before .mul .ensures .value) (c .before .before .before .sub2 .ensures .value)
+    (c .before .before .degenerate2 .ensures) (c .before .mul2 .ensures .value) (c .definitely-greater .ensures)
 
 pub held-spec : {M : Type 1} → statement M
 held-spec =

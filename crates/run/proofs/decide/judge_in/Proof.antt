@@ -39,8 +39,10 @@ returns : tie.Need-returns
 returns c w h =
     let a = c .before .before .before .before .before .before .before .args in
     let k = h .measured .uses .holds in
-    judged-is (a .st .sizes) w (a .theta) (a .st .counts .iterations) (a .st .last) (c .before .before .before .before .before .row-counts .ensures)
-    (c .before .before .before .before .standing-rows .ensures .read w k) (c .before .before .before .landed-rows .ensures .read w k) (c .before .before .filter .ensures .read w k)
+    judged-is (a .st .sizes) w (a .theta) (a .st .counts .iterations) (a .st .last)
+    (c .before .before .before .before .before .row-counts .ensures)
+    (c .before .before .before .before .standing-rows .ensures .read w k)
+    (c .before .before .before .landed-rows .ensures .read w k) (c .before .before .filter .ensures .read w k)
     (c .before .step .ensures .read w k) (h .landed-is) (c .judge .ensures)
 
 pub judge-in-spec : {M : Type 1} → statement M

@@ -25,16 +25,26 @@ multipliers-requires : tie.Need-multipliers-requires
 multipliers-requires c κs = search needs
 
 update-curvature-requires : tie.Need-update-curvature-requires
-update-curvature-requires c κs = (rw (c .before .before .before .before .before .row-counts .ensures) (c .before .before .before .before .before .before .before .before .before .before .before .before .pre .0), c .before .before .before .step .ensures .long)
+update-curvature-requires c κs = (
+  rw (c .before .before .before .before .before .row-counts .ensures)
+      (c .before .before .before .before .before .before .before .before .before .before .before .before .pre .0),
+  c .before .before .before .before .step .ensures .long,
+)
 
 same-length : tie.Need-same-length
 same-length c = search needs
 
 returns : tie.Need-returns
 returns c w h t =
-    learned-is (c .before .before .before .before .before .before .before .before .before .before .before .before .before .before .before .args .z) w (c .before .before .before .before .before .before .before .before .row-counts .ensures) (c .before .before .before .before .before .before .before .before .before .before .before .curvature-in-use .ensures w h t)
-    (c .before .before .before .before .before .before .step .ensures .read w h) (c .before .before .before .before .before .standing-rows .ensures .read w h) (c .before .before .before .before .landed-rows .ensures .read w h)
-    (c .before .before .before .multipliers .ensures .read w h) (c .before .before .update-curvature .ensures)
+    learned-is (c .before .before .before .before .before .before .before .before .before .before .before .before
+    .before .before .before .args .z) w
+    (c .before .before .before .before .before .before .before .before .row-counts .ensures)
+    (c .before .before .before .before .before .before .before .before .before .before .before .curvature-in-use
+    .ensures w h t)
+    (c .before .before .before .before .before .before .before .step .ensures .read w h)
+    (c .before .before .before .before .before .before .standing-rows .ensures .read w h)
+    (c .before .before .before .before .before .landed-rows .ensures .read w h)
+    (c .before .before .before .before .multipliers .ensures .read w h) (c .before .before .update-curvature .ensures)
 
 pub learn-spec : {M : Type 1} → statement M
 learn-spec =

@@ -15,10 +15,28 @@ use Rattle.run.proofs.decide.not_lower.Statement.{statement}
 use Rattle.run.proofs.decide.not_lower.Tie as tie
 
 -- the state that is searched again, from what was rejected
-again : (st : State) {x : Search} {t : State} → x ≡ rejectedFor (st .search) why.NotLower
-    → t ≡ searching st (record { mu = x .mu; radius = x .radius; «turned_down» = st .search .«turned_down» + 1; first = x .first; plain = true; rejected = x .rejected })
-    → t ≡ searching st (retried (rejectedFor (st .search) why.NotLower))
-again st e f = f ∙ ap (λ (x : Search). searching st (record { mu = x .mu; radius = x .radius; «turned_down» = st .search .«turned_down» + 1; first = x .first; plain = true; rejected = x .rejected })) e
+again :
+    (st : State) {x : Search} {t : State} → x ≡ rejectedFor (st .search) why.NotLower →
+    t ≡ searching st
+    (record {
+      mu = x .mu;
+      radius = x .radius;
+      «turned_down» = st .search .«turned_down» + 1;
+      first = x .first;
+      plain = true;
+      rejected = x .rejected;
+    }) →
+    t ≡ searching st (retried (rejectedFor (st .search) why.NotLower))
+again st e f =
+    f ∙ ap (λ (x : Search). searching st
+    (record {
+      mu = x .mu;
+      radius = x .radius;
+      «turned_down» = st .search .«turned_down» + 1;
+      first = x .first;
+      plain = true;
+      rejected = x .rejected;
+    })) e
 
 may-retry-requires : tie.Need-may-retry-requires
 may-retry-requires c κs = search needs
@@ -36,7 +54,11 @@ search-requires : tie.Need-search-requires
 search-requires c κs =
     let s = c .before .before .before .before .before .before .before .before in
     let b = s .pre .1 in
-    rw (again (s .args .st) (c .before .before .before .reject .ensures) (c .before .with-search .ensures)) (s .pre .0, searched (retried (rejectedFor (s .args .st .search) why.NotLower)) b (omega (arith, b .few-turned)) (b .damping))
+    rw (again (s .args .st) (c .before .before .before .reject .ensures) (c .before .with-search .ensures)) (
+      s .pre .0,
+      searched (retried (rejectedFor (s .args .st .search) why.NotLower)) b (omega (arith, b .few-turned))
+          (b .damping),
+    )
 
 same-length : tie.Need-same-length
 same-length c = search needs

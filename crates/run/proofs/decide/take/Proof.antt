@@ -1,4 +1,5 @@
--- `take` meets its contract: it is known whether the constraints came near, and a third of the damping, or that is refused.
+-- `take` meets its contract: it is known whether the constraints came near, and a third of the damping, or that is
+-- refused.
 use mathlib.Core.Bool.{true}
 use mathlib.Core.Path.{_≡_, sym, ap, subst, _∙_}
 use lib.Ieee.{ofBits}
@@ -48,17 +49,13 @@ radius-after-requires c κs = search needs
 take-with-requires : tie.Need-take-with-requires
 take-with-requires c κs =
     let s = c .before .before .before .before .before .before .before .before .before .before .before .before .before in
+    let mu = s .args .st .search .mu in
     let g = s .good .0 .1 .1 .1 .1 .0 .1 .1 .0 .1 .1 in
-    let third = sym (divided (c .before .before .before .before .before .before)) ∙ ap resultOf
-    (c .before .before .before .before .third .given .1) in
-    let u = s .pre .1 in (
-      s .pre .0,
-      (
-        u,
-        subst (λ (x : Scalar). isPositive x ≡ true) (sym (c .before .before .shrunk .ensures))
-            (shrunk-positive (s .args .st .search .mu) _ (yes (g .0 .1), yes (g .1 .0 .1)) (u .bounded .damping) third),
-      ),
-    )
+    let third = sym (divided (c .before .before .before .before .before .before))
+    ∙ ap resultOf (c .before .before .before .before .third .given .1) in
+    let u = s .pre .1 in
+    let positive = shrunk-positive mu _ (yes (g .0 .1), yes (g .1 .0 .1)) (u .bounded .damping) third in
+    (s .pre .0, u, subst (λ (x : Scalar). isPositive x ≡ true) (sym (c .before .before .shrunk .ensures)) positive)
 
 same-length : tie.Need-same-length
 same-length c = search needs

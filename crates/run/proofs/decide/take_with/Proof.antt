@@ -1,4 +1,5 @@
--- `take_with` meets its contract: the curvature is learned and the next iteration follows from the area that holds it, or it is refused.
+-- `take_with` meets its contract: the curvature is learned and the next iteration follows from the area that holds it,
+-- or it is refused.
 use mathlib.Core.List.{List}
 use mathlib.Core.Path.{refl, sym, ap, subst, _∙_}
 use native.Mathlib.Omega.{arith}
@@ -29,7 +30,7 @@ learn-requires : tie.Need-learn-requires
 unfolding ofBits
 learn-requires c κs =
     let s = c .before .before .before in
-    let b = s .pre .1 .0 .bounded in
+    let b = s .pre .1 .bounded in
     let few : FewRows (rowCounts (s .args .st .sizes)) = record {
       few-variables = b .few-variables;
       few-constraints = b .few-constraints;
@@ -47,7 +48,7 @@ refuse-requires : tie.Need-refuse-requires
 refuse-requires c κs =
     let p = c .before .before .before .before .before .before .before .before .before .pre in (
       p .0,
-      limits-of (p .1 .0 .bounded),
+      limits-of (p .1 .bounded),
     )
 
 same-length : tie.Need-same-length
@@ -66,7 +67,9 @@ standing-rows-requires : tie.Need-standing-rows-requires
 standing-rows-requires c κs = search needs
 
 sum-squared-requires : tie.Need-sum-squared-requires
-sum-squared-requires c κs = let b = c .before .before .before .before .before .before .before .before .before .pre .1 .0 .bounded in (b .few-variables, (b .few-constraints, b .few-sums))
+sum-squared-requires c κs =
+    let b = c .before .before .before .before .before .before .before .before .before .pre .1 .bounded in
+    (b .few-variables, (b .few-constraints, b .few-sums))
 
 slice-aggregate-with-taken : tie.Need-slice-aggregate-write-taken
 slice-aggregate-with-taken c = search needs
@@ -74,7 +77,7 @@ slice-aggregate-with-taken c = search needs
 write-taken-requires : tie.Need-write-taken-requires
 write-taken-requires c κs =
     let s = c .before .before .before .before .before .before .before .before .before .before .before .before in let u =
-    s .pre .1 .0 in let b = u .bounded in (
+    s .pre .1 in let b = u .bounded in (
       s .pre .0,
       (
         (b .few-variables, (b .few-constraints, b .few-sums)),
@@ -90,22 +93,31 @@ write-taken-requires c κs =
     )
 
 standing-on-requires : tie.Need-standing-on-requires
-standing-on-requires c κs = let u = c .before .before .before .before .before .before .before .before .before .before .before .before .before .before .before .pre .1 .0 in omega (arith, u .below, u .bounded .few-iterations)
+standing-on-requires c κs =
+    let u = c .before .before .before .before .before .before .before .before .before .before .before .before .before
+    .before .before .pre .1 in omega (arith, u .below, u .bounded .few-iterations)
 
 iterate-requires : tie.Need-iterate-requires
 iterate-requires c κs =
-    let s = c .before .before .before .before .before .before .before .before .before .before .before .before .before .before .before .before .before in
-    let a = s .args in
-    (omega (arith, c .before .before .before .before .write-taken .kept, s .pre .0), subst (λ (x : State). Bounded 2147483648 x) (sym (c .before .standing-on .ensures)) (stood (a .span) (a .mu) (a .radius) (s .pre .1 .0) (s .pre .1 .1)))
+    let s = c .before .before .before .before .before .before .before .before .before .before .before .before .before
+    .before .before .before .before in
+    let a = s .args in (
+      omega (arith, c .before .before .before .before .write-taken .kept, s .pre .0),
+      subst
+          (λ (x : State). Bounded 2147483648 x) (sym (c .before .standing-on .ensures))
+          (stood (a .span) (a .mu) (a .radius) (s .pre .1) (s .pre .2)),
+    )
 
 same-length-2 : tie.Need-same-length-2
 same-length-2 c = search needs
 
 returns-2 : tie.Need-returns-2
 returns-2 c w h =
-    let a = c .before .before .before .before .before .before .before .before .before .before .before .before .before .before .before .before .before .before .before .before .args in
+    let a = c .before .before .before .before .before .before .before .before .before .before .before .before .before
+    .before .before .before .before .before .before .before .args in
     let z = a .st .sizes in
-    let l = c .before .before .before .before .before .before .before .before .before .before .before .before .before .before .before .before .learn in
+    let l = c .before .before .before .before .before .before .before .before .before .before .before .before .before
+    .before .before .before .learn in
     let b = l .last .1 .1 .1 .0 in
     let u = h .measured .uses in
     let t = u .tidy in
@@ -114,7 +126,9 @@ returns-2 c w h =
     .enum-told .given .1) in
     let f = c .before .before .before .before .before .before .before .before .before .before .sum-squared .result in
     let sum = c .before .before .before .before .before .before .before .before .before .before .sum-squared .ensures
-    ∙ ap (λ (x : List Float). sumSquared (sumOf (z .n) (z .m) (z .s) x)) (c .before .before .before .before .before .before .before .before .before .before .before .standing-rows .ensures .read w (u .holds)) in
+    ∙ ap (λ (x : List Float). sumSquared (sumOf (z .n) (z .m) (z .s) x))
+    (c .before .before .before .before .before .before .before .before .before .before .before .standing-rows .ensures
+    .read w (u .holds)) in
     let kept : Working (standingOn (a .st) (a .span) (a .mu) (a .radius))
     (withTaken w b (filterWith (w .filter) (a .st .counts .iterations) f (a .theta)))
     (c .before .before .before .before .before .before .before .write-taken .last .0) = record {

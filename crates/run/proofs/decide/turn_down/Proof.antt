@@ -13,9 +13,13 @@ use Rattle.run.proofs.decide.turn_down.Statement.{statement}
 use Rattle.run.proofs.decide.turn_down.Tie as tie
 
 -- a quarter of the length tried
-divided : (k : tie.After-div) {r : ScalarResult} → k .div .result ≡ r → divOf (k .before .before .before .args .st .trial .tried) (degenerate four64) ≡ resultOf r
+divided :
+    (k : tie.After-div) {r : ScalarResult} → k .div .result ≡ r →
+    divOf (k .before .before .before .args .st .trial .tried) (degenerate four64) ≡ resultOf r
 unfolding ofBits
-divided k e = ap (λ (x : Scalar). divOf (k .before .before .before .args .st .trial .tried) x) (sym (k .before .degenerate .ensures)) ∙ sym (k .div .ensures .value) ∙ ap resultOf e
+divided k e =
+    ap (λ (x : Scalar). divOf (k .before .before .before .args .st .trial .tried) x)
+    (sym (k .before .degenerate .ensures)) ∙ sym (k .div .ensures .value) ∙ ap resultOf e
 
 degenerate-requires : tie.Need-degenerate-requires
 degenerate-requires c κs = search needs
@@ -36,7 +40,11 @@ same-length : tie.Need-same-length
 same-length c = search needs
 
 returns : tie.Need-returns
-returns c w h = let a = c .before .before .before .before .before .before .before .before .before .before .before .args in turn-next (a .st) w (a .why) refl (divided (c .before .before .before .before .before .before .before .before) (c .before .before .before .before .before .before .q .given .1)) (c .before .before .before .sharpen .ensures) refl refl (c .before .before .grow .ensures w h)
+returns c w h =
+    let a = c .before .before .before .before .before .before .before .before .before .before .before .args in
+    turn-next (a .st) w (a .why) refl (divided (c .before .before .before .before .before .before .before .before)
+    (c .before .before .before .before .before .before .q .given .1)) (c .before .before .before .sharpen .ensures) refl
+    refl (c .before .before .grow .ensures w h)
 
 enum-known-e : tie.Need-enum-known-e
 enum-known-e c = search needs

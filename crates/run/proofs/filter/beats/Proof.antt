@@ -28,8 +28,8 @@ returns : tie.Need-returns Inv-loop μ-loop
 unfolding beatsTo
 returns c =
     let l = c .before .before .before .loop in
-    sym (all-broke _ (l .i) _ (c .before .before .loop-test .taken) (l .inv .1)
-    (sym (c .before .beats-pair .ensures) ∙ not-true _ (c .if1 .taken)))
+    sym (all-broke _ (l .i) _ (c .before .before .loop-test .taken) (l .inv .1) (sym (c .before .beats-pair .ensures)
+    ∙ not-true _ (c .if1 .taken)))
 
 add-i : tie.Need-add-i Inv-loop μ-loop
 add-i c = search needs

@@ -7,8 +7,9 @@ use Rattle.run.proofs.filter.pair_at.Statement.{statement}
 use Rattle.run.proofs.filter.pair_at.Tie as tie
 
 -- a pair of what the two calls gave
-paired : {x y p q : Scalar} → x ≡ p → y ≡ q
-    → _≡_ {A = Pair} (record { f = x; violation = y }) (record { f = p; violation = q })
+paired :
+    {x y p q : Scalar} → x ≡ p → y ≡ q →
+    _≡_ {A = Pair} (record { f = x; violation = y }) (record { f = p; violation = q })
 paired e h = rw (e, h)
 
 mul-at : tie.Need-mul-at

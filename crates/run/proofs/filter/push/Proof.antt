@@ -31,8 +31,7 @@ returns : tie.Need-returns
 unfolding filterWith
 returns c =
     let a = c .before .before .before .before .before .before .before .before .before .args in
-    c .before .before .put2 .ensures
-    ∙ ap (λ (l : List Float). put l (2 * a .count + 1) (a .theta))
+    c .before .before .put2 .ensures ∙ ap (λ (l : List Float). put l (2 * a .count + 1) (a .theta))
     (c .before .before .before .before .before .before .put .ensures)
 
 pub push-spec : {M : Type 1} → statement M

@@ -23,9 +23,17 @@ returns c = search needs
 
 returns-2 : tie.Need-returns-2
 unfolding ofBits
-returns-2 c = rw (c .before .before .before .last .given .1) (c .definitely-less .ensures ∙ ap (λ z. definitelyLess z (c .before .before .before .last .given .0 .0)) (c .before .mul .ensures .value))
+returns-2 c =
+    rw (c .before .before .before .last .given .1) (c .definitely-less .ensures
+    ∙ ap (λ z. definitelyLess z (c .before .before .before .last .given .0 .0)) (c .before .mul .ensures .value))
 
 pub contracts-spec : {M : Type 1} → statement M
 contracts-spec =
     tie.close
-    (tie.spec enum-told enum-known-last mul-requires definitely-less-requires returns returns-2)
+    (tie.spec
+    enum-told
+    enum-known-last
+    mul-requires
+    definitely-less-requires
+    returns
+    returns-2)

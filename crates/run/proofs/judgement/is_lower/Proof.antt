@@ -16,11 +16,23 @@ definitely-greater-requires-2 c κs = search needs
 
 returns-2 : tie.Need-returns-2
 unfolding ofBits
-returns-2 c = rw (← c .before .before .before .definitely-greater .ensures, c .before .before .if1 .left, ← c .before .definitely-greater2 .ensures, c .if2 .taken)
+returns-2 c =
+    rw (
+      ← c .before .before .before .definitely-greater .ensures,
+      c .before .before .if1 .left,
+      ← c .before .definitely-greater2 .ensures,
+      c .if2 .taken,
+    )
 
 returns-3 : tie.Need-returns-3
 unfolding ofBits
-returns-3 c = rw (← c .before .before .before .definitely-greater .ensures, c .before .before .if1 .left, ← c .before .definitely-greater2 .ensures, c .if2 .left)
+returns-3 c =
+    rw (
+      ← c .before .before .before .definitely-greater .ensures,
+      c .before .before .if1 .left,
+      ← c .before .definitely-greater2 .ensures,
+      c .if2 .left,
+    )
 
 pub is-lower-spec : {M : Type 1} → statement M
 is-lower-spec =

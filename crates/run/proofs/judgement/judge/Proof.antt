@@ -31,7 +31,8 @@ enum-known-e c = search needs
 
 returns : tie.Need-returns
 unfolding judgeOf
-returns c v = sym (bind-refused _ (sym (c .before .before .before .norm-of .ensures) ∙ ap resultOf (c .before .e .given .1)))
+returns c v =
+    sym (bind-refused _ (sym (c .before .before .before .norm-of .ensures) ∙ ap resultOf (c .before .e .given .1)))
 
 enum-known-length : tie.Need-enum-known-length
 enum-known-length c = search needs
@@ -42,7 +43,8 @@ enum-known-landed c = search needs
 returns-2 : tie.Need-returns-2
 unfolding judgeOf
 returns-2 c v =
-    let f = sym (c .before .before .before .before .before .before .norm-of .ensures) ∙ ap resultOf (c .before .before .before .before .length .given .1) in
+    let f = sym (c .before .before .before .before .before .before .norm-of .ensures)
+    ∙ ap resultOf (c .before .before .before .before .length .given .1) in
     let g = sym v ∙ ap resultOf (c .before .landed .given .1) in
     sym (bind-ok _ f ∙ bind-refused _ g)
 
@@ -54,7 +56,8 @@ sum-requires c κs = search needs
 
 sum-change-requires : tie.Need-sum-change-requires
 sum-change-requires c κs =
-    let p = c .before .before .before .before .before .before .before .before .before .before .before .before .pre .counts in
+    let p = c .before .before .before .before .before .before .before .before .before .before .before .before .pre
+    .counts in
     rw (c .sum .ensures) (sum-small (p .few-variables) (p .few-constraints) (p .few-sums))
 
 sum-squared-requires : tie.Need-sum-squared-requires
@@ -66,8 +69,10 @@ judged-by-requires c κs = search needs
 returns-3 : tie.Need-returns-3
 unfolding judgeOf
 returns-3 c v =
-    let a = c .before .before .before .before .before .before .before .before .before .before .before .before .before .before .before .args in
-    let f = sym (c .before .before .before .before .before .before .before .before .before .before .norm-of .ensures) ∙ ap resultOf (c .before .before .before .before .before .before .before .before .length .given .1) in
+    let a = c .before .before .before .before .before .before .before .before .before .before .before .before .before
+    .before .before .args in
+    let f = sym (c .before .before .before .before .before .before .before .before .before .before .norm-of .ensures)
+    ∙ ap resultOf (c .before .before .before .before .before .before .before .before .length .given .1) in
     let g = sym v ∙ ap resultOf (c .before .before .before .before .before .landed2 .given .1) in
     let change =
     c .before .before .sum-change .ensures ∙ ap (λ e. sumChange (rowsIn (a .at .now) e) (rowsIn (a .next .now) e))

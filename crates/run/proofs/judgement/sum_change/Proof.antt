@@ -22,7 +22,9 @@ module _ {x y p q r : Scalar} (e : x ≡ p) (f : y ≡ q) where
   more g = rw (g, e, f)
 
 abbrev Inv-loop : tie.InvT-loop
-Inv-loop xs ys e total₀ count i₀ total i = (i ≤ count) × (total ≡ dotTo (λ k. subOf (valueAt (rowsIn xs e) k) (valueAt (rowsIn ys e) k)) (λ k. addOf (valueAt (rowsIn xs e) k) (valueAt (rowsIn ys e) k)) i)
+Inv-loop xs ys e total₀ count i₀ total i =
+    (i ≤ count) × (total ≡ dotTo (λ k. subOf (valueAt (rowsIn xs e) k) (valueAt (rowsIn ys e) k))
+    (λ k. addOf (valueAt (rowsIn xs e) k) (valueAt (rowsIn ys e) k)) i)
 
 abbrev μ-loop : tie.MeasureT-loop
 μ-loop xs ys e total₀ count i₀ total i = count - i
@@ -57,8 +59,15 @@ loop-less c = search needs
 
 loop-again : tie.Need-loop-again Inv-loop μ-loop
 loop-again c =
-    let l = c .before .before .before .before .before .before .before .loop in
-    (search needs, plusTo-more _ _ _ (l .i) (l .inv .1) (less (c .before .before .before .before .before .value-of .ensures) (c .before .before .before .before .value-of2 .ensures) (c .before .before .before .sub .ensures .value)) (more (c .before .before .before .before .before .value-of .ensures) (c .before .before .before .before .value-of2 .ensures) (c .before .before .add .ensures .value)) (c .before .mul .ensures .value) (c .add2 .ensures .value))
+    let l = c .before .before .before .before .before .before .before .loop in (
+      search needs,
+      plusTo-more _ _ _ (l .i) (l .inv .1)
+          (less (c .before .before .before .before .before .value-of .ensures)
+          (c .before .before .before .before .value-of2 .ensures) (c .before .before .before .sub .ensures .value))
+          (more (c .before .before .before .before .before .value-of .ensures)
+          (c .before .before .before .before .value-of2 .ensures) (c .before .before .add .ensures .value))
+          (c .before .mul .ensures .value) (c .add2 .ensures .value),
+    )
 
 returns : tie.Need-returns Inv-loop μ-loop
 unfolding sumChange

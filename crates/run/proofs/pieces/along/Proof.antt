@@ -24,21 +24,30 @@ enum-told-2 c = search needs
 
 returns : tie.Need-returns
 unfolding alongReply
-returns c = rw (← c .before .before .before .sized .ensures, ← c .before .before .wants .ensures, c .enum-told2 .given .1)
+returns c =
+    rw (← c .before .before .before .sized .ensures, ← c .before .before .wants .ensures, c .enum-told2 .given .1)
 
 mul-if1 : tie.Need-mul-if1
 mul-if1 c =
-    let p = wants-passed _ _ _ (finished (c .before .enum-told .given .1)) (c .before .before .before .wants .ensures) in
+    let p = wants-passed _ _ _ (finished (c .before .enum-told .given .1))
+    (c .before .before .before .wants .ensures) in
     omega (arith, sized-passed (p .0) (c .before .before .before .before .sized .ensures) .counts .few-variables)
 
 returns-2 : tie.Need-returns-2
 unfolding alongReply
 returns-2 c =
-    rw (← c .before .before .before .before .before .sized .ensures, ← c .before .before .before .before .wants .ensures, c .before .before .enum-told .given .1, ne-eqb _ _ (c .if1 .taken))
+    rw (
+      ← c .before .before .before .before .before .sized .ensures,
+      ← c .before .before .before .before .wants .ensures,
+      c .before .before .enum-told .given .1,
+      ne-eqb _ _
+          (c .if1 .taken),
+    )
 
 along-constraints-requires : tie.Need-along-constraints-requires
 along-constraints-requires c κs =
-    let p = wants-passed _ _ _ (finished (c .before .before .before .enum-told .given .1)) (c .before .before .before .before .before .wants .ensures) in
+    let p = wants-passed _ _ _ (finished (c .before .before .before .enum-told .given .1))
+    (c .before .before .before .before .before .wants .ensures) in
     let z = sized-passed (p .0) (c .before .before .before .before .before .before .sized .ensures) .counts in
     record {
       few-variables = z .few-variables;
@@ -57,10 +66,17 @@ returns-3 : tie.Need-returns-3
 unfolding alongReply
 returns-3 c =
     let k = c .before .before .before .before .before .before .along-constraints in
-    let n = c .before .before .before .before .before .before .before .before .before .before .before .before .before .before .before .before .before .args .c .n in
-    let long = c .before .before .before .before .before .before .before .before .if1 .left in
+    let t = c .before .before .before .before .before .before .before .before in
+    let n = t .before .before .before .before .before .before .before .before .before .args .c .n in
+    let long = t .if1 .left in
     let size : length (k .last .1 .1 .1 .1 .0) ≡ 2 * n = omega (arith, k .kept, long) in
-    rw (← c .before .before .before .before .before .before .before .before .before .before .before .before .before .sized .ensures, ← c .before .before .before .before .before .before .before .before .before .before .before .before .wants .ensures, c .before .before .before .before .before .before .before .before .before .before .enum-told .given .1, eq-eqb _ _ long, ← k .ensures)
+    rw (
+      ← t .before .before .before .before .before .sized .ensures,
+      ← t .before .before .before .before .wants .ensures,
+      t .before .before .enum-told .given .1,
+      eq-eqb _ _ long,
+      ← k .ensures,
+    )
     (rw size at (c .before .before .cleared .ensures))
 
 pub along-spec : {M : Type 1} → statement M

@@ -31,7 +31,12 @@ returns-3 c =
     let k = c .before .before .before .before .before .before .cut-within in
     let two = c .before .before .before .before .before .before .before .before .if2 .left in
     let size : length (k .last .1 .1 .0) ≡ 24 = omega (arith, k .kept, two) in
-    rw (le-leb _ _ (c .before .before .before .before .before .before .before .before .before .if1 .left), eq-eqb _ _ two, ← k .ensures) (rw size at (c .before .before .cleared .ensures))
+    rw (
+      le-leb _ _ (c .before .before .before .before .before .before .before .before .before .if1 .left),
+      eq-eqb _ _
+          two,
+      ← k .ensures,
+    ) (rw size at (c .before .before .cleared .ensures))
 
 pub cut-spec : {M : Type 1} → statement M
 cut-spec = tie.close (tie.spec returns returns-2 cut-within-requires cleared-requires same-length returns-3)

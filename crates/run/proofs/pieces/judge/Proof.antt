@@ -22,7 +22,13 @@ enum-known-e c = search needs
 
 returns-2 : tie.Need-returns-2
 unfolding judgeReply
-returns-2 c = rw (le-leb _ _ (c .before .before .before .before .before .if1 .left), ← c .before .before .before .before .fits2 .ensures, ← c .before .before .before .wants .ensures, c .before .e .given .1)
+returns-2 c =
+    rw (
+      le-leb _ _ (c .before .before .before .before .before .if1 .left),
+      ← c .before .before .before .before .fits2 .ensures,
+      ← c .before .before .before .wants .ensures,
+      c .before .e .given .1,
+    )
 
 enum-told : tie.Need-enum-told
 enum-told c = search needs

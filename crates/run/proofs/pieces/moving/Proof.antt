@@ -30,7 +30,8 @@ enum-told-2 c = search needs
 
 returns : tie.Need-returns Inv-loop μ-loop
 unfolding movingReply
-returns c = rw (← c .before .before .before .sized .ensures, ← c .before .before .wants .ensures, c .enum-told2 .given .1)
+returns c =
+    rw (← c .before .before .before .sized .ensures, ← c .before .before .wants .ensures, c .enum-told2 .given .1)
 
 moving-requires : tie.Need-moving-requires Inv-loop μ-loop
 moving-requires c κs =
@@ -39,14 +40,20 @@ moving-requires c κs =
     bounds z
 
 loop-holds : tie.Need-loop-holds Inv-loop μ-loop
-loop-holds c = (search needs, search needs, copied-none (c .moving .result) (c .before .before .before .before .before .before .before .args .marks .now))
+loop-holds c = (
+  search needs,
+  search needs,
+  copied-none (c .moving .result)
+      (c .before .before .before .before .before .before .before .args .marks .now),
+)
 
 array-read-marks : tie.Need-array-read-marks Inv-loop μ-loop
 array-read-marks c = search needs
 
 slice-write-marks : tie.Need-slice-write-marks Inv-loop μ-loop
 slice-write-marks c =
-    let p = wants-passed _ _ _ (finished (c .before .before .before .enum-told .given .1)) (c .before .before .before .before .before .wants .ensures) in
+    let p = wants-passed _ _ _ (finished (c .before .before .before .enum-told .given .1))
+    (c .before .before .before .before .before .wants .ensures) in
     omega (arith, p .1, c .before .loop .inv .1, c .loop-test .taken)
 
 add-j : tie.Need-add-j Inv-loop μ-loop
@@ -57,8 +64,13 @@ loop-less c = search needs
 
 loop-again : tie.Need-loop-again Inv-loop μ-loop
 loop-again c =
-    let p = wants-passed _ _ _ (finished (c .before .before .before .enum-told .given .1)) (c .before .before .before .before .before .wants .ensures) in
-    (search needs, search needs, copied-more (c .before .before .moving .result) (c .before .loop .marks) (omega (arith, p .1, c .before .loop .inv .1, c .loop-test .taken)) (c .before .loop .inv .2))
+    let p = wants-passed _ _ _ (finished (c .before .before .before .enum-told .given .1))
+    (c .before .before .before .before .before .wants .ensures) in (
+      search needs,
+      search needs,
+      copied-more (c .before .before .moving .result) (c .before .loop .marks)
+          (omega (arith, p .1, c .before .loop .inv .1, c .loop-test .taken)) (c .before .loop .inv .2),
+    )
 
 same-length : tie.Need-same-length Inv-loop μ-loop
 same-length c = search needs
@@ -66,10 +78,19 @@ same-length c = search needs
 returns-2 : tie.Need-returns-2 Inv-loop μ-loop
 unfolding movingReply
 returns-2 c =
-    let p = wants-passed _ _ _ (finished (c .before .before .before .enum-told .given .1)) (c .before .before .before .before .before .wants .ensures) in
+    let p = wants-passed _ _ _ (finished (c .before .before .before .enum-told .given .1))
+    (c .before .before .before .before .before .wants .ensures) in
     let size : length (c .before .before .moving .result) ≡ 12 = search needs in
-    let copied = copied-all (c .before .before .moving .result) (c .before .loop .marks) (omega (arith, p .1, c .before .loop .inv .1, size)) (omega (arith, p .1, c .before .loop .inv .1, c .loop-test .left)) (c .before .loop .inv .2) in
-    rw (← c .before .before .before .before .before .before .sized .ensures, ← c .before .before .before .before .before .wants .ensures, c .before .before .before .enum-told .given .1, copied, c .before .before .moving .ensures)
+    let copied = copied-all (c .before .before .moving .result) (c .before .loop .marks)
+    (omega (arith, p .1, c .before .loop .inv .1, size))
+    (omega (arith, p .1, c .before .loop .inv .1, c .loop-test .left)) (c .before .loop .inv .2) in
+    rw (
+      ← c .before .before .before .before .before .before .sized .ensures,
+      ← c .before .before .before .before .before .wants .ensures,
+      c .before .before .before .enum-told .given .1,
+      copied,
+      c .before .before .moving .ensures,
+    )
 
 pub moving-spec : {M : Type 1} → statement M
 moving-spec =

@@ -17,7 +17,12 @@ enum-known-e c = search needs
 
 returns : tie.Need-returns
 unfolding predictedReply
-returns c = rw (← c .before .before .before .before .sized .ensures, ← c .before .before .before .wants .ensures, c .before .e .given .1)
+returns c =
+    rw (
+      ← c .before .before .before .before .sized .ensures,
+      ← c .before .before .before .wants .ensures,
+      c .before .e .given .1,
+    )
 
 enum-told : tie.Need-enum-told
 enum-told c = search needs
@@ -30,7 +35,13 @@ predicted-requires c κs =
 
 returns-2 : tie.Need-returns-2
 unfolding predictedReply
-returns-2 c = rw (← c .before .before .before .before .sized .ensures, ← c .before .before .before .wants .ensures, c .before .enum-told .given .1) (c .predicted .ensures)
+returns-2 c =
+    rw (
+      ← c .before .before .before .before .sized .ensures,
+      ← c .before .before .before .wants .ensures,
+      c .before .enum-told .given .1,
+    ) (c .predicted .ensures)
 
 pub predicted-spec : {M : Type 1} → statement M
-predicted-spec = tie.close (tie.spec sized-requires wants-requires enum-known-e returns enum-told predicted-requires returns-2)
+predicted-spec =
+    tie.close (tie.spec sized-requires wants-requires enum-known-e returns enum-told predicted-requires returns-2)

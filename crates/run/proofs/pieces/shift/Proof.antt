@@ -24,8 +24,8 @@ returns c = rw (← c .before .before .fits2 .ensures, c .enum-told2 .given .1)
 shift-requires : tie.Need-shift-requires
 shift-requires c κs =
     let p = fits-passed (finished (c .before .enum-told .given .1)) (c .before .before .before .fits2 .ensures) in
-    let z = p .sized in
-    (z .counts .few-variables, (z .counts .few-constraints, (p .first, p .second)))
+    let z = p .sized .counts in
+    (record { few-variables = z .few-variables; few-constraints = z .few-constraints; marks = p .first }, p .second)
 
 cleared-requires : tie.Need-cleared-requires
 cleared-requires c κs = search needs
@@ -36,10 +36,27 @@ same-length c = search needs
 returns-2 : tie.Need-returns-2
 unfolding shiftReply
 returns-2 c =
-    let p = fits-passed (finished (c .before .before .before .before .before .before .before .before .enum-told .given .1)) (c .before .before .before .before .before .before .before .before .before .before .fits2 .ensures) in
+    let p = fits-passed
+    (finished (c .before .before .before .before .before .before .before .before .enum-told .given .1))
+    (c .before .before .before .before .before .before .before .before .before .before .fits2 .ensures) in
     let k = c .before .before .before .before .before .before .shift in
     let size : length (k .last .1 .1 .1 .1 .0) ≡ 24 = omega (arith, k .kept, p .second) in
-    rw (← c .before .before .before .before .before .before .before .before .before .before .fits2 .ensures, c .before .before .before .before .before .before .before .before .enum-told .given .1, ← k .ensures) (rw size at (c .before .before .cleared .ensures))
+    rw (
+      ← c .before .before .before .before .before .before .before .before .before .before .fits2 .ensures,
+      c .before .before .before .before .before .before .before .before .enum-told .given .1,
+      ← k .ensures,
+    )
+    (rw size at (c .before .before .cleared .ensures))
 
 pub shift-spec : {M : Type 1} → statement M
-shift-spec = tie.close (tie.spec fits-requires enum-told enum-told-2 returns shift-requires cleared-requires same-length returns-2)
+shift-spec =
+    tie.close
+    (tie.spec
+    fits-requires
+    enum-told
+    enum-told-2
+    returns
+    shift-requires
+    cleared-requires
+    same-length
+    returns-2)

@@ -1,5 +1,5 @@
 -- `sized` meets its contract: the sizes decide the definition's first three checks, the count its last.
-use mathlib.Core.Bool.{Bool, true, not, false}
+use mathlib.Core.Bool.{Bool, not, false}
 use mathlib.Core.Path.{_≡_, sym, _∙_}
 use native.Mathlib.Omega.{arith}
 use borrow.Author.Needs.{needs}
@@ -30,37 +30,51 @@ returns c =
 
 add-if2 : tie.Need-add-if2
 add-if2 c =
-    let b = passed (c .before .before .before .args .c) (c .before .before .sizes-fit .ensures) (c .before .if1 .left) in
+    let b = passed (c .before .before .before .args .c) (c .before .before .sizes-fit .ensures)
+    (c .before .if1 .left) in
     omega (arith, b .m, b .s)
 
 add-if2-2 : tie.Need-add-if2-2
 add-if2-2 c =
-    let b = passed (c .before .before .before .before .args .c) (c .before .before .before .sizes-fit .ensures) (c .before .before .if1 .left) in
+    let b = passed (c .before .before .before .before .args .c) (c .before .before .before .sizes-fit .ensures)
+    (c .before .before .if1 .left) in
     omega (arith, b .n)
 
 mul-if2 : tie.Need-mul-if2
 mul-if2 c =
-    let b = passed (c .before .before .before .before .args .c) (c .before .before .before .sizes-fit .ensures) (c .before .before .if1 .left) in
+    let b = passed (c .before .before .before .before .args .c) (c .before .before .before .sizes-fit .ensures)
+    (c .before .before .if1 .left) in
     omega (arith, answer-small (b .n) (b .m) (b .s))
 
 mul-if2-2 : tie.Need-mul-if2-2
 mul-if2-2 c =
-    let b = passed (c .before .before .before .before .args .c) (c .before .before .before .sizes-fit .ensures) (c .before .before .if1 .left) in
+    let b = passed (c .before .before .before .before .args .c) (c .before .before .before .sizes-fit .ensures)
+    (c .before .before .if1 .left) in
     omega (arith, answer-small (b .n) (b .m) (b .s))
 
 returns-2 : tie.Need-returns-2
 unfolding sizedOf
 returns-2 c =
-    let b = passed (c .before .before .before .before .before .args .c) (c .before .before .before .before .sizes-fit .ensures) (c .before .before .before .if1 .left) in
+    let b = passed (c .before .before .before .before .before .args .c)
+    (c .before .before .before .before .sizes-fit .ensures) (c .before .before .before .if1 .left) in
     rw (le-leb _ _ (b .n), le-leb _ _ (b .m), le-leb _ _ (b .s), ne-eqb _ _ (c .if2 .taken))
 
 returns-3 : tie.Need-returns-3
 unfolding sizedOf
 returns-3 c =
-    let b = passed (c .before .before .before .before .before .args .c) (c .before .before .before .before .sizes-fit .ensures) (c .before .before .before .if1 .left) in
+    let b = passed (c .before .before .before .before .before .args .c)
+    (c .before .before .before .before .sizes-fit .ensures) (c .before .before .before .if1 .left) in
     rw (le-leb _ _ (b .n), le-leb _ _ (b .m), le-leb _ _ (b .s), eq-eqb _ _ (c .if2 .left))
 
 pub sized-spec : {M : Type 1} → statement M
 sized-spec =
     tie.close
-    (tie.spec sizes-fit-requires returns add-if2 add-if2-2 mul-if2 mul-if2-2 returns-2 returns-3)
+    (tie.spec
+    sizes-fit-requires
+    returns
+    add-if2
+    add-if2-2
+    mul-if2
+    mul-if2-2
+    returns-2
+    returns-3)

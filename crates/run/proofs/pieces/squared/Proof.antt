@@ -21,7 +21,12 @@ enum-known-e c = search needs
 
 returns : tie.Need-returns
 unfolding squaredReply
-returns c = rw (← c .before .before .before .before .variables-read .ensures, ← c .before .before .before .fits2 .ensures, c .before .e .given .1)
+returns c =
+    rw (
+      ← c .before .before .before .before .variables-read .ensures,
+      ← c .before .before .before .fits2 .ensures,
+      c .before .e .given .1,
+    )
 
 enum-told : tie.Need-enum-told
 enum-told c = search needs
@@ -33,15 +38,31 @@ sum-requires c κs =
 
 squared-requires : tie.Need-squared-requires
 squared-requires c κs =
-    let z = fits-passed (finished (c .before .enum-told .given .1)) (c .before .before .before .fits2 .ensures) .sized in
+    let z = fits-passed (finished (c .before .enum-told .given .1))
+    (c .before .before .before .fits2 .ensures) .sized in
     rw (c .sum .ensures) (sum-small (z .counts .few-variables) (z .counts .few-constraints) (z .counts .few-sums))
 
 returns-2 : tie.Need-returns-2
 unfolding squaredReply
 returns-2 c =
     let a = c .before .before .before .before .before .before .before .before .args in
-    rw (← c .before .before .before .before .before .variables-read .ensures, ← c .before .before .before .before .fits2 .ensures, c .before .before .enum-told .given .1)
-    (ap ok (c .squared .ensures ∙ ap (λ e. squaredOf (rowsIn (a .xs .now) e) (a .delta .now) (a .d)) (c .before .sum .ensures)))
+    rw (
+      ← c .before .before .before .before .before .variables-read .ensures,
+      ← c .before .before .before .before .fits2 .ensures,
+      c .before .before .enum-told .given .1,
+    )
+    (ap ok (c .squared .ensures ∙ ap (λ e. squaredOf (rowsIn (a .xs .now) e) (a .delta .now) (a .d))
+    (c .before .sum .ensures)))
 
 pub squared-spec : {M : Type 1} → statement M
-squared-spec = tie.close (tie.spec variables-read-requires fits-requires enum-known-e returns enum-told sum-requires squared-requires returns-2)
+squared-spec =
+    tie.close
+    (tie.spec
+    variables-read-requires
+    fits-requires
+    enum-known-e
+    returns
+    enum-told
+    sum-requires
+    squared-requires
+    returns-2)

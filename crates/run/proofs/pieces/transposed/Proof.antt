@@ -42,18 +42,24 @@ clear-requires c κs = search needs
 loop-holds : tie.Need-loop-holds Inv-loop μ-loop
 unfolding fillTo
 loop-holds c =
-    let p = fits-passed (finished (c .before .before .before .before .enum-told .given .1)) (c .before .before .before .before .before .before .fits2 .ensures) in
+    let p = fits-passed (finished (c .before .before .before .before .enum-told .given .1))
+    (c .before .before .before .before .before .before .fits2 .ensures) in
     (search needs, search needs, c .before .before .clear .ensures ∙ ap zeros (p .second))
 
 sum-requires : tie.Need-sum-requires Inv-loop μ-loop
 sum-requires c κs =
-    let z = fits-passed (finished (c .before .before .before .before .before .before .before .enum-told .given .1)) (c .before .before .before .before .before .before .before .before .before .fits2 .ensures) .sized in
+    let z = fits-passed (finished (c .before .before .before .before .before .before .before .enum-told .given .1))
+    (c .before .before .before .before .before .before .before .before .before .fits2 .ensures) .sized in
     bounds z
 
 transposed-at-requires : tie.Need-transposed-at-requires Inv-loop μ-loop
 transposed-at-requires c κs =
-    let z = fits-passed (finished (c .before .before .before .before .before .before .before .before .enum-told .given .1)) (c .before .before .before .before .before .before .before .before .before .before .fits2 .ensures) .sized in
-    (rw (c .sum .ensures) (sum-small (z .counts .few-variables) (z .counts .few-constraints) (z .counts .few-sums)), omega (arith, z .counts .few-variables, c .before .before .loop-test .taken))
+    let z = fits-passed
+    (finished (c .before .before .before .before .before .before .before .before .enum-told .given .1))
+    (c .before .before .before .before .before .before .before .before .before .before .fits2 .ensures) .sized in (
+      rw (c .sum .ensures) (sum-small (z .counts .few-variables) (z .counts .few-constraints) (z .counts .few-sums)),
+      omega (arith, z .counts .few-variables, c .before .before .loop-test .taken),
+    )
 
 put-requires : tie.Need-put-requires Inv-loop μ-loop
 put-requires c κs = search needs
@@ -67,8 +73,15 @@ loop-less c = search needs
 loop-again : tie.Need-loop-again Inv-loop μ-loop
 loop-again c =
     let l = c .before .before .before .before .before .before .before .loop in
-    let a = c .before .before .before .before .before .before .before .before .before .before .before .before .before .before .before .before .before .before .args in
-    (search needs, search needs, c .before .before .put .ensures ∙ fill-first _ _ (l .j) (l .inv .2) (c .before .before .before .transposed-at .ensures ∙ ap (λ e. transposedAt (rowsIn (a .xs .now) e) (a .w .now) (l .j)) (c .before .before .before .before .sum .ensures)))
+    let a = c .before .before .before .before .before .before .before .before .before .before .before .before .before
+    .before .before .before .before .before .args in (
+      search needs,
+      search needs,
+      c .before .before .put .ensures
+          ∙ fill-first _ _ (l .j) (l .inv .2) (c .before .before .before .transposed-at .ensures
+          ∙ ap (λ e. transposedAt (rowsIn (a .xs .now) e) (a .w .now) (l .j))
+          (c .before .before .before .before .sum .ensures)),
+    )
 
 same-length : tie.Need-same-length Inv-loop μ-loop
 same-length c = search needs
@@ -77,7 +90,11 @@ returns-2 : tie.Need-returns-2 Inv-loop μ-loop
 unfolding transposedReply
 returns-2 c =
     let filled = rw (le-antisymm (c .before .loop .inv .0) (c .loop-test .left)) at (c .before .loop .inv .2) in
-    rw (← c .before .before .before .before .before .before .before .before .fits2 .ensures, c .before .before .before .before .before .before .enum-told .given .1, filled)
+    rw (
+      ← c .before .before .before .before .before .before .before .before .fits2 .ensures,
+      c .before .before .before .before .before .before .enum-told .given .1,
+      filled,
+    )
 
 pub transposed-spec : {M : Type 1} → statement M
 transposed-spec =

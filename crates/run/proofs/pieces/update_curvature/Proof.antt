@@ -25,11 +25,18 @@ enum-told-2 c = search needs
 
 returns : tie.Need-returns
 unfolding updateReply
-returns c = rw (← c .before .before .before .before .fits2 .ensures, ← c .before .before .before .wants .ensures, ← c .before .before .wants2 .ensures, c .enum-told2 .given .1)
+returns c =
+    rw (
+      ← c .before .before .before .before .fits2 .ensures,
+      ← c .before .before .before .wants .ensures,
+      ← c .before .before .wants2 .ensures,
+      c .enum-told2 .given .1,
+    )
 
 update-curvature-requires : tie.Need-update-curvature-requires
 update-curvature-requires c κs =
-    let p = wants-passed _ _ _ (finished (c .before .enum-told .given .1)) (c .before .before .before .wants2 .ensures) in
+    let p = wants-passed _ _ _ (finished (c .before .enum-told .given .1))
+    (c .before .before .before .wants2 .ensures) in
     let q = wants-passed _ _ _ (p .0) (c .before .before .before .before .wants .ensures) in
     let z = fits-passed (q .0) (c .before .before .before .before .before .fits2 .ensures) .sized in
     (z .counts, q .1)
@@ -43,12 +50,26 @@ same-length c = search needs
 returns-2 : tie.Need-returns-2
 unfolding updateReply
 returns-2 c =
-    let p = wants-passed _ _ _ (finished (c .before .before .before .before .before .before .before .before .enum-told .given .1)) (c .before .before .before .before .before .before .before .before .before .before .wants2 .ensures) in
-    let q = wants-passed _ _ _ (p .0) (c .before .before .before .before .before .before .before .before .before .before .before .wants .ensures) in
-    let r = fits-passed (q .0) (c .before .before .before .before .before .before .before .before .before .before .before .before .fits2 .ensures) in
+    let p = wants-passed _ _ _
+    (finished (c .before .before .before .before .before .before .before .before .enum-told .given .1))
+    (c .before .before .before .before .before .before .before .before .before .before .wants2 .ensures) in
+    let q = wants-passed _ _ _ (p .0)
+    (c .before .before .before .before .before .before .before .before .before .before .before .wants .ensures) in
+    let r = fits-passed (q .0)
+    (c .before .before .before .before .before .before .before .before .before .before .before .before .fits2
+    .ensures) in
     let k = c .before .before .before .before .before .before .update-curvature in
-    let size : length (k .last .1 .0) ≡ 288 = omega (arith, k .kept, r .second) in
-    rw (← c .before .before .before .before .before .before .before .before .before .before .before .before .fits2 .ensures, ← c .before .before .before .before .before .before .before .before .before .before .before .wants .ensures, ← c .before .before .before .before .before .before .before .before .before .before .wants2 .ensures, c .before .before .before .before .before .before .before .before .enum-told .given .1, ← k .ensures) (rw size at (c .before .before .cleared .ensures))
+    let size : length (k .last .1 .1 .1 .1 .1 .0) ≡ 288 = omega (arith, k .kept, r .second) in
+    rw (
+      ← c .before .before .before .before .before .before .before .before .before .before .before .before .fits2
+          .ensures,
+      ← c .before .before .before .before .before .before .before .before .before .before .before .wants
+          .ensures,
+      ← c .before .before .before .before .before .before .before .before .before .before .wants2 .ensures,
+      c .before .before .before .before .before .before .before .before .enum-told .given .1,
+      ← k .ensures,
+    )
+    (rw size at (c .before .before .cleared .ensures))
 
 pub update-curvature-spec : {M : Type 1} → statement M
 update-curvature-spec =

@@ -1,4 +1,4 @@
--- `reach` meets its contract.
+-- `variables_read` meets its contract.
 use borrow.Author.Tests.{eq-eqb, ne-eqb}
 use Rattle.run.proofs.pieces.variables_read.Statement.{statement}
 use Rattle.run.proofs.pieces.variables_read.Tie as tie

@@ -16,7 +16,8 @@ use Rattle.run.proofs.radius.cut.Statement.{statement}
 use Rattle.run.proofs.radius.cut.Tie as tie
 
 abbrev Inv-loop : tie.InvT-loop
-Inv-loop n delta₀ shrink i₀ delta i = (i ≤ n) × (length delta ≡ length delta₀) × (delta ≡ fillTo delta₀ 0 (λ j. chooseOf (mulOf (at delta₀ j) shrink)) i)
+Inv-loop n delta₀ shrink i₀ delta i =
+    (i ≤ n) × (length delta ≡ length delta₀) × (delta ≡ fillTo delta₀ 0 (λ j. chooseOf (mulOf (at delta₀ j) shrink)) i)
 
 abbrev μ-loop : tie.MeasureT-loop
 μ-loop n delta₀ shrink i₀ delta i = n - i
@@ -49,9 +50,17 @@ loop-again c =
     let a = c .before .before .before .before .before .before .before .before .before .before .before .args in
     let f : ℕ → Scalar = λ j. chooseOf (mulOf (at (a .delta .now) j) (a .shrink)) in
     let z : 0 + l .i ≡ l .i = omega arith in
-    let r : c .before .before .before .before .before .before .at .result ≡ at (a .delta .now) (l .i) = c .before .before .before .before .before .before .at .ensures ∙ rw (l .inv .2) (rw z at (at-fill-ahead (a .delta .now) 0 f (l .i) (l .i) (omega arith))) in
-    let v : c .before .before .before .choose .result ≡ f (l .i) = c .before .before .before .choose .ensures ∙ ap chooseOf (c .before .before .before .before .mul .ensures .value ∙ ap (λ (s : Scalar). mulOf s (a .shrink)) r) in
-    (search needs, search needs, c .before .before .put .ensures ∙ rw z at (fill-turn (a .delta .now) 0 f (l .i) (l .inv .2) v))
+    let r : c .before .before .before .before .before .before .at .result
+    ≡ at (a .delta .now) (l .i) = c .before .before .before .before .before .before .at .ensures
+    ∙ rw (l .inv .2) (rw z at (at-fill-ahead (a .delta .now) 0 f (l .i) (l .i) (omega arith))) in
+    let v : c .before .before .before .choose .result ≡ f (l .i) = c .before .before .before .choose .ensures
+    ∙ ap chooseOf (c .before .before .before .before .mul .ensures .value ∙ ap (λ (s : Scalar). mulOf s (a .shrink))
+    r) in (
+      search needs,
+      search needs,
+      c .before .before .put .ensures
+          ∙ rw z at (fill-turn (a .delta .now) 0 f (l .i) (l .inv .2) v),
+    )
 
 same-length : tie.Need-same-length Inv-loop μ-loop
 same-length c = search needs

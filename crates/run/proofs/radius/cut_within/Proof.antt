@@ -1,5 +1,5 @@
 -- `cut_within` meets its contract: the length and the test decide whether the step is cut.
-use mathlib.Core.Path.{_≡_, sym, ap, _∙_}
+use mathlib.Core.Path.{sym, ap, _∙_}
 use native.Mathlib.Omega.{arith}
 use borrow.Author.Needs.{needs}
 use borrow.Author.Tests.{not-true, not-false}
@@ -23,7 +23,8 @@ same-length c = search needs
 returns : tie.Need-returns
 returns c =
     let a = c .before .before .before .before .before .before .args in
-    sym (cut-refused (a .n) (a .radius) (a .delta .now) (sym (c .before .before .before .norm-of .ensures) ∙ ap resultOf (c .before .e .given .1)))
+    sym (cut-refused (a .n) (a .radius) (a .delta .now) (sym (c .before .before .before .norm-of .ensures)
+    ∙ ap resultOf (c .before .e .given .1)))
 
 enum-known-length : tie.Need-enum-known-length
 enum-known-length c = search needs
@@ -37,7 +38,10 @@ same-length-2 c = search needs
 returns-2 : tie.Need-returns-2
 returns-2 c =
     let a = c .before .before .before .before .before .before .before .before .args in
-    sym (cut-whole (a .n) (a .radius) (a .delta .now) (c .before .before .before .length .given .0 .0) (sym (c .before .before .before .before .before .norm-of .ensures) ∙ ap resultOf (c .before .before .before .length .given .1)) (sym (c .before .definitely-greater .ensures) ∙ not-true _ (c .if1 .taken)))
+    sym (cut-whole (a .n) (a .radius) (a .delta .now) (c .before .before .before .length .given .0 .0)
+    (sym (c .before .before .before .before .before .norm-of .ensures)
+    ∙ ap resultOf (c .before .before .before .length .given .1)) (sym (c .before .definitely-greater .ensures)
+    ∙ not-true _ (c .if1 .taken)))
 
 div-requires : tie.Need-div-requires
 div-requires c κs = search needs
@@ -51,7 +55,14 @@ same-length-3 c = search needs
 returns-3 : tie.Need-returns-3
 returns-3 c =
     let a = c .before .before .before .before .before .before .before .before .before .before .before .before .args in
-    sym (cut-by (a .n) (a .radius) (a .delta .now) (c .before .before .before .before .before .before .before .length .given .0 .0) (sym (c .before .before .before .before .before .before .before .before .before .norm-of .ensures) ∙ ap resultOf (c .before .before .before .before .before .before .before .length .given .1)) (sym (c .before .before .before .before .before .definitely-greater .ensures) ∙ not-false _ (c .before .before .before .before .if1 .left)) ∙ bind-refused _ (sym (c .before .before .before .div .ensures .value) ∙ ap scalar.resultOf (c .before .e2 .given .1)))
+    sym (cut-by (a .n) (a .radius) (a .delta .now)
+    (c .before .before .before .before .before .before .before .length .given .0 .0)
+    (sym (c .before .before .before .before .before .before .before .before .before .norm-of .ensures)
+    ∙ ap resultOf (c .before .before .before .before .before .before .before .length .given .1))
+    (sym (c .before .before .before .before .before .definitely-greater .ensures)
+    ∙ not-false _ (c .before .before .before .before .if1 .left))
+    ∙ bind-refused _ (sym (c .before .before .before .div .ensures .value)
+    ∙ ap scalar.resultOf (c .before .e2 .given .1)))
 
 enum-known-shrink : tie.Need-enum-known-shrink
 enum-known-shrink c = search needs
@@ -64,9 +75,19 @@ same-length-4 c = search needs
 
 returns-4 : tie.Need-returns-4
 returns-4 c =
-    let a = c .before .before .before .before .before .before .before .before .before .before .before .before .before .before .before .before .args in
+    let a = c .before .before .before .before .before .before .before .before .before .before .before .before .before
+    .before .before .before .args in
     ap ok (c .before .before .cut .ensures)
-    ∙ sym (cut-by (a .n) (a .radius) (a .delta .now) (c .before .before .before .before .before .before .before .before .before .before .before .length .given .0 .0) (sym (c .before .before .before .before .before .before .before .before .before .before .before .before .before .norm-of .ensures) ∙ ap resultOf (c .before .before .before .before .before .before .before .before .before .before .before .length .given .1)) (sym (c .before .before .before .before .before .before .before .before .before .definitely-greater .ensures) ∙ not-false _ (c .before .before .before .before .before .before .before .before .if1 .left)) ∙ bind-ok _ (sym (c .before .before .before .before .before .before .before .div .ensures .value) ∙ ap scalar.resultOf (c .before .before .before .before .before .shrink .given .1)))
+    ∙ sym (cut-by (a .n) (a .radius) (a .delta .now)
+    (c .before .before .before .before .before .before .before .before .before .before .before .length .given .0 .0)
+    (sym (c .before .before .before .before .before .before .before .before .before .before .before .before .before
+    .norm-of .ensures)
+    ∙ ap resultOf
+    (c .before .before .before .before .before .before .before .before .before .before .before .length .given .1))
+    (sym (c .before .before .before .before .before .before .before .before .before .definitely-greater .ensures)
+    ∙ not-false _ (c .before .before .before .before .before .before .before .before .if1 .left))
+    ∙ bind-ok _ (sym (c .before .before .before .before .before .before .before .div .ensures .value)
+    ∙ ap scalar.resultOf (c .before .before .before .before .before .shrink .given .1)))
 
 pub cut-within-spec : {M : Type 1} → statement M
 cut-within-spec =

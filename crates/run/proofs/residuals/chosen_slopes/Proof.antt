@@ -34,13 +34,28 @@ unfolding fillTo
 loop-holds c = (search needs, refl, refl)
 
 div-slope-of : tie.Need-div-slope-of Inv-loop μ-loop
-div-slope-of c = rows-positive (c .before .before .before .before .before .before .args .e .count) (c .before .before .before .before .before .before .args .e .n) {p = c .before .before .loop .p} (c .before .loop-test .taken)
+div-slope-of c =
+    rows-positive (c .before .before .before .before .before .before .args .e .count)
+    (c .before .before .before .before .before .before .args .e .n) {p = c .before .before .loop .p}
+    (c .before .loop-test .taken)
 
 rem-slope-of : tie.Need-rem-slope-of Inv-loop μ-loop
-rem-slope-of c = rows-positive (c .before .before .before .before .before .before .args .e .count) (c .before .before .before .before .before .before .args .e .n) {p = c .before .before .loop .p} (c .before .loop-test .taken)
+rem-slope-of c =
+    rows-positive (c .before .before .before .before .before .before .args .e .count)
+    (c .before .before .before .before .before .before .args .e .n) {p = c .before .before .loop .p}
+    (c .before .loop-test .taken)
 
 slope-of-requires : tie.Need-slope-of-requires Inv-loop μ-loop
-slope-of-requires c κs = (c .before .before .before .before .before .before .pre, omega (arith, room (c .before .before .before .before .before .before), c .before .loop-test .taken, div-le-self (c .before .before .loop .p) (c .before .before .before .before .before .before .args .e .n)))
+slope-of-requires c κs = (
+  c .before .before .before .before .before .before .pre,
+  omega (
+    arith,
+    room (c .before .before .before .before .before .before),
+    c .before .loop-test .taken,
+    div-le-self
+        (c .before .before .loop .p) (c .before .before .before .before .before .before .args .e .n),
+  ),
+)
 
 choose-requires : tie.Need-choose-requires Inv-loop μ-loop
 choose-requires c κs = search needs
@@ -49,7 +64,12 @@ put-requires : tie.Need-put-requires Inv-loop μ-loop
 put-requires c κs = search needs
 
 add-p : tie.Need-add-p Inv-loop μ-loop
-add-p c = omega (arith, room (c .before .before .before .before .before .before .before .before .before .before .before), c .before .before .before .before .before .before .loop-test .taken)
+add-p c =
+    omega (
+      arith,
+      room (c .before .before .before .before .before .before .before .before .before .before .before),
+      c .before .before .before .before .before .before .loop-test .taken,
+    )
 
 loop-less : tie.Need-loop-less Inv-loop μ-loop
 loop-less c = search needs
@@ -58,8 +78,14 @@ loop-again : tie.Need-loop-again Inv-loop μ-loop
 loop-again c =
     let a = c .before .before .before .before .before .before .before .before .before .before .before .args in
     let l = c .before .before .before .before .before .before .before .loop in
-    let v = c .before .before .before .choose .ensures ∙ ap chooseOf (c .before .before .before .before .slope-of .ensures ∙ slope-among (rowsIn (a .xs .now) (a .e)) (l .p)) in
-    (search needs, search needs, c .before .before .put .ensures ∙ fill-first _ (λ j. chooseOf (at (a .xs .now) (a .e .slopes + j))) (l .p) (l .inv .2) v)
+    let v = c .before .before .before .choose .ensures
+    ∙ ap chooseOf (c .before .before .before .before .slope-of .ensures ∙ slope-among (rowsIn (a .xs .now) (a .e))
+    (l .p)) in (
+      search needs,
+      search needs,
+      c .before .before .put .ensures
+          ∙ fill-first _ (λ j. chooseOf (at (a .xs .now) (a .e .slopes + j))) (l .p) (l .inv .2) v,
+    )
 
 same-length : tie.Need-same-length Inv-loop μ-loop
 same-length c = search needs
@@ -68,4 +94,20 @@ returns : tie.Need-returns Inv-loop μ-loop
 returns c = rw (le-antisymm (c .before .loop .inv .0) (c .loop-test .left)) at (c .before .loop .inv .2)
 
 pub chosen-slopes-spec : {M : Type 1} → statement M
-chosen-slopes-spec = tie.close (tie.spec Inv-loop μ-loop mul-count loop-holds div-slope-of rem-slope-of slope-of-requires choose-requires put-requires add-p loop-less loop-again same-length returns)
+chosen-slopes-spec =
+    tie.close
+    (tie.spec
+    Inv-loop
+    μ-loop
+    mul-count
+    loop-holds
+    div-slope-of
+    rem-slope-of
+    slope-of-requires
+    choose-requires
+    put-requires
+    add-p
+    loop-less
+    loop-again
+    same-length
+    returns)

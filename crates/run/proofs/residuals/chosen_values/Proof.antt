@@ -40,8 +40,13 @@ loop-again : tie.Need-loop-again Inv-loop μ-loop
 loop-again c =
     let a = c .before .before .before .before .before .before .before .before .before .before .args in
     let l = c .before .before .before .before .before .before .before .loop in
-    let v = c .before .before .before .choose .ensures ∙ ap chooseOf (c .before .before .before .before .value-of .ensures) in
-    (search needs, search needs, c .before .before .put .ensures ∙ fill-first _ (λ j. chooseOf (valueAt (rowsIn (a .xs .now) (a .e)) j)) (l .i) (l .inv .2) v)
+    let v = c .before .before .before .choose .ensures
+    ∙ ap chooseOf (c .before .before .before .before .value-of .ensures) in (
+      search needs,
+      search needs,
+      c .before .before .put .ensures
+          ∙ fill-first _ (λ j. chooseOf (valueAt (rowsIn (a .xs .now) (a .e)) j)) (l .i) (l .inv .2) v,
+    )
 
 same-length : tie.Need-same-length Inv-loop μ-loop
 same-length c = search needs
@@ -50,4 +55,17 @@ returns : tie.Need-returns Inv-loop μ-loop
 returns c = rw (le-antisymm (c .before .loop .inv .0) (c .loop-test .left)) at (c .before .loop .inv .2)
 
 pub chosen-values-spec : {M : Type 1} → statement M
-chosen-values-spec = tie.close (tie.spec Inv-loop μ-loop loop-holds value-of-requires choose-requires put-requires add-i loop-less loop-again same-length returns)
+chosen-values-spec =
+    tie.close
+    (tie.spec
+    Inv-loop
+    μ-loop
+    loop-holds
+    value-of-requires
+    choose-requires
+    put-requires
+    add-i
+    loop-less
+    loop-again
+    same-length
+    returns)

@@ -25,7 +25,8 @@ unfolding anyTo
 loop-holds c = (search needs, refl)
 
 slope-of-requires : tie.Need-slope-of-requires Inv-loop μ-loop
-slope-of-requires c κs = (c .before .before .before .pre .0, omega (arith, c .before .before .before .pre .0 .few-rows, c .loop-test .taken))
+slope-of-requires c κs =
+    (c .before .before .before .pre .0, omega (arith, c .before .before .before .pre .0 .few-rows, c .loop-test .taken))
 
 definitely-not-equal-requires : tie.Need-definitely-not-equal-requires Inv-loop μ-loop
 definitely-not-equal-requires c κs = search needs
@@ -34,7 +35,8 @@ returns : tie.Need-returns Inv-loop μ-loop
 unfolding dependsOn ofBits
 returns c =
     let l = c .before .before .before .before .loop in
-    sym (any-broke _ (l .i) _ (c .before .before .before .loop-test .taken) (l .inv .1) (rw (← c .before .before .slope-of .ensures, ← c .before .definitely-not-equal .ensures) (c .if1 .taken)))
+    sym (any-broke _ (l .i) _ (c .before .before .before .loop-test .taken) (l .inv .1)
+    (rw (← c .before .before .slope-of .ensures, ← c .before .definitely-not-equal .ensures) (c .if1 .taken)))
 
 add-i : tie.Need-add-i Inv-loop μ-loop
 add-i c = search needs
@@ -45,12 +47,27 @@ loop-less c = search needs
 loop-again : tie.Need-loop-again Inv-loop μ-loop
 unfolding ofBits
 loop-again c =
-    let l = c .before .before .before .before .loop in
-    (search needs, any-turn _ (l .i) (l .inv .1) (rw (← c .before .before .slope-of .ensures, ← c .before .definitely-not-equal .ensures) (c .if1 .left)))
+    let l = c .before .before .before .before .loop in (
+      search needs,
+      any-turn _ (l .i) (l .inv .1)
+          (rw (← c .before .before .slope-of .ensures, ← c .before .definitely-not-equal .ensures) (c .if1 .left)),
+    )
 
 returns-2 : tie.Need-returns-2 Inv-loop μ-loop
 unfolding dependsOn
 returns-2 c = sym (rw (le-antisymm (c .before .loop .inv .0) (c .loop-test .left)) at (c .before .loop .inv .1))
 
 pub depends-on-spec : {M : Type 1} → statement M
-depends-on-spec = tie.close (tie.spec Inv-loop μ-loop loop-holds slope-of-requires definitely-not-equal-requires returns add-i loop-less loop-again returns-2)
+depends-on-spec =
+    tie.close
+    (tie.spec
+    Inv-loop
+    μ-loop
+    loop-holds
+    slope-of-requires
+    definitely-not-equal-requires
+    returns
+    add-i
+    loop-less
+    loop-again
+    returns-2)

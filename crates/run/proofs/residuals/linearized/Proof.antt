@@ -13,7 +13,8 @@ use Rattle.run.proofs.residuals.linearized.Statement.{statement}
 use Rattle.run.proofs.residuals.linearized.Tie as tie
 
 abbrev Inv-loop : tie.InvT-loop
-Inv-loop xs e delta d out₀ count i₀ out i = (i ≤ count) × (length out ≡ length out₀) × (out ≡ fillTo out₀ 0 (linearizedAt (rowsIn xs e) delta d) i)
+Inv-loop xs e delta d out₀ count i₀ out i =
+    (i ≤ count) × (length out ≡ length out₀) × (out ≡ fillTo out₀ 0 (linearizedAt (rowsIn xs e) delta d) i)
 
 abbrev μ-loop : tie.MeasureT-loop
 μ-loop xs e delta d out₀ count i₀ out i = count - i
@@ -23,7 +24,11 @@ unfolding fillTo
 loop-holds c = (search needs, refl, refl)
 
 linearized-at-requires : tie.Need-linearized-at-requires Inv-loop μ-loop
-linearized-at-requires c κs = (c .before .before .before .before .before .before .pre, omega (arith, c .before .before .before .before .before .before .pre .few-rows))
+linearized-at-requires c κs = (
+  c .before .before .before .before .before .before .pre,
+  omega
+      (arith, c .before .before .before .before .before .before .pre .few-rows),
+)
 
 put-requires : tie.Need-put-requires Inv-loop μ-loop
 put-requires c κs = search needs
@@ -36,8 +41,12 @@ loop-less c = search needs
 
 loop-again : tie.Need-loop-again Inv-loop μ-loop
 loop-again c =
-    let l = c .before .before .before .before .before .before .loop in
-    (search needs, search needs, c .before .before .put .ensures ∙ fill-first _ _ (l .i) (l .inv .2) (c .before .before .before .linearized-at .ensures))
+    let l = c .before .before .before .before .before .before .loop in (
+      search needs,
+      search needs,
+      c .before .before .put .ensures
+          ∙ fill-first _ _ (l .i) (l .inv .2) (c .before .before .before .linearized-at .ensures),
+    )
 
 same-length : tie.Need-same-length Inv-loop μ-loop
 same-length c = search needs

@@ -11,7 +11,8 @@ use Rattle.run.proofs.residuals.moving.Statement.{statement}
 use Rattle.run.proofs.residuals.moving.Tie as tie
 
 abbrev Inv-loop : tie.InvT-loop
-Inv-loop xs n m s marks₀ j₀ marks j = (j ≤ n) × Marked (λ i. dependsOn (sumOf n m s xs) i || dependsOn (constraintsOf n m xs) i) j marks
+Inv-loop xs n m s marks₀ j₀ marks j =
+    (j ≤ n) × Marked (λ i. dependsOn (sumOf n m s xs) i || dependsOn (constraintsOf n m xs) i) j marks
 
 abbrev μ-loop : tie.MeasureT-loop
 μ-loop xs n m s marks₀ j₀ marks j = n - j
@@ -32,7 +33,11 @@ loop-less : tie.Need-loop-less Inv-loop μ-loop
 loop-less c = search needs
 
 loop-again : tie.Need-loop-again Inv-loop μ-loop
-loop-again c = (search needs, marked-more _ (omega (arith, c .before .before .before .before .pre .0, c .before .loop-test .taken)) (c .before .before .loop .inv .1) (c .moves .ensures))
+loop-again c = (
+  search needs,
+  marked-more _ (omega (arith, c .before .before .before .before .pre .0, c .before .loop-test .taken))
+      (c .before .before .loop .inv .1) (c .moves .ensures),
+)
 
 returns : tie.Need-returns Inv-loop μ-loop
 unfolding movingOf

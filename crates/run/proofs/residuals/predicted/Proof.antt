@@ -18,7 +18,9 @@ slice-aggregate-linearized : tie.Need-slice-aggregate-linearized
 slice-aggregate-linearized c = search needs
 
 linearized-requires : tie.Need-linearized-requires
-linearized-requires c κs = rw (c .before .constraints .ensures) (constraints-small (c .before .before .before .before .pre .0) (c .before .before .before .before .pre .1))
+linearized-requires c κs =
+    rw (c .before .constraints .ensures) (constraints-small (c .before .before .before .before .pre .0)
+    (c .before .before .before .before .pre .1))
 
 slice-aggregate-norm-of : tie.Need-slice-aggregate-norm-of
 slice-aggregate-norm-of c = search needs
@@ -35,9 +37,11 @@ unfolding predictedOf
 returns c =
     let s = c .before .before .before .before .before .before .before .before in
     let a = s .args in
-    let e = rw (c .before .before .before .before .before .constraints .ensures) at (c .before .before .before .linearized .ensures) in
+    let e = rw (c .before .before .before .before .before .constraints .ensures)
+    at (c .before .before .before .linearized .ensures) in
     let h : 2 * a .m ≤ 24 = omega (arith, s .pre .1) in
-    rw e at (c .norm-of .ensures) ∙ norm-fill _ (linearizedAt (constraintsOf (a .n) (a .m) (a .xs .now)) (a .delta .now) (a .n)) (a .m) h
+    rw e at (c .norm-of .ensures)
+    ∙ norm-fill _ (linearizedAt (constraintsOf (a .n) (a .m) (a .xs .now)) (a .delta .now) (a .n)) (a .m) h
 
 pub predicted-spec : {M : Type 1} → statement M
 predicted-spec =

@@ -21,7 +21,8 @@ returns : tie.Need-returns
 returns c w h =
     let z = c .before .before .before .args .z in
     c .violation .ensures
-    ∙ ap (λ (xs : List Float). violationOf (constraintsOf (z .n) (z .m) xs)) (c .before .standing-rows .ensures .read w h)
+    ∙ ap (λ (xs : List Float). violationOf (constraintsOf (z .n) (z .m) xs))
+    (c .before .standing-rows .ensures .read w h)
 
 pub standing-violation-spec : {M : Type 1} → statement M
 standing-violation-spec = tie.close (tie.spec standing-rows-requires violation-requires returns)

@@ -11,10 +11,15 @@ sum-requires : tie.Need-sum-requires
 sum-requires c κs = search needs
 
 squared-requires : tie.Need-squared-requires
-squared-requires c κs = rw (c .sum .ensures) (sum-small (c .before .before .pre .0) (c .before .before .pre .1 .0) (c .before .before .pre .1 .1))
+squared-requires c κs =
+    rw (c .sum .ensures) (sum-small (c .before .before .pre .0) (c .before .before .pre .1 .0)
+    (c .before .before .pre .1 .1))
 
 returns : tie.Need-returns
-returns c = c .squared .ensures ∙ ap (λ e. squaredOf (rowsIn (c .before .before .before .args .xs .now) e) (c .before .before .before .args .xs .now) 0) (c .before .sum .ensures)
+returns c =
+    c .squared .ensures
+    ∙ ap (λ e. squaredOf (rowsIn (c .before .before .before .args .xs .now) e)
+    (c .before .before .before .args .xs .now) 0) (c .before .sum .ensures)
 
 pub sum-squared-spec : {M : Type 1} → statement M
 sum-squared-spec = tie.close (tie.spec sum-requires squared-requires returns)

@@ -11,7 +11,8 @@ use Rattle.run.proofs.residuals.values.Statement.{statement}
 use Rattle.run.proofs.residuals.values.Tie as tie
 
 abbrev Inv-loop : tie.InvT-loop
-Inv-loop xs e out₀ count i₀ out i = (i ≤ count) × (length out ≡ length out₀) × (out ≡ fillTo out₀ 0 (valueAt (rowsIn xs e)) i)
+Inv-loop xs e out₀ count i₀ out i =
+    (i ≤ count) × (length out ≡ length out₀) × (out ≡ fillTo out₀ 0 (valueAt (rowsIn xs e)) i)
 
 abbrev μ-loop : tie.MeasureT-loop
 μ-loop xs e out₀ count i₀ out i = count - i
@@ -35,8 +36,12 @@ loop-less c = search needs
 loop-again : tie.Need-loop-again Inv-loop μ-loop
 loop-again c =
     let a = c .before .before .before .before .before .before .before .before .before .args in
-    let l = c .before .before .before .before .before .before .loop in
-    (search needs, search needs, c .before .before .put .ensures ∙ fill-first _ (valueAt (rowsIn (a .xs .now) (a .e))) (l .i) (l .inv .2) (c .before .before .before .value-of .ensures))
+    let l = c .before .before .before .before .before .before .loop in (
+      search needs,
+      search needs,
+      c .before .before .put .ensures ∙ fill-first _ (valueAt (rowsIn (a .xs .now) (a .e)))
+          (l .i) (l .inv .2) (c .before .before .before .value-of .ensures),
+    )
 
 same-length : tie.Need-same-length Inv-loop μ-loop
 same-length c = search needs
@@ -45,4 +50,16 @@ returns : tie.Need-returns Inv-loop μ-loop
 returns c = rw (le-antisymm (c .before .loop .inv .0) (c .loop-test .left)) at (c .before .loop .inv .2)
 
 pub values-spec : {M : Type 1} → statement M
-values-spec = tie.close (tie.spec Inv-loop μ-loop loop-holds value-of-requires put-requires add-i loop-less loop-again same-length returns)
+values-spec =
+    tie.close
+    (tie.spec
+    Inv-loop
+    μ-loop
+    loop-holds
+    value-of-requires
+    put-requires
+    add-i
+    loop-less
+    loop-again
+    same-length
+    returns)

@@ -34,9 +34,18 @@ unfolding violationOf
 returns c =
     let s = c .before .before .before .before .before .before .before in
     let a = s .args in
-    let e = rw (c .before .before .before .before .before .constraints .ensures) at (c .before .before .before .values .ensures) in
+    let e = rw (c .before .before .before .before .before .constraints .ensures)
+    at (c .before .before .before .values .ensures) in
     let h : 2 * a .m ≤ 24 = omega (arith, s .pre .0) in
     rw e at (c .norm-of .ensures) ∙ norm-fill _ (valueAt (constraintsOf (a .n) (a .m) (a .xs .now))) (a .m) h
 
 pub violation-spec : {M : Type 1} → statement M
-violation-spec = tie.close (tie.spec constraints-requires slice-aggregate-values values-requires slice-aggregate-norm-of norm-of-requires returns)
+violation-spec =
+    tie.close
+    (tie.spec
+    constraints-requires
+    slice-aggregate-values
+    values-requires
+    slice-aggregate-norm-of
+    norm-of-requires
+    returns)
