@@ -302,7 +302,8 @@ fn write_next(area: &mut [f64], n: usize, delta: &[f64])
 // A trial asked, where the step leads: nothing has landed. Of the landed rows those in use are cleared.
 pub fn write_trial(area: &mut [f64], z: Sizes, delta: &[f64], lambda: &[f64])
     requires { ⌜ (length (now area) ≡ AREA) ×
-        (((z .n ≤ VARIABLES) × ((z .m ≤ CONSTRAINTS) × (z .s ≤ SUM-ROWS))) × ((length (now delta) ≡ 24) × (length (now lambda) ≡ 24))) ⌝ }
+        (((z .n ≤ VARIABLES) × ((z .m ≤ CONSTRAINTS) × (z .s ≤ SUM-ROWS))) ×
+        ((length (now delta) ≡ 24) × (length (now lambda) ≡ 24))) ⌝ }
     ensures { λ _. ⌜ ((w : Memory) → Holds w (now (area .entry)) →
         ZeroBehind ROWS-LEN (rowNumbers (z .n) (z .m) (z .s)) (w .landedRows) →
         Holds (withTrial w (movedOf (z .n) (w .standing) (now (delta .entry))) (now (delta .entry))
@@ -337,7 +338,8 @@ pub fn write_taken(
     theta: Scalar,
 )
     requires { ⌜ (length (now area) ≡ AREA) ×
-        (((z .n ≤ VARIABLES) × ((z .m ≤ CONSTRAINTS) × (z .s ≤ SUM-ROWS))) × ((length (now curvature) ≡ CURVATURE-LEN) × (count < ITERATIONS))) ⌝ }
+        (((z .n ≤ VARIABLES) × ((z .m ≤ CONSTRAINTS) × (z .s ≤ SUM-ROWS))) ×
+        ((length (now curvature) ≡ CURVATURE-LEN) × (count < ITERATIONS))) ⌝ }
     ensures { λ _. ⌜ ((w : Memory) → Holds w (now (area .entry)) →
         ZeroBehind ROWS-LEN (rowNumbers (z .n) (z .m) (z .s)) (w .standingRows) →
         ZeroBehind ROWS-LEN (rowNumbers (z .n) (z .m) (z .s)) (w .landedRows) →

@@ -142,7 +142,8 @@ fn longest(k: usize, left: &[f64]) -> Remainder
 // The longest remainder as one more direction, of at most `most`.
 fn take_longest(k: usize, count: usize, most: usize, z: &mut [f64], left: &mut [f64]) -> Next
     requires { ⌜ (k ≤ VARIABLES) × ((count < most) × (most ≤ 12)) ⌝ }
-    ensures { λ r. ⌜ nextOf k (most - (count + 1)) r count (now (z .exit)) (now (left .exit)) ≡ spanOf (directionsTo k (most - count) (directionsIn count (now (z .entry)) (now (left .entry)))) ⌝ }
+    ensures { λ r. ⌜ nextOf k (most - (count + 1)) r count (now (z .exit)) (now (left .exit))
+        ≡ spanOf (directionsTo k (most - count) (directionsIn count (now (z .entry)) (now (left .entry)))) ⌝ }
 {
     let best = longest(k, left);
     match best.square.sqrt() {
@@ -174,21 +175,16 @@ fn less(k: usize, r: usize) -> usize
     0
 }
 
-// Z, from the first r rows of Q over k variables, into a clear matrix; `left` is scratch, clear too.
-pub fn free_directions(
-    k: usize,
-    r: usize,
-    q: &[f64],
-    z: &mut [f64],
-    left: &mut [f64],
-) -> CountResult
-    requires { ⌜ (k ≤ VARIABLES) × ((r ≤ CONSTRAINTS) × ((now z ≡ matrix) × (now left ≡ matrix))) ⌝ }
+// Z, from the first r rows of Q over k variables, into a clear matrix.
+pub fn free_directions(k: usize, r: usize, q: &[f64], z: &mut [f64]) -> CountResult
+    requires { ⌜ (k ≤ VARIABLES) × ((r ≤ CONSTRAINTS) × (now z ≡ matrix)) ⌝ }
     ensures { λ d. ⌜ foundOf d (now (z .exit)) ≡ spanOf (directionsOf k r (now (q .entry))) ⌝ }
 {
+    let mut left = [0.0; 288];
     let most = less(k, r);
-    remainders(k, r, q, left);
+    remainders(k, r, q, &mut left);
     for count in 0..most {
-        match take_longest(k, count, most, z, left) {
+        match take_longest(k, count, most, z, &mut left) {
             Next::Taken => {}
             Next::Enough => {
                 return CountResult::Value(count);
