@@ -1,4 +1,8 @@
-// An orthonormal basis Q of the constraints' rows, and each row's coefficients in it.
+// An orthonormal basis Q of the constraints' rows, by modified Gram-Schmidt, and each row's coefficients in it. Both
+// are the model's own numbers and are chosen. Whether a row is independent of those before it is asked of its intervals
+// as they were answered: what chosen vectors leave of a row that depends on them is rounding and not zero, while what
+// is left of its intervals could be zero. Q is orthonormal only up to its rounding, so a row is projected through the
+// factor of Q's Gram matrix, which is near the identity and keeps the intervals narrow.
 ghost use Prim.Native.Nat.{_*_, _≤_, _<_, _+_, ℕ, _/_, _%_};
 ghost use mathlib.Core.Bool.{false};
 ghost use mathlib.Core.List.{List, []};
@@ -43,19 +47,18 @@ use linear::put;
 use linear::row_dot;
 use linear::two_minus;
 
-// How many rows of the constraints there are, over how many variables, and how many of them are independent: of m rows
-// over k variables, r.
+// Counts that go together: of the constraints' first m rows, over k variables, r are independent.
 pub struct Shape {
     pub k: usize,
     pub m: usize,
     pub r: usize,
 }
 
-// The first coefficient behind Q.
-const COEFFICIENTS: usize = 144;
+// How many scalars Q has: where the coefficients stand behind it, they begin there.
+const Q_LEN: usize = 144;
 
 // Stores a value, or hands its refusal on.
-pub fn store(xs: &mut [f64], i: usize, q: ScalarResult) -> Done
+fn store(xs: &mut [f64], i: usize, q: ScalarResult) -> Done
     ensures { λ r. ⌜ doneOf r (now (xs .exit)) ≡ storeR (now (xs .entry)) i (scalar.resultOf q) ⌝ }
 {
     match q {
@@ -80,7 +83,7 @@ fn pack(r: usize, a: &[f64], to: &mut [f64])
     }
 }
 
-// What row i of `wide` has along each of r vectors.
+// The product of row i of `wide` with each of r vectors.
 fn projections(k: usize, r: usize, i: usize, wide: &[f64], q: &[f64], b: &mut [f64])
     requires { ⌜ (r ≤ CONSTRAINTS) × ((i < 12) × (length (now b) ≡ 2 * r)) ⌝ }
     ensures { λ _. ⌜ now (b .exit)
@@ -111,7 +114,8 @@ fn coefficients(passed: Shape, wide: &[f64], q: &[f64], gram: &[f64], a: &mut [f
 
 // ---- what is left of a row
 
-// Entries p and p + 1 of row i of `wide` without its coefficients a.
+// Entries p and p + 1 of row i of `wide` without its coefficients a: two sums at a time, since neither waits for the
+// other.
 fn two_outside(r: usize, i: usize, wide: &[f64], q: &[f64], a: &[f64], out: &mut [f64], p: usize)
     requires { ⌜ (i < 12) × (p < 11) ⌝ }
     ensures { λ _. ⌜ now (out .exit) ≡ put (put (now (out .entry)) p
@@ -148,7 +152,7 @@ fn outside(k: usize, r: usize, i: usize, wide: &[f64], q: &[f64], a: &[f64], out
 
 // ---- an independent row
 
-// v without its parts along r vectors, which row r of the coefficients keeps.
+// v without its parts along r vectors, one after the other, which row r of the coefficients keeps.
 fn parts_out(k: usize, r: usize, q: &[f64], v: &mut [f64], coefficients: &mut [f64])
     requires { ⌜ (k ≤ VARIABLES) × (r ≤ CONSTRAINTS) ⌝ }
     ensures { λ _. ⌜ takenBy (now (v .exit)) (now (coefficients .exit))
@@ -172,6 +176,7 @@ fn gram_entry(k: usize, r: usize, q: &[f64], gram: &mut [f64], j: usize) -> Done
     store(gram, 12 * r + j, s.div(d))
 }
 
+// The entries of the Gram factor's row r, below its diagonal.
 fn gram_entries(k: usize, r: usize, q: &[f64], gram: &mut [f64]) -> Done
     requires { ⌜ r ≤ CONSTRAINTS ⌝ }
     ensures { λ d. ⌜ doneOf d (now (gram .exit)) ≡ foldR (gramStep k r (now (q .entry))) (now (gram .entry)) r ⌝ }
@@ -296,7 +301,8 @@ fn measure(passed: Shape, wide: &[f64], q: &[f64], gram: &[f64], a: &mut [f64]) 
     }
 }
 
-// The row behind the first m, row m: into the basis, or its coefficients in it among those of the dependent rows.
+// Takes the row behind the first m, row m, into the basis, or its coefficients among those of the dependent rows, which
+// the correction reads too.
 fn next_row(
     passed: Shape,
     wide: &[f64],
@@ -428,8 +434,8 @@ fn sides(m: usize, r: usize, order: &[usize], xs: &[f64], e: RowSet, rhs: &mut [
     }
 }
 
-// The least-squares correction of every row, for the constraint values in xs. Where it is refused, what delta holds has
-// no meaning.
+// The least-squares correction of every row, for the constraint values in xs, by reflections: normal equations would
+// square how ill-conditioned the rows are. Where it is refused, what delta holds has no meaning.
 pub fn correction(
     shape: Shape,
     q: &[f64],
@@ -489,12 +495,13 @@ fn multiplier(k: usize, r: usize, q: &[f64], pull: &[f64], by_row: &mut [f64], u
         (now («by_row» .entry)) u ⌝ }
 {
     let t = r - 1 - u;
-    let c = COEFFICIENTS + 13 * t;
+    let c = Q_LEN + 13 * t;
     let z = row_dot(q, 12 * t, pull, 0, k);
     let s = minus_dot(q, c + 12, 12, by_row, t + 1, 1, z, u);
     store_chosen(by_row, t, s.div(at(q, c)))
 }
 
+// The multipliers by vector, from the last to the first.
 fn multipliers_by_row(k: usize, r: usize, q: &[f64], pull: &[f64], by_row: &mut [f64]) -> Done
     requires { ⌜ r ≤ CONSTRAINTS ⌝ }
     ensures { λ d. ⌜ doneOf d (now («by_row» .exit))

@@ -1,4 +1,6 @@
-// Z, an orthonormal basis of what the constraints leave free. Matrices have rows of 12.
+// Z, an orthonormal basis of what the constraints leave free: the unit directions with what Q leaves of them, taken one
+// at a time by the longest remainder, of which rounding spoils the least. Two remainders are worked on at a time, since
+// neither waits for the other. Matrices have rows of 12.
 ghost use Prim.Native.Nat.{_<_, _≤_, _+_, _-_};
 ghost use mathlib.Core.Path.{_≡_};
 ghost use Rattle.interval.specs.Scalar.{pick, definitelyGreater};
@@ -107,6 +109,7 @@ fn without(k: usize, z: &[f64], t: usize, left: &mut [f64])
     part_off(k, z, t, left, 2 * half);
 }
 
+// The square of the length of remainder p.
 fn square(k: usize, left: &[f64], p: usize) -> Scalar
     requires { ⌜ p < 12 ⌝ }
     ensures { λ r. ⌜ r ≡ squareOf k (now (left .entry)) p ⌝ }

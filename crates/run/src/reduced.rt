@@ -1,4 +1,6 @@
-// The system reduced to the free directions, and the step along them. Vectors have 12 scalars, matrices rows of 12.
+// The system reduced to the free directions, and the step along them: what it adds to the correction changes no
+// constraint to first order, and the damped curvature need be positive along them alone. Vectors have 12 scalars,
+// matrices rows of 12.
 ghost use Prim.Native.Nat.{_<_, _≤_, _+_, _*_, _/_, _%_};
 ghost use mathlib.Core.Bool.{false};
 ghost use mathlib.Core.Path.{_≡_};
@@ -140,6 +142,7 @@ fn against(k: usize, count: usize, z: &[f64], force: &[f64], out: &mut [f64])
     }
 }
 
+// Whether any mark is set.
 fn any(marks: &[bool]) -> bool
     ensures { λ r. ⌜ r ≡ anyTo (λ i. getD (now (marks .entry)) i false) (length (now (marks .entry))) ⌝ }
 {
