@@ -4,7 +4,6 @@
 // is left of its intervals could be zero. Q is orthonormal only up to its rounding, so a row is projected through the
 // factor of Q's Gram matrix, which is near the identity and keeps the intervals narrow.
 ghost use Prim.Native.Nat.{_*_, _≤_, _<_, _+_, ℕ, _/_, _%_};
-ghost use mathlib.Core.Bool.{false};
 ghost use mathlib.Core.List.{List, []};
 ghost use mathlib.Core.Path.{_≡_};
 ghost use lib.Ieee.{Float};

@@ -15,15 +15,15 @@ use Rattle.run.proofs.null_space.free_directions.Statement.{statement}
 use Rattle.run.proofs.null_space.free_directions.Tie as tie
 
 -- with so many directions taken: those that are still to come are the rest of all
-record Taken (k r : ℕ) (q z₀ : List Float) (most : ℕ) (z left : List Float) (count : ℕ) : Type 0 where
+record Rest (k r : ℕ) (q z₀ : List Float) (most : ℕ) (z left : List Float) (count : ℕ) : Type 0 where
   some : count ≤ most
   few : most ≤ 12
   z-length : length z ≡ length z₀
   left-length : length left ≡ 288
-  rest : spanOf (directionsTo k (most - count) (directionsIn count z left)) ≡ spanOf (directionsOf k r q)
+  directions : spanOf (directionsTo k (most - count) (directionsIn count z left)) ≡ spanOf (directionsOf k r q)
 
 abbrev Inv-loop : tie.InvT-loop
-Inv-loop k r q z₀ left₀ most count₀ z left count = Taken k r q z₀ most z left count
+Inv-loop k r q z₀ left₀ most count₀ z left count = Rest k r q z₀ most z left count
 
 abbrev μ-loop : tie.MeasureT-loop
 μ-loop k r q z₀ left₀ most count₀ z left count = most - count
@@ -49,7 +49,7 @@ loop-holds c =
       few = omega (arith, l .ensures, p .0);
       z-length = refl;
       left-length = c .before .remainders .kept .1 .1 .1 .0;
-      rest = rw (m, ← c .before .remainders .ensures, ← p .1 .1, ← l .ensures);
+      directions = rw (m, ← c .before .remainders .ensures, ← p .1 .1, ← l .ensures);
     }
 
 slice-aggregate-take-longest : tie.Need-slice-aggregate-take-longest Inv-loop μ-loop
@@ -74,7 +74,7 @@ same-length c =
 returns : tie.Need-returns Inv-loop μ-loop
 returns c =
     let e = rw (c .enum-told2 .given .1) at (c .before .before .before .before .before .take-longest .ensures) in
-    e ∙ c .before .before .before .before .before .before .before .before .before .loop .inv .rest
+    e ∙ c .before .before .before .before .before .before .before .before .before .loop .inv .directions
 
 enum-known-e : tie.Need-enum-known-e Inv-loop μ-loop
 enum-known-e c = search needs
@@ -87,7 +87,7 @@ same-length-2 c =
 returns-2 : tie.Need-returns-2 Inv-loop μ-loop
 returns-2 c =
     let e = rw (c .before .e .given .1) at (c .before .before .before .before .before .before .take-longest .ensures) in
-    e ∙ c .before .before .before .before .before .before .before .before .before .before .loop .inv .rest
+    e ∙ c .before .before .before .before .before .before .before .before .before .before .loop .inv .directions
 
 add-count : tie.Need-add-count Inv-loop μ-loop
 add-count c = search needs
@@ -105,7 +105,7 @@ loop-again c =
       few = l .inv .few;
       z-length = k .kept .1 .1 .1 .0 ∙ l .inv .z-length;
       left-length = k .kept .1 .1 .1 .1 .0 ∙ l .inv .left-length;
-      rest = e ∙ l .inv .rest;
+      directions = e ∙ l .inv .directions;
     }
 
 same-length-3 : tie.Need-same-length-3 Inv-loop μ-loop
@@ -114,7 +114,7 @@ same-length-3 c = c .before .loop .inv .z-length
 returns-3 : tie.Need-returns-3 Inv-loop μ-loop
 returns-3 c =
     let l = c .before .loop in
-    let e = rw (le-antisymm (l .inv .some) (c .loop-test .left)) at (l .inv .rest) in
+    let e = rw (le-antisymm (l .inv .some) (c .loop-test .left)) at (l .inv .directions) in
     sym (directions-none _ _ _ _ _) ∙ e
 
 pub free-directions-spec : {M : Type 1} → statement M
