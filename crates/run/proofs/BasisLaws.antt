@@ -21,7 +21,7 @@ use Rattle.linear.specs.Flat.{at, along, put, listTo}
 use Rattle.linear.specs.Householder.{leastSquaresOf}
 use Rattle.linear.specs.Norm.{normOf}
 use Rattle.linear.specs.Results.{bind, foldR}
-use Rattle.linear.specs.Substitution.{storeR, solveOf}
+use Rattle.linear.specs.Substitution.{storeR}
 use Rattle.linear.specs.declared.answers.Answer.{Answer}
 use Rattle.linear.specs.declared.answers.Answer.the-variants as answer
 use Rattle.linear.specs.declared.answers.Done.{Done}
@@ -32,10 +32,10 @@ use Rattle.linear.proofs.Folds.{turn, ends, bind-value, bind-ok, bind-refused}
 use Rattle.linear.proofs.Reflections.{rows-positive}
 use Rattle.linear.proofs.Sums.{along-start, minusTo-commutes}
 use Rattle.run.specs.Problem.{Problem}
-use Rattle.run.specs.Basis.{Basis, Taken, noRows, packed, coefficientsIn, outsideAt, partOut, partsOut}
+use Rattle.run.specs.Basis.{Basis, Taken, noRows, coefficientsIn, outsideAt, partOut, partsOut}
 use Rattle.run.specs.Basis.{gramStep, gramRow, extended, withDependent, rowStep, basisOf, orderAt}
 use Rattle.run.specs.Basis.{coefficientAt, correctionOf, multiplierStep, multipliersOf}
-use Rattle.run.specs.program.Basis.{basisBy, takenBy, problemBy, rankedOf, withoutGram}
+use Rattle.run.specs.program.Basis.{basisBy, takenBy, problemBy, rowProblem, measuredBy, rankedOf, withoutGram}
 use Rattle.run.specs.declared.results.CountResult.{CountResult}
 use Rattle.run.specs.declared.results.CountResult.the-variants as count
 use Rattle.run.specs.Vectors.{vector, row, column, entry, fillTo, minusScaled, unitAt, combinedTo, spreadTo}
@@ -90,10 +90,6 @@ unfolding bind
 done-bind done.Finished x f = refl
 done-bind (done.Refused e) x f = refl
 
--- the problem as one row has it
-abbrev pub rowProblem : ℕ → List Float → List Float → Problem
-rowProblem k wide jc = problemBy k 0 (λ _. zeroS) wide jc
-
 module _ (k r i : ℕ) (jc q gram c w : List Float) (o : List ℕ) (v v′ c′ : List Float) (a : Answer)
     (ev : v ≡ fillTo vector 0 (row jc i) k) (et : takenBy v′ c′ ≡ partsOut k r q (takenBy v c) r)
     (el : resultOf a ≡ normOf (at v′) k) where
@@ -142,9 +138,7 @@ module _ (k r : ℕ) (q gram gram′ : List Float) (d : Done) (eg : doneOf d gra
 module _ (k r i : ℕ) (wide jc q gram c w : List Float) (o : List ℕ) (x : Answer) (a : List Float)
     (measured
     : (f : List Float → Scalar → Res Basis)
-    → bind (resultOf x) (f a)
-    ≡ bind (solveOf r (packed r gram) (replicate r false) (listTo (λ j. dotTo (row wide i) (row q j) k) r))
-    (λ a. bind (normOf (λ p. minusTo (at a) (column q p) (entry wide i p) r) k) (f a))) where
+    → bind (resultOf x) (f a) ≡ measuredBy (rowProblem k wide []) (basisBy r q gram [] [] []) i f) where
   abbrev before : Basis
   before = basisBy r q gram c w o
 

@@ -12,6 +12,7 @@ use Rattle.interval.specs.declared.Scalar.{Scalar}
 use Rattle.interval.specs.Scalar.{pick}
 use Rattle.run.specs.Limits.{AREA}
 use Rattle.run.specs.Calls.{AfterCall, checks, unchanged, begunOf, beginOf, pointAt, pointOf}
+use Rattle.run.specs.program.Checks.{refusalOf}
 use Rattle.run.specs.Checks.{sizesFit, allInDomain, stepFits, valid}
 use Rattle.run.specs.State.{noRun}
 use Rattle.run.specs.declared.state.Phase.{Phase}
@@ -37,9 +38,7 @@ passed-by false q r e z = absurd (omega (arith, e, z))
 
 -- the checks of a begin by that number
 module _ (z : Sizes) (start : List Float) (max : Scalar) (a : List Float) {k : ℕ}
-    (e : k ≡ pick (sizesFit z)
-    (pick (eqb (length start) (2 * z .n) && eqb (length a) AREA)
-    (pick (allInDomain start (z .n) && stepFits max) 0 3) 2) 1) where
+    (e : k ≡ refusalOf z start max (length a)) where
   pub begin-refused : (k ≡ 0 → ⊥) → unchanged noRun a k ≡ beginOf z start max a
   unfolding beginOf
   begin-refused n =

@@ -236,14 +236,14 @@ usedIn st =
     let tried = isTried (st .phase) in
     let corrected = isCorrected (st .phase) in
     2 * n
-    ∷ (pick corrected (2 * n) 0
-    ∷ (pick (isOpen (st .phase)) (2 * n) 0
-    ∷ (pick tried rows 0
-    ∷ (pick corrected rows 0
-    ∷ (pick tried (2 * n) 0
-    ∷ (pick tried (2 * st .sizes .m) 0
-    ∷ (pick tried (2 * curvatureEntries n) 0
-    ∷ (pick tried (4 * st .counts .iterations) 0 ∷ []))))))))
+    ∷ pick corrected (2 * n) 0
+    ∷ pick (isOpen (st .phase)) (2 * n) 0
+    ∷ pick tried rows 0
+    ∷ pick corrected rows 0
+    ∷ pick tried (2 * n) 0
+    ∷ pick tried (2 * st .sizes .m) 0
+    ∷ pick tried (2 * curvatureEntries n) 0
+    ∷ pick tried (4 * st .counts .iterations) 0 ∷ []
 
 -- where slot k begins
 unfoldable pub startOf : List ℕ → ℕ → ℕ

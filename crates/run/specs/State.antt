@@ -91,8 +91,8 @@ counting st c =
       moving = st .moving;
     }
 
-abbrev pub over : State → State
-over st =
+abbrev pub inPhase : State → Phase → State
+inPhase st phase =
     record {
       sizes = st .sizes;
       counts = st .counts;
@@ -100,9 +100,12 @@ over st =
       trial = st .trial;
       «max_step» = st .«max_step»;
       last = st .last;
-      phase = Over;
+      phase = phase;
       moving = st .moving;
     }
+
+abbrev pub over : State → State
+over st = inPhase st Over
 
 abbrev pub moves : State → List Bool → State
 moves st moving =

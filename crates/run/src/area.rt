@@ -6,7 +6,7 @@ ghost use mathlib.Core.List.{_++_};
 ghost use mathlib.Core.Path.{_≡_};
 ghost use lib.ListN.{length, take, drop, getD};
 ghost use Rattle.linear.specs.Flat.{zeros};
-ghost use Rattle.run.specs.Limits.{AREA, VARIABLES, CONSTRAINTS, SUM-ROWS, ITERATIONS};
+ghost use Rattle.run.specs.Limits.{AREA, ITERATIONS};
 ghost use Rattle.run.specs.Area.{padded, startOf, usedIn, memoryOf, begunMemory, Memory, onlyStanding};
 ghost use Rattle.run.specs.Area.{POINT-LEN, ROWS-LEN, CURVATURE-LEN, FILTER-LEN, STANDING-AT, ASKED-AT};
 ghost use Rattle.run.specs.Area.{withStart, withTrial, withLanded, withTaken};
@@ -14,7 +14,7 @@ ghost use Rattle.run.specs.Filter.{filterWith};
 ghost use Rattle.run.specs.Rows.{rowNumbers};
 ghost use Rattle.run.specs.Vectors.{movedOf};
 ghost use Rattle.run.specs.program.Area.{written, clearedTo, Limits, allUsed, Uses, Holds, pointsUsed};
-ghost use Rattle.run.specs.program.Area.{ZeroBehind, SlotRead};
+ghost use Rattle.run.specs.program.Area.{ZeroBehind, SlotRead, RowLimits};
 use crate::filter::push;
 use crate::limits::AREA;
 use crate::state::Kind;
@@ -114,7 +114,7 @@ fn clear_unused_slots(area: &mut [f64], sizes: &[usize], used: &[usize])
 
 // How many numbers an answer's rows have.
 fn row_numbers(z: Sizes) -> usize
-    requires { ⌜ (z .n ≤ VARIABLES) × ((z .m ≤ CONSTRAINTS) × (z .s ≤ SUM-ROWS)) ⌝ }
+    requires { ⌜ RowLimits z ⌝ }
     ensures { λ r. ⌜ r ≡ rowNumbers (z .n) (z .m) (z .s) ⌝ }
 {
     2 * ((z.m + z.s) * (z.n + 1))
@@ -302,7 +302,7 @@ fn write_next(area: &mut [f64], n: usize, delta: &[f64])
 // A trial asked, where the step leads: nothing has landed. Of the landed rows those in use are cleared.
 pub fn write_trial(area: &mut [f64], z: Sizes, delta: &[f64], lambda: &[f64])
     requires { ⌜ (length (now area) ≡ AREA) ×
-        (((z .n ≤ VARIABLES) × ((z .m ≤ CONSTRAINTS) × (z .s ≤ SUM-ROWS))) × ((length (now delta) ≡ 24) × (length (now lambda) ≡ 24))) ⌝ }
+        (RowLimits z × ((length (now delta) ≡ POINT-LEN) × (length (now lambda) ≡ POINT-LEN))) ⌝ }
     ensures { λ _. ⌜ ((w : Memory) → Holds w (now (area .entry)) →
         ZeroBehind ROWS-LEN (rowNumbers (z .n) (z .m) (z .s)) (w .landedRows) →
         Holds (withTrial w (movedOf (z .n) (w .standing) (now (delta .entry))) (now (delta .entry))
@@ -337,7 +337,7 @@ pub fn write_taken(
     theta: Scalar,
 )
     requires { ⌜ (length (now area) ≡ AREA) ×
-        (((z .n ≤ VARIABLES) × ((z .m ≤ CONSTRAINTS) × (z .s ≤ SUM-ROWS))) × ((length (now curvature) ≡ CURVATURE-LEN) × (count < ITERATIONS))) ⌝ }
+        (RowLimits z × ((length (now curvature) ≡ CURVATURE-LEN) × (count < ITERATIONS))) ⌝ }
     ensures { λ _. ⌜ ((w : Memory) → Holds w (now (area .entry)) →
         ZeroBehind ROWS-LEN (rowNumbers (z .n) (z .m) (z .s)) (w .standingRows) →
         ZeroBehind ROWS-LEN (rowNumbers (z .n) (z .m) (z .s)) (w .landedRows) →

@@ -1,10 +1,13 @@
-// An orthonormal basis Q of the constraints' rows, and each row's coefficients in it.
+// An orthonormal basis Q of the constraints' rows, by modified Gram-Schmidt, and each row's coefficients in it. Both
+// are the model's own numbers and are chosen. Whether a row is independent of those before it is asked of its intervals
+// as they were answered: what chosen vectors leave of a row that depends on them is rounding and not zero, while what
+// is left of its intervals could be zero. Q is orthonormal only up to its rounding, so a row is projected through the
+// factor of Q's Gram matrix, which is near the identity and keeps the intervals narrow.
 ghost use Prim.Native.Nat.{_*_, _≤_, _<_, _+_, ℕ, _/_, _%_};
-ghost use mathlib.Core.Bool.{false};
 ghost use mathlib.Core.List.{List, []};
 ghost use mathlib.Core.Path.{_≡_};
 ghost use lib.Ieee.{Float};
-ghost use lib.ListN.{length, take, replicate, set, drop};
+ghost use lib.ListN.{length, take, set, drop};
 ghost use Rattle.interval.specs.Result as scalar;
 ghost use Rattle.interval.specs.Scalar.{zeroS, negOf};
 ghost use Rattle.interval.specs.declared.Scalar as value;
@@ -12,16 +15,16 @@ ghost use Rattle.linear.specs.Answers.{doneOf, resultOf};
 ghost use Rattle.linear.specs.Choose.{chooseOf};
 ghost use Rattle.linear.specs.Dot.{dotTo, minusTo};
 ghost use Rattle.linear.specs.Flat.{listTo, at, put};
-ghost use Rattle.linear.specs.Norm.{normOf};
 ghost use Rattle.linear.specs.Results.{foldR, bind};
-ghost use Rattle.linear.specs.Substitution.{storeR, solveOf};
+ghost use Rattle.linear.specs.Substitution.{storeR};
 ghost use Rattle.run.specs.Limits.{VARIABLES, CONSTRAINTS};
-ghost use Rattle.run.specs.Basis.{packed, partsOut, gramStep, gramRow, extended, Basis, rowStep};
-ghost use Rattle.run.specs.Basis.{basisOf, coefficientAt, orderAt, correctionOf, multiplierStep, multipliersOf};
+ghost use Rattle.run.specs.Basis.{packed, coefficientsIn, partsOut, gramStep, gramRow, extended, Basis};
+ghost use Rattle.run.specs.Basis.{rowStep, basisOf, coefficientAt, orderAt, correctionOf, multiplierStep};
+ghost use Rattle.run.specs.Basis.{multipliersOf};
 ghost use Rattle.run.specs.Rows.{rowsIn, valueAt};
 ghost use Rattle.run.specs.Vectors.{entry, row, column, fillTo};
-ghost use Rattle.run.specs.program.Basis.{takenBy, basisBy, rankedOf, problemBy, withoutGram};
-ghost use Rattle.run.specs.program.Basis.{NextRow, FreshBasis, ForCorrection};
+ghost use Rattle.run.specs.program.Basis.{takenBy, basisBy, rankedOf, problemBy, rowProblem, measuredBy};
+ghost use Rattle.run.specs.program.Basis.{withoutGram, NextRow, FreshBasis, ForCorrection};
 use crate::results::CountResult;
 use crate::rows::RowSet;
 use crate::rows::value_of;
@@ -43,19 +46,18 @@ use linear::put;
 use linear::row_dot;
 use linear::two_minus;
 
-// How many rows of the constraints there are, over how many variables, and how many of them are independent: of m rows
-// over k variables, r.
+// Counts that go together: of the constraints' first m rows, over k variables, r are independent.
 pub struct Shape {
     pub k: usize,
     pub m: usize,
     pub r: usize,
 }
 
-// The first coefficient behind Q.
-const COEFFICIENTS: usize = 144;
+// How many scalars Q has: where the coefficients stand behind it, they begin there.
+const Q_LEN: usize = 144;
 
 // Stores a value, or hands its refusal on.
-pub fn store(xs: &mut [f64], i: usize, q: ScalarResult) -> Done
+fn store(xs: &mut [f64], i: usize, q: ScalarResult) -> Done
     ensures { λ r. ⌜ doneOf r (now (xs .exit)) ≡ storeR (now (xs .entry)) i (scalar.resultOf q) ⌝ }
 {
     match q {
@@ -80,42 +82,39 @@ fn pack(r: usize, a: &[f64], to: &mut [f64])
     }
 }
 
-// What row i of `wide` has along each of r vectors.
+// The product of row i of `wide` with each of r vectors.
 fn projections(k: usize, r: usize, i: usize, wide: &[f64], q: &[f64], b: &mut [f64])
     requires { ⌜ (r ≤ CONSTRAINTS) × ((i < 12) × (length (now b) ≡ 2 * r)) ⌝ }
-    ensures { λ _. ⌜ now (b .exit) ≡ listTo (λ j. dotTo (row (now (wide .entry)) i) (row (now (q .entry)) j) k) r ⌝ }
+    ensures { λ _. ⌜ now (b .exit)
+        ≡ listTo (λ j. dotTo (row (now (wide .entry)) i) (row (now (q .entry)) j) k) r ⌝ }
 {
     for j in 0..r {
         put(b, j, row_dot(wide, 12 * i, q, 12 * j, k));
     }
 }
 
-// The coefficients of row i, at the start of a.
-fn coefficients(
-    k: usize,
-    r: usize,
-    i: usize,
-    wide: &[f64],
-    q: &[f64],
-    gram: &[f64],
-    a: &mut [f64],
-) -> Done
-    requires { ⌜ (r ≤ CONSTRAINTS) × ((i < 12) × (length (now a) ≡ 24)) ⌝ }
-    ensures { λ d. ⌜ doneOf d (take (2 * r) (now (a .exit))) ≡ solveOf r (packed r (now (gram .entry))) (replicate r false) (listTo (λ j. dotTo (row (now (wide .entry)) i) (row (now (q .entry)) j) k) r) ⌝ }
+// The coefficients of the row behind the first m, at the start of a.
+fn coefficients(passed: Shape, wide: &[f64], q: &[f64], gram: &[f64], a: &mut [f64]) -> Done
+    requires { ⌜ NextRow passed × (length (now a) ≡ 24) ⌝ }
+    ensures { λ d. ⌜ doneOf d (take (2 * passed .r) (now (a .exit)))
+        ≡ coefficientsIn (rowProblem (passed .k) (now (wide .entry)) [])
+        (basisBy (passed .r) (now (q .entry)) (now (gram .entry)) [] [] []) (passed .m) ⌝ }
 {
+    let r = passed.r;
     let e = 2 * r;
     let s = 2 * (r * r);
     let mut l = [0.0; 288];
     let none = [false; 12];
     let mut b = [0.0; 24];
     pack(r, gram, &mut l[..s]);
-    projections(k, r, i, wide, q, &mut b[..e]);
+    projections(passed.k, r, passed.m, wide, q, &mut b[..e]);
     linear::solve_cholesky(r, &l[..s], &none[..r], &b[..e], &mut a[..e])
 }
 
 // ---- what is left of a row
 
-// Entries p and p + 1 of row i of `wide` without its coefficients a.
+// Entries p and p + 1 of row i of `wide` without its coefficients a: two sums at a time, since neither waits for the
+// other.
 fn two_outside(r: usize, i: usize, wide: &[f64], q: &[f64], a: &[f64], out: &mut [f64], p: usize)
     requires { ⌜ (i < 12) × (p < 11) ⌝ }
     ensures { λ _. ⌜ now (out .exit) ≡ put (put (now (out .entry)) p
@@ -132,7 +131,8 @@ fn two_outside(r: usize, i: usize, wide: &[f64], q: &[f64], a: &[f64], out: &mut
 // Row i of `wide` without its coefficients a, from the start of `out` on, two entries at a time.
 fn outside(k: usize, r: usize, i: usize, wide: &[f64], q: &[f64], a: &[f64], out: &mut [f64])
     requires { ⌜ (k ≤ VARIABLES) × (i < 12) ⌝ }
-    ensures { λ _. ⌜ now (out .exit) ≡ fillTo (now (out .entry)) 0 (λ p. minusTo (at (now (a .entry))) (column (now (q .entry)) p) (entry (now (wide .entry)) i p) r) k ⌝ }
+    ensures { λ _. ⌜ now (out .exit) ≡ fillTo (now (out .entry)) 0
+        (λ p. minusTo (at (now (a .entry))) (column (now (q .entry)) p) (entry (now (wide .entry)) i p) r) k ⌝ }
 {
     let half = k / 2;
     for h in 0..half {
@@ -151,10 +151,11 @@ fn outside(k: usize, r: usize, i: usize, wide: &[f64], q: &[f64], a: &[f64], out
 
 // ---- an independent row
 
-// v without its parts along r vectors, which row r of the coefficients keeps.
+// v without its parts along r vectors, one after the other, which row r of the coefficients keeps.
 fn parts_out(k: usize, r: usize, q: &[f64], v: &mut [f64], coefficients: &mut [f64])
     requires { ⌜ (k ≤ VARIABLES) × (r ≤ CONSTRAINTS) ⌝ }
-    ensures { λ _. ⌜ takenBy (now (v .exit)) (now (coefficients .exit)) ≡ partsOut k r (now (q .entry)) (takenBy (now (v .entry)) (now (coefficients .entry))) r ⌝ }
+    ensures { λ _. ⌜ takenBy (now (v .exit)) (now (coefficients .exit))
+        ≡ partsOut k r (now (q .entry)) (takenBy (now (v .entry)) (now (coefficients .entry))) r ⌝ }
 {
     for j in 0..r {
         let a = choose(row_dot(v, 0, q, 12 * j, k));
@@ -174,6 +175,7 @@ fn gram_entry(k: usize, r: usize, q: &[f64], gram: &mut [f64], j: usize) -> Done
     store(gram, 12 * r + j, s.div(d))
 }
 
+// The entries of the Gram factor's row r, below its diagonal.
 fn gram_entries(k: usize, r: usize, q: &[f64], gram: &mut [f64]) -> Done
     requires { ⌜ r ≤ CONSTRAINTS ⌝ }
     ensures { λ d. ⌜ doneOf d (now (gram .exit)) ≡ foldR (gramStep k r (now (q .entry))) (now (gram .entry)) r ⌝ }
@@ -234,24 +236,26 @@ fn ranked(d: Done, r: usize) -> CountResult
     }
 }
 
-// Row i of `jc` is independent of those in the basis and is its newest vector. The caller writes the order.
+// The row of `jc` behind the first m is independent of those in the basis and is its newest vector. The caller writes
+// the order.
 fn add_row(
-    k: usize,
-    r: usize,
-    i: usize,
+    passed: Shape,
     jc: &[f64],
     q: &mut [f64],
     gram: &mut [f64],
     coefficients: &mut [f64],
 ) -> CountResult
-    requires { ⌜ (k ≤ VARIABLES) × ((r ≤ i) × (i < CONSTRAINTS)) ⌝ }
+    requires { ⌜ NextRow passed ⌝ }
     ensures { λ x. ⌜ ((w : List Float) (o : List ℕ)
-        → rankedOf x (now (q .exit)) (now (gram .exit)) (now (coefficients .exit)) w (set o r i)
-        ≡ extended (problemBy k 0 (λ _. zeroS) [] (now (jc .entry)))
-        (basisBy r (now (q .entry)) (now (gram .entry)) (now (coefficients .entry)) w o) i) ⌝ }
+        → rankedOf x (now (q .exit)) (now (gram .exit)) (now (coefficients .exit)) w
+        (set o (passed .r) (passed .m))
+        ≡ extended (rowProblem (passed .k) [] (now (jc .entry)))
+        (basisBy (passed .r) (now (q .entry)) (now (gram .entry)) (now (coefficients .entry)) w o) (passed .m)) ⌝ }
 {
+    let k = passed.k;
+    let r = passed.r;
     let mut v = [0.0; 24];
-    row_of(k, i, jc, &mut v);
+    row_of(k, passed.m, jc, &mut v);
     parts_out(k, r, q, &mut v, coefficients);
     match norm_of(&v, k) {
         Answer::Value(l) => {
@@ -276,24 +280,19 @@ fn chosen_at(r: usize, a: &[f64], to: &mut [f64], t0: usize)
     }
 }
 
-// The length of what is left of row i, with its coefficients in a.
-fn measure(
-    k: usize,
-    r: usize,
-    i: usize,
-    wide: &[f64],
-    q: &[f64],
-    gram: &[f64],
-    a: &mut [f64],
-) -> Answer
-    requires { ⌜ (k ≤ VARIABLES) × ((r ≤ CONSTRAINTS) × ((i < 12) × (length (now a) ≡ 24))) ⌝ }
-    ensures { λ x. ⌜ ((f : List Float → value.Scalar → scalar.Res Basis) → bind (resultOf x) (f (take (2 * r) (now (a .exit)))) ≡ bind (solveOf r (packed r (now (gram .entry))) (replicate r false) (listTo (λ j. dotTo (row (now (wide .entry)) i) (row (now (q .entry)) j) k) r)) (λ a. bind (normOf (λ p. minusTo (at a) (column (now (q .entry)) p) (entry (now (wide .entry)) i p) r) k) (f a))) ⌝ }
+// The length of what is left of the row behind the first m, with its coefficients in a.
+fn measure(passed: Shape, wide: &[f64], q: &[f64], gram: &[f64], a: &mut [f64]) -> Answer
+    requires { ⌜ NextRow passed × (length (now a) ≡ 24) ⌝ }
+    ensures { λ x. ⌜ ((f : List Float → value.Scalar → scalar.Res Basis)
+        → bind (resultOf x) (f (take (2 * passed .r) (now (a .exit))))
+        ≡ measuredBy (rowProblem (passed .k) (now (wide .entry)) [])
+        (basisBy (passed .r) (now (q .entry)) (now (gram .entry)) [] [] []) (passed .m) f) ⌝ }
 {
     let mut out = [0.0; 24];
-    match coefficients(k, r, i, wide, q, gram, a) {
+    match coefficients(passed, wide, q, gram, a) {
         Done::Finished => {
-            outside(k, r, i, wide, q, a, &mut out);
-            return norm_of(&out, k);
+            outside(passed.k, passed.r, passed.m, wide, q, a, &mut out);
+            return norm_of(&out, passed.k);
         }
         Done::Refused(e) => {
             return Answer::Refused(e);
@@ -301,7 +300,8 @@ fn measure(
     }
 }
 
-// The row behind the first m, row m: into the basis, or its coefficients in it among those of the dependent rows.
+// Takes the row behind the first m, row m, into the basis, or its coefficients among those of the dependent rows, which
+// the correction reads too.
 fn next_row(
     passed: Shape,
     wide: &[f64],
@@ -312,22 +312,21 @@ fn next_row(
     dependent: &mut [f64],
     order: &mut [usize],
 ) -> CountResult
-    requires { ⌜ NextRow passed (length (now order)) ⌝ }
+    requires { ⌜ NextRow passed × (length (now order) ≡ 24) ⌝ }
     ensures { λ x. ⌜ rankedOf x (now (q .exit)) (now (gram .exit)) (now (coefficients .exit)) (now (dependent .exit))
         (now (order .exit))
-        ≡ rowStep (problemBy (passed .k) 0 (λ _. zeroS) (now (wide .entry)) (now (jc .entry)))
+        ≡ rowStep (rowProblem (passed .k) (now (wide .entry)) (now (jc .entry)))
         (basisBy (passed .r) (now (q .entry)) (now (gram .entry)) (now (coefficients .entry))
         (now (dependent .entry)) (now (order .entry))) (passed .m) ⌝ }
 {
-    let k = passed.k;
     let i = passed.m;
     let r = passed.r;
     let mut a = [0.0; 24];
-    match measure(k, r, i, wide, q, gram, &mut a) {
+    match measure(passed, wide, q, gram, &mut a) {
         Answer::Value(l) => {
             if l.definitely_greater(Scalar::ZERO) {
                 order[r] = i;
-                return add_row(k, r, i, jc, q, gram, coefficients);
+                return add_row(passed, jc, q, gram, coefficients);
             }
             let d = i - r;
             order[12 + d] = i;
@@ -396,7 +395,9 @@ fn coefficient_at(r: usize, coefficients: &[f64], dependent: &[f64], t: usize, j
 // The coefficients of all rows in that order, packed.
 fn coefficient_rows(m: usize, r: usize, coefficients: &[f64], dependent: &[f64], rows: &mut [f64])
     requires { ⌜ (m ≤ CONSTRAINTS) × ((r ≤ CONSTRAINTS) × (length (now rows) ≡ 2 * (m * r))) ⌝ }
-    ensures { λ _. ⌜ now (rows .exit) ≡ listTo (λ p. coefficientAt (basisBy r [] [] (now (coefficients .entry)) (now (dependent .entry)) []) (p / r) (p % r)) (m * r) ⌝ }
+    ensures { λ _. ⌜ now (rows .exit) ≡ listTo
+        (λ p. coefficientAt (basisBy r [] [] (now (coefficients .entry)) (now (dependent .entry)) []) (p / r) (p % r))
+        (m * r) ⌝ }
 {
     let n = m * r;
     for p in 0..n {
@@ -422,7 +423,9 @@ fn order_at(r: usize, order: &[usize], t: usize) -> usize
 // The right-hand side: the constraint values in that order, chosen, negated.
 fn sides(m: usize, r: usize, order: &[usize], xs: &[f64], e: RowSet, rhs: &mut [f64])
     requires { ⌜ (m ≤ CONSTRAINTS) × ((length (now order) ≡ 24) × (length (now rhs) ≡ 2 * m)) ⌝ }
-    ensures { λ _. ⌜ now (rhs .exit) ≡ listTo (λ t. negOf (chooseOf (valueAt (rowsIn (now (xs .entry)) e) (orderAt (basisBy r [] [] [] [] (now (order .entry))) t)))) m ⌝ }
+    ensures { λ _. ⌜ now (rhs .exit) ≡ listTo
+        (λ t. negOf (chooseOf (valueAt (rowsIn (now (xs .entry)) e)
+        (orderAt (basisBy r [] [] [] [] (now (order .entry))) t)))) m ⌝ }
 {
     for t in 0..m {
         let c = value_of(xs, e, order_at(r, order, t));
@@ -430,8 +433,8 @@ fn sides(m: usize, r: usize, order: &[usize], xs: &[f64], e: RowSet, rhs: &mut [
     }
 }
 
-// The least-squares correction of every row, for the constraint values in xs. Where it is refused, what delta holds has
-// no meaning.
+// The least-squares correction of every row, for the constraint values in xs, by reflections: normal equations would
+// square how ill-conditioned the rows are. Where it is refused, what delta holds has no meaning.
 pub fn correction(
     shape: Shape,
     q: &[f64],
@@ -471,7 +474,8 @@ pub fn correction(
 
 // Stores a value, chosen, or hands its refusal on.
 fn store_chosen(xs: &mut [f64], i: usize, q: ScalarResult) -> Done
-    ensures { λ r. ⌜ doneOf r (now (xs .exit)) ≡ bind (scalar.resultOf q) (λ v. scalar.ok (put (now (xs .entry)) i (chooseOf v))) ⌝ }
+    ensures { λ r. ⌜ doneOf r (now (xs .exit))
+        ≡ bind (scalar.resultOf q) (λ v. scalar.ok (put (now (xs .entry)) i (chooseOf v))) ⌝ }
 {
     match q {
         ScalarResult::Value(v) => {
@@ -485,18 +489,23 @@ fn store_chosen(xs: &mut [f64], i: usize, q: ScalarResult) -> Done
 // The multiplier of vector r - 1 - u, from those behind it; the coefficients stand behind Q.
 fn multiplier(k: usize, r: usize, q: &[f64], pull: &[f64], by_row: &mut [f64], u: usize) -> Done
     requires { ⌜ (r ≤ CONSTRAINTS) × (u < r) ⌝ }
-    ensures { λ d. ⌜ doneOf d (now («by_row» .exit)) ≡ multiplierStep k (basisBy r (now (q .entry)) [] (drop 288 (now (q .entry))) [] []) (now (pull .entry)) (now («by_row» .entry)) u ⌝ }
+    ensures { λ d. ⌜ doneOf d (now («by_row» .exit))
+        ≡ multiplierStep k (basisBy r (now (q .entry)) [] (drop 288 (now (q .entry))) [] []) (now (pull .entry))
+        (now («by_row» .entry)) u ⌝ }
 {
     let t = r - 1 - u;
-    let c = COEFFICIENTS + 13 * t;
+    let c = Q_LEN + 13 * t;
     let z = row_dot(q, 12 * t, pull, 0, k);
     let s = minus_dot(q, c + 12, 12, by_row, t + 1, 1, z, u);
     store_chosen(by_row, t, s.div(at(q, c)))
 }
 
+// The multipliers by vector, from the last to the first.
 fn multipliers_by_row(k: usize, r: usize, q: &[f64], pull: &[f64], by_row: &mut [f64]) -> Done
     requires { ⌜ r ≤ CONSTRAINTS ⌝ }
-    ensures { λ d. ⌜ doneOf d (now («by_row» .exit)) ≡ foldR (multiplierStep k (basisBy r (now (q .entry)) [] (drop 288 (now (q .entry))) [] []) (now (pull .entry))) (now («by_row» .entry)) r ⌝ }
+    ensures { λ d. ⌜ doneOf d (now («by_row» .exit))
+        ≡ foldR (multiplierStep k (basisBy r (now (q .entry)) [] (drop 288 (now (q .entry))) [] []) (now (pull .entry)))
+        (now («by_row» .entry)) r ⌝ }
 {
     for u in 0..r {
         match multiplier(k, r, q, pull, by_row, u) {
@@ -509,7 +518,8 @@ fn multipliers_by_row(k: usize, r: usize, q: &[f64], pull: &[f64], by_row: &mut 
     Done::Finished
 }
 
-// The constraints' multipliers, against a pull; the coefficients stand behind Q. Where they are refused, what lambda holds has no meaning.
+// The constraints' multipliers, against a pull; the coefficients stand behind Q. Where they are refused, what lambda
+// holds has no meaning.
 pub fn multipliers(
     k: usize,
     r: usize,
@@ -519,7 +529,9 @@ pub fn multipliers(
     lambda: &mut [f64],
 ) -> Done
     requires { ⌜ (r ≤ CONSTRAINTS) × ((length (now order) ≡ 24) × (length (now lambda) ≡ 24)) ⌝ }
-    ensures { λ d. ⌜ doneOf d (now (lambda .exit)) ≡ multipliersOf k (basisBy r (now (q .entry)) [] (drop 288 (now (q .entry))) [] (now (order .entry))) (now (pull .entry)) ⌝ }
+    ensures { λ d. ⌜ doneOf d (now (lambda .exit))
+        ≡ multipliersOf k (basisBy r (now (q .entry)) [] (drop 288 (now (q .entry))) [] (now (order .entry)))
+        (now (pull .entry)) ⌝ }
 {
     let mut by_row = [0.0; 24];
     let end = multipliers_by_row(k, r, q, pull, &mut by_row);

@@ -69,7 +69,8 @@ pub fn begin(
     area: &mut [f64],
 ) -> Returned
     ensures { λ r. ⌜ afterCall r (now (area .exit))
-        ≡ beginOf (record { n = n; m = m; s = s; limit = limit }) (now (start .entry)) «max_step» (now (area .entry)) ⌝ }
+        ≡ beginOf (record { n = n; m = m; s = s; limit = limit }) (now (start .entry)) «max_step»
+        (now (area .entry)) ⌝ }
 {
     let z = Sizes { n, m, s, limit };
     let number = refusal(z, start, max_step, area.len());

@@ -1,15 +1,11 @@
 // The checks of every call, in the order of document 01's table: numbers 4, 1, 2 and 3. A caller may hand in any state,
 // area and rows; what passes them is within the limits that every sum of counts and every place relies on.
-ghost use Prim.Native.Nat.{_≤_, _*_};
-ghost use mathlib.Core.Bool.{_&&_};
+ghost use Prim.Native.Nat.{_≤_};
 ghost use mathlib.Core.Path.{_≡_};
-ghost use lib.Dec.{eqb};
-ghost use lib.ListN.{length};
-ghost use Rattle.interval.specs.Scalar.{pick};
 ghost use Rattle.interval.specs.Scaling.{isPositive};
-ghost use Rattle.run.specs.Checks.{inDomain, allInDomain, sizesFit, countsFit, valid, stepFits};
-ghost use Rattle.run.specs.Limits.{AREA, ITERATIONS};
-ghost use Rattle.run.specs.program.Checks.{checkOf, checkRowsOf};
+ghost use Rattle.run.specs.Checks.{inDomain, allInDomain, sizesFit, countsFit, valid};
+ghost use Rattle.run.specs.Limits.{ITERATIONS};
+ghost use Rattle.run.specs.program.Checks.{checkOf, checkRowsOf, refusalOf};
 use crate::limits::AREA;
 use crate::limits::CONSTRAINTS;
 use crate::limits::CORRECTIONS;
@@ -166,8 +162,7 @@ pub fn check_rows(st: State, area: usize, rows: &[f64]) -> Checked
 
 // The number that refuses a begin, with an area of that length, or 0.
 pub fn refusal(z: Sizes, start: &[f64], max_step: Scalar, area: usize) -> usize
-    ensures { λ r. ⌜ r ≡ pick (sizesFit z) (pick (eqb (length (now (start .entry))) (2 * z .n) && eqb area AREA)
-        (pick (allInDomain (now (start .entry)) (z .n) && stepFits «max_step») 0 3) 2) 1 ⌝ }
+    ensures { λ r. ⌜ r ≡ refusalOf z (now (start .entry)) «max_step» area ⌝ }
 {
     if !sizes_fit(z) {
         return 1;

@@ -1,4 +1,6 @@
-// Z, an orthonormal basis of what the constraints leave free. Matrices have rows of 12.
+// Z, an orthonormal basis of what the constraints leave free: the unit directions with what Q leaves of them, taken one
+// at a time by the longest remainder, of which rounding spoils the least. Two remainders are worked on at a time, since
+// neither waits for the other. Matrices have rows of 12.
 ghost use Prim.Native.Nat.{_<_, _≤_, _+_, _-_};
 ghost use mathlib.Core.Path.{_≡_};
 ghost use Rattle.interval.specs.Scalar.{pick, definitelyGreater};
@@ -107,6 +109,7 @@ fn without(k: usize, z: &[f64], t: usize, left: &mut [f64])
     part_off(k, z, t, left, 2 * half);
 }
 
+// The square of the length of remainder p.
 fn square(k: usize, left: &[f64], p: usize) -> Scalar
     requires { ⌜ p < 12 ⌝ }
     ensures { λ r. ⌜ r ≡ squareOf k (now (left .entry)) p ⌝ }
@@ -142,7 +145,8 @@ fn longest(k: usize, left: &[f64]) -> Remainder
 // The longest remainder as one more direction, of at most `most`.
 fn take_longest(k: usize, count: usize, most: usize, z: &mut [f64], left: &mut [f64]) -> Next
     requires { ⌜ (k ≤ VARIABLES) × ((count < most) × (most ≤ 12)) ⌝ }
-    ensures { λ r. ⌜ nextOf k (most - (count + 1)) r count (now (z .exit)) (now (left .exit)) ≡ spanOf (directionsTo k (most - count) (directionsIn count (now (z .entry)) (now (left .entry)))) ⌝ }
+    ensures { λ r. ⌜ nextOf k (most - (count + 1)) r count (now (z .exit)) (now (left .exit))
+        ≡ spanOf (directionsTo k (most - count) (directionsIn count (now (z .entry)) (now (left .entry)))) ⌝ }
 {
     let best = longest(k, left);
     match best.square.sqrt() {
@@ -174,21 +178,16 @@ fn less(k: usize, r: usize) -> usize
     0
 }
 
-// Z, from the first r rows of Q over k variables, into a clear matrix; `left` is scratch, clear too.
-pub fn free_directions(
-    k: usize,
-    r: usize,
-    q: &[f64],
-    z: &mut [f64],
-    left: &mut [f64],
-) -> CountResult
-    requires { ⌜ (k ≤ VARIABLES) × ((r ≤ CONSTRAINTS) × ((now z ≡ matrix) × (now left ≡ matrix))) ⌝ }
+// Z, from the first r rows of Q over k variables, into a clear matrix.
+pub fn free_directions(k: usize, r: usize, q: &[f64], z: &mut [f64]) -> CountResult
+    requires { ⌜ (k ≤ VARIABLES) × ((r ≤ CONSTRAINTS) × (now z ≡ matrix)) ⌝ }
     ensures { λ d. ⌜ foundOf d (now (z .exit)) ≡ spanOf (directionsOf k r (now (q .entry))) ⌝ }
 {
+    let mut left = [0.0; 288];
     let most = less(k, r);
-    remainders(k, r, q, left);
+    remainders(k, r, q, &mut left);
     for count in 0..most {
-        match take_longest(k, count, most, z, left) {
+        match take_longest(k, count, most, z, &mut left) {
             Next::Taken => {}
             Next::Enough => {
                 return CountResult::Value(count);

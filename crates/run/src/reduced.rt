@@ -1,4 +1,6 @@
-// The system reduced to the free directions, and the step along them. Vectors have 12 scalars, matrices rows of 12.
+// The system reduced to the free directions, and the step along them: what it adds to the correction changes no
+// constraint to first order, and the damped curvature need be positive along them alone. Vectors have 12 scalars,
+// matrices rows of 12.
 ghost use Prim.Native.Nat.{_<_, _≤_, _+_, _*_, _/_, _%_};
 ghost use mathlib.Core.Bool.{false};
 ghost use mathlib.Core.Path.{_≡_};
@@ -39,7 +41,8 @@ fn h_times_at(k: usize, h: &[f64], v: &[f64], v0: usize, i: usize) -> Scalar
 // Entry i of g + H v.
 fn slope_at(k: usize, h: &[f64], g: &[f64], v: &[f64], i: usize) -> Scalar
     requires { ⌜ i < 12 ⌝ }
-    ensures { λ r. ⌜ r ≡ addOf (at (now (g .entry)) i) (hTimesAt (curved k (now (h .entry)) (now (g .entry))) (at (now (v .entry))) i) ⌝ }
+    ensures { λ r. ⌜ r ≡ addOf (at (now (g .entry)) i)
+        (hTimesAt (curved k (now (h .entry)) (now (g .entry))) (at (now (v .entry))) i) ⌝ }
 {
     at(g, i).add(h_times_at(k, h, v, 0, i))
 }
@@ -79,7 +82,8 @@ fn two_h_times(k: usize, h: &[f64], z: &[f64], t: usize, hz: &mut [f64], i: usiz
 // H times row t of z, as row t of hz.
 fn h_times_row(k: usize, h: &[f64], z: &[f64], t: usize, hz: &mut [f64])
     requires { ⌜ (k ≤ VARIABLES) × (t < 12) ⌝ }
-    ensures { λ _. ⌜ now (hz .exit) ≡ fillTo (now (hz .entry)) (12 * t) (λ i. chooseOf (dotTo (row (now (h .entry)) i) (row (now (z .entry)) t) k)) k ⌝ }
+    ensures { λ _. ⌜ now (hz .exit) ≡ fillTo (now (hz .entry)) (12 * t)
+        (λ i. chooseOf (dotTo (row (now (h .entry)) i) (row (now (z .entry)) t) k)) k ⌝ }
 {
     let half = k / 2;
     for p in 0..half {
@@ -95,7 +99,8 @@ fn h_times_row(k: usize, h: &[f64], z: &[f64], t: usize, hz: &mut [f64])
 // H times each direction, into a clear matrix.
 fn h_times_rows(k: usize, count: usize, h: &[f64], z: &[f64], hz: &mut [f64])
     requires { ⌜ (k ≤ VARIABLES) × ((count ≤ 12) × (now hz ≡ matrix)) ⌝ }
-    ensures { λ _. ⌜ now (hz .exit) ≡ fillRows matrix (λ t i. chooseOf (dotTo (row (now (h .entry)) i) (row (now (z .entry)) t) k)) k count ⌝ }
+    ensures { λ _. ⌜ now (hz .exit) ≡ fillRows matrix
+        (λ t i. chooseOf (dotTo (row (now (h .entry)) i) (row (now (z .entry)) t) k)) k count ⌝ }
 {
     for t in 0..count {
         h_times_row(k, h, z, t, hz);
@@ -116,7 +121,8 @@ fn reduced_at(k: usize, z: &[f64], hz: &[f64], i: usize, j: usize) -> Scalar
 // The products of the directions and of H times each, packed, the lower triangle.
 fn reduced(k: usize, count: usize, z: &[f64], hz: &[f64], out: &mut [f64])
     requires { ⌜ (count ≤ 12) × (length (now out) ≡ 2 * (count * count)) ⌝ }
-    ensures { λ _. ⌜ now (out .exit) ≡ listTo (λ p. lowerAt k (now (z .entry)) (now (hz .entry)) (p / count) (p % count)) (count * count) ⌝ }
+    ensures { λ _. ⌜ now (out .exit)
+        ≡ listTo (λ p. lowerAt k (now (z .entry)) (now (hz .entry)) (p / count) (p % count)) (count * count) ⌝ }
 {
     let q = count * count;
     for p in 0..q {
@@ -127,7 +133,8 @@ fn reduced(k: usize, count: usize, z: &[f64], hz: &[f64], out: &mut [f64])
 // -Zᵀ force, chosen.
 fn against(k: usize, count: usize, z: &[f64], force: &[f64], out: &mut [f64])
     requires { ⌜ (count ≤ 12) × (length (now out) ≡ 2 * count) ⌝ }
-    ensures { λ _. ⌜ now (out .exit) ≡ listTo (λ t. chooseOf (negOf (dotTo (row (now (z .entry)) t) (at (now (force .entry))) k))) count ⌝ }
+    ensures { λ _. ⌜ now (out .exit)
+        ≡ listTo (λ t. chooseOf (negOf (dotTo (row (now (z .entry)) t) (at (now (force .entry))) k))) count ⌝ }
 {
     for t in 0..count {
         let x = row_dot(z, 12 * t, force, 0, k);
@@ -135,6 +142,7 @@ fn against(k: usize, count: usize, z: &[f64], force: &[f64], out: &mut [f64])
     }
 }
 
+// Whether any mark is set.
 fn any(marks: &[bool]) -> bool
     ensures { λ r. ⌜ r ≡ anyTo (λ i. getD (now (marks .entry)) i false) (length (now (marks .entry))) ⌝ }
 {
@@ -179,7 +187,9 @@ fn weights_for(t: usize, a: &[f64], w: &mut [f64]) -> WeightsEnd
 // The weights along Z against a force.
 fn weigh(k: usize, count: usize, h: &[f64], z: &[f64], force: &[f64], w: &mut [f64]) -> WeightsEnd
     requires { ⌜ (k ≤ VARIABLES) × ((count ≤ 12) × (length (now w) ≡ 2 * count)) ⌝ }
-    ensures { λ r. ⌜ alongOf r (now (w .exit)) ≡ solvedWith count (reducedOf (curved k (now (h .entry)) vector) (spanned count (now (z .entry)))) (againstOf (curved k (now (h .entry)) vector) (spanned count (now (z .entry))) (now (force .entry))) ⌝ }
+    ensures { λ r. ⌜ alongOf r (now (w .exit))
+        ≡ solvedWith count (reducedOf (curved k (now (h .entry)) vector) (spanned count (now (z .entry))))
+        (againstOf (curved k (now (h .entry)) vector) (spanned count (now (z .entry))) (now (force .entry))) ⌝ }
 {
     let e = 2 * (count * count);
     let mut hz = [0.0; 288];
@@ -190,7 +200,8 @@ fn weigh(k: usize, count: usize, h: &[f64], z: &[f64], force: &[f64], w: &mut [f
     weights_for(count, &a[..e], w)
 }
 
-// delta with the step along Z that is least for the model there; none where the damped curvature is not positive along Z.
+// delta with the step along Z that is least for the model there; none where the damped curvature is not positive along
+// Z.
 pub fn free_part(
     k: usize,
     count: usize,
@@ -200,7 +211,9 @@ pub fn free_part(
     delta: &mut [f64],
 ) -> WeightsEnd
     requires { ⌜ (k ≤ VARIABLES) × (count ≤ 12) ⌝ }
-    ensures { λ r. ⌜ alongOf r (now (delta .exit)) ≡ freePart (curved k (now (h .entry)) (now (g .entry))) (now (delta .entry)) (spanned count (now (z .entry))) ⌝ }
+    ensures { λ r. ⌜ alongOf r (now (delta .exit))
+        ≡ freePart (curved k (now (h .entry)) (now (g .entry))) (now (delta .entry))
+        (spanned count (now (z .entry))) ⌝ }
 {
     let q = 2 * count;
     let mut f = [0.0; 24];

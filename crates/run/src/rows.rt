@@ -37,6 +37,7 @@ pub struct RowSet {
     pub slopes: usize,
 }
 
+// The constraints' rows, which come first.
 pub fn constraints(n: usize, m: usize) -> RowSet
     ensures { λ r. ⌜ r ≡ constraintSet n m ⌝ }
 {
@@ -48,6 +49,7 @@ pub fn constraints(n: usize, m: usize) -> RowSet
     }
 }
 
+// The sum's rows, behind the constraints'.
 pub fn sum(n: usize, m: usize, s: usize) -> RowSet
     requires { ⌜ (n ≤ VARIABLES) × ((m ≤ CONSTRAINTS) × (s ≤ SUM-ROWS)) ⌝ }
     ensures { λ r. ⌜ r ≡ sumSet n m s ⌝ }
@@ -61,6 +63,7 @@ pub fn sum(n: usize, m: usize, s: usize) -> RowSet
     }
 }
 
+// Rows of one kind in the slice that a caller lent.
 pub struct RowView<'a> {
     pub rows: &'a [f64],
     pub set: RowSet,
@@ -93,7 +96,8 @@ fn slopes_from<'a>(rows: &'a [f64], slopes: usize) -> &'a [f64]
     &rows[rows.len()..]
 }
 
-// ---- the view, made and taken apart
+// ---- the view, made and taken apart: what holds a reference is proved by a walk by hand, so each function is thin
+
 fn viewed<'a>(rows: &'a [f64], set: RowSet) -> RowView<'a>
     ensures { λ r. ⌜ (r .rows ≡ rows .entry) × (r .set ≡ set) ⌝ }
 {

@@ -4,7 +4,7 @@ ghost use mathlib.Core.List.{List};
 ghost use mathlib.Core.Path.{_≡_};
 ghost use lib.Ieee.{Float};
 ghost use Rattle.run.specs.State.{searching, moves, asking, landing, trying, standingOn, anew, rejectedFor};
-ghost use Rattle.run.specs.State.{stateWith};
+ghost use Rattle.run.specs.State.{stateWith, inPhase};
 use interval::Scalar;
 
 // What a question asks the rows of: the start, a trial, or a trial moved back onto the constraints.
@@ -115,16 +115,7 @@ pub fn with_search(st: State, search: Search) -> State
 }
 
 pub fn with_phase(st: State, phase: Phase) -> State
-    ensures { λ r. ⌜ r ≡ record {
-      sizes = st .sizes;
-      counts = st .counts;
-      search = st .search;
-      trial = st .trial;
-      «max_step» = st .«max_step»;
-      last = st .last;
-      phase = phase;
-      moving = st .moving;
-    } ⌝ }
+    ensures { λ r. ⌜ r ≡ inPhase st phase ⌝ }
 {
     State { phase, ..st }
 }

@@ -182,7 +182,6 @@ fn prepare_free(
         (now (order .entry))))
         × Few x ⌝ }
 {
-    let mut left = [0.0; 288];
     write(frame, 0, q);
     write(frame, COEFFICIENTS, coefficients);
     let end = correction(
@@ -195,13 +194,7 @@ fn prepare_free(
         c,
         &mut frame[CORRECTION..DIRECTIONS],
     );
-    let found = free_directions(
-        shape.k,
-        shape.r,
-        q,
-        &mut frame[DIRECTIONS..FRAME],
-        &mut left,
-    );
+    let found = free_directions(shape.k, shape.r, q, &mut frame[DIRECTIONS..FRAME]);
     ready(end, found, shape.r)
 }
 

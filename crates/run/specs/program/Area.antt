@@ -26,10 +26,8 @@ written a base s = take base a ++ s ++ drop (base + length s) a
 -- the slots in order, and how many numbers each has
 abbrev pub slotsOf : Memory → List (List Float)
 slotsOf w =
-    w .standing
-    ∷ (w .landed
-    ∷ (w .asked
-    ∷ (w .standingRows ∷ (w .landedRows ∷ (w .step ∷ (w .multipliers ∷ (w .curvature ∷ (w .filter ∷ []))))))))
+    w .standing ∷ w .landed ∷ w .asked ∷ w .standingRows ∷ w .landedRows ∷ w .step ∷ w .multipliers ∷ w .curvature
+    ∷ w .filter ∷ []
 
 -- an area that holds w, each list of its slot's length
 pub record Holds (w : Memory) (a : List Float) : Type 0 where
@@ -70,12 +68,11 @@ allUsed z iterations =
     let rows = rowNumbers (z .n) (z .m) (z .s) in
     let point = 2 * z .n in
     let entries = 2 * curvatureEntries (z .n) in
-    point
-    ∷ (point ∷ (point ∷ (rows ∷ (rows ∷ (point ∷ (2 * z .m ∷ (entries ∷ (4 * iterations ∷ []))))))))
+    point ∷ point ∷ point ∷ rows ∷ rows ∷ point ∷ 2 * z .m ∷ entries ∷ 4 * iterations ∷ []
 
 -- the standing and the asked point alone in use, as before a start's answer
 abbrev pub pointsUsed : ℕ → List ℕ
-pointsUsed point = point ∷ (0 ∷ (point ∷ (0 ∷ (0 ∷ (0 ∷ (0 ∷ (0 ∷ (0 ∷ []))))))))
+pointsUsed point = point ∷ 0 ∷ point ∷ 0 ∷ 0 ∷ 0 ∷ 0 ∷ 0 ∷ 0 ∷ []
 
 -- an area that holds w, with so many numbers of each slot in use
 pub record Uses (used : List ℕ) (w : Memory) (a : List Float) : Type 0 where
@@ -104,6 +101,10 @@ StandingKnown st standing w a = WithStanding (st .sizes) (st .counts .iterations
 
 abbrev pub ViolationsKnown : State → Scalar → Res Scalar → Memory → List Float → Type 0
 ViolationsKnown st theta landed w a = WithViolations (st .sizes) (st .counts .iterations) theta landed w a
+
+-- sizes whose rows fit their slot
+abbrev pub RowLimits : Sizes → Type 0
+RowLimits z = (z .n ≤ VARIABLES) × ((z .m ≤ CONSTRAINTS) × (z .s ≤ SUM-ROWS))
 
 -- sizes and iterations whose numbers in use fit the slots
 pub record Limits (z : Sizes) (iterations : ℕ) : Type 0 where

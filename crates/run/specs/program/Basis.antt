@@ -4,9 +4,12 @@ use mathlib.Core.List.{List, []}
 use mathlib.Core.Path.{_≡_}
 use lib.Ieee.{Float}
 use Rattle.interval.specs.Result.{Res}
+use Rattle.interval.specs.Scalar.{zeroS}
 use Rattle.interval.specs.declared.Scalar.{Scalar}
 use Rattle.linear.specs.Flat.{zeros}
-use Rattle.run.specs.Basis.{Basis, Taken, noRows}
+use Rattle.linear.specs.Norm.{normOf}
+use Rattle.linear.specs.Results.{bind}
+use Rattle.run.specs.Basis.{Basis, Taken, noRows, coefficientsIn, outsideAt}
 use Rattle.run.specs.Limits.{VARIABLES, CONSTRAINTS}
 use Rattle.run.specs.Problem.{Problem}
 use Rattle.run.specs.Results.{countOf, mapR}
@@ -34,6 +37,14 @@ takenBy v coefficients = record { v = v; coefficients = coefficients }
 abbrev pub problemBy : ℕ → ℕ → (ℕ → Scalar) → List Float → List Float → Problem
 problemBy k m c wide jc = record { k = k; m = m; c = c; wide = wide; jc = jc; h = []; g = [] }
 
+-- the same, as one row has it
+abbrev pub rowProblem : ℕ → List Float → List Float → Problem
+rowProblem k wide jc = problemBy k 0 (λ _. zeroS) wide jc
+
+-- what follows from the coefficients of row i, and from the length of what is left of the row without them
+abbrev pub measuredBy : Problem → Basis → ℕ → (List Float → Scalar → Res Basis) → Res Basis
+measuredBy P b i f = bind (coefficientsIn P b i) (λ a. bind (normOf (outsideAt P b i a) (P .k)) (f a))
+
 -- what is written, or the refusal
 abbrev pub rankedOf : CountResult → List Float → List Float → List Float → List Float → List ℕ → Res Basis
 rankedOf x q gram coefficients dependent order =
@@ -54,12 +65,11 @@ pub record FewRows (s : Shape) : Type 0 where
   pub rows : s .m ≤ CONSTRAINTS
   pub independent : s .r ≤ s .m
 
--- a row is still to come, and the order has a place for it
-pub record NextRow (s : Shape) (order : ℕ) : Type 0 where
+-- the same, and a row is still to come
+pub record NextRow (s : Shape) : Type 0 where
   pub variables : s .k ≤ VARIABLES
   pub independent : s .r ≤ s .m
   pub row : s .m < CONSTRAINTS
-  pub places : order ≡ 24
 
 -- m rows are to come, and what is written of them is clear
 pub record FreshBasis (k m : ℕ) (q coefficients dependent : List Float) (order : List ℕ) : Type 0 where

@@ -1,12 +1,14 @@
--- For private functions: the checks of a reply, the number that refuses it or the kind of the question that is
--- answered.
+-- For private functions: the checks of a begin, the number that refuses it or 0, and those of a reply, the number that
+-- refuses it or the kind of the question that is answered.
 use Prim.Native.Nat.{ℕ, _+_, _*_}
+use mathlib.Core.Bool.{_&&_}
 use mathlib.Core.List.{List}
 use lib.Dec.{eqb}
 use lib.Ieee.{Float}
 use lib.ListN.{length}
 use Rattle.interval.specs.Scalar.{pick}
-use Rattle.run.specs.Checks.{valid, allInDomain}
+use Rattle.interval.specs.declared.Scalar.{Scalar}
+use Rattle.run.specs.Checks.{sizesFit, stepFits, valid, allInDomain}
 use Rattle.run.specs.Limits.{AREA}
 use Rattle.run.specs.Rows.{rowNumbers}
 use Rattle.run.specs.declared.checks.Checked.{Checked}
@@ -16,6 +18,14 @@ use Rattle.run.specs.declared.state.Phase.{Phase}
 use Rattle.run.specs.declared.state.Phase.the-variants.{Open, Over}
 use Rattle.run.specs.declared.state.Sizes.{Sizes}
 use Rattle.run.specs.declared.state.State.{State}
+
+-- ---- the checks of a begin, with an area of that length: the number that refuses it, or 0
+
+abbrev pub refusalOf : Sizes → List Float → Scalar → ℕ → ℕ
+refusalOf z start max area =
+    pick (sizesFit z)
+    (pick (eqb (length start) (2 * z .n) && eqb area AREA)
+    (pick (allInDomain start (z .n) && stepFits max) 0 3) 2) 1
 
 -- ---- the checks of a reply: the number that refuses it, or the kind of the question that is answered
 

@@ -26,12 +26,14 @@ slice-aggregate-norm-of c = search needs
 norm-of-requires : tie.Need-norm-of-requires
 norm-of-requires c κs =
     let p =
-    (c .before .before .before .before .before .before .before .before .before .before .before .before
-    .before .before .before) .pre in
+    c .before .before .before .before .before .before .before .before .before .before .before .before
+    .before .before .before .pre in
     let l : length
     (c .before .before .before .before .before .before .before .before .before .row-of .last .1 .1 .1 .0)
-    ≡ 24 = c .before .before .before .before .before .before .before .before .before .row-of .kept .1 .1 .1 .0 in
-    (omega (arith, p .0), omega (arith, c .before .before .before .before .parts-out .kept .1 .1 .1 .0, l, p .0))
+    ≡ 24 = c .before .before .before .before .before .before .before .before .before .row-of .kept .1 .1 .1 .0 in (
+      omega (arith, p .variables),
+      omega (arith, c .before .before .before .before .parts-out .kept .1 .1 .1 .0, l, p .variables),
+    )
 
 enum-known-l : tie.Need-enum-known-l
 enum-known-l c = search needs
@@ -48,60 +50,44 @@ mul-unit c = search needs
 unit-requires : tie.Need-unit-requires
 unit-requires c κs =
     let p =
-    (c .before .before .before .before .before .before .before .before .before .before .before .before .before
-    .before .before .before .before .before .before .before .before .before) .pre in
-    (omega arith, (omega (arith, p .1 .0, p .1 .1), omega (arith, p .0)))
+    c .before .before .before .before .before .before .before .before .before .before .before .before
+    .before .before .before .before .before .before .before .before .before .before .pre in
+    (omega arith, (omega (arith, p .independent, p .row), omega (arith, p .variables)))
 
 mul-put : tie.Need-mul-put
 mul-put c =
-    omega (
-      arith,
-      (c .before .before .before .before .before .before .before .before .before .before .before .before .before
-          .before .before .before .before .before .before .before .before .before .before .before .before .before)
-          .pre .1 .0,
-      (c .before .before .before .before .before .before .before .before .before .before .before .before .before
-          .before .before .before .before .before .before .before .before .before .before .before .before
-          .before) .pre .1 .1,
-    )
+    let p =
+    c .before .before .before .before .before .before .before .before .before .before .before .before
+    .before .before .before .before .before .before .before .before .before .before .before .before
+    .before .before .pre in
+    omega (arith, p .independent, p .row)
 
 add-put : tie.Need-add-put
 add-put c =
-    omega (
-      arith,
-      (c .before .before .before .before .before .before .before .before .before .before .before .before .before
-          .before .before .before .before .before .before .before .before .before .before .before .before .before)
-          .pre .1 .0,
-      (c .before .before .before .before .before .before .before .before .before .before .before .before .before
-          .before .before .before .before .before .before .before .before .before .before .before .before
-          .before) .pre .1 .1,
-    )
+    let p =
+    c .before .before .before .before .before .before .before .before .before .before .before .before
+    .before .before .before .before .before .before .before .before .before .before .before .before
+    .before .before .pre in
+    omega (arith, p .independent, p .row)
 
 put-requires : tie.Need-put-requires
 put-requires c κs = search needs
 
 gram-row-requires : tie.Need-gram-row-requires
 gram-row-requires c κs =
-    omega (
-      arith,
-      (c .before .before .before .before .before .before .before .before .before .before .before .before .before
-          .before .before .before .before .before .before .before .before .before .before .before .before .before
-          .before .before .before .before .before) .pre .1 .0,
-      (c .before .before .before .before .before .before .before .before .before .before .before .before .before
-          .before .before .before .before .before .before .before .before .before .before .before .before .before
-          .before .before .before .before .before) .pre .1 .1,
-    )
+    let p =
+    c .before .before .before .before .before .before .before .before .before .before .before .before
+    .before .before .before .before .before .before .before .before .before .before .before .before
+    .before .before .before .before .before .before .before .pre in
+    omega (arith, p .independent, p .row)
 
 add-ranked : tie.Need-add-ranked
 add-ranked c =
-    omega (
-      arith,
-      (c .before .before .before .before .before .before .before .before .before .before .before .before .before
-          .before .before .before .before .before .before .before .before .before .before .before .before .before
-          .before .before .before .before .before .before .before .before) .pre .1 .0,
-      (c .before .before .before .before .before .before .before .before .before .before .before .before .before
-          .before .before .before .before .before .before .before .before .before .before .before .before .before
-          .before .before .before .before .before .before .before .before) .pre .1 .1,
-    )
+    let p =
+    c .before .before .before .before .before .before .before .before .before .before .before .before
+    .before .before .before .before .before .before .before .before .before .before .before .before
+    .before .before .before .before .before .before .before .before .before .before .pre in
+    omega (arith, p .independent, p .row)
 
 ranked-requires : tie.Need-ranked-requires
 ranked-requires c κs = search needs
@@ -119,9 +105,9 @@ returns : tie.Need-returns
 unfolding ofBits
 returns c =
     let a =
-    (c .before .before .before .before .before .before .before .before .before .before .before .before
+    c .before .before .before .before .before .before .before .before .before .before .before .before
     .before .before .before .before .before .before .before .before .before .before .before .before
-    .before .before .before .before .before .before .before .before .before .before .before) .args in
+    .before .before .before .before .before .before .before .before .before .before .before .args in
     let p =
     c .before .before .before .before .before .before .before .before .before .before .before .before
     .before .before .before .before .before .before .before .before .before .before .before .before .parts-out in
@@ -129,8 +115,9 @@ returns c =
     c .before .before .before .before .before .before .before .before .before .before .before .before
     .before .before .before .before .before .before .before .norm-of in
     let g = c .before .before .before .gram-row in
-    λ w o. c .ranked .ensures _ _ _ w (set o (a .r) (a .i))
-    ∙ new-added (a .k) (a .r) (a .i) (a .jc .now) (a .q .now) (a .gram .now) (a .coefficients .now) w o
+    λ w o. c .ranked .ensures _ _ _ w (set o (a .passed .r) (a .passed .m))
+    ∙ new-added (a .passed .k) (a .passed .r) (a .passed .m) (a .jc .now) (a .q .now) (a .gram .now)
+    (a .coefficients .now) w o
     (c .before .before .before .before .before .before .before .before .before .before .before .before .before
     .before .before .before .before .before .before .before .before .before .before .before .before .before
     .before .before .before .row-of .last .1 .1 .1 .0) (p .last .1 .1 .1 .0) (p .last .1 .1 .1 .1 .0)
@@ -158,11 +145,12 @@ returns-2 : tie.Need-returns-2
 unfolding ofBits
 returns-2 c =
     let a =
-    (c .before .before .before .before .before .before .before .before .before .before .before .before
-    .before .before .before .before .before .before .before) .args in
+    c .before .before .before .before .before .before .before .before .before .before .before .before
+    .before .before .before .before .before .before .before .args in
     let p = c .before .before .before .before .before .before .before .before .parts-out in
     let k = c .before .before .before .norm-of in
-    λ w o. new-refused (a .k) (a .r) (a .i) (a .jc .now) (a .q .now) (a .gram .now) (a .coefficients .now) w o
+    λ w o. new-refused (a .passed .k) (a .passed .r) (a .passed .m) (a .jc .now) (a .q .now) (a .gram .now)
+    (a .coefficients .now) w o
     (c .before .before .before .before .before .before .before .before .before .before .before .before .before
     .row-of .last .1 .1 .1 .0) (p .last .1 .1 .1 .0) (p .last .1 .1 .1 .1 .0) (k .result)
     (c .before .before .before .before .before .before .before .before .before .before .before .before .before

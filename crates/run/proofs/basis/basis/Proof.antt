@@ -58,13 +58,14 @@ next-row-requires c κs =
     let s = c .before .before .before .before .before .before .before .before .before .before .before .before .before in
     let p = s .pre in
     let inv = c .before .before .before .before .before .before .loop .inv in
-    let l : length (s .args .order .now) ≡ 24 = ap (λ (b : Basis). length (b .order)) (p .clear) in
-    record {
-      variables = p .variables;
-      independent = inv .independent;
-      row = omega (arith, c .before .before .before .before .before .loop-test .taken, p .rows);
-      places = inv .order-length ∙ l;
-    }
+    let l : length (s .args .order .now) ≡ 24 = ap (λ (b : Basis). length (b .order)) (p .clear) in (
+      record {
+        variables = p .variables;
+        independent = inv .independent;
+        row = omega (arith, c .before .before .before .before .before .loop-test .taken, p .rows);
+      },
+      inv .order-length ∙ l,
+    )
 
 enum-known-s : tie.Need-enum-known-s Inv-loop μ-loop
 enum-known-s c = search needs

@@ -1,11 +1,12 @@
 -- `coefficients` meets its contract: the parts of the arrays have the lengths asked, the solve is the definition's, and
 -- the part of a is its start.
-use mathlib.Core.Path.{_≡_, sym, _∙_}
+use mathlib.Core.Path.{sym, _∙_}
 use mathlib.Core.Bool.{false}
 use Prim.Native.Nat.{_*_, _≤_}
 use native.Mathlib.Omega.{arith}
 use lib.ListN.{replicate, length-replicate}
 use lib.Seq.{length-take-le, take-at}
+use Rattle.run.specs.Basis.{coefficientsIn}
 use Rattle.run.proofs.BasisLaws.{take-replicate}
 use Rattle.run.proofs.LinearCalls.{solve-result}
 use Rattle.run.proofs.Prefixes.{front-room, front-kept}
@@ -14,11 +15,14 @@ use borrow.Author.Needs.{needs}
 use Rattle.run.proofs.basis.coefficients.Statement.{statement}
 use Rattle.run.proofs.basis.coefficients.Tie as tie
 
-room : (s : tie.Start) → 2 * (s .args .r * s .args .r) ≤ 288
-room s = omega (arith, few (s .pre .0) (s .pre .0))
+few-vectors : (s : tie.Start) → s .args .passed .r ≤ 12
+few-vectors s = let p = s .pre .0 in omega (arith, p .independent, p .row)
 
-short : (s : tie.Start) → 2 * s .args .r ≤ 24
-short s = omega (arith, s .pre .0)
+room : (s : tie.Start) → 2 * (s .args .passed .r * s .args .passed .r) ≤ 288
+room s = omega (arith, few (few-vectors s) (few-vectors s))
+
+short : (s : tie.Start) → 2 * s .args .passed .r ≤ 24
+short s = omega (arith, few-vectors s)
 
 mul-e : tie.Need-mul-e
 mul-e c = search needs
@@ -36,7 +40,7 @@ slice-aggregate-pack : tie.Need-slice-aggregate-pack
 slice-aggregate-pack c = sym (length-take-le _ _ (room (c .before .before .before .before .before)))
 
 pack-requires : tie.Need-pack-requires
-pack-requires c κs = let s = (c .before .before .before .before .before) in (s .pre .0, length-take-le _ _ (room s))
+pack-requires c κs = let s = (c .before .before .before .before .before) in (few-vectors s, length-take-le _ _ (room s))
 
 array-borrow-prefix-b : tie.Need-array-borrow-prefix-b
 array-borrow-prefix-b c = search needs
@@ -48,7 +52,7 @@ slice-aggregate-projections c =
 projections-requires : tie.Need-projections-requires
 projections-requires c κs =
     let s = (c .before .before .before .before .before .before .before .before) in
-    (s .pre .0, (s .pre .1 .0, length-take-le _ _ (short s)))
+    (few-vectors s, (s .pre .0 .row, length-take-le _ _ (short s)))
 
 array-share-prefix-l : tie.Need-array-share-prefix-l
 array-share-prefix-l c =
@@ -69,7 +73,7 @@ array-share-prefix-none c = search needs
 slice-aggregate-solve-cholesky-2 : tie.Need-slice-aggregate-solve-cholesky-2
 slice-aggregate-solve-cholesky-2 c =
     sym (length-take-le _ _
-    ((c .before .before .before .before .before .before .before .before .before .before .before .before) .pre .0))
+    (few-vectors (c .before .before .before .before .before .before .before .before .before .before .before .before)))
 
 array-share-prefix-b : tie.Need-array-share-prefix-b
 array-share-prefix-b c =
@@ -91,12 +95,10 @@ slice-relend-prefix-solve-cholesky c = search needs
 
 slice-aggregate-solve-cholesky-4 : tie.Need-slice-aggregate-solve-cholesky-4
 slice-aggregate-solve-cholesky-4 c =
-    sym (length-take-le _ _
-    (omega (
-      arith,
-      (c .before .before .before .before .before .before .before .before .before .before .before .before .before
-          .before) .pre,
-    )))
+    let s =
+    c .before .before .before .before .before .before .before .before .before .before .before .before
+    .before .before in
+    sym (length-take-le _ _ (omega (arith, few-vectors s, s .pre .1)))
 
 solve-cholesky-requires : tie.Need-solve-cholesky-requires
 solve-cholesky-requires c κs = tt
@@ -105,35 +107,32 @@ same-length : tie.Need-same-length
 same-length c = search needs
 
 returns : tie.Need-returns
+unfolding coefficientsIn
 returns c =
     let s =
-    (c .before .before .before .before .before .before .before .before .before .before .before .before
-    .before .before .before .before .before) in
-    let p = s .pre in
+    c .before .before .before .before .before .before .before .before .before .before .before .before
+    .before .before .before .before .before in
     let a = s .args in
     let x = c .before .before .solve-cholesky in
-    let l =
-    c .before .before .before .before .before .before .before .before .before .before .before .pack .last
-    .1 .1 .0 in
-    let kl =
-    c .before .before .before .before .before .before .before .before .before .before .before .pack .kept
-    .1 .1 .0 in
-    let b = c .before .before .before .before .before .before .before .before .projections .last .1 .1 .1 .1 .1 .0 in
-    let kb = c .before .before .before .before .before .before .before .before .projections .kept .1 .1 .1 .1 .1 .0 in
-    let h = length-take-le (2 * a .r) (a .a .now) (omega (arith, p .0, p .1 .1)) in
+    let packed = c .before .before .before .before .before .before .before .before .before .before .before .pack in
+    let projected = c .before .before .before .before .before .before .before .before .projections in
+    let l = packed .last .1 .1 .0 in
+    let kl = packed .kept .1 .1 .0 in
+    let b = projected .last .1 .1 .1 .1 .1 .0 in
+    let kb = projected .kept .1 .1 .1 .1 .1 .0 in
+    let h = length-take-le (2 * a .passed .r) (a .a .now) (omega (arith, few-vectors s, s .pre .1)) in
     rw (
-      take-at (x .last .1 .1 .1 .1 .0) _ (2 * a .r) (x .kept .1 .1 .1 .1 .0 ∙ h),
-      ← c .before .before .before .before .before .before .before .before .before .before .before .pack
-          .ensures,
-      ← c .before .before .before .before .before .before .before .before .projections .ensures,
+      take-at (x .last .1 .1 .1 .1 .0) _ (2 * a .passed .r) (x .kept .1 .1 .1 .1 .0 ∙ h),
+      ← packed .ensures,
+      ← projected .ensures,
     )
-    (solve-result (x .result) (a .r) l (replicate (a .r) false) b _ (x .last .1 .1 .1 .1 .0)
-    (omega (arith, p .0)) (kl ∙ length-take-le _ _ (room s)) (length-replicate (a .r) false)
+    (solve-result (x .result) (a .passed .r) l (replicate (a .passed .r) false) b _ (x .last .1 .1 .1 .1 .0)
+    (omega (arith, few-vectors s)) (kl ∙ length-take-le _ _ (room s)) (length-replicate (a .passed .r) false)
     (kb ∙ length-take-le _ _ (short s)) h
     (rw (
       front-kept _ l _ (room s) kl,
       front-kept _ b _ (short s) kb,
-      take-replicate (a .r) 12 false (p .0),
+      take-replicate (a .passed .r) 12 false (few-vectors s),
     ) at (x .ensures)))
 
 pub coefficients-spec : {M : Type 1} → statement M

@@ -3,7 +3,7 @@
 use mathlib.Core.Path.{sym, ap, _∙_}
 use Prim.Native.Nat.{ℕ, _*_, _≤_}
 use native.Mathlib.Omega.{arith}
-use lib.ListN.{take}
+use lib.ListN.{length, take}
 use Rattle.interval.specs.declared.Scalar.{Scalar}
 use Rattle.linear.specs.Dot.{minusTo}
 use Rattle.linear.specs.Flat.{at}
@@ -39,27 +39,22 @@ same-length c = search needs
 
 returns : tie.Need-returns
 returns c =
-    let s =
-    (c .before .before .before .before .before .before .before .before .before .before .before .before
-    .before .before .before .before) in
+    let k = c .before .before .before .before .before .before .before .before .before .before in
+    let s = k .before .before .before .before .before .before in
     let a = s .args in
-    let x =
-    c .before .before .before .before .before .before .before .before .before .before .coefficients .last
-    .1 .1 .1 .1 .1 .1 .0 in
-    let e =
-    rw (c .before .before .before .before .before .before .enum-told .given .1) at (c .before .before
-    .before .before .before .before .before .before .before .before .coefficients .ensures) in
-    let g : ℕ → Scalar = λ j. minusTo (at x) (column (a .q .now) j) (entry (a .wide .now) (a .i) j) (a .r) in
-    let h : 2 * a .k ≤ 24 = omega (arith, s .pre .0) in
-    let l = rw (c .before .before .before .outside .ensures) at (c .norm-of .ensures) ∙ norm-fill _ g (a .k) h in
-    λ f. ap (λ z. bind z (f (take (2 * a .r) x)))
-    (l ∙ left-take (a .k) (a .r) (a .i) (a .wide .now) (a .q .now) x
-    (omega (
-      arith,
-      c .before .before .before .before .before .before .before .before .before .before .coefficients .kept,
-      s .pre .1 .0,
-      s .pre .1 .1 .1,
-    ))) ∙ sym (bind-ok _ (sym e))
+    let x = k .coefficients .last .1 .1 .1 .1 .0 in
+    let e = rw (c .before .before .before .before .before .before .enum-told .given .1) at (k .coefficients .ensures) in
+    let g : ℕ → Scalar =
+    λ j. minusTo (at x) (column (a .q .now) j) (entry (a .wide .now) (a .passed .m) j) (a .passed .r) in
+    let h : 2 * a .passed .k ≤ 24 = omega (arith, s .pre .0 .variables) in
+    let l =
+    rw (c .before .before .before .outside .ensures) at (c .norm-of .ensures)
+    ∙ norm-fill _ g (a .passed .k) h in
+    let m : 2 * a .passed .r ≤ length x =
+    omega (arith, k .coefficients .kept, s .pre .0 .independent, s .pre .0 .row, s .pre .1) in
+    λ f. ap (λ z. bind z (f (take (2 * a .passed .r) x)))
+    (l ∙ left-take (a .passed .k) (a .passed .r) (a .passed .m) (a .wide .now) (a .q .now) x m)
+    ∙ sym (bind-ok _ (sym e))
 
 enum-known-e : tie.Need-enum-known-e
 enum-known-e c = search needs

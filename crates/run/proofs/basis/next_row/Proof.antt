@@ -15,7 +15,7 @@ slice-aggregate-measure c = search needs
 measure-requires : tie.Need-measure-requires
 measure-requires c κs =
     let p = c .before .before .before .before .before .before .before .before .before .before .pre in
-    (p .variables, (omega (arith, p .independent, p .row), (p .row, refl)))
+    (p .0, refl)
 
 enum-known-l : tie.Need-enum-known-l
 enum-known-l c = search needs
@@ -56,7 +56,7 @@ returns c =
     .before .before .before .before .measure in
     row-new (a .passed .k) (a .passed .r) (a .passed .m) (a .wide .now) (a .jc .now) (a .q .now)
     (a .gram .now) (a .coefficients .now) (a .dependent .now) (a .order .now) (k .result)
-    (take (2 * a .passed .r) (k .last .1 .1 .1 .1 .1 .1 .0)) (k .ensures)
+    (take (2 * a .passed .r) (k .last .1 .1 .1 .1 .0)) (k .ensures)
     (c .before .before .before .before .before .before .before .before .before .before .before .before .before
     .l .given .1)
     (c .before .before .before .before .before .before .before .before .before .before .before
@@ -105,11 +105,11 @@ returns-2 c =
     .before .before .before .before .before .before .before .before .before .before in
     let a = s .args in
     let k = c .before .before .before .before .before .before .before .before .before .before .before .measure in
-    let x = k .last .1 .1 .1 .1 .1 .1 .0 in
-    let l : length x ≡ 24 = k .kept .1 .1 .1 .1 .1 .1 .0 in
+    let x = k .last .1 .1 .1 .1 .0 in
+    let l : length x ≡ 24 = k .kept .1 .1 .1 .1 .0 in
     row-dependent (a .passed .k) (a .passed .r) (a .passed .m) (a .wide .now) (a .jc .now) (a .q .now)
     (a .gram .now) (a .coefficients .now) (a .dependent .now) (a .order .now) (k .result)
-    (take (2 * a .passed .r) x) (k .ensures) x refl (omega (arith, l, s .pre .independent, s .pre .row))
+    (take (2 * a .passed .r) x) (k .ensures) x refl (omega (arith, l, s .pre .0 .independent, s .pre .0 .row))
     (c .before .before .before .before .before .before .before .before .l .given .1)
     (c .before .before .before .before .before .before .definitely-greater .ensures)
     (c .before .before .before .before .before .if1 .left) (c .before .before .chosen-at .ensures)
@@ -131,7 +131,7 @@ returns-3 c =
     let k = c .before .before .before .before .measure in
     row-refused (a .passed .k) (a .passed .r) (a .passed .m) (a .wide .now) (a .jc .now) (a .q .now)
     (a .gram .now) (a .coefficients .now) (a .dependent .now) (a .order .now) (k .result)
-    (take (2 * a .passed .r) (k .last .1 .1 .1 .1 .1 .1 .0)) (k .ensures) (c .before .e .given .1)
+    (take (2 * a .passed .r) (k .last .1 .1 .1 .1 .0)) (k .ensures) (c .before .e .given .1)
 
 pub next-row-spec : {M : Type 1} → statement M
 next-row-spec =

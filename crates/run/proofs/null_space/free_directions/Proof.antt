@@ -1,10 +1,12 @@
 -- `free_directions` meets its contract: the directions start from clear slices and the remainders, and what is still to
 -- be taken from here is what was to be taken at first.
-use mathlib.Core.Path.{_≡_, sym, _∙_}
-use Prim.Native.Nat.{_≤_, _-_}
+use mathlib.Core.List.{List}
+use mathlib.Core.Path.{_≡_, refl, sym, _∙_}
+use Prim.Native.Nat.{ℕ, _≤_, _-_}
 use native.Mathlib.Nat.{le-antisymm}
 use native.Mathlib.Omega.{arith}
 use borrow.Author.Needs.{needs}
+use lib.Ieee.{Float, ofBits}
 use lib.ListN.{length}
 use Rattle.run.specs.program.NullSpace.{directionsIn, spanOf}
 use Rattle.run.specs.NullSpace.{directionsTo, directionsOf}
@@ -12,10 +14,16 @@ use Rattle.run.proofs.NullSpaceLaws.{directions-none}
 use Rattle.run.proofs.null_space.free_directions.Statement.{statement}
 use Rattle.run.proofs.null_space.free_directions.Tie as tie
 
+-- with so many directions taken: those that are still to come are the rest of all
+record Rest (k r : ℕ) (q z₀ : List Float) (most : ℕ) (z left : List Float) (count : ℕ) : Type 0 where
+  some : count ≤ most
+  few : most ≤ 12
+  z-length : length z ≡ length z₀
+  left-length : length left ≡ 288
+  directions : spanOf (directionsTo k (most - count) (directionsIn count z left)) ≡ spanOf (directionsOf k r q)
+
 abbrev Inv-loop : tie.InvT-loop
-Inv-loop k r q z₀ left₀ most count₀ z left count =
-    (count ≤ most) × (length z ≡ length z₀) × (length left ≡ length left₀)
-    × (spanOf (directionsTo k (most - count) (directionsIn count z left)) ≡ spanOf (directionsOf k r q)) × (most ≤ 12)
+Inv-loop k r q z₀ left₀ most count₀ z left count = Rest k r q z₀ most z left count
 
 abbrev μ-loop : tie.MeasureT-loop
 μ-loop k r q z₀ left₀ most count₀ z left count = most - count
@@ -23,24 +31,34 @@ abbrev μ-loop : tie.MeasureT-loop
 less-requires : tie.Need-less-requires Inv-loop μ-loop
 less-requires c κs = search needs
 
+slice-aggregate-remainders : tie.Need-slice-aggregate-remainders Inv-loop μ-loop
+slice-aggregate-remainders c = search needs
+
 remainders-requires : tie.Need-remainders-requires Inv-loop μ-loop
-remainders-requires c κs = search needs
+unfolding ofBits
+remainders-requires c κs = let p = c .before .before .before .before .pre in (p .0, (p .1 .0, refl))
 
 loop-holds : tie.Need-loop-holds Inv-loop μ-loop
 unfolding directionsOf
 loop-holds c =
-    let s = c .before .before .before .before .before .before .before .before in
-    let l = c .before .before .before .before .less in
-    let m : l .result - 0 ≡ l .result = omega arith in (
-      search needs,
-      search needs,
-      search needs,
-      rw (m, ← c .before .before .remainders .ensures, ← s .pre .1 .1 .0, ← l .ensures),
-      omega (arith, l .ensures, s .pre .0),
-    )
+    let p = c .before .before .before .before .before .before .pre in
+    let l = c .before .before .before .less in
+    let m : l .result - 0 ≡ l .result = omega arith in
+    record {
+      some = omega arith;
+      few = omega (arith, l .ensures, p .0);
+      z-length = refl;
+      left-length = c .before .remainders .kept .1 .1 .1 .0;
+      directions = rw (m, ← c .before .remainders .ensures, ← p .1 .1, ← l .ensures);
+    }
+
+slice-aggregate-take-longest : tie.Need-slice-aggregate-take-longest Inv-loop μ-loop
+slice-aggregate-take-longest c = sym (c .before .before .before .loop .inv .left-length)
 
 take-longest-requires : tie.Need-take-longest-requires Inv-loop μ-loop
-take-longest-requires c κs = search needs
+take-longest-requires c κs =
+    let p = c .before .before .before .before .before .before .before .before .before .before .pre in
+    (p .0, (c .before .before .loop-test .taken, c .before .before .before .loop .inv .few))
 
 enum-told : tie.Need-enum-told Inv-loop μ-loop
 enum-told c = search needs
@@ -49,32 +67,27 @@ enum-told-2 : tie.Need-enum-told-2 Inv-loop μ-loop
 enum-told-2 c = search needs
 
 same-length : tie.Need-same-length Inv-loop μ-loop
-same-length c = search needs
-
-same-length-2 : tie.Need-same-length-2 Inv-loop μ-loop
-same-length-2 c = search needs
+same-length c =
+    c .before .before .before .before .before .take-longest .kept .1 .1 .1 .0
+    ∙ c .before .before .before .before .before .before .before .before .before .loop .inv .z-length
 
 returns : tie.Need-returns Inv-loop μ-loop
 returns c =
-    let e =
-    rw (c .enum-told2 .given .1) at (c .before .before .before .before .before .before .take-longest .ensures) in
-    e ∙ c .before .before .before .before .before .before .before .before .before .before .loop .inv .3
+    let e = rw (c .enum-told2 .given .1) at (c .before .before .before .before .before .take-longest .ensures) in
+    e ∙ c .before .before .before .before .before .before .before .before .before .loop .inv .directions
 
 enum-known-e : tie.Need-enum-known-e Inv-loop μ-loop
 enum-known-e c = search needs
 
-same-length-3 : tie.Need-same-length-3 Inv-loop μ-loop
-same-length-3 c = search needs
-
-same-length-4 : tie.Need-same-length-4 Inv-loop μ-loop
-same-length-4 c = search needs
+same-length-2 : tie.Need-same-length-2 Inv-loop μ-loop
+same-length-2 c =
+    c .before .before .before .before .before .before .take-longest .kept .1 .1 .1 .0
+    ∙ c .before .before .before .before .before .before .before .before .before .before .loop .inv .z-length
 
 returns-2 : tie.Need-returns-2 Inv-loop μ-loop
 returns-2 c =
-    let e =
-    rw (c .before .e .given .1) at (c .before .before .before .before .before .before .before
-    .take-longest .ensures) in
-    e ∙ c .before .before .before .before .before .before .before .before .before .before .before .loop .inv .3
+    let e = rw (c .before .e .given .1) at (c .before .before .before .before .before .before .take-longest .ensures) in
+    e ∙ c .before .before .before .before .before .before .before .before .before .before .loop .inv .directions
 
 add-count : tie.Need-add-count Inv-loop μ-loop
 add-count c = search needs
@@ -84,25 +97,24 @@ loop-less c = search needs
 
 loop-again : tie.Need-loop-again Inv-loop μ-loop
 loop-again c =
-    let l = c .before .before .before .before .before .before .before .before .before .before .loop in
-    let k = c .before .before .before .before .before .before in
-    let e = rw (c .enum-told .given .1) at (k .take-longest .ensures) in (
-      search needs,
-      search needs,
-      search needs,
-      e ∙ l .inv .3,
-      l .inv .4,
-    )
+    let l = c .before .before .before .before .before .before .before .before .before .loop in
+    let k = c .before .before .before .before .before .take-longest in
+    let e = rw (c .enum-told .given .1) at (k .ensures) in
+    record {
+      some = omega (arith, c .before .before .before .before .before .before .before .before .loop-test .taken);
+      few = l .inv .few;
+      z-length = k .kept .1 .1 .1 .0 ∙ l .inv .z-length;
+      left-length = k .kept .1 .1 .1 .1 .0 ∙ l .inv .left-length;
+      directions = e ∙ l .inv .directions;
+    }
 
-same-length-5 : tie.Need-same-length-5 Inv-loop μ-loop
-same-length-5 c = search needs
-
-same-length-6 : tie.Need-same-length-6 Inv-loop μ-loop
-same-length-6 c = search needs
+same-length-3 : tie.Need-same-length-3 Inv-loop μ-loop
+same-length-3 c = c .before .loop .inv .z-length
 
 returns-3 : tie.Need-returns-3 Inv-loop μ-loop
 returns-3 c =
-    let e = rw (le-antisymm (c .before .loop .inv .0) (c .loop-test .left)) at (c .before .loop .inv .3) in
+    let l = c .before .loop in
+    let e = rw (le-antisymm (l .inv .some) (c .loop-test .left)) at (l .inv .directions) in
     sym (directions-none _ _ _ _ _) ∙ e
 
 pub free-directions-spec : {M : Type 1} → statement M
@@ -112,21 +124,20 @@ free-directions-spec =
     Inv-loop
     μ-loop
     less-requires
+    slice-aggregate-remainders
     remainders-requires
     loop-holds
+    slice-aggregate-take-longest
     take-longest-requires
     enum-told
     enum-told-2
     same-length
-    same-length-2
     returns
     enum-known-e
-    same-length-3
-    same-length-4
+    same-length-2
     returns-2
     add-count
     loop-less
     loop-again
-    same-length-5
-    same-length-6
+    same-length-3
     returns-3)

@@ -1,10 +1,9 @@
 -- `prepare_free` meets its contract: Q and the coefficients are copied, the correction and the directions are written
 -- behind them, and how these two ended decides.
-use mathlib.Core.Path.{_≡_, refl, ap, _∙_}
+use mathlib.Core.Path.{_≡_, ap, _∙_}
 use Prim.Native.Nat.{_≤_}
 use native.Mathlib.Omega.{arith}
 use mathlib.Core.List.{[], _++_}
-use lib.Ieee.{ofBits}
 use lib.ListN.{length, take, drop}
 use Rattle.run.specs.program.Basis.{basisBy}
 use Rattle.run.specs.program.Problem.{problemIn}
@@ -83,16 +82,12 @@ part-free-directions-start c = search needs
 part-free-directions-end : tie.Need-part-free-directions-end
 part-free-directions-end c = omega (arith, whole (c .before .before))
 
-slice-aggregate-free-directions : tie.Need-slice-aggregate-free-directions
-slice-aggregate-free-directions c = search needs
-
 free-directions-requires : tie.Need-free-directions-requires
-unfolding ofBits
 free-directions-requires c κs =
-    let k = c .before .before .before .before in
+    let k = c .before .before .before in
     let s =
-    c .before .before .before .before .before .before .before .before .before .before .before .before
-    .before .before .before .before .before .before .before .before in
+    k .before .before .before .before .before .before .before .before .before .before .before .before .before
+    .before .before .before in
     let p = s .pre in
     let x = k .before .before .before .before .write2 .last .0 in
     let t = k .correction .last .1 .1 .1 .1 .1 .1 .1 .0 in
@@ -102,7 +97,7 @@ free-directions-requires c κs =
     let e =
     fourth-clear (a .frame .now) (a .q .now) (a .coefficients .now) t (p .vectors) (p .by-row)
     (corrected k) one two (part-back x t 576 24 (corrected k)) (p .clear) in
-    (p .few .variables, (few-independent s, (e, refl)))
+    (p .few .variables, (few-independent s, e))
 
 ready-requires : tie.Need-ready-requires
 ready-requires c κs = search needs
@@ -112,29 +107,23 @@ same-length c = search needs
 
 returns : tie.Need-returns
 returns c =
+    let f = c .before .before .before .free-directions in
+    let k = c .before .before .before .before .before .before .before in
     let s =
-    c .before .before .before .before .before .before .before .before .before .before .before .before
-    .before .before .before .before .before .before .before .before .before .before .before .before .before in
+    k .before .before .before .before .before .before .before .before .before .before .before .before .before
+    .before .before .before in
     let a = s .args in
     let p = s .pre in
-    let k = c .before .before .before .before .before .before .before .before .before in
-    let x =
-    c .before .before .before .before .before .before .before .before .before .before .before .before
-    .before .write2 .last .0 in
+    let x = k .before .before .before .before .write2 .last .0 in
     let t = k .correction .last .1 .1 .1 .1 .1 .1 .1 .0 in
     let y = take 576 x ++ (t ++ drop 24 (drop 576 x)) in
-    let z = c .before .before .before .before .free-directions .last .1 .1 .1 .0 in
-    let lz : length z ≡ 288 =
-    c .before .before .before .before .free-directions .kept .1 .1 .1 .0
-    ∙ cut-length 288 600 y (omega (arith, whole k)) in
+    let z = f .last .1 .1 .1 .0 in
+    let lz : length z ≡ 288 = f .kept .1 .1 .1 .0 ∙ cut-length 288 600 y (omega (arith, whole k)) in
+    let one = k .before .before .before .before .before .before .before .before .write .ensures in
+    let two = k .before .before .before .before .write2 .ensures in
     let e =
     four-written (a .frame .now) (a .q .now) (a .coefficients .now) t z (p .vectors) (p .by-row)
-    (corrected k) lz (clear-long s)
-    (c .before .before .before .before .before .before .before .before .before .before .before .before
-    .before .before .before .before .before .write .ensures)
-    (c .before .before .before .before .before .before .before .before .before .before .before .before
-    .before .write2 .ensures) (part-back x t 576 24 (corrected k)) (part-back y z 600 288 lz) in
-    let f = c .before .before .before .before .free-directions in
+    (corrected k) lz (clear-long s) one two (part-back x t 576 24 (corrected k)) (part-back y z 600 288 lz) in
     let b = basisBy (a .shape .r) (a .q .now) [] (a .coefficients .now) (a .dependent .now) (a .order .now) in (
       (λ h g.
           let Q = problemIn (a .shape .k) (a .shape .m) (valueAt (rowsIn (a .xs .now) (a .c))) [] [] h g in
@@ -157,7 +146,6 @@ prepare-free-spec =
     sub-free-directions
     part-free-directions-start
     part-free-directions-end
-    slice-aggregate-free-directions
     free-directions-requires
     ready-requires
     same-length
