@@ -13,9 +13,11 @@ use Rattle.linear.specs.Answers.{numberOf}
 use Rattle.linear.specs.Flat.{zeros}
 use Rattle.linear.specs.Replies.{checkedValue, Reply, replyOf, checked}
 use Rattle.linear.specs.Results.{bind}
+use Rattle.run.specs.Area.{POINT-LEN, CURVATURE-LEN, FILTER-LEN}
 use Rattle.run.specs.Corrected.{shiftOf}
 use Rattle.run.specs.Curvature.{alongOf, updateCurvature, learnedOf}
 use Rattle.run.specs.Judgement.{Judged, judgeOf}
+use Rattle.run.specs.Limits.{VARIABLES, CONSTRAINTS, SUM-ROWS, ITERATIONS}
 use Rattle.run.specs.Proposal.{expectsOf}
 use Rattle.run.specs.Radius.{cutWithin}
 use Rattle.run.specs.Residuals.{squaredOf, predictedOf, transposedAt, movingOf}
@@ -30,12 +32,12 @@ use Rattle.run.specs.declared.step.StepEnd.the-variants as s
 
 -- ---- the checks
 
--- n and m to 12, s to 24; then as many numbers as their rows have
+-- counts within the limits, then as many numbers as their rows have
 unfoldable pub sizedOf : RowCounts → ℕ → Res (Unit {0})
 sizedOf c count =
-    checkedValue (leb (c .n) 12) 1
-    (checkedValue (leb (c .m) 12) 1
-    (checkedValue (leb (c .s) 24) 1
+    checkedValue (leb (c .n) VARIABLES) 1
+    (checkedValue (leb (c .m) CONSTRAINTS) 1
+    (checkedValue (leb (c .s) SUM-ROWS) 1
     (checkedValue (eqb count (rowNumbers (c .n) (c .m) (c .s))) 2 (ok tt))))
 
 -- what was checked before, then that a count is the one wanted
@@ -67,63 +69,63 @@ variablesRead n d = pick (eqb d 0) 0 n
 
 unfoldable pub squaredReply : RowCounts → List Float → List Float → ℕ → Res Scalar
 squaredReply c rows delta d =
-    then (fitsTwo c rows (length delta) 24 d (variablesRead (c .n) d)) (ok (squaredOf (evaluationBy c rows .sum) delta d))
+    then (fitsTwo c rows (length delta) POINT-LEN d (variablesRead (c .n) d)) (ok (squaredOf (evaluationBy c rows .sum) delta d))
 
 unfoldable pub predictedReply : RowCounts → List Float → List Float → Res Scalar
 predictedReply c rows delta =
-    then (fitsOne c rows (length delta) 24) (predictedOf (evaluationBy c rows .constraints) delta)
+    then (fitsOne c rows (length delta) POINT-LEN) (predictedOf (evaluationBy c rows .constraints) delta)
 
 unfoldable pub transposedReply : RowCounts → List Float → List Float → List Float → Reply (List Float)
 transposedReply c rows w out =
-    thenWrites (fitsTwo c rows (length w) 48 (length out) 24) out
+    thenWrites (fitsTwo c rows (length w) 48 (length out) POINT-LEN) out
     (replyOf vector (ok (fillTo vector 0 (transposedAt (evaluationBy c rows .sum) w) (c .n))))
 
 unfoldable pub movingReply : RowCounts → List Float → List Bool → Reply (List Bool)
 movingReply c rows marks =
-    thenWrites (fitsOne c rows (length marks) 12) marks (replyOf marks (ok (movingOf (c .n) (evaluationBy c rows))))
+    thenWrites (fitsOne c rows (length marks) VARIABLES) marks (replyOf marks (ok (movingOf (c .n) (evaluationBy c rows))))
 
 -- ---- of a step that landed
 
--- at most 200 pairs of the filter
+-- at most as many pairs of the filter as a run has iterations
 unfoldable pub judgeReply :
     RowCounts → List Float → List Float → Scalar → List Float → ℕ → Last → List Float → Res Judged
 judgeReply c rows next theta filter count last step =
-    checkedValue (leb count 200) 1
-    (then (wantsOf (fitsTwo c rows (length next) (length rows) (length filter) 800) (length step) 24)
+    checkedValue (leb count ITERATIONS) 1
+    (then (wantsOf (fitsTwo c rows (length next) (length rows) (length filter) FILTER-LEN) (length step) POINT-LEN)
     (judgeOf (c .n) (evaluationBy c rows) (evaluationBy c next) theta filter count last step))
 
 -- ---- of a step proposed, its correction, and the curvature: 12 rows of 12 scalars, of which n rows of n are used
 
 unfoldable pub expectsReply : RowCounts → List Float → List Float → Scalar → Scalar → List Float → Res Bool
 expectsReply c rows b f theta delta =
-    then (fitsTwo c rows (length b) 288 (length delta) 24)
+    then (fitsTwo c rows (length b) CURVATURE-LEN (length delta) POINT-LEN)
     (expectsOf (modelOf (c .n) (evaluationBy c rows) f theta b) delta)
 
 unfoldable pub cutReply : ℕ → Scalar → List Float → Reply (List Float)
 cutReply n radius delta =
-    checked (leb n 12) 1 delta
-    (checked (eqb (length delta) 24) 2 delta (replyOf vector (cutWithin n radius delta)))
+    checked (leb n VARIABLES) 1 delta
+    (checked (eqb (length delta) POINT-LEN) 2 delta (replyOf vector (cutWithin n radius delta)))
 
 unfoldable pub alongReply : RowCounts → List Float → List Float → List Float → Reply (List Float)
 alongReply c rows v out =
-    thenWrites (fitsOne c rows (length v) 24) out
+    thenWrites (fitsOne c rows (length v) POINT-LEN) out
     (checked (eqb (length out) (2 * c .n)) 2 out
     (replyOf (zeros (2 * c .n)) (alongOf (evaluationBy c rows .constraints) v)))
 
 unfoldable pub shiftReply : RowCounts → List Float → List Bool → List Float → Reply (List Float)
 shiftReply c rows moving d =
-    thenWrites (fitsTwo c rows (length moving) 12 (length d) 24) d
+    thenWrites (fitsTwo c rows (length moving) VARIABLES (length d) POINT-LEN) d
     (replyOf vector (shiftOf moving (evaluationBy c rows .constraints)))
 
 unfoldable pub updateReply :
     RowCounts → List Float → List Float → List Float → List Float → List Float → Reply (List Float)
 updateReply c b step rows next lambda =
-    let rowsFit = fitsTwo c rows (length next) (length rows) (length b) 288 in
-    thenWrites (wantsOf (wantsOf rowsFit (length step) 24) (length lambda) 24) b
-    (replyOf (zeros 288) (updateCurvature (c .n) b step (evaluationBy c rows) (evaluationBy c next) lambda))
+    let rowsFit = fitsTwo c rows (length next) (length rows) (length b) CURVATURE-LEN in
+    thenWrites (wantsOf (wantsOf rowsFit (length step) POINT-LEN) (length lambda) POINT-LEN) b
+    (replyOf (zeros CURVATURE-LEN) (updateCurvature (c .n) b step (evaluationBy c rows) (evaluationBy c next) lambda))
 
 unfoldable pub learnedReply : ℕ → List Float → Res Bool
-learnedReply n b = checkedValue (leb n 12) 1 (checkedValue (eqb (length b) 288) 2 (ok (learnedOf n b)))
+learnedReply n b = checkedValue (leb n VARIABLES) 1 (checkedValue (eqb (length b) CURVATURE-LEN) 2 (ok (learnedOf n b)))
 
 -- ---- the step: the number of independent rows, or none, and what the slices for it and for its multipliers hold then
 
@@ -161,6 +163,6 @@ thenSteps (refused k) delta lambda r = record { ended = refused k; delta = delta
 unfoldable pub stepReply :
     RowCounts → List Float → List Float → List Bool → Scalar → List Float → List Float → StepReply
 stepReply c rows b moving mu delta lambda =
-    let rowsFit = fitsTwo c rows (length b) 288 (length moving) 12 in
-    thenSteps (wantsOf (wantsOf rowsFit (length delta) 24) (length lambda) 24) delta lambda
+    let rowsFit = fitsTwo c rows (length b) CURVATURE-LEN (length moving) VARIABLES in
+    thenSteps (wantsOf (wantsOf rowsFit (length delta) POINT-LEN) (length lambda) POINT-LEN) delta lambda
     (stepReplyOf vector vector (stepOf (c .n) (evaluationBy c rows) b moving mu))

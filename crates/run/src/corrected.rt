@@ -11,7 +11,7 @@ ghost use Rattle.linear.specs.Flat.{listTo, at};
 ghost use Rattle.run.specs.Limits.{AREA, CORRECTIONS};
 ghost use Rattle.run.specs.declared.state.Kind.the-variants as kinds;
 ghost use Rattle.run.specs.Answered.{answeredNone};
-ghost use Rattle.run.specs.Area.{Memory, rowsAt};
+ghost use Rattle.run.specs.Area.{POINT-LEN, Memory, rowsAt};
 ghost use Rattle.run.specs.Corrected.{movingSlope, to, shiftOf, shiftFrom, shiftedStep, correct, keep};
 ghost use Rattle.run.specs.Corrected.{landCorrection, landTrial};
 ghost use Rattle.run.specs.Decide.{judge};
@@ -74,7 +74,7 @@ fn moving_slopes(n: usize, m: usize, xs: &[f64], moving: &[bool], jc: &mut [f64]
 
 // The first n of `from`, sharp, into a clear vector.
 fn sharpened(n: usize, from: &[f64], to: &mut [f64])
-    requires { ⌜ length (now to) ≡ 24 ⌝ }
+    requires { ⌜ length (now to) ≡ POINT-LEN ⌝ }
     ensures { λ _. ⌜ now (to .exit) ≡ fillTo vector 0 (λ i. sharpen (at (now (from .entry)) i)) n ⌝ }
 {
     clear(to);
@@ -86,7 +86,7 @@ fn sharpened(n: usize, from: &[f64], to: &mut [f64])
 
 // The shortest move that meets the linearized constraints, among the variables that move.
 pub fn shift(n: usize, m: usize, xs: &[f64], moving: &[bool], d: &mut [f64]) -> Done
-    requires { ⌜ MarkedCounts n m (length (now moving)) × (length (now d) ≡ 24) ⌝ }
+    requires { ⌜ MarkedCounts n m (length (now moving)) × (length (now d) ≡ POINT-LEN) ⌝ }
     ensures { λ r. ⌜ doneOf r (now (d .exit)) ≡ shiftOf (now (moving .entry)) (constraintsOf n m (now (xs .entry))) ⌝ }
 {
     let q = 2 * (m * n);
@@ -112,7 +112,7 @@ pub fn shift_from(
     landed: &[f64],
     next: &mut [f64],
 ) -> Shifted
-    requires { ⌜ MarkedCounts n m (length (now moving)) × (length (now next) ≡ 24) ⌝ }
+    requires { ⌜ MarkedCounts n m (length (now moving)) × (length (now next) ≡ POINT-LEN) ⌝ }
     ensures { λ r. ⌜ shiftedOf r (now (next .exit))
         ≡ shiftFrom (now (moving .entry)) (constraintsOf n m (now (xs .entry))) (now (landed .entry)) ⌝ }
 {

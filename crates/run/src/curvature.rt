@@ -17,6 +17,7 @@ ghost use Rattle.linear.specs.Dot.{dotTo};
 ghost use Rattle.linear.specs.Flat.{at, along};
 ghost use Rattle.linear.specs.Substitution.{storeR};
 ghost use Rattle.run.specs.Limits.{VARIABLES, CONSTRAINTS};
+ghost use Rattle.run.specs.Area.{POINT-LEN};
 ghost use Rattle.run.specs.Curvature.{learnedOf, alongOf, lagrangianChangeAt, lagrangianChange, chosenSum};
 ghost use Rattle.run.specs.Curvature.{rankOneStep, rankOneOf, correctedBy, updatedBy, updateCurvature};
 ghost use Rattle.run.specs.Rows.{constraintsOf, evaluationBy};
@@ -245,7 +246,7 @@ fn updated(
     y: &[f64],
     s: &[f64],
 ) -> Done
-    requires { ⌜ (n ≤ VARIABLES) × (m ≤ CONSTRAINTS) × (length (now y) ≡ 24) ⌝ }
+    requires { ⌜ (n ≤ VARIABLES) × (m ≤ CONSTRAINTS) × (length (now y) ≡ POINT-LEN) ⌝ }
     ensures { λ r. ⌜ ((xs : List Float) →
         Factored (constraintsOf n m xs) (now (slopes .entry)) (factorOf (now (l .entry)) (now («left_out» .entry))) →
         doneOf r (now (b .exit))
@@ -303,7 +304,7 @@ pub fn update_curvature(
     lambda: &[f64],
     b: &mut [f64],
 ) -> Done
-    requires { ⌜ FewRows c × (length (now step) ≡ 24) ⌝ }
+    requires { ⌜ FewRows c × (length (now step) ≡ POINT-LEN) ⌝ }
     ensures { λ r. ⌜ doneOf r (now (b .exit))
         ≡ updateCurvature (c .n) (now (b .entry)) (now (step .entry)) (evaluationBy c (now (xs .entry)))
         (evaluationBy c (now (next .entry))) (now (lambda .entry)) ⌝ }

@@ -8,7 +8,7 @@ ghost use Rattle.interval.specs.Scaling.{isPositive};
 ghost use Rattle.linear.specs.Answers.{resultOf, doneOf};
 ghost use Rattle.linear.specs.Flat.{zeros};
 ghost use Rattle.run.specs.Limits.{AREA, VARIABLES};
-ghost use Rattle.run.specs.Area.{Memory, landedAt, standingAt};
+ghost use Rattle.run.specs.Area.{CURVATURE-LEN, Memory, landedAt, standingAt};
 ghost use Rattle.run.specs.Curvature.{learnedOf, updateCurvature};
 ghost use Rattle.run.specs.Decide.{held, linearOf, take, wasTaken, decide, judge};
 ghost use Rattle.run.specs.Decide as run;
@@ -23,6 +23,7 @@ ghost use Rattle.run.specs.program.Endings.{Leaves, Bounded, Underway};
 ghost use Rattle.run.specs.program.Judgement.{judgementOf};
 ghost use Rattle.run.specs.program.Rows.{FewRows};
 use crate::area;
+use crate::area::CURVATURE_LEN;
 use crate::curvature::learned;
 use crate::curvature::update_curvature;
 use crate::damping::Damped;
@@ -148,9 +149,9 @@ fn linear_of(st: State, theta: Scalar, landed: Answer) -> TruthResult
 
 // The curvature before the step, over +0 into b: none in plain. Of its slot the entries in use are copied.
 fn curvature_in_use(plain: bool, n: usize, area: &[f64], b: &mut [f64])
-    requires { ⌜ (n ≤ VARIABLES) × (length (now area) ≡ AREA) × (now b ≡ zeros 288) ⌝ }
-    ensures { λ _. ⌜ ((w : Memory) → Holds w (now (area .entry)) → ZeroBehind 288 (2 * (n * n)) (w .curvature) →
-        now (b .exit) ≡ pick plain (zeros 288) (w .curvature)) ⌝ }
+    requires { ⌜ (n ≤ VARIABLES) × (length (now area) ≡ AREA) × (now b ≡ zeros CURVATURE-LEN) ⌝ }
+    ensures { λ _. ⌜ ((w : Memory) → Holds w (now (area .entry)) → ZeroBehind CURVATURE-LEN (2 * (n * n)) (w .curvature) →
+        now (b .exit) ≡ pick plain (zeros CURVATURE-LEN) (w .curvature)) ⌝ }
 {
     if !plain {
         let e = 2 * (n * n);
@@ -161,10 +162,10 @@ fn curvature_in_use(plain: bool, n: usize, area: &[f64], b: &mut [f64])
 
 // The curvature after the step, over +0 into b.
 fn learn(z: Sizes, plain: bool, area: &[f64], b: &mut [f64]) -> Done
-    requires { ⌜ FewRows (rowCounts z) × (length (now area) ≡ AREA) × (now b ≡ zeros 288) ⌝ }
-    ensures { λ r. ⌜ ((w : Memory) → Holds w (now (area .entry)) → ZeroBehind 288 (2 * (z .n * z .n)) (w .curvature) →
+    requires { ⌜ FewRows (rowCounts z) × (length (now area) ≡ AREA) × (now b ≡ zeros CURVATURE-LEN) ⌝ }
+    ensures { λ r. ⌜ ((w : Memory) → Holds w (now (area .entry)) → ZeroBehind CURVATURE-LEN (2 * (z .n * z .n)) (w .curvature) →
         doneOf r (now (b .exit))
-        ≡ updateCurvature (z .n) (pick plain (zeros 288) (w .curvature)) (w .step)
+        ≡ updateCurvature (z .n) (pick plain (zeros CURVATURE-LEN) (w .curvature)) (w .step)
         (evaluationBy (rowCounts z) (w .standingRows)) (evaluationBy (rowCounts z) (w .landedRows))
         (w .multipliers)) ⌝ }
 {
@@ -193,7 +194,7 @@ fn take_with(
     ensures { λ r. ⌜ ((w : Memory) → ViolationsKnown st theta (resultOf landed) w (now (area .entry)) →
         Leaves (takenWith st w theta span mu radius) r (now (area .exit))) ⌝ }
 {
-    let mut b = [0.0; 288];
+    let mut b = [0.0; CURVATURE_LEN];
     match learn(st.sizes, st.search.plain, area, &mut b) {
         Done::Finished => {}
         Done::Refused(e) => {

@@ -11,7 +11,9 @@ ghost use Rattle.run.specs.Pieces.{transposedReply, movingReply, judgeRe
 ghost use Rattle.run.specs.Pieces.{alongReply, shiftReply, updateReply, stepReplied, stepReply, learnedReply};
 ghost use Rattle.run.specs.Results.{truthOf};
 ghost use Rattle.run.specs.program.Judgement.{judgementOf};
+use crate::area::CURVATURE_LEN;
 use crate::area::FILTER_LEN;
+use crate::area::POINT_LEN;
 use crate::checks::sizes_fit;
 use crate::corrected;
 use crate::curvature;
@@ -93,7 +95,7 @@ fn variables_read(n: usize, d: usize) -> usize
 pub fn squared(c: RowCounts, xs: &[f64], delta: &[f64], d: usize) -> Answer
     ensures { λ r. ⌜ resultOf r ≡ squaredReply c (now (xs .entry)) (now (delta .entry)) d ⌝ }
 {
-    match fits(c, xs, delta.len(), 24, d, variables_read(c.n, d)) {
+    match fits(c, xs, delta.len(), POINT_LEN, d, variables_read(c.n, d)) {
         Done::Refused(e) => {
             return Answer::Refused(e);
         }
@@ -106,7 +108,7 @@ pub fn squared(c: RowCounts, xs: &[f64], delta: &[f64], d: usize) -> Answer
 pub fn predicted(c: RowCounts, xs: &[f64], delta: &[f64]) -> Answer
     ensures { λ r. ⌜ resultOf r ≡ predictedReply c (now (xs .entry)) (now (delta .entry)) ⌝ }
 {
-    match wants(sized(c, xs.len()), delta.len(), 24) {
+    match wants(sized(c, xs.len()), delta.len(), POINT_LEN) {
         Done::Refused(e) => {
             return Answer::Refused(e);
         }
@@ -120,7 +122,7 @@ pub fn transposed(c: RowCounts, xs: &[f64], w: &[f64], out: &mut [f64]) -> Done
     ensures { λ r. ⌜ replied r (now (out .exit))
         ≡ transposedReply c (now (xs .entry)) (now (w .entry)) (now (out .entry)) ⌝ }
 {
-    let fit = fits(c, xs, w.len(), 48, out.len(), 24);
+    let fit = fits(c, xs, w.len(), 48, out.len(), POINT_LEN);
     let Done::Finished = fit else {
         return fit;
     };
@@ -140,12 +142,12 @@ pub fn transposed(c: RowCounts, xs: &[f64], w: &[f64], out: &mut [f64]) -> Done
 pub fn moving(c: RowCounts, xs: &[f64], marks: &mut [bool]) -> Done
     ensures { λ r. ⌜ replied r (now (marks .exit)) ≡ movingReply c (now (xs .entry)) (now (marks .entry)) ⌝ }
 {
-    let fit = wants(sized(c, xs.len()), marks.len(), 12);
+    let fit = wants(sized(c, xs.len()), marks.len(), VARIABLES);
     let Done::Finished = fit else {
         return fit;
     };
     let found = residuals::moving(xs, c.n, c.m, c.s);
-    for j in 0..12 {
+    for j in 0..VARIABLES {
         marks[j] = found[j];
     }
     fit
@@ -171,7 +173,7 @@ pub fn judge(
         return Judgement::Refused(LinearError::TooMany);
     }
     let fit = fits(c, xs, next.len(), xs.len(), filter.len(), FILTER_LEN);
-    match wants(fit, step.len(), 24) {
+    match wants(fit, step.len(), POINT_LEN) {
         Done::Refused(e) => {
             return Judgement::Refused(e);
         }
@@ -198,7 +200,7 @@ pub fn expects(
     ensures { λ r. ⌜ truthOf r
         ≡ expectsReply c (now (xs .entry)) (now (b .entry)) f theta (now (delta .entry)) ⌝ }
 {
-    match fits(c, xs, b.len(), 288, delta.len(), 24) {
+    match fits(c, xs, b.len(), CURVATURE_LEN, delta.len(), POINT_LEN) {
         Done::Refused(e) => {
             return TruthResult::Refused(e);
         }
@@ -231,7 +233,7 @@ pub fn cut(n: usize, radius: Scalar, delta: &mut [f64]) -> Done
     if n > VARIABLES {
         return Done::Refused(LinearError::TooMany);
     }
-    if delta.len() != 24 {
+    if delta.len() != POINT_LEN {
         return Done::Refused(LinearError::WrongLength);
     }
     cleared(cut_within(n, radius, delta), delta)
@@ -242,7 +244,7 @@ pub fn along(c: RowCounts, xs: &[f64], v: &[f64], out: &mut [f64]) -> Done
     ensures { λ r. ⌜ replied r (now (out .exit))
         ≡ alongReply c (now (xs .entry)) (now (v .entry)) (now (out .entry)) ⌝ }
 {
-    let fit = wants(sized(c, xs.len()), v.len(), 24);
+    let fit = wants(sized(c, xs.len()), v.len(), POINT_LEN);
     let Done::Finished = fit else {
         return fit;
     };
@@ -257,7 +259,7 @@ pub fn shift(c: RowCounts, xs: &[f64], moving: &[bool], d: &mut [f64]) -> Done
     ensures { λ r. ⌜ replied r (now (d .exit))
         ≡ shiftReply c (now (xs .entry)) (now (moving .entry)) (now (d .entry)) ⌝ }
 {
-    let fit = fits(c, xs, moving.len(), 12, d.len(), 24);
+    let fit = fits(c, xs, moving.len(), VARIABLES, d.len(), POINT_LEN);
     let Done::Finished = fit else {
         return fit;
     };
@@ -277,8 +279,8 @@ pub fn update_curvature(
         ≡ updateReply c (now (b .entry)) (now (step .entry)) (now (xs .entry)) (now (next .entry))
         (now (lambda .entry)) ⌝ }
 {
-    let rows = fits(c, xs, next.len(), xs.len(), b.len(), 288);
-    let fit = wants(wants(rows, step.len(), 24), lambda.len(), 24);
+    let rows = fits(c, xs, next.len(), xs.len(), b.len(), CURVATURE_LEN);
+    let fit = wants(wants(rows, step.len(), POINT_LEN), lambda.len(), POINT_LEN);
     let Done::Finished = fit else {
         return fit;
     };
@@ -300,8 +302,8 @@ pub fn step_at(
         ≡ stepReply c (now (xs .entry)) (now (b .entry)) (now (moving .entry)) mu (now (delta .entry))
         (now (lambda .entry)) ⌝ }
 {
-    let rows = fits(c, xs, b.len(), 288, moving.len(), 12);
-    match wants(wants(rows, delta.len(), 24), lambda.len(), 24) {
+    let rows = fits(c, xs, b.len(), CURVATURE_LEN, moving.len(), VARIABLES);
+    match wants(wants(rows, delta.len(), POINT_LEN), lambda.len(), POINT_LEN) {
         Done::Refused(e) => {
             return StepEnd::Refused(e);
         }
@@ -323,7 +325,7 @@ pub fn learned(n: usize, b: &[f64]) -> TruthResult
     if n > VARIABLES {
         return TruthResult::Refused(LinearError::TooMany);
     }
-    if b.len() != 288 {
+    if b.len() != CURVATURE_LEN {
         return TruthResult::Refused(LinearError::WrongLength);
     }
     TruthResult::Value(curvature::learned(n, b))

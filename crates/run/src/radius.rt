@@ -4,6 +4,7 @@ ghost use Prim.Native.Nat.{_≤_};
 ghost use mathlib.Core.Path.{_≡_};
 ghost use lib.ListN.{length};
 ghost use Rattle.linear.specs.Answers.{doneOf};
+ghost use Rattle.run.specs.Area.{POINT-LEN};
 ghost use Rattle.run.specs.Limits.{VARIABLES};
 ghost use Rattle.run.specs.Radius.{cutOf, cutWithin, radiusAfter};
 use crate::vectors::norm_of;
@@ -28,7 +29,7 @@ pub fn cut(n: usize, delta: &mut [f64], shrink: Scalar)
 
 // A step, cut to the radius where it is definitely longer.
 pub fn cut_within(n: usize, radius: Scalar, delta: &mut [f64]) -> Done
-    requires { ⌜ (n ≤ VARIABLES) × (length (now delta) ≡ 24) ⌝ }
+    requires { ⌜ (n ≤ VARIABLES) × (length (now delta) ≡ POINT-LEN) ⌝ }
     ensures { λ r. ⌜ doneOf r (now (delta .exit)) ≡ cutWithin n radius (now (delta .entry)) ⌝ }
 {
     match norm_of(delta, n) {

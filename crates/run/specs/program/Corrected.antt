@@ -24,7 +24,7 @@ use Rattle.run.specs.declared.state.State.{State}
 pub record MarkedCounts (n m moving : ℕ) : Type 0 where
   pub few-variables : n ≤ VARIABLES
   pub few-constraints : m ≤ CONSTRAINTS
-  pub marks : moving ≡ 12
+  pub marks : moving ≡ VARIABLES
 
 -- the area and an answer's rows have their lengths, and a trial or a correction is open
 pub record RowsToLand (st : State) (area rows : ℕ) : Type 0 where

@@ -11,6 +11,7 @@ use Rattle.linear.specs.Choose.{chooseOf}
 use Rattle.linear.specs.Flat.{at, listTo}
 use Rattle.linear.specs.Results.{bind}
 use Rattle.linear.specs.Solved.{gramFactorOf}
+use Rattle.run.specs.Area.{POINT-LEN}
 use Rattle.run.specs.Curvature.{alongOf, updatedBy}
 use Rattle.run.specs.Limits.{VARIABLES, CONSTRAINTS}
 use Rattle.run.specs.Rows.{Rows}
@@ -28,8 +29,8 @@ pub record AlongLengths (n m v out : ℕ) : Type 0 where
 pub record UpdateLengths (n m y step : ℕ) : Type 0 where
   pub few-variables : n ≤ VARIABLES
   pub few-constraints : m ≤ CONSTRAINTS
-  pub y-is : y ≡ 24
-  pub step-is : step ≡ 24
+  pub y-is : y ≡ POINT-LEN
+  pub step-is : step ≡ POINT-LEN
 
 -- ---- the factor, and the update by it
 
