@@ -1,4 +1,4 @@
--- Enclosure (document 01, "Interval ends"): what an interval holds, over whole numbers. A finite float is a whole
+-- Enclosure (PROTOCOL, Scalars): what an interval holds, over whole numbers. A finite float is a whole
 -- number of units, 2 ^ -1074 each.
 -- A choice inside an interval is a whole number over a power of two, p / 2 ^ k. Where operands and result are finite,
 -- each operation holds the exact result for every choice inside its operands: quotients are cross-multiplied, roots

@@ -1,5 +1,6 @@
 -- Rust's functions on f64 that the scalars use: min, max and abs. Of a NaN and a number, min and max give the number.
--- Rust leaves open which zero they give for -0 and +0; here it is the first of two equal numbers (document 01: the
+-- Rust leaves open which zero they give for -0 and +0; here it is the first of two equal numbers (PROTOCOL, Scalars:
+-- the
 -- second only if it compares above the first).
 use mathlib.Core.Bool.{true, false, cond}
 use lib.Ieee.{Float, nan, inf, fin, lt, ne}

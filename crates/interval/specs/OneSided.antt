@@ -1,4 +1,4 @@
--- Enclosure (document 01, "Interval ends") of each end by itself, whatever the other end is: a finite lower end is a
+-- Enclosure (PROTOCOL, Scalars) of each end by itself, whatever the other end is: a finite lower end is a
 -- lower bound, a finite upper end an upper bound.
 -- An infinite end bounds nothing on its own side, and a NaN is no end.
 use Prim.Native.Nat.{ℕ, zero, suc, _*_, _^_}

@@ -1,4 +1,4 @@
--- What an operation that may refuse gives: a value, or document 01's number of the refusal.
+-- What an operation that may refuse gives: a value, or the number of the refusal (PROTOCOL, Refusals).
 use Prim.Native.Nat.{ℕ}
 use Rattle.interval.specs.declared.Scalar.{Scalar}
 use Rattle.interval.specs.declared.GeopError.{GeopError}

@@ -1,5 +1,5 @@
 -- The operations on scalars, each by the body of the Rust (scalars/mod.rs), over IEEE 754's operations of lib.Ieee.
--- Document 01: a scalar is two f64, lo then hi.
+-- PROTOCOL, Scalars: a scalar is two f64, lo then hi.
 use Prim.Native.Nat.{zero, suc}
 use mathlib.Core.Bool.{Bool, true, false, not, cond, _&&_, _||_}
 use lib.IntN.{ℤ, pos, negsuc}

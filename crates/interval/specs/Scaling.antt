@@ -1,4 +1,5 @@
--- Four times a scalar, and a third of it, sharpened: what a run does to its damping (document 01: mu = 4 mu sharpened,
+-- Four times a scalar, and a third of it, sharpened: what a run does to its damping (PROTOCOL, An iteration: mu = 4 mu
+-- sharpened,
 -- mu / 3 sharpened).
 use Prim.Native.Nat.{ℕ, zero, suc}
 use mathlib.Core.Bool.{Bool, false, _&&_}

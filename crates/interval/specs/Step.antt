@@ -1,4 +1,4 @@
--- The float next above and next below (document 01, "Interval ends"), by one bit pattern. From either zero they go to
+-- The float next above and next below (PROTOCOL, Scalars), by one bit pattern. From either zero they go to
 -- the smallest subnormal.
 use Prim.Native.Nat.{zero, suc, _+_, _-_}
 use mathlib.Core.Bool.{true, false}

@@ -24,7 +24,7 @@ pub struct Scalar {
     pub hi: f64,
 }
 
-// Why an operation is refused: document 01's numbers 5 and 6.
+// Why an operation is refused: numbers 5 and 6 of PROTOCOL, Refusals.
 pub enum GeopError {
     SqrtOfNegative,
     DivisorContainsZero,

@@ -10,9 +10,9 @@ use lib.Ieee.{Float}
 use Rattle.interval.specs.declared.Scalar.{Scalar}
 use Rattle.interval.specs.Result.{Res, ok, refused}
 use Rattle.interval.specs.Scalar.{two64, degenerate, subOf, mulOf, divOf}
-use Rattle.linear.specs.declared.answers.Done.{Done}
-use Rattle.linear.specs.declared.answers.Done.the-variants as d
-use Rattle.linear.specs.Answers.{doneOf}
+use Rattle.linear.specs.declared.results.Done.{Done}
+use Rattle.linear.specs.declared.results.Done.the-variants as d
+use Rattle.linear.specs.LinearResult.{doneOf}
 use Rattle.linear.specs.Flat.{at, put, along}
 use Rattle.linear.specs.Dot.{dotTo}
 use Rattle.linear.specs.Choose.{chooseOf}

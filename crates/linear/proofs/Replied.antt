@@ -4,11 +4,11 @@ use mathlib.Core.Path.{_≡_, ap}
 use Prim.Native.Nat.{ℕ}
 use native.Mathlib.Omega.{arith}
 use Rattle.interval.specs.Result.{Res, ok, refused}
-use Rattle.linear.specs.Answers.{doneOf, numberOf}
+use Rattle.linear.specs.LinearResult.{doneOf, numberOf}
 use Rattle.linear.specs.Results.{bind}
 use Rattle.linear.specs.Replies.{Reply, replied, replyOf, beside}
-use Rattle.linear.specs.declared.answers.Done.{Done}
-use Rattle.linear.specs.declared.answers.Done.the-variants as d
+use Rattle.linear.specs.declared.results.Done.{Done}
+use Rattle.linear.specs.declared.results.Done.the-variants as d
 
 pub done-is : {A : Type 0} (r : Done) (x clear : A) (s : Res A) → replied r x ≡ replyOf clear s → doneOf r x ≡ s
 done-is d.Finished x clear (ok y) e = ap (λ z. ok (z .out)) e

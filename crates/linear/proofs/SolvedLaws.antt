@@ -6,7 +6,7 @@ use mathlib.Core.List.{List}
 use lib.Ieee.{Float}
 use Rattle.interval.specs.Result.{Res, ok, refused}
 use Rattle.interval.specs.declared.Scalar.{Scalar}
-use Rattle.linear.specs.Answers.{doneOf}
+use Rattle.linear.specs.LinearResult.{doneOf}
 use Rattle.linear.specs.Calls.{blank}
 use Rattle.linear.specs.Cholesky.{Factor, factorOf, choleskyOf}
 use Rattle.linear.specs.Choose.{chooseOf}
@@ -17,7 +17,7 @@ use Rattle.linear.specs.Results.{bind}
 use Rattle.linear.specs.Solved.{gramOf, gramAt, LowerRows, multipliersOf, minusAt, minusOf, minusSolvedOf}
 use Rattle.linear.specs.Solved.{gramFactorOf, minusFactoredOf}
 use Rattle.linear.specs.Substitution.{solveOf}
-use Rattle.linear.specs.declared.answers.Done.{Done}
+use Rattle.linear.specs.declared.results.Done.{Done}
 use Rattle.linear.proofs.Folds.{bind-ok, bind-refused}
 use Rattle.linear.proofs.LowerTriangle.{cholesky-gram}
 use Rattle.linear.proofs.Replied.{done-is, done-then}

@@ -3,11 +3,11 @@
 use Prim.Native.Nat.{ℕ, _+_, _<_}
 use mathlib.Core.Path.{_≡_, sym, _∙_}
 use Rattle.interval.specs.Result.{Res, ok}
-use Rattle.linear.specs.Answers.{doneOf}
+use Rattle.linear.specs.LinearResult.{doneOf}
 use Rattle.linear.specs.Results.{foldR}
-use Rattle.linear.specs.declared.answers.LinearError.{LinearError}
-use Rattle.linear.specs.declared.answers.Done.{Done}
-use Rattle.linear.specs.declared.answers.Done.the-variants.{Finished, Refused}
+use Rattle.linear.specs.declared.results.LinearError.{LinearError}
+use Rattle.linear.specs.declared.results.Done.{Done}
+use Rattle.linear.specs.declared.results.Done.the-variants.{Finished, Refused}
 use Rattle.linear.proofs.Folds.{turn, ends}
 
 module _ {A : Type 0} (f : A → ℕ → Res A) (z : A) where

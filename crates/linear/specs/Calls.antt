@@ -1,4 +1,4 @@
--- The public calls: the checks of counts, then of lengths, then the work (document 01's refusals 1 and 2, with nothing
+-- The public calls: the checks of counts, then of lengths, then the work (PROTOCOL, Refusals: 1 and 2, with nothing
 -- written).
 use Prim.Native.Nat.{ℕ, _*_}
 use mathlib.Core.Bool.{Bool, false}

@@ -1,4 +1,4 @@
--- `choose` (document 01): +0 where zero touches the interval, else the middle. `sharp` chooses each of a list.
+-- `choose` (PROTOCOL, Lists): +0 where zero touches the interval, else the middle. `sharp` chooses each of a list.
 use Prim.Native.Nat.{ℕ}
 use mathlib.Core.List.{List}
 use lib.Ieee.{Float}

@@ -1,5 +1,5 @@
 -- What private functions are given: counts within the limit and slices of the right lengths, which the public function
--- that calls them has checked (document 01's refusals 1 and 2), and runs of places that were found to be inside.
+-- that calls them has checked (PROTOCOL, Refusals: 1 and 2), and runs of places that were found to be inside.
 use Prim.Native.Nat.{ℕ, _+_, _*_, _<_, _≤_}
 use mathlib.Core.Path.{_≡_}
 

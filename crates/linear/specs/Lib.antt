@@ -1,7 +1,7 @@
 pub mod Lengths
 pub mod Flat
 pub mod Results
-pub mod Answers
+pub mod LinearResult
 pub mod Replies
 pub mod Dot
 pub mod Bounds

@@ -3,9 +3,9 @@
 use Prim.Native.Nat.{ℕ}
 use mathlib.Core.Bool.{Bool, true, false}
 use Rattle.interval.specs.Result.{Res, ok, refused}
-use Rattle.linear.specs.Answers.{doneOf}
+use Rattle.linear.specs.LinearResult.{doneOf}
 use Rattle.linear.specs.Results.{kept}
-use Rattle.linear.specs.declared.answers.Done.{Done}
+use Rattle.linear.specs.declared.results.Done.{Done}
 
 pub record Reply (A : Type 0) : Type 0 where
   pub ended : Res (Unit {0})

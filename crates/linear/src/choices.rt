@@ -8,10 +8,10 @@ ghost use lib.ListN.{length};
 ghost use Rattle.linear.specs.Calls.{sharpReply};
 ghost use Rattle.linear.specs.Choose.{chooseOf, sharpOf};
 ghost use Rattle.linear.specs.Replies.{replied};
-use crate::answers::Done;
-use crate::answers::LinearError;
 use crate::flat::at;
 use crate::flat::put;
+use crate::results::Done;
+use crate::results::LinearError;
 use interval::Scalar;
 
 pub fn choose(v: Scalar) -> Scalar

@@ -10,14 +10,12 @@ ghost use mathlib.Core.Path.{_≡_};
 ghost use Prim.Native.Nat.{_≤_};
 ghost use lib.ListN.{length};
 ghost use Rattle.interval.specs.Scalar.{isSharp};
-ghost use Rattle.linear.specs.Answers.{resultOf};
+ghost use Rattle.linear.specs.LinearResult.{resultOf};
 ghost use Rattle.linear.specs.Bounds.{boundsOf, scalarOf, Bounding, Plain, PlainTwo};
 ghost use Rattle.linear.specs.Calls.{dotReply};
 ghost use Rattle.linear.specs.Dot.{plusTo, dotTo, minusTo, pointsFrom};
 ghost use Rattle.linear.specs.Flat.{at, along};
 ghost use Rattle.linear.specs.Lengths.{BothInside, ThreeInside};
-use crate::answers::Answer;
-use crate::answers::LinearError;
 use crate::bounds::Bounds;
 use crate::bounds::bounds_of;
 use crate::bounds::is_proper;
@@ -30,6 +28,8 @@ use crate::flat::at;
 use crate::flat::at_inside;
 use crate::flat::both_inside;
 use crate::flat::is_row_inside;
+use crate::results::LinearError;
+use crate::results::LinearResult;
 use interval::Scalar;
 
 // The bounds of the first terms of a sum, and how many they are.
@@ -417,17 +417,17 @@ pub fn dot_of(a: &[f64], b: &[f64], n: usize) -> Scalar
 }
 
 // Σ a b, folded from zero.
-pub fn dot(n: usize, a: &[f64], b: &[f64]) -> Answer
+pub fn dot(n: usize, a: &[f64], b: &[f64]) -> LinearResult
     ensures { λ r. ⌜ resultOf r ≡ dotReply n (now (a .entry)) (now (b .entry)) ⌝ }
 {
     if n > 24 {
-        return Answer::Refused(LinearError::TooMany);
+        return LinearResult::Refused(LinearError::TooMany);
     }
     if a.len() != 2 * n {
-        return Answer::Refused(LinearError::WrongLength);
+        return LinearResult::Refused(LinearError::WrongLength);
     }
     if b.len() != 2 * n {
-        return Answer::Refused(LinearError::WrongLength);
+        return LinearResult::Refused(LinearError::WrongLength);
     }
-    Answer::Value(dot_of(a, b, n))
+    LinearResult::Value(dot_of(a, b, n))
 }

@@ -6,19 +6,19 @@ ghost use mathlib.Core.Bool.{false};
 ghost use Prim.Native.Nat.{_*_, _<_, _≤_};
 ghost use lib.ListN.{length, replicate};
 ghost use Rattle.interval.specs.Result as scalar;
-ghost use Rattle.linear.specs.Answers.{doneOf};
+ghost use Rattle.linear.specs.LinearResult.{doneOf};
 ghost use Rattle.linear.specs.Calls.{choleskyReply, blank};
 ghost use Rattle.linear.specs.Cholesky.{usable, rootPivot, pivotOf, choleskyOf, factorOf};
 ghost use Rattle.linear.specs.CholeskyRows.{pivotResult, entryStep, clearRow, settle, pivotStep, rowStep};
 ghost use Rattle.linear.specs.Lengths.{FactorLengths};
 ghost use Rattle.linear.specs.Replies.{replied, replyOf};
 ghost use Rattle.linear.specs.Results.{foldR};
-use crate::answers::Done;
-use crate::answers::LinearError;
 use crate::dots::rows_minus;
 use crate::flat::at;
 use crate::flat::clear;
 use crate::flat::put;
+use crate::results::Done;
+use crate::results::LinearError;
 use crate::store::store;
 use interval::GeopError;
 use interval::Scalar;
@@ -110,7 +110,7 @@ fn clear_row(n: usize, l: &mut [f64], i: usize)
 }
 
 // Stores a pivot, or leaves its row out.
-fn settle_pivot(n: usize, l: &mut [f64], left_out: &mut [bool], i: usize, p: Pivoted) -> Done
+fn store_pivot(n: usize, l: &mut [f64], left_out: &mut [bool], i: usize, p: Pivoted) -> Done
     requires { ⌜ (i < n) × FactorLengths n (length (now l)) (length (now «left_out»)) ⌝ }
     ensures { λ r. ⌜ doneOf r (factorOf (now (l .exit)) (now («left_out» .exit)))
         ≡ settle n (now («left_out» .entry)) i (now (l .entry)) (pivotResult p) ⌝ }
@@ -137,7 +137,7 @@ fn pivot_row(n: usize, a: &[f64], l: &mut [f64], left_out: &mut [bool], i: usize
 {
     let row = i * n;
     let s = rows_minus(l, row, row, at(a, row + i), i);
-    settle_pivot(n, l, left_out, i, pivot_of(s))
+    store_pivot(n, l, left_out, i, pivot_of(s))
 }
 
 // Row i of the factor.

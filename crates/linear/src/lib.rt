@@ -6,7 +6,6 @@
 // nothing written, and 5 or 6 in the Rust's order of operations, with the output slice all +0. Inputs are never
 // written. `at`, `along`, the sums of products and `minus_scaled` read NaN outside a slice, and `put` and
 // `minus_scaled` change nothing there.
-mod answers;
 mod bounds;
 mod choices;
 mod dots;
@@ -14,14 +13,12 @@ mod factor;
 mod flat;
 mod householder;
 mod norms;
+mod results;
 mod scaled;
 mod solved;
 mod store;
 mod substitution;
 
-pub use answers::Answer;
-pub use answers::Done;
-pub use answers::LinearError;
 pub use choices::choose;
 pub use choices::sharp;
 pub use dots::Two;
@@ -38,6 +35,9 @@ pub use flat::clear;
 pub use flat::put;
 pub use householder::least_squares;
 pub use norms::norm;
+pub use results::Done;
+pub use results::LinearError;
+pub use results::LinearResult;
 pub use scaled::minus_scaled;
 pub use solved::gram_factor;
 pub use solved::minus_factored;

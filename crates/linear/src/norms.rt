@@ -5,15 +5,15 @@ ghost use mathlib.Core.Path.{_≡_};
 ghost use Prim.Native.Nat.{_<_};
 ghost use Rattle.interval.specs.Result as scalar;
 ghost use Rattle.interval.specs.Scalar.{mulOf};
-ghost use Rattle.linear.specs.Answers.{resultOf};
+ghost use Rattle.linear.specs.LinearResult.{resultOf};
 ghost use Rattle.linear.specs.Calls.{normReply};
 ghost use Rattle.linear.specs.Dot.{dotTo};
 ghost use Rattle.linear.specs.Flat.{at};
 ghost use Rattle.linear.specs.Norm.{largestTo, times, scaledSquares, scaledRoot, normOf};
-use crate::answers::Answer;
-use crate::answers::LinearError;
 use crate::dots::dot_of;
 use crate::flat::at;
+use crate::results::LinearError;
+use crate::results::LinearResult;
 use interval::Scalar;
 use interval::ScalarResult;
 use interval::greater_of;
@@ -93,24 +93,24 @@ pub fn norm_of(v: &[f64], n: usize) -> ScalarResult
 }
 
 // A scalar's result as the answer of a call.
-fn answer(r: ScalarResult) -> Answer
+fn answer(r: ScalarResult) -> LinearResult
     ensures { λ a. ⌜ resultOf a ≡ scalar.resultOf r ⌝ }
 {
     match r {
-        ScalarResult::Value(x) => Answer::Value(x),
-        ScalarResult::Refused(e) => Answer::Refused(LinearError::Arithmetic(e)),
+        ScalarResult::Value(x) => LinearResult::Value(x),
+        ScalarResult::Refused(e) => LinearResult::Refused(LinearError::Arithmetic(e)),
     }
 }
 
 // The root of the sum of squares of v.
-pub fn norm(n: usize, v: &[f64]) -> Answer
+pub fn norm(n: usize, v: &[f64]) -> LinearResult
     ensures { λ r. ⌜ resultOf r ≡ normReply n (now (v .entry)) ⌝ }
 {
     if n > 24 {
-        return Answer::Refused(LinearError::TooMany);
+        return LinearResult::Refused(LinearError::TooMany);
     }
     if v.len() != 2 * n {
-        return Answer::Refused(LinearError::WrongLength);
+        return LinearResult::Refused(LinearError::WrongLength);
     }
     answer(norm_of(v, n))
 }

@@ -10,8 +10,6 @@ ghost use Rattle.linear.specs.Lengths.{Counts, OutputLengths, FactorLeng
 ghost use Rattle.linear.specs.Replies.{replied, replyOf};
 ghost use Rattle.linear.specs.Solved.{gramAt, LowerRows, minusAt, minusOf, minusSolvedOf, gramFactorOf};
 ghost use Rattle.linear.specs.Solved.{minusFactoredOf};
-use crate::answers::Done;
-use crate::answers::LinearError;
 use crate::choices::choose;
 use crate::dots::minus_dot;
 use crate::dots::row_dot;
@@ -21,6 +19,8 @@ use crate::factor::factor_sized;
 use crate::flat::at;
 use crate::flat::clear;
 use crate::flat::put;
+use crate::results::Done;
+use crate::results::LinearError;
 use crate::substitution::cleared;
 use crate::substitution::solve_sized;
 use interval::Scalar;

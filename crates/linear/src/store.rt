@@ -1,11 +1,11 @@
 // A scalar that may be refused, stored.
 ghost use mathlib.Core.Path.{_≡_};
 ghost use Rattle.interval.specs.Result as scalar;
-ghost use Rattle.linear.specs.Answers.{doneOf};
+ghost use Rattle.linear.specs.LinearResult.{doneOf};
 ghost use Rattle.linear.specs.Substitution.{storeR};
-use crate::answers::Done;
-use crate::answers::LinearError;
 use crate::flat::put;
+use crate::results::Done;
+use crate::results::LinearError;
 use interval::ScalarResult;
 
 // Stores a value, or hands its refusal on.

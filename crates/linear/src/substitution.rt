@@ -3,18 +3,18 @@
 ghost use mathlib.Core.Path.{_≡_};
 ghost use Prim.Native.Nat.{_*_, _<_, _≤_};
 ghost use lib.ListN.{length};
-ghost use Rattle.linear.specs.Answers.{doneOf};
+ghost use Rattle.linear.specs.LinearResult.{doneOf};
 ghost use Rattle.linear.specs.Calls.{solveReply};
 ghost use Rattle.linear.specs.Flat.{zeros};
 ghost use Rattle.linear.specs.Lengths.{OutputLengths};
 ghost use Rattle.linear.specs.Replies.{replied, replyOf};
 ghost use Rattle.linear.specs.Results.{foldR};
 ghost use Rattle.linear.specs.Substitution.{forwardStep, backStep, solveOf};
-use crate::answers::Done;
-use crate::answers::LinearError;
 use crate::dots::minus_dot;
 use crate::flat::at;
 use crate::flat::clear;
+use crate::results::Done;
+use crate::results::LinearError;
 use crate::store::store;
 
 // y[i], from those before it.

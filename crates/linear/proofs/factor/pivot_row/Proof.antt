@@ -30,8 +30,8 @@ rows-minus-requires c κs =
 pivot-of-requires : tie.Need-pivot-of-requires
 pivot-of-requires c κs = search needs
 
-settle-pivot-requires : tie.Need-settle-pivot-requires
-settle-pivot-requires c κs = search needs
+store-pivot-requires : tie.Need-store-pivot-requires
+store-pivot-requires c κs = search needs
 
 same-length : tie.Need-same-length
 same-length c = search needs
@@ -47,7 +47,7 @@ returns c =
       ← k .before .before .before .before .at .ensures,
       ← k .before .before .before .rows-minus .ensures,
       ← k .pivot-of .ensures,
-    ) (c .before .before .before .before .settle-pivot .ensures)
+    ) (c .before .before .before .before .store-pivot .ensures)
 
 pub pivot-row-spec : {M : Type 1} → statement M
 pivot-row-spec =
@@ -58,7 +58,7 @@ pivot-row-spec =
     at-requires
     rows-minus-requires
     pivot-of-requires
-    settle-pivot-requires
+    store-pivot-requires
     same-length
     same-length-2
     returns)

@@ -6,7 +6,7 @@ use Prim.Native.Nat.{_*_, min}
 use native.Mathlib.Omega.{arith}
 use borrow.Author.Needs.{needs}
 use lib.ListN.{length, replicate}
-use Rattle.linear.specs.Answers.{doneOf}
+use Rattle.linear.specs.LinearResult.{doneOf}
 use Rattle.linear.specs.Results.{bind, foldR}
 use Rattle.linear.specs.Flat.{zeros}
 use Rattle.linear.specs.Cholesky.{factorOf}

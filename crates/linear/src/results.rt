@@ -1,4 +1,4 @@
-// How a call ends: the numbers are given in specs/Answers.antt.
+// How a call ends: the numbers are given in specs/LinearResult.antt.
 use interval::GeopError;
 use interval::Scalar;
 
@@ -9,7 +9,7 @@ pub enum LinearError {
 }
 
 // Of a function that gives a scalar.
-pub enum Answer {
+pub enum LinearResult {
     Value(Scalar),
     Refused(LinearError),
 }

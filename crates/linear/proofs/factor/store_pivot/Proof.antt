@@ -1,10 +1,10 @@
--- `settle_pivot` meets its contract: each arm is the definition's.
+-- `store_pivot` meets its contract: each arm is the definition's.
 use Prim.Native.Nat.{_*_, _≤_}
 use native.Mathlib.Omega.{arith}
 use borrow.Author.Needs.{needs}
 use Rattle.linear.proofs.Cells.{product-small}
-use Rattle.linear.proofs.factor.settle_pivot.Statement.{statement}
-use Rattle.linear.proofs.factor.settle_pivot.Tie as tie
+use Rattle.linear.proofs.factor.store_pivot.Statement.{statement}
+use Rattle.linear.proofs.factor.store_pivot.Tie as tie
 
 row : (s : tie.Start) → s .args .i * s .args .n ≤ 576
 row s = product-small (omega arith) (omega arith)
@@ -51,8 +51,8 @@ returns-2 c = rw (c .before .before .before .before .enum-told .given .1, c .bef
 returns-3 : tie.Need-returns-3
 returns-3 c = rw (c .before .p2 .given .1)
 
-pub settle-pivot-spec : {M : Type 1} → statement M
-settle-pivot-spec =
+pub store-pivot-spec : {M : Type 1} → statement M
+store-pivot-spec =
     tie.close
     (tie.spec
     enum-known-p

@@ -1,14 +1,14 @@
--- What each answer of a linear function means: document 01's number of a refusal, and the value.
+-- What each answer of a linear function means: the number of a refusal (PROTOCOL, Refusals), and the value.
 use Prim.Native.Nat.{ℕ}
 use Rattle.interval.specs.Result.{Res, ok, refused}
 use Rattle.interval.specs.Result as scalar
 use Rattle.interval.specs.declared.Scalar.{Scalar}
-use Rattle.linear.specs.declared.answers.LinearError.{LinearError}
-use Rattle.linear.specs.declared.answers.LinearError.the-variants as e
-use Rattle.linear.specs.declared.answers.Answer.{Answer}
-use Rattle.linear.specs.declared.answers.Answer.the-variants as a
-use Rattle.linear.specs.declared.answers.Done.{Done}
-use Rattle.linear.specs.declared.answers.Done.the-variants as d
+use Rattle.linear.specs.declared.results.LinearError.{LinearError}
+use Rattle.linear.specs.declared.results.LinearError.the-variants as e
+use Rattle.linear.specs.declared.results.LinearResult.{LinearResult}
+use Rattle.linear.specs.declared.results.LinearResult.the-variants as a
+use Rattle.linear.specs.declared.results.Done.{Done}
+use Rattle.linear.specs.declared.results.Done.the-variants as d
 
 -- 1: a count above 24. 2: a slice of the wrong length. 5 and 6: the scalars' refusals
 abbrev pub numberOf : LinearError → ℕ
@@ -16,7 +16,7 @@ numberOf e.TooMany = 1
 numberOf e.WrongLength = 2
 numberOf (e.Arithmetic g) = scalar.numberOf g
 
-abbrev pub resultOf : Answer → Res Scalar
+abbrev pub resultOf : LinearResult → Res Scalar
 resultOf (a.Value x) = ok x
 resultOf (a.Refused k) = refused (numberOf k)
 
