@@ -1,5 +1,5 @@
 //! Calls that no honest caller makes: runs and areas altered between calls, wrong lengths, numbers outside the domain,
-//! replies out of turn. Each call must end, be refused with the number of document 01's table and then change not one
+//! replies out of turn. Each call must end, be refused with the number of PROTOCOL, Refusals, and then change not one
 //! bit of run and area, and leave a canonical area else.
 
 mod altered;

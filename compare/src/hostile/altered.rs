@@ -39,7 +39,7 @@ pub const MARKS: [Named<bool>; 2] = [
     ("plain", |run| &mut run.plain),
 ];
 
-/// The limits of document 01, and beside them; what sums and products overflow at; the extremes.
+/// The limits of the protocol, and beside them; what sums and products overflow at; the extremes.
 const NUMBERS: [usize; 22] = [
     0,
     1,

@@ -1,4 +1,4 @@
-//! The refusals of document 01's table, worked out from its text: which number a call gets, before anything is done.
+//! The refusals (PROTOCOL, Refusals), worked out from the text: which number a call gets, before anything is done.
 
 use crate::archive::Run;
 use crate::runs::problem::{MOST, Sizes, in_domain};

@@ -1,4 +1,4 @@
-//! What a call answers, in document 01's words, with the point that goes with it. Kinds: 0 start, 1 trial, 2
+//! What a call answers, in the protocol's words, with the point that goes with it. Kinds: 0 start, 1 trial, 2
 //! correction. Stops: 0 infeasible, 1 nochange, 2 undecided, 3 flat, 4 damped, 5 budget. Rejections: 0 none, 1
 //! notpositive, 2 infeasible, 3 unresolved, 4 notlower.
 

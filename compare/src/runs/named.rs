@@ -1,4 +1,4 @@
-//! Problems by name: the known answers, what is rare at random, and the traps of document 01. Together they show all
+//! Problems by name: the known answers, what is rare at random, and the traps. Together they show all
 //! that `tally::expected` lists.
 
 use crate::runs::problem::{Problem, Reply, Sizes, Source};
@@ -139,7 +139,7 @@ fn rare() -> Vec<Problem> {
     ]
 }
 
-/// What document 01 calls traps.
+/// Traps: what looks right on most drawings.
 fn traps() -> Vec<Problem> {
     let about = |x: f64| ends(x - 1.0, x + 1.0);
     let (one, two) = ([at(8.0)], [at(0.0), at(0.0)]);

@@ -60,7 +60,7 @@ pub fn point(run: Run, area: &[f64]) -> &[f64] {
     &area[place..place + yadzvego_point_length(run, area.len())]
 }
 
-/// Document 01's words for an answer, given the run and the area after the call.
+/// The protocol's words for an event, given the run and the area after the call.
 pub fn answer(run: Run, area: &[f64], told: EventNumbers) -> Answer {
     let point = || words(point(run, area));
     match told.which {

@@ -1,5 +1,6 @@
 -- A list of calls from its begin, as `play` makes them: the calls that the codes name, the fold of demand 3's `played`
--- over them, and what demand 3 (document 01; run's specs/Demand.antt) says of what is left after the last.
+-- over them, and what demand 3 (PROTOCOL, What holds of every list of calls; run's specs/Demand.antt) says of what is
+-- left after the last.
 use Prim.Native.Nat.{ℕ, zero, suc, _-_, _/_, _%_}
 use mathlib.Core.Path.{_≡_}
 use mathlib.Core.Bool.{Bool, false}

@@ -1,4 +1,4 @@
--- Document 01, "Known answers": P1 to P13 in one table, over the definitions that the contracts cite. Bit patterns are
+-- PROTOCOL, Known answers: P1 to P13 in one table, over the definitions that the contracts cite. Bit patterns are
 -- hexadecimal.
 use Prim.Native.Nat.{ℕ, _+_, _*_}
 use mathlib.Core.Path.{_≡_}

@@ -1,4 +1,5 @@
-// Prints the known answers of document 01: what the crates give for P1 to P13, then the cases that are executed only.
+// Prints the known answers (PROTOCOL, Known answers): what the crates give for P1 to P13, then the cases that are
+// executed only.
 // That the definitions give P1 to P13 is proved (proofs/KnownAnswers.antt).
 mod printing;
 mod runs;

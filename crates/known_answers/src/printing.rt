@@ -1,4 +1,4 @@
-// What the program prints: floats by their bits, and the answers of the crates with document 01's numbers.
+// What the program prints: floats by their bits, and the answers of the crates with the protocol's numbers.
 use float_bits::bits_of;
 use float_bits::print_word;
 use interval::GeopError;

@@ -1,4 +1,5 @@
-// Document 01's known answers about runs, P10 to P13, and the cases that it has executed only: each is played by
+// The known answers about runs (PROTOCOL, Known answers), P10 to P13, and the cases that it has executed only: each is
+// played by
 // `begin`, `reply` and `reply_none`.
 use crate::printing::print;
 use crate::printing::print_case;

@@ -1,4 +1,4 @@
-// Document 01's known answers about scalars: P1 to P9.
+// The known answers about scalars (PROTOCOL, Known answers): P1 to P9.
 use crate::printing::print;
 use crate::printing::print_float;
 use crate::printing::print_result;

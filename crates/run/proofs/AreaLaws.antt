@@ -288,7 +288,7 @@ module _ {ls : List (List Float)} {a : List Float} (h : Slots ls a) where
 pub room : (base size : ℕ) {n long : ℕ} → n ≤ size → base + size ≤ 8000 → long ≡ 8000 → base + n ≤ long
 room base size h l e = omega arith
 
--- ---- an area made tidy
+-- ---- an area with its unused numbers cleared
 
 pub start-more : (ns : List ℕ) (k : ℕ) → startOf ns (k + 1) ≡ startOf ns k + getD ns k 0
 unfolding startOf
@@ -316,14 +316,14 @@ pub record Fitting (sizes used : List ℕ) (d : List Float) : Type 0 where
   pub inside : startOf sizes (length sizes) ≤ length d
 
 -- what a loop that clears the rest of each slot has left after k turns
-pub record Tidying (sizes used : List ℕ) (d : List Float) (k base : ℕ) (a : List Float) : Type 0 where
+pub record Clearing (sizes used : List ℕ) (d : List Float) (k base : ℕ) (a : List Float) : Type 0 where
   pub long : length a ≡ length d
   pub begins : base ≡ startOf sizes k
   pub is : a ≡ clearedTo sizes used d k ++ drop base d
 
-pub tidying : (sizes used : List ℕ) (d : List Float) → Tidying sizes used d 0 0 d
+pub clearing : (sizes used : List ℕ) (d : List Float) → Clearing sizes used d 0 0 d
 unfolding clearedTo startOf
-tidying sizes used d = record { long = refl; begins = refl; is = refl }
+clearing sizes used d = record { long = refl; begins = refl; is = refl }
 
 module _ (sizes used : List ℕ) (d : List Float) (fit : Fitting sizes used d) where
   length-tidied : (k : ℕ) → k ≤ length sizes → length (clearedTo sizes used d k) ≡ startOf sizes k
@@ -338,11 +338,11 @@ module _ (sizes used : List ℕ) (d : List Float) (fit : Fitting sizes used d) w
         length-kept d (startOf sizes k) (getD sizes k 0) (getD used k 0) (fit .below k h) (omega arith),
       )
 
-  pub tidied-more : {k base : ℕ} {a b : List Float} → Tidying sizes used d k base a → k < length sizes
+  pub cleared-more : {k base : ℕ} {a b : List Float} → Clearing sizes used d k base a → k < length sizes
       → b ≡ written a (base + getD used k 0) (zeros (getD sizes k 0 - getD used k 0))
-      → Tidying sizes used d (k + 1) (base + getD sizes k 0) b
+      → Clearing sizes used d (k + 1) (base + getD sizes k 0) b
   unfolding clearedTo startOf
-  tidied-more {k} {base} {a} {b} t h q =
+  cleared-more {k} {base} {a} {b} t h q =
       let n = getD sizes k 0 in
       let u = getD used k 0 in
       let below : u ≤ n = fit .below k h in
@@ -370,9 +370,9 @@ module _ (sizes used : List ℕ) (d : List Float) (fit : Fitting sizes used d) w
         is = rw (add-one, m) i;
       }
 
-  pub tidied-whole : {k base : ℕ} {a : List Float} → Tidying sizes used d k base a → k ≡ length sizes
+  pub cleared-whole : {k base : ℕ} {a : List Float} → Clearing sizes used d k base a → k ≡ length sizes
       → a ≡ clearedTo sizes used d (length sizes) ++ drop (startOf sizes (length sizes)) d
-  tidied-whole {k} t e = rw (← e) (t .is ∙ ap (λ (b : ℕ). clearedTo sizes used d k ++ drop b d) (t .begins))
+  cleared-whole {k} t e = rw (← e) (t .is ∙ ap (λ (b : ℕ). clearedTo sizes used d k ++ drop b d) (t .begins))
 
   -- and the end behind all slots
   pub tidied-end : (n : ℕ) {a b : List Float} → startOf sizes (length sizes) + n ≡ length d

@@ -14,7 +14,7 @@ use Rattle.interval.specs.declared.Scalar.{Scalar}
 use Rattle.interval.specs.Result.{Res, ok, refused}
 use Rattle.interval.specs.Scalar.{zeroS, pick, negOf, divOf, sqrtOf, sharpen, definitelyGreater}
 use Rattle.interval.proofs.Results.{ok-inj, refused-ok}
-use Rattle.linear.specs.Answers.{numberOf, resultOf, doneOf}
+use Rattle.linear.specs.LinearResult.{numberOf, resultOf, doneOf}
 use Rattle.linear.specs.Choose.{chooseOf, sharpOf}
 use Rattle.linear.specs.Dot.{dotTo, minusTo}
 use Rattle.linear.specs.Flat.{at, along, put, listTo}
@@ -22,11 +22,11 @@ use Rattle.linear.specs.Householder.{leastSquaresOf}
 use Rattle.linear.specs.Norm.{normOf}
 use Rattle.linear.specs.Results.{bind, foldR}
 use Rattle.linear.specs.Substitution.{storeR}
-use Rattle.linear.specs.declared.answers.Answer.{Answer}
-use Rattle.linear.specs.declared.answers.Answer.the-variants as answer
-use Rattle.linear.specs.declared.answers.Done.{Done}
-use Rattle.linear.specs.declared.answers.Done.the-variants as done
-use Rattle.linear.specs.declared.answers.LinearError.{LinearError}
+use Rattle.linear.specs.declared.results.LinearResult.{LinearResult}
+use Rattle.linear.specs.declared.results.LinearResult.the-variants as answer
+use Rattle.linear.specs.declared.results.Done.{Done}
+use Rattle.linear.specs.declared.results.Done.the-variants as done
+use Rattle.linear.specs.declared.results.LinearError.{LinearError}
 use Rattle.linear.proofs.Agree.{normOf-ext, minusTo-ext, dotTo-ext}
 use Rattle.linear.proofs.Folds.{turn, ends, bind-value, bind-ok, bind-refused}
 use Rattle.linear.proofs.Reflections.{rows-positive}
@@ -90,7 +90,7 @@ unfolding bind
 done-bind done.Finished x f = refl
 done-bind (done.Refused e) x f = refl
 
-module _ (k r i : ℕ) (jc q gram c w : List Float) (o : List ℕ) (v v′ c′ : List Float) (a : Answer)
+module _ (k r i : ℕ) (jc q gram c w : List Float) (o : List ℕ) (v v′ c′ : List Float) (a : LinearResult)
     (ev : v ≡ fillTo vector 0 (row jc i) k) (et : takenBy v′ c′ ≡ partsOut k r q (takenBy v c) r)
     (el : resultOf a ≡ normOf (at v′) k) where
   -- the steps after the parts are out
@@ -135,7 +135,7 @@ module _ (k r : ℕ) (q gram gram′ : List Float) (d : Done) (eg : doneOf d gra
 
 -- ---- one row, from what each call gives
 
-module _ (k r i : ℕ) (wide jc q gram c w : List Float) (o : List ℕ) (x : Answer) (a : List Float)
+module _ (k r i : ℕ) (wide jc q gram c w : List Float) (o : List ℕ) (x : LinearResult) (a : List Float)
     (measured
     : (f : List Float → Scalar → Res Basis)
     → bind (resultOf x) (f a) ≡ measuredBy (rowProblem k wide []) (basisBy r q gram [] [] []) i f) where

@@ -15,7 +15,8 @@ use lib.Seq.{getD-drop, getD-take}
 use Rattle.interval.specs.declared.Scalar.{Scalar}
 use Rattle.interval.specs.Scalar.{zero64}
 use Rattle.run.specs.Rows.{rowNumbers}
-use Rattle.run.specs.Area.{POINT-LEN, ROWS-LEN, CURVATURE-LEN, FILTER-LEN, SPARE-LEN, SIZES, Memory, areaOf, memoryOf}
+use Rattle.run.specs.Area.{POINT-LEN, ROWS-LEN, CURVATURE-LEN, FILTER-LEN, SPARE-LEN, SIZES, Memory, areaOf}
+use Rattle.run.specs.Area.{memoryOf}
 use Rattle.run.specs.Limits.{AREA}
 use Rattle.run.specs.Area.{begunMemory, startOf, usedIn}
 use Rattle.run.specs.program.Area.{slotsOf}
@@ -34,11 +35,11 @@ use Rattle.run.proofs.AreaLaws.{Slots, slots-of, slot-read, slots-lengt
 use Rattle.run.proofs.Booleans.{and-left, and-right}
 use Rattle.run.proofs.CheckLaws.{Bounds, bounds, SizeBounds, size-bounds, checked}
 use Rattle.run.specs.program.Area.{ZeroBehind, SlotsZeroBehind}
-use Rattle.run.proofs.ZeroBehind.{tidy-zeros, tidy-padded, reads-tidy, all-tidy}
+use Rattle.run.proofs.ZeroBehind.{behind-zeros, behind-padded, reads-behind, all-behind}
 use Rattle.run.proofs.AreaRead.{rows-fit}
 use Rattle.run.proofs.ZeroBehindKept.{AtWork, Kept, answered-kept, answered-none-kept}
 
--- ---- the area of a tidy memory
+-- ---- the area of a memory that is +0 behind its numbers in use
 
 -- a place inside a list reads the same whatever is read beyond it
 read-inside : (xs : List Float) (j : ℕ) (d e : Float) → j < length xs → getD xs j d ≡ getD xs j e
@@ -47,17 +48,17 @@ read-inside (x ∷ xs) zero d e h = refl
 read-inside (x ∷ xs) (suc j) d e h = read-inside xs j d e (le-of-suc-le-suc h)
 
 module _ (used : List ℕ) (w : Memory) (t : SlotsZeroBehind used w) where
-  slot-tidy : (k : ℕ) → k < 9 → ZeroBehind (getD SIZES k 0) (getD used k 0) (getD (slotsOf w) k [])
-  slot-tidy zero h = t .standing
-  slot-tidy (suc zero) h = t .landed
-  slot-tidy (suc (suc zero)) h = t .asked
-  slot-tidy (suc (suc (suc zero))) h = t .standing-rows
-  slot-tidy (suc (suc (suc (suc zero)))) h = t .landed-rows
-  slot-tidy (suc (suc (suc (suc (suc zero))))) h = t .step
-  slot-tidy (suc (suc (suc (suc (suc (suc zero)))))) h = t .multipliers
-  slot-tidy (suc (suc (suc (suc (suc (suc (suc zero))))))) h = t .curvature
-  slot-tidy (suc (suc (suc (suc (suc (suc (suc (suc zero)))))))) h = t .filter
-  slot-tidy (suc (suc (suc (suc (suc (suc (suc (suc (suc k))))))))) h = absurd (omega arith)
+  slot-behind : (k : ℕ) → k < 9 → ZeroBehind (getD SIZES k 0) (getD used k 0) (getD (slotsOf w) k [])
+  slot-behind zero h = t .standing
+  slot-behind (suc zero) h = t .landed
+  slot-behind (suc (suc zero)) h = t .asked
+  slot-behind (suc (suc (suc zero))) h = t .standing-rows
+  slot-behind (suc (suc (suc (suc zero)))) h = t .landed-rows
+  slot-behind (suc (suc (suc (suc (suc zero))))) h = t .step
+  slot-behind (suc (suc (suc (suc (suc (suc zero)))))) h = t .multipliers
+  slot-behind (suc (suc (suc (suc (suc (suc (suc zero))))))) h = t .curvature
+  slot-behind (suc (suc (suc (suc (suc (suc (suc (suc zero)))))))) h = t .filter
+  slot-behind (suc (suc (suc (suc (suc (suc (suc (suc (suc k))))))))) h = absurd (omega arith)
 
   area-slots : Slots (slotsOf w) (areaOf w)
   area-slots =
@@ -78,7 +79,7 @@ module _ (used : List ℕ) (w : Memory) (t : SlotsZeroBehind used w) where
   slot-cleared k j h u l =
       let s = startOf SIZES k in
       let n = getD SIZES k 0 in
-      let x = slot-tidy k h in
+      let x = slot-behind k h in
       sym (getD-drop s (areaOf w) j nan) ∙ sym (getD-take n (drop s (areaOf w)) j nan l)
       ∙ ap (λ (xs : List Float). getD xs j nan) (slot-read area-slots k h)
       ∙ read-inside (getD (slotsOf w) k []) j nan zero64 (omega (arith, x .long))
@@ -92,8 +93,8 @@ module _ (used : List ℕ) (w : Memory) (t : SlotsZeroBehind used w) where
       ap (λ (p : ℕ). getD (areaOf w) p nan) e ∙ spare-read area-slots j
       ∙ getD-replicate SPARE-LEN j zero64 nan (omega arith)
 
-tidy-cleared : (st : State) (w : Memory) → SlotsZeroBehind (usedIn st) w → Cleared st (areaOf w)
-tidy-cleared st w t =
+behind-cleared : (st : State) (w : Memory) → SlotsZeroBehind (usedIn st) w → Cleared st (areaOf w)
+behind-cleared st w t =
     record {
       whole = slots-length (area-slots (usedIn st) w t);
       remainders = slot-cleared (usedIn st) w t;
@@ -102,12 +103,12 @@ tidy-cleared st w t =
 
 -- ---- what a call reads
 
-read-tidy : (st : State) (a : List Float) → Bounds st → AtWork st (memoryOf st a)
-read-tidy st a b =
+read-behind : (st : State) (a : List Float) → Bounds st → AtWork st (memoryOf st a)
+read-behind st a b =
     let s = b .sizes in
     let fit : st .counts .iterations ≤ 200 = omega (arith, s .limit, b .iterations) in
-    all-tidy st (memoryOf st a)
-    (reads-tidy st a (record { n = s .n; m = s .m; s = s .s; iterations-fit = fit }))
+    all-behind st (memoryOf st a)
+    (reads-behind st a (record { n = s .n; m = s .m; s = s .s; iterations-fit = fit }))
 
 -- ---- the replies
 
@@ -125,7 +126,7 @@ module _ (st : State) (a : List Float) where
   kept-replied o k =
       record {
         sizes-kept = k .sizes-kept;
-        cleared = λ e. tidy-cleared (o .state) (o .memory) (k .tidy);
+        cleared = λ e. behind-cleared (o .state) (o .memory) (k .zero-behind);
         unchanged = λ e. absurd (true≢false (sym e ∙ k .past-checks));
         follows = λ e. k .follows;
       }
@@ -148,7 +149,7 @@ reply-leaves st a rows =
         (λ d.
         let l = eqb-true _ _ (and-right (eqb (length a) AREA) many e) in
         kept-replied st a (answered k st (memoryOf st a) rows)
-        (answered-kept st (memoryOf st a) (read-tidy st a b) rows
+        (answered-kept st (memoryOf st a) (read-behind st a b) rows
         (record { many = l; fit = omega (arith, l, rows-fit z (b .sizes)) }) k)))
 
 pub reply-none-leaves : (st : State) (a : List Float) → Replied st a (replyNoneOf st a)
@@ -163,24 +164,24 @@ reply-none-leaves st a =
         checked (Replied st a) (eqb (length a) AREA) 2 (unchanged st a) _ (refused-replied st a 2 (omega arith))
         (λ e.
         kept-replied st a (answeredNone k st (memoryOf st a))
-        (answered-none-kept st (memoryOf st a) (read-tidy st a b) k))
+        (answered-none-kept st (memoryOf st a) (read-behind st a b) k))
 
 -- ---- begin
 
-begun-tidy : (z : Sizes) (start : List Float) (max : Scalar) → SizeBounds z → length start ≡ 2 * z .n
+begun-behind : (z : Sizes) (start : List Float) (max : Scalar) → SizeBounds z → length start ≡ 2 * z .n
     → SlotsZeroBehind (usedIn (begunOf z start max .state)) (begunMemory start)
-begun-tidy z start max b e =
-    let point = tidy-padded POINT-LEN (2 * z .n) start (omega arith) (omega (arith, b .n)) in
+begun-behind z start max b e =
+    let point = behind-padded POINT-LEN (2 * z .n) start (omega arith) (omega (arith, b .n)) in
     record {
       standing = point;
-      landed = tidy-zeros POINT-LEN 0;
+      landed = behind-zeros POINT-LEN 0;
       asked = point;
-      standing-rows = tidy-zeros ROWS-LEN 0;
-      landed-rows = tidy-zeros ROWS-LEN 0;
-      step = tidy-zeros POINT-LEN 0;
-      multipliers = tidy-zeros POINT-LEN 0;
-      curvature = tidy-zeros CURVATURE-LEN 0;
-      filter = tidy-zeros FILTER-LEN 0;
+      standing-rows = behind-zeros ROWS-LEN 0;
+      landed-rows = behind-zeros ROWS-LEN 0;
+      step = behind-zeros POINT-LEN 0;
+      multipliers = behind-zeros POINT-LEN 0;
+      curvature = behind-zeros CURVATURE-LEN 0;
+      filter = behind-zeros FILTER-LEN 0;
     }
 
 abbrev Begun : AfterCall → Type 0
@@ -200,8 +201,8 @@ begin-cleared z start max a =
     (λ q.
     checked Begun (allInDomain start (z .n) && stepFits max) 3 (unchanged noRun a) _ (not-accepted a 3)
     (λ r e.
-    tidy-cleared (begunOf z start max .state) (begunMemory start)
-    (begun-tidy z start max (size-bounds z p) (eqb-true _ _ (and-left full (eqb (length a) AREA) q))))))
+    behind-cleared (begunOf z start max .state) (begunMemory start)
+    (begun-behind z start max (size-bounds z p) (eqb-true _ _ (and-left full (eqb (length a) AREA) q))))))
 
 -- a refused begin leaves the area; an accepted one is no refusal
 begin-unchanged :

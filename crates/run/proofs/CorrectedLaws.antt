@@ -9,16 +9,16 @@ use lib.ListN.{length, getD, length-replicate}
 use Rattle.interval.specs.declared.Scalar.{Scalar}
 use Rattle.interval.specs.Result.{Res, ok, refused}
 use Rattle.interval.specs.Scalar.{zeroS, zero64, pick, sharpen}
-use Rattle.linear.specs.Answers.{doneOf, numberOf}
+use Rattle.linear.specs.LinearResult.{doneOf, numberOf}
 use Rattle.linear.specs.Calls.{minusSolvedReply}
 use Rattle.linear.specs.Choose.{chooseOf}
 use Rattle.linear.specs.Flat.{at, zeros, listTo}
 use Rattle.linear.specs.Replies.{replied}
 use Rattle.linear.specs.Results.{bind}
 use Rattle.linear.specs.Solved.{minusSolvedOf}
-use Rattle.linear.specs.declared.answers.Done.{Done}
-use Rattle.linear.specs.declared.answers.Done.the-variants as done
-use Rattle.linear.specs.declared.answers.LinearError.{LinearError}
+use Rattle.linear.specs.declared.results.Done.{Done}
+use Rattle.linear.specs.declared.results.Done.the-variants as done
+use Rattle.linear.specs.declared.results.LinearError.{LinearError}
 use Rattle.linear.proofs.Lists.{length-listTo}
 use Rattle.run.specs.Vectors.{vector, fillTo, chosenOf, allFinite}
 use Rattle.run.specs.Rows.{Rows, constraintSet, constraintsOf, valueAt, slopeAt}

@@ -10,7 +10,7 @@ use lib.Seq.{length-take-le}
 use Rattle.interval.specs.declared.Scalar.{Scalar}
 use Rattle.interval.specs.Result.{Res, ok}
 use Rattle.interval.specs.Scalar.{zeroS, pick, subOf, definitelyNotEqual}
-use Rattle.linear.specs.Answers.{doneOf}
+use Rattle.linear.specs.LinearResult.{doneOf}
 use Rattle.linear.specs.Calls.{minusSolvedReply}
 use Rattle.linear.specs.Choose.{chooseOf}
 use Rattle.linear.specs.Dot.{dotTo}
@@ -18,9 +18,9 @@ use Rattle.linear.specs.Flat.{at, along, zeros, listTo}
 use Rattle.linear.specs.Replies.{replied}
 use Rattle.linear.specs.Results.{bind}
 use Rattle.linear.specs.Solved.{minusSolvedOf}
-use Rattle.linear.specs.declared.answers.Done.{Done}
-use Rattle.linear.specs.declared.answers.Done.the-variants as done
-use Rattle.linear.specs.declared.answers.LinearError.{LinearError}
+use Rattle.linear.specs.declared.results.Done.{Done}
+use Rattle.linear.specs.declared.results.Done.the-variants as done
+use Rattle.linear.specs.declared.results.LinearError.{LinearError}
 use Rattle.linear.proofs.Agree.{dotTo-ext}
 use Rattle.linear.proofs.Lists.{length-listTo}
 use Rattle.linear.proofs.Sums.{along-start}

@@ -1,4 +1,5 @@
--- Rows in the domain are finite: an end between -2^400 and 2^400 is no infinity and no NaN. And they are floats, as all that were answered are.
+-- Rows in the domain are finite: an end between -2^400 and 2^400 is no infinity and no NaN. And they are floats, as all
+-- that were answered are.
 use Prim.Native.Nat.{ℕ, zero, suc, _+_, _*_, _/_, _<_}
 use mathlib.Core.Bool.{Bool, true, false, _&&_}
 use mathlib.Core.Logic.{⊎-elim}
@@ -37,7 +38,8 @@ at-fits : (xs : List Float) → Floats xs → (i : ℕ) → Fits (at xs i)
 unfolding at fits
 at-fits xs f i = by (inside xs i)
   where
-    by : (b : Bool) → Fits (pick b (record { lo = getD xs (2 * i) nan; hi = getD xs (2 * i + 1) nan }) (record { lo = nan; hi = nan }))
+    by : (b : Bool) → Fits
+        (pick b (record { lo = getD xs (2 * i) nan; hi = getD xs (2 * i + 1) nan }) (record { lo = nan; hi = nan }))
     by true = (float-at xs f (2 * i), float-at xs f (2 * i + 1))
     by false = (tt, tt)
 
@@ -68,7 +70,9 @@ domain-finite x e =
 all-of : (p : ℕ → Bool) (k : ℕ) → allTo p k ≡ true → (i : ℕ) → i < k → p i ≡ true
 unfolding allTo
 all-of p zero e i h = absurd (not-suc-le-zero h)
-all-of p (suc k) e i h = ⊎-elim (λ q. ap p q ∙ and-right (allTo p k) (p k) e) (λ l. all-of p k (and-left (allTo p k) (p k) e) i l) (eq-or-lt-of-le (le-of-suc-le-suc h))
+all-of p (suc k) e i h =
+    ⊎-elim (λ q. ap p q ∙ and-right (allTo p k) (p k) e) (λ l. all-of p k (and-left (allTo p k) (p k) e) i l)
+    (eq-or-lt-of-le (le-of-suc-le-suc h))
 
 -- ---- outside the list: a NaN, which is in no domain
 
@@ -90,14 +94,22 @@ none-beyond xs count h =
 
 -- ---- rows
 
-pub domain-rows : (z : Sizes) (xs : List Float) → Floats xs → length xs ≡ rowNumbers (z .n) (z .m) (z .s) → allInDomain xs ((z .m + z .s) * (z .n + 1)) ≡ true → Good z xs
-domain-rows z xs f e d = record { size = e; constraints-finite = λ i h. value (0 + i) (constraint i h); sum-finite = λ i h. value (z .m * (z .n + 1) + i) (residual i h) }
+pub domain-rows : (z : Sizes) (xs : List Float) → Floats xs → length xs ≡ rowNumbers (z .n) (z .m) (z .s)
+    → allInDomain xs ((z .m + z .s) * (z .n + 1)) ≡ true → Good z xs
+domain-rows z xs f e d =
+    record {
+      size = e;
+      constraints-finite = λ i h. value (0 + i) (constraint i h);
+      sum-finite = λ i h. value (z .m * (z .n + 1) + i) (residual i h);
+    }
   where
     value : (i : ℕ) → i < (z .m + z .s) * (z .n + 1) → Fits (at xs i) × Finite (at xs i)
-    value i h = (at-fits xs f i, domain-finite (at xs i) (all-of (λ j. inDomain (at xs j)) ((z .m + z .s) * (z .n + 1)) d i h))
+    value i h =
+        (at-fits xs f i, domain-finite (at xs i) (all-of (λ j. inDomain (at xs j)) ((z .m + z .s) * (z .n + 1)) d i h))
 
     constraint : (i : ℕ) → i < z .m → 0 + i < (z .m + z .s) * (z .n + 1)
     constraint i h = omega (arith, mul-le-mul-left {m = 1} {n = z .n + 1} (z .m + z .s) (omega arith))
 
     residual : (i : ℕ) → i < z .s → z .m * (z .n + 1) + i < (z .m + z .s) * (z .n + 1)
-    residual i h = omega (arith, add-mul (z .m) (z .s) (z .n + 1), mul-le-mul-left {m = 1} {n = z .n + 1} (z .s) (omega arith))
+    residual i h =
+        omega (arith, add-mul (z .m) (z .s) (z .n + 1), mul-le-mul-left {m = 1} {n = z .n + 1} (z .s) (omega arith))

@@ -9,7 +9,7 @@ use lib.Ieee.{Float}
 use lib.ListN.{length, take}
 use lib.Seq.{length-take-le}
 use Rattle.interval.specs.Result.{refused}
-use Rattle.linear.specs.Answers.{doneOf, numberOf}
+use Rattle.linear.specs.LinearResult.{doneOf, numberOf}
 use Rattle.linear.specs.Calls.{blank, gramFactorReply, minusFactoredReply}
 use Rattle.linear.specs.Cholesky.{Factor, factorOf}
 use Rattle.linear.specs.Choose.{chooseOf}
@@ -18,9 +18,9 @@ use Rattle.linear.specs.Flat.{at, along, zeros, listTo}
 use Rattle.linear.specs.Replies.{replied}
 use Rattle.linear.specs.Results.{bind}
 use Rattle.linear.specs.Solved.{gramFactorOf, minusFactoredOf}
-use Rattle.linear.specs.declared.answers.Done.{Done}
-use Rattle.linear.specs.declared.answers.Done.the-variants as done
-use Rattle.linear.specs.declared.answers.LinearError.{LinearError}
+use Rattle.linear.specs.declared.results.Done.{Done}
+use Rattle.linear.specs.declared.results.Done.the-variants as done
+use Rattle.linear.specs.declared.results.LinearError.{LinearError}
 use Rattle.linear.proofs.Lists.{length-listTo}
 use Rattle.linear.proofs.Replied.{done-is, replied-apart}
 use Rattle.linear.proofs.SolvedLaws.{solved-by-factor, solved-refused}

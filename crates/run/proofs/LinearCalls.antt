@@ -8,8 +8,8 @@ use borrow.Author.Tests.{le-leb, eq-eqb}
 use lib.Ieee.{Float}
 use lib.ListN.{length}
 use Rattle.interval.specs.Result.{ok}
-use Rattle.linear.specs.declared.answers.Done.{Done}
-use Rattle.linear.specs.Answers.{doneOf}
+use Rattle.linear.specs.declared.results.Done.{Done}
+use Rattle.linear.specs.LinearResult.{doneOf}
 use Rattle.linear.specs.Flat.{zeros}
 use Rattle.linear.specs.Replies.{Reply, replied, replyOf}
 use Rattle.linear.specs.Cholesky.{Factor, choleskyOf}

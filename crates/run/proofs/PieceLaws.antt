@@ -15,11 +15,11 @@ use lib.ListN.{length, getD, set}
 use lib.Seq.{getD-set-same, getD-set-other, ext-getD}
 use Rattle.interval.specs.Result.{Res, ok, refused}
 use Rattle.interval.proofs.Results.{refused-ok}
-use Rattle.linear.specs.Answers.{doneOf}
+use Rattle.linear.specs.LinearResult.{doneOf}
 use Rattle.linear.specs.Replies.{checkedValue}
 use Rattle.linear.specs.Results.{bind}
-use Rattle.linear.specs.declared.answers.Done.{Done}
-use Rattle.linear.specs.declared.answers.Done.the-variants as done
+use Rattle.linear.specs.declared.results.Done.{Done}
+use Rattle.linear.specs.declared.results.Done.the-variants as done
 use Rattle.run.specs.Rows.{rowNumbers}
 use Rattle.run.specs.Checks.{sizesFit}
 use Rattle.run.specs.Pieces.{sizedOf, wantsOf, stepReplied, stepReplyOf}

@@ -14,7 +14,8 @@ use Rattle.run.proofs.VectorLaws.{length-fillTo}
 abbrev pub sharpSum : List Float → List Float → ℕ → Scalar
 sharpSum x d i = sharpen (addOf (at x i) (at d i))
 
-pub sharp-sum : (x d : List Float) (i : ℕ) {a b s v : Scalar} → a ≡ at x i → b ≡ at d i → s ≡ addOf a b → v ≡ sharpen s → v ≡ sharpSum x d i
+pub sharp-sum : (x d : List Float) (i : ℕ) {a b s v : Scalar} → a ≡ at x i → b ≡ at d i → s ≡ addOf a b → v ≡ sharpen s
+    → v ≡ sharpSum x d i
 sharp-sum x d i ea eb es ev = rw (ev, es, ea, eb)
 
 pub length-moved : (n : ℕ) (x d : List Float) → length (movedOf n x d) ≡ 24

@@ -18,12 +18,12 @@ use Rattle.linear.specs.Results.{bind}
 use Rattle.linear.specs.Dot.{dotTo}
 use Rattle.linear.specs.Choose.{chooseOf, sharpOf}
 use Rattle.linear.specs.Cholesky.{Factor, choleskyOf}
-use Rattle.linear.specs.Answers.{doneOf, numberOf}
+use Rattle.linear.specs.LinearResult.{doneOf, numberOf}
 use Rattle.linear.specs.Calls.{solveReply}
 use Rattle.linear.specs.Replies.{replied}
-use Rattle.linear.specs.declared.answers.Done.{Done}
-use Rattle.linear.specs.declared.answers.Done.the-variants as done
-use Rattle.linear.specs.declared.answers.LinearError.{LinearError}
+use Rattle.linear.specs.declared.results.Done.{Done}
+use Rattle.linear.specs.declared.results.Done.the-variants as done
+use Rattle.linear.specs.declared.results.LinearError.{LinearError}
 use Rattle.linear.specs.Substitution.{solveOf}
 use Rattle.run.specs.Vectors.{vector, matrix, row, fillRows, anyTo, combinedTo}
 use Rattle.linear.proofs.LowerTriangle.{cholesky-entries}
@@ -31,7 +31,7 @@ use Rattle.run.proofs.LinearCalls.{solve-result}
 use Rattle.run.specs.Problem.{Problem}
 use Rattle.run.specs.NullSpace.{Directions}
 use Rattle.run.specs.Reduced.{forceOf, reducedOf, againstOf, Weights, weights, none, weightsOf}
-use Rattle.run.specs.program.Reduced.{curved, spanned, lowerAt, alongOf, solvedWith, addedTo, freePart}
+use Rattle.run.specs.program.Reduced.{curved, spanned, lowerAt, weightsResult, solvedWith, addedTo, freePart}
 use Rattle.run.specs.declared.reduced.WeightsEnd.{WeightsEnd}
 use Rattle.run.specs.declared.reduced.WeightsEnd.the-variants as a
 use Rattle.run.proofs.reduced.WeightsEnd.{the-type}
@@ -117,7 +117,7 @@ module _ (k count : ℕ) (h z : List Float) where
 -- an end that is not the first variant: no weights, so no part along Z, whatever the slice holds
 pub unparted : (end : WeightsEnd) (w delta : List Float) (P : Problem) (d : Directions)
     → OneOf (1 ∷ (2 ∷ [])) (tagOf the-type end)
-    → alongOf end delta ≡ bind (alongOf end w) (λ u. ok (addedTo P delta d u))
+    → weightsResult end delta ≡ bind (weightsResult end w) (λ u. ok (addedTo P delta d u))
 unfolding bind
 unparted a.Found w delta P d k = absurd (⊎-elim (λ e. omega (arith, e)) (λ e. omega (arith, e)) k)
 unparted a.NotPositive w delta P d k = refl
@@ -126,9 +126,9 @@ unparted (a.Refused e) w delta P d k = refl
 -- the weights, added: w′ is the front of the array that they were written to
 pub parted-with : (k count : ℕ) (h z g delta : List Float) {f w w′ delta′ : List Float} {end : WeightsEnd}
     → f ≡ forceOf (curved k h g) delta
-    → alongOf end w ≡ solvedWith count (reducedOf (curved k h vector) (spanned count z))
+    → weightsResult end w ≡ solvedWith count (reducedOf (curved k h vector) (spanned count z))
     (againstOf (curved k h vector) (spanned count z) f)
     → end ≡ a.Found → w′ ≡ w → delta′ ≡ combinedTo k w′ z delta count
-    → alongOf end delta′ ≡ freePart (curved k h g) delta (spanned count z)
+    → weightsResult end delta′ ≡ freePart (curved k h g) delta (spanned count z)
 unfolding bind
 parted-with k count h z g delta ef ex e kw ed = rw (e, ed, kw) (parted k count h z g delta ef (rw e at ex))

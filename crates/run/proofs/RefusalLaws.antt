@@ -12,7 +12,8 @@ use lib.Ieee.{Float, lt}
 use lib.ListN.{length, getD, set, replicate}
 use Rattle.interval.specs.declared.Scalar.{Scalar}
 use Rattle.interval.specs.Result.{Res, ok, refused}
-use Rattle.interval.specs.Scalar.{zero64, zeroS, pick, subOf, divOf, sqrtOf, holdsZero, definitelyGreater, definitelyNotEqual}
+use Rattle.interval.specs.Scalar.{zero64, zeroS, pick, subOf, divOf, sqrtOf, holdsZero, definitelyGreater}
+use Rattle.interval.specs.Scalar.{definitelyNotEqual}
 use Rattle.linear.specs.Flat.{at, put, zeros}
 use Rattle.linear.specs.Results.{bind, foldR}
 use Rattle.linear.specs.Dot.{dotTo}
@@ -21,7 +22,8 @@ use Rattle.linear.specs.Norm.{largestTo, scaledSquares, scaledRoot, normOf}
 use Rattle.linear.specs.Substitution.{storeR, forwardStep, backStep, solveOf}
 use Rattle.linear.specs.Cholesky.{Factor, factorOf, choleskyOf, refusedTo, entry}
 use Rattle.linear.specs.Householder as householder
-use Rattle.linear.specs.Householder.{reflectStep, reflectTo, reflectBy, withMarks, reflectWith, householderStep, valueStep, leastSquaresOf, chosen}
+use Rattle.linear.specs.Householder.{reflectStep, reflectTo, reflectBy, withMarks, reflectWith, householderStep}
+use Rattle.linear.specs.Householder.{valueStep, leastSquaresOf, chosen}
 use Rattle.linear.specs.Solved as solved
 use Rattle.linear.specs.Solved.{minusSolvedOf}
 use Rattle.linear.proofs.FlatLaws.{length-put}
@@ -29,7 +31,8 @@ use Rattle.run.specs.Vectors.{vector, fillTo, allFinite, anyTo, chosenOf
 use Rattle.run.specs.Rows.{Rows, Evaluation, valueAt}
 use Rattle.run.specs.Residuals.{violationOf, predictedOf, linearizedAt, squaredOf}
 use Rattle.run.specs.Problem.{Problem, problemOf, Kept, keptTo}
-use Rattle.run.specs.Basis.{Basis, coefficientsIn, gramStep, gramRow, extended, rowStep, basisOf, correctionOf, multiplierStep, multipliersOf}
+use Rattle.run.specs.Basis.{Basis, coefficientsIn, gramStep, gramRow, extended, rowStep, basisOf, correctionOf}
+use Rattle.run.specs.Basis.{multiplierStep, multipliersOf}
 use Rattle.run.specs.NullSpace.{Directions, More, more, enough, takeLongest, goOn, directionsTo, directionsOf}
 use Rattle.run.specs.Step.{Stepped, found, notPositive, steppedBy, alongZ, freeStep, keptStep, spreadStep}
 use Rattle.run.specs.Step.{stepOf}
@@ -38,7 +41,8 @@ use Rattle.run.specs.Proposal.{Standing, Trial, Proposal, noDrop, unreso
 use Rattle.run.specs.Proposal.{shortenedOf, withinOf, proposedBy, proposalOf, curvatureAlong}
 use Rattle.run.specs.Vectors.{movedOf, sameOf}
 use Rattle.run.specs.Proposal as proposal
-use Rattle.run.specs.Curvature.{alongOf, rankOneStep, rankOneOf, correctedBy, updatedBy, updateCurvature, chosenSum, curvatureEntries, curvatureTimes, lagrangianChange}
+use Rattle.run.specs.Curvature.{alongOf, rankOneStep, rankOneOf, correctedBy, updatedBy, updateCurvature}
+use Rattle.run.specs.Curvature.{chosenSum, curvatureEntries, curvatureTimes, lagrangianChange}
 use Rattle.run.specs.Judgement.{judgeOf}
 use Rattle.run.specs.Corrected.{Shift, to, stay, shiftOf, shiftFrom}
 use Rattle.run.specs.Area.{Memory}
@@ -47,7 +51,7 @@ use Rattle.run.specs.Decide.{linearOf}
 use Rattle.run.specs.declared.state.Last.{Last}
 use Rattle.run.specs.declared.state.State.{State}
 use Rattle.run.specs.program.Area.{ZeroBehind}
-use Rattle.run.proofs.ZeroBehind.{tidy-zeros, tidy-put, tidy-fill, tidy-spread}
+use Rattle.run.proofs.ZeroBehind.{behind-zeros, behind-put, behind-fill, behind-spread}
 
 -- a value with P, or refusal 5 or 6
 pub data Yields {A : Type 0} (P : A → Type 0) : Res A → Type 0 where
@@ -70,12 +74,14 @@ Long n xs = length xs ≡ n
 
 -- ---- how steps that may refuse are put together
 
-pub yields-bind : {A B : Type 0} {P : A → Type 0} {Q : B → Type 0} {x : Res A} {f : A → Res B} → Yields P x → ((a : A) → P a → Yields Q (f a)) → Yields Q (bind x f)
+pub yields-bind : {A B : Type 0} {P : A → Type 0} {Q : B → Type 0} {x : Res A} {f : A → Res B} → Yields P x
+    → ((a : A) → P a → Yields Q (f a)) → Yields Q (bind x f)
 unfolding bind
 yields-bind (gives {x = a} p) h = h a p
 yields-bind (refuses p) h = refuses p
 
-pub yields-pick : {A : Type 0} {P : A → Type 0} {x y : Res A} (b : Bool) → Yields P x → Yields P y → Yields P (pick b x y)
+pub yields-pick : {A : Type 0} {P : A → Type 0} {x y : Res A} (b : Bool) → Yields P x → Yields P y
+    → Yields P (pick b x y)
 yields-pick true p q = p
 yields-pick false p q = q
 
@@ -110,13 +116,16 @@ sqrt-yields x = yields-pick (lt (x .hi) zero64) (refuses tt) (gives tt)
 scaled-yields : (f : ℕ → Scalar) (g : Scalar) (n : ℕ) → Yields Any (scaledSquares f g n)
 unfolding scaledSquares
 scaled-yields f g zero = gives tt
-scaled-yields f g (suc n) = yields-bind (scaled-yields f g n) (λ s p. yields-bind (div-yields (f n) g) (λ q r. gives tt))
+scaled-yields f g (suc n) =
+    yields-bind (scaled-yields f g n) (λ s p. yields-bind (div-yields (f n) g) (λ q r. gives tt))
 
 norm-yields : (f : ℕ → Scalar) (n : ℕ) → Yields Any (normOf f n)
 unfolding normOf scaledRoot
 norm-yields f n =
     let g = largestTo f n in
-    yields-pick (definitelyGreater g zeroS) (yields-bind (scaled-yields f g n) (λ s p. yields-bind (sqrt-yields s) (λ r q. gives tt))) (sqrt-yields (dotTo f f n))
+    yields-pick (definitelyGreater g zeroS)
+    (yields-bind (scaled-yields f g n) (λ s p. yields-bind (sqrt-yields s) (λ r q. gives tt)))
+    (sqrt-yields (dotTo f f n))
 
 -- what holds whatever is stored
 store-yields : {P : List Float → Type 0} (y : List Float) (i : ℕ) {v : Res Scalar} → ((a : Scalar) → P (put y i a))
@@ -127,18 +136,23 @@ store-yields y i h (refuses p) = refuses p
 stored : (y : List Float) (i : ℕ) {v : Res Scalar} → Yields Any v → Yields Any (storeR y i v)
 stored y i p = store-yields y i (λ a. tt) p
 
-forward-yields : (n : ℕ) (l : List Float) (left : List Bool) (b y : List Float) (i : ℕ) → Yields Any (forwardStep n l left b y i)
+forward-yields : (n : ℕ) (l : List Float) (left : List Bool) (b y : List Float) (i : ℕ)
+    → Yields Any (forwardStep n l left b y i)
 unfolding forwardStep
 forward-yields n l left b y i = yields-pick (getD left i false) (gives tt) (stored y i (div-yields _ _))
 
-back-yields : (n : ℕ) (l : List Float) (left : List Bool) (y x : List Float) (t : ℕ) → Yields Any (backStep n l left y x t)
+back-yields : (n : ℕ) (l : List Float) (left : List Bool) (y x : List Float) (t : ℕ)
+    → Yields Any (backStep n l left y x t)
 unfolding backStep
-back-yields n l left y x t = yields-pick (getD left (n - 1 - t) false) (gives tt) (stored x (n - 1 - t) (div-yields _ _))
+back-yields n l left y x t =
+    yields-pick (getD left (n - 1 - t) false) (gives tt) (stored x (n - 1 - t) (div-yields _ _))
 
 solve-yields : (n : ℕ) (l : List Float) (left : List Bool) (b : List Float) → Yields Any (solveOf n l left b)
 unfolding solveOf
 solve-yields n l left b =
-    yields-bind (yields-fold {P = Any} (forwardStep n l left b) (zeros (2 * n)) n tt (λ y i p. forward-yields n l left b y i)) (λ y p. yields-fold (backStep n l left y) (zeros (2 * n)) n tt (λ x t q. back-yields n l left y x t))
+    yields-bind (yields-fold {P = Any} (forwardStep n l left b) (zeros (2 * n)) n tt
+    (λ y i p. forward-yields n l left b y i))
+    (λ y p. yields-fold (backStep n l left y) (zeros (2 * n)) n tt (λ x t q. back-yields n l left y x t))
 
 cholesky-yields : (n : ℕ) (a : List Float) → Yields Any (choleskyOf n a)
 unfolding choleskyOf
@@ -146,14 +160,17 @@ cholesky-yields n a = yields-pick (refusedTo (entry n a) n) (refuses tt) (gives 
 
 minus-solved-yields : (m n : ℕ) (jc rhs from : List Float) → Yields Any (minusSolvedOf m n jc rhs from)
 unfolding minusSolvedOf solved.multipliersOf
-minus-solved-yields m n jc rhs from = yields-bind (yields-bind (cholesky-yields m (solved.gramOf m n jc)) (λ f p. solve-yields m (f .l) (f .left-out) rhs)) (λ k p. gives tt)
+minus-solved-yields m n jc rhs from =
+    yields-bind (yields-bind (cholesky-yields m (solved.gramOf m n jc))
+    (λ f p. solve-yields m (f .l) (f .left-out) rhs)) (λ k p. gives tt)
 
 reflect-yields : (m r j : ℕ) (v cols : List Float) → Yields Any (reflectBy m r j v cols)
 unfolding reflectBy reflectTo reflectStep
 reflect-yields m r j v cols =
     let vv = chooseOf (dotTo (at v) (at v) (m - j)) in
     yields-pick (definitelyGreater vv zeroS)
-    (yields-fold (λ c t. reflectStep v vv (m - j) ((j + t) * m + j) c) cols (r + 1 - j) tt (λ c t p. yields-bind (div-yields _ vv) (λ f q. gives tt)))
+    (yields-fold (λ c t. reflectStep v vv (m - j) ((j + t) * m + j) c) cols (r + 1 - j) tt
+    (λ c t p. yields-bind (div-yields _ vv) (λ f q. gives tt)))
     (gives tt)
 
 marked : (left : List Bool) {x : Res (List Float)} → Yields Any x → Yields Any (withMarks left x)
@@ -162,7 +179,8 @@ marked left (refuses p) = refuses p
 
 reflected : (m r j : ℕ) (f : Factor) {x : Res Scalar} → Yields Any x → Yields Any (reflectWith m r j f x)
 unfolding reflectWith
-reflected m r j f (gives {x = len} p) = yields-pick (definitelyGreater len zeroS) (marked (f .left-out) (reflect-yields m r j _ (f .l))) (gives tt)
+reflected m r j f (gives {x = len} p) =
+    yields-pick (definitelyGreater len zeroS) (marked (f .left-out) (reflect-yields m r j _ (f .l))) (gives tt)
 reflected m r j f (refuses p) = refuses p
 
 column-yields : (m r : ℕ) (f : Factor) (j : ℕ) → Yields Any (householderStep m r f j)
@@ -177,13 +195,16 @@ value-yields : (m r k : ℕ) (f : Factor) (y : List Float) (t : ℕ) → Yields 
 unfolding valueStep
 value-yields m r k f y t =
     let j = k - 1 - t in
-    yields-pick (getD (f .left-out) j false || not (definitelyNotEqual (at (f .l) (j * m + j)) zeroS)) (gives tt) (stored y j (choosing (div-yields _ _)))
+    yields-pick (getD (f .left-out) j false || not (definitelyNotEqual (at (f .l) (j * m + j)) zeroS)) (gives tt)
+    (stored y j (choosing (div-yields _ _)))
 
 least-squares-yields : (m r : ℕ) (rows rhs : List Float) → Yields Any (leastSquaresOf m r rows rhs)
 unfolding leastSquaresOf
 least-squares-yields m r rows rhs =
-    yields-bind (yields-fold {P = Any} (householderStep m r) (factorOf (householder.columnsOf m r rows rhs) (replicate r false)) (min r m) tt (λ f j p. column-yields m r f j))
-    (λ f p. yields-fold (valueStep m r (min r m) f) (zeros (2 * r)) (min r m) tt (λ y t q. value-yields m r (min r m) f y t))
+    yields-bind (yields-fold {P = Any} (householderStep m r)
+    (factorOf (householder.columnsOf m r rows rhs) (replicate r false)) (min r m) tt (λ f j p. column-yields m r f j))
+    (λ f p. yields-fold (valueStep m r (min r m) f) (zeros (2 * r)) (min r m) tt
+    (λ y t q. value-yields m r (min r m) f y t))
 
 -- ---- a step
 
@@ -201,7 +222,9 @@ coefficients-yields P b i = solve-yields (b .rank) _ _ _
 
 gram-yields : (k r : ℕ) (q gram : List Float) → Yields Any (gramRow k r q gram)
 unfolding gramRow gramStep
-gram-yields k r q gram = yields-bind (yields-fold {P = Any} (gramStep k r q) gram r tt (λ g j p. stored g (12 * r + j) (div-yields _ _))) (λ g p. stored g (12 * r + r) (sqrt-yields _))
+gram-yields k r q gram =
+    yields-bind (yields-fold {P = Any} (gramStep k r q) gram r tt (λ g j p. stored g (12 * r + j) (div-yields _ _)))
+    (λ g p. stored g (12 * r + r) (sqrt-yields _))
 
 -- the rows that came into the basis are among the first m
 abbrev Placed : ℕ → Basis → Type 0
@@ -248,7 +271,7 @@ multipliers-yields k b pull m h =
     yields-bind
     (yields-fold {P = Any} (multiplierStep k b pull) vector (b .rank) tt
     (λ y u p. yields-bind (div-yields _ _) (λ v q. gives tt)))
-    (λ y p. gives (tidy-spread m (b .order) y (b .rank) h))
+    (λ y p. gives (behind-spread m (b .order) y (b .rank) h))
 
 longest-yields : (k : ℕ) (d : Directions) → Yields Any (takeLongest k d)
 unfolding takeLongest
@@ -259,17 +282,18 @@ unfolding directionsTo
 directions-yields k zero d = gives tt
 directions-yields k (suc t) d = yields-bind (longest-yields k d) (λ m p. on (λ d′. directions-yields k t d′) m)
   where
-    on : ((d′ : Directions) → Yields Any (directionsTo k t d′)) → (m : More) → Yields Any (goOn (λ d′. directionsTo k t d′) d m)
+    on : ((d′ : Directions) → Yields Any (directionsTo k t d′)) → (m : More)
+        → Yields Any (goOn (λ d′. directionsTo k t d′) d m)
     on h (more d′) = h d′
     on h enough = gives tt
 
 -- the multipliers of m rows in their slot
-abbrev SteppedTidy : ℕ → Stepped → Type 0
-SteppedTidy m (found s) = ZeroBehind 24 (2 * m) (s .lambda)
-SteppedTidy m notPositive = Unit
+abbrev SteppedBehind : ℕ → Stepped → Type 0
+SteppedBehind m (found s) = ZeroBehind 24 (2 * m) (s .lambda)
+SteppedBehind m notPositive = Unit
 
 stepped-yields : (P : Problem) (b : Basis) (kept : List Float) (m : ℕ) → Placed m b
-    → Yields (SteppedTidy m) (steppedBy P b kept)
+    → Yields (SteppedBehind m) (steppedBy P b kept)
 unfolding steppedBy
 stepped-yields P b kept m h =
     yields-pick (allFinite kept 12 && allFinite (pullOf P kept) 12)
@@ -277,19 +301,21 @@ stepped-yields P b kept m h =
 
 weights-yields : (t : ℕ) (f : Factor) (rhs : List Float) → Yields Any (weightsOf t f rhs)
 unfolding weightsOf
-weights-yields t f rhs = yields-pick (anyTo (λ i. getD (f .left-out) i false) t) (gives tt) (yields-bind (solve-yields t (f .l) (f .left-out) rhs) (λ w p. gives tt))
+weights-yields t f rhs =
+    yields-pick (anyTo (λ i. getD (f .left-out) i false) t) (gives tt)
+    (yields-bind (solve-yields t (f .l) (f .left-out) rhs) (λ w p. gives tt))
 
 free-yields : (P : Problem) (b : Basis) (delta : List Float) (d : Directions) (m : ℕ) → Placed m b
-    → Yields (SteppedTidy m) (freeStep P b delta d)
+    → Yields (SteppedBehind m) (freeStep P b delta d)
 unfolding freeStep
 free-yields P b delta d m h =
     yields-bind (cholesky-yields (d .count) _) (λ f p. yields-bind (weights-yields (d .count) f _) (λ w q. along-z w))
   where
-    along-z : (w : Weights) → Yields (SteppedTidy m) (alongZ P b delta d w)
+    along-z : (w : Weights) → Yields (SteppedBehind m) (alongZ P b delta d w)
     along-z (weights w) = stepped-yields P b _ m h
     along-z none = gives tt
 
-kept-yields : (P : Problem) → Yields (SteppedTidy (P .m)) (keptStep P)
+kept-yields : (P : Problem) → Yields (SteppedBehind (P .m)) (keptStep P)
 unfolding keptStep directionsOf
 kept-yields P =
     yields-bind (basis-yields P)
@@ -298,45 +324,46 @@ kept-yields P =
     (λ delta q. yields-bind (directions-yields (P .k) (P .k - b .rank) _) (λ d r. free-yields P b delta d (P .m) p)))
 
 step-yields : (n : ℕ) (e : Evaluation) (b : List Float) (moving : List Bool) (mu : Scalar)
-    → Yields (SteppedTidy (e .constraints .count)) (stepOf n e b moving mu)
+    → Yields (SteppedBehind (e .constraints .count)) (stepOf n e b moving mu)
 unfolding stepOf problemOf
 step-yields n e b moving mu =
     let k = keptTo moving n in
     let P = problemOf n k e b mu in
     yields-pick (allFinite (P .h) 144) (yields-bind (kept-yields P) (λ x p. gives (spread k x p))) (gives tt)
   where
-    spread : (k : Kept) (x : Stepped) → SteppedTidy (e .constraints .count) x
-        → SteppedTidy (e .constraints .count) (spreadStep k x)
+    spread : (k : Kept) (x : Stepped) → SteppedBehind (e .constraints .count) x
+        → SteppedBehind (e .constraints .count) (spreadStep k x)
     spread k (found s) p = p
     spread k notPositive p = tt
 
 -- ---- a proposal
 
 -- the trial's lists in their slots, with n variables and m constraints
-pub record TrialTidy (n m : ℕ) (t : Trial) : Type 0 where
+pub record TrialBehind (n m : ℕ) (t : Trial) : Type 0 where
   pub delta : ZeroBehind 24 (2 * n) (t .delta)
   pub lambda : ZeroBehind 24 (2 * m) (t .lambda)
   pub next : ZeroBehind 24 (2 * n) (t .next)
 
-abbrev pub ProposalTidy : ℕ → ℕ → Proposal → Type 0
-ProposalTidy n m proposal.notPositive = Unit
-ProposalTidy n m (noDrop r) = Unit
-ProposalTidy n m unresolved = Unit
-ProposalTidy n m noChange = Unit
-ProposalTidy n m (ask t) = TrialTidy n m t
+abbrev pub ProposalBehind : ℕ → ℕ → Proposal → Type 0
+ProposalBehind n m proposal.notPositive = Unit
+ProposalBehind n m (noDrop r) = Unit
+ProposalBehind n m unresolved = Unit
+ProposalBehind n m noChange = Unit
+ProposalBehind n m (ask t) = TrialBehind n m t
 
-moved-tidy : (n : ℕ) (x d : List Float) → ZeroBehind 24 (2 * n) (movedOf n x d)
+moved-behind : (n : ℕ) (x d : List Float) → ZeroBehind 24 (2 * n) (movedOf n x d)
 unfolding movedOf
-moved-tidy n x d = tidy-fill (tidy-zeros 24 (2 * n)) 0 _ n (omega arith)
+moved-behind n x d = behind-fill (behind-zeros 24 (2 * n)) 0 _ n (omega arith)
 
 expects-yields : (S : Standing) (delta : List Float) → Yields Any (expectsOf S delta)
 unfolding expectsOf
 expects-yields S delta =
     let drop = subOf (subOf (S .f) (squaredOf (S .e .sum) delta (S .n))) (curvatureAlong (S .n) (S .b) delta) in
-    yields-pick (definitelyGreater drop zeroS) (gives tt) (yields-bind (predicted-yields (S .e .constraints) delta) (λ v p. gives tt))
+    yields-pick (definitelyGreater drop zeroS) (gives tt)
+    (yields-bind (predicted-yields (S .e .constraints) delta) (λ v p. gives tt))
 
 trial-yields : (S : Standing) (step lambda : List Float) (m : ℕ) → ZeroBehind 24 (2 * m) lambda
-    → Yields (ProposalTidy (S .n) m) (trialOf S step lambda)
+    → Yields (ProposalBehind (S .n) m) (trialOf S step lambda)
 unfolding trialOf
 trial-yields S step lambda m e =
     let delta = chosenOf vector step 0 (S .n) in
@@ -348,13 +375,13 @@ trial-yields S step lambda m e =
     (λ t q.
     gives {x = ask (record { delta = delta; lambda = lambda; next = next; predicted = v; tried = t })}
     (record {
-      delta = tidy-fill (tidy-zeros 24 (2 * S .n)) 0 _ (S .n) (omega arith);
+      delta = behind-fill (behind-zeros 24 (2 * S .n)) 0 _ (S .n) (omega arith);
       lambda = e;
-      next = moved-tidy (S .n) (S .x) delta;
+      next = moved-behind (S .n) (S .x) delta;
     }))))
 
 within-yields : (S : Standing) (radius : Scalar) (delta lambda : List Float) (m : ℕ) → ZeroBehind 24 (2 * m) lambda
-    → Yields (ProposalTidy (S .n) m) (withinOf S radius delta lambda)
+    → Yields (ProposalBehind (S .n) m) (withinOf S radius delta lambda)
 unfolding withinOf shortenedOf
 within-yields S radius delta lambda m e =
     yields-bind (norm-yields (at delta) (S .n))
@@ -364,13 +391,13 @@ within-yields S radius delta lambda m e =
     (λ s q. yields-bind (expects-yields S _) (λ d r. yields-pick d (trial-yields S _ lambda m e) (gives tt))))
     (trial-yields S delta lambda m e))
 
-pub proposal-tidy : (S : Standing) (mu radius : Scalar)
-    → Yields (ProposalTidy (S .n) (S .e .constraints .count)) (proposalOf S mu radius)
+pub proposal-behind : (S : Standing) (mu radius : Scalar)
+    → Yields (ProposalBehind (S .n) (S .e .constraints .count)) (proposalOf S mu radius)
 unfolding proposalOf
-proposal-tidy S mu radius = yields-bind (step-yields (S .n) (S .e) (S .b) (S .moving) mu) (λ s p. proposed s p)
+proposal-behind S mu radius = yields-bind (step-yields (S .n) (S .e) (S .b) (S .moving) mu) (λ s p. proposed s p)
   where
-    proposed : (s : Stepped) → SteppedTidy (S .e .constraints .count) s
-        → Yields (ProposalTidy (S .n) (S .e .constraints .count)) (proposedBy S radius s)
+    proposed : (s : Stepped) → SteppedBehind (S .e .constraints .count) s
+        → Yields (ProposalBehind (S .n) (S .e .constraints .count)) (proposedBy S radius s)
     proposed (found s) p =
         yields-bind (expects-yields S (s .delta))
         (λ d q. yields-pick d (within-yields S radius (s .delta) (s .lambda) (S .e .constraints .count) p) (gives tt))
@@ -390,9 +417,9 @@ ProposalSized noChange = Unit
 ProposalSized (ask t) = TrialSized t
 
 pub proposal-yields : (S : Standing) (mu radius : Scalar) → Yields ProposalSized (proposalOf S mu radius)
-proposal-yields S mu radius = yields-map sized (proposal-tidy S mu radius)
+proposal-yields S mu radius = yields-map sized (proposal-behind S mu radius)
   where
-    sized : (p : Proposal) → ProposalTidy (S .n) (S .e .constraints .count) p → ProposalSized p
+    sized : (p : Proposal) → ProposalBehind (S .n) (S .e .constraints .count) p → ProposalSized p
     sized proposal.notPositive t = tt
     sized (noDrop r) t = tt
     sized unresolved t = tt
@@ -401,9 +428,11 @@ proposal-yields S mu radius = yields-map sized (proposal-tidy S mu radius)
 
 -- ---- what follows an answer
 
-pub judge-yields : (n : ℕ) (e e′ : Evaluation) (theta : Scalar) (filter : List Float) (count : ℕ) (last : Last) (step : List Float) → Yields Any (judgeOf n e e′ theta filter count last step)
+pub judge-yields : (n : ℕ) (e e′ : Evaluation) (theta : Scalar) (filter : List Float) (count : ℕ) (last : Last)
+    (step : List Float) → Yields Any (judgeOf n e e′ theta filter count last step)
 unfolding judgeOf
-judge-yields n e e′ theta filter count last step = yields-bind (norm-yields (at step) n) (λ l p. yields-bind (violation-yields (e′ .constraints)) (λ t q. gives tt))
+judge-yields n e e′ theta filter count last step =
+    yields-bind (norm-yields (at step) n) (λ l p. yields-bind (violation-yields (e′ .constraints)) (λ t q. gives tt))
 
 pub linear-yields : (st : State) (w : Memory) (theta : Scalar) → Yields Any (linearOf st w theta)
 linear-yields st w theta =
@@ -420,22 +449,22 @@ unfolding shiftOf
 shift-yields moving c = yields-bind (minus-solved-yields (c .count) (c .n) _ _ _) (λ d p. gives tt)
 
 -- the point that a shift leads to, with n variables
-abbrev pub ShiftTidy : ℕ → Shift → Type 0
-ShiftTidy n (to next) = ZeroBehind 24 (2 * n) next
-ShiftTidy n stay = Unit
+abbrev pub ShiftBehind : ℕ → Shift → Type 0
+ShiftBehind n (to next) = ZeroBehind 24 (2 * n) next
+ShiftBehind n stay = Unit
 
-pub shifted-tidy : (moving : List Bool) (c : Rows) (landed : List Float)
-    → Yields (ShiftTidy (c .n)) (shiftFrom moving c landed)
+pub shifted-behind : (moving : List Bool) (c : Rows) (landed : List Float)
+    → Yields (ShiftBehind (c .n)) (shiftFrom moving c landed)
 unfolding shiftFrom
-shifted-tidy moving c landed =
+shifted-behind moving c landed =
     yields-bind (shift-yields moving c)
     (λ d p.
     gives
     (either (allFinite d 12) (sameOf (c .n) (movedOf (c .n) landed d) landed) (movedOf (c .n) landed d)
-    (moved-tidy (c .n) landed d)))
+    (moved-behind (c .n) landed d)))
   where
     either : (a b : Bool) (next : List Float) → ZeroBehind 24 (2 * c .n) next
-        → ShiftTidy (c .n) (pick a (pick b stay (to next)) stay)
+        → ShiftBehind (c .n) (pick a (pick b stay (to next)) stay)
     either true true next e = tt
     either true false next e = e
     either false b next e = tt
@@ -447,9 +476,9 @@ ShiftSized stay = Unit
 
 pub shifted-yields : (moving : List Bool) (c : Rows) (landed : List Float)
     → Yields ShiftSized (shiftFrom moving c landed)
-shifted-yields moving c landed = yields-map sized (shifted-tidy moving c landed)
+shifted-yields moving c landed = yields-map sized (shifted-behind moving c landed)
   where
-    sized : (s : Shift) → ShiftTidy (c .n) s → ShiftSized s
+    sized : (s : Shift) → ShiftBehind (c .n) s → ShiftSized s
     sized (to next) t = t .long
     sized stay t = tt
 
@@ -482,16 +511,20 @@ module _ (P : List Float → Type 0) (n : ℕ)
     where
       updated : (y s : List Float) → Yields P (updatedBy n (e .constraints) b y s)
       updated y s =
-          yields-pick (definitelyNotEqual (subOf (dotTo (at y) (at s) n) (dotTo (at (curvatureTimes n b s)) (at s) n)) zeroS)
-          (yields-bind (along-yields (e .constraints) y) (λ y′ q. corrected-keeps b y′ (curvatureTimes n b s) s h)) (gives h)
+          yields-pick (definitelyNotEqual
+          (subOf (dotTo (at y) (at s) n) (dotTo (at (curvatureTimes n b s)) (at s) n)) zeroS)
+          (yields-bind (along-yields (e .constraints) y) (λ y′ q. corrected-keeps b y′ (curvatureTimes n b s) s h))
+          (gives h)
 
 -- the curvature keeps its length
-pub curvature-yields : (k n : ℕ) (b step : List Float) (e e′ : Evaluation) (lambda : List Float) → Long k b → Yields (Long k) (updateCurvature n b step e e′ lambda)
+pub curvature-yields : (k n : ℕ) (b step : List Float) (e e′ : Evaluation) (lambda : List Float) → Long k b
+    → Yields (Long k) (updateCurvature n b step e e′ lambda)
 curvature-yields k n b step e e′ lambda h =
     curvature-keeps (Long k) n (λ c p v l q. length-put c p v ∙ q) b step e e′ lambda h
 
 -- and the +0 behind its entries
-pub curvature-tidy : (k n : ℕ) (b step : List Float) (e e′ : Evaluation) (lambda : List Float) → ZeroBehind k (2 * (n * n)) b
+pub curvature-behind : (k n : ℕ) (b step : List Float) (e e′ : Evaluation) (lambda : List Float)
+    → ZeroBehind k (2 * (n * n)) b
     → Yields (ZeroBehind k (2 * (n * n))) (updateCurvature n b step e e′ lambda)
-curvature-tidy k n b step e e′ lambda h =
-    curvature-keeps (ZeroBehind k (2 * (n * n))) n (λ c p v l q. tidy-put q p v (omega arith)) b step e e′ lambda h
+curvature-behind k n b step e e′ lambda h =
+    curvature-keeps (ZeroBehind k (2 * (n * n))) n (λ c p v l q. behind-put q p v (omega arith)) b step e e′ lambda h

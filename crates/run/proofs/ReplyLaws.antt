@@ -1,4 +1,5 @@
--- A reply from its parts: what the program leaves as the definition's record, and the bounds that an accepted reply may rely on.
+-- A reply from its parts: what the program leaves as the definition's record, and the bounds that an accepted reply may
+-- rely on.
 use Prim.Native.Nat.{ℕ, _+_, _*_, _<_, _≤_}
 use mathlib.Core.Bool.{true}
 use mathlib.Core.List.{List}

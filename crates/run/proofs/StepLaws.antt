@@ -12,11 +12,11 @@ use Rattle.interval.specs.declared.Scalar.{Scalar}
 use Rattle.interval.specs.Result.{Res, ok, refused}
 use Rattle.interval.specs.Scalar.{zero64, zeroS, pick, isFinite}
 use Rattle.linear.specs.Flat.{at, zeros}
-use Rattle.linear.specs.Answers.{numberOf, doneOf}
+use Rattle.linear.specs.LinearResult.{numberOf, doneOf}
 use Rattle.linear.specs.Results.{bind}
-use Rattle.linear.specs.declared.answers.Done.{Done}
-use Rattle.linear.specs.declared.answers.Done.the-variants as done
-use Rattle.linear.specs.declared.answers.LinearError.{LinearError}
+use Rattle.linear.specs.declared.results.Done.{Done}
+use Rattle.linear.specs.declared.results.Done.the-variants as done
+use Rattle.linear.specs.declared.results.LinearError.{LinearError}
 use Rattle.linear.specs.Cholesky.{Factor, choleskyOf}
 use Rattle.run.specs.Vectors.{matrix, allFinite, spreadTo}
 use Rattle.run.specs.Rows.{Evaluation}
@@ -122,23 +122,29 @@ module _ (P : Problem) (b : Basis) (kept : List Float) {pull : List Float} {fini
 -- from the correction on
 module _ (P : Problem) (b : Basis) (delta : List Float) where
   span-read : (x : Res Directions)
-      → bind (spanOf x) (λ d. freeStep (curved (P .k) (P .h) (P .g)) (basisFor (b .rank) (b .q) (b .coefficients) (b .order)) delta d) ≡ bind x (λ d. freeStep P b delta d)
+      → bind (spanOf x) (λ d. freeStep (curved (P .k) (P .h) (P .g))
+      (basisFor (b .rank) (b .q) (b .coefficients) (b .order)) delta d) ≡ bind x (λ d. freeStep P b delta d)
   unfolding bind spanOf
   span-read (ok d) = free-read P b delta d
   span-read (refused e) = refl
 
   pub corrected-by : {x : Res Directions} → x ≡ spanOf (directionsOf (P .k) (b .rank) (b .q))
-      → bind x (λ d. freeStep (curved (P .k) (P .h) (P .g)) (basisFor (b .rank) (b .q) (b .coefficients) (b .order)) delta d) ≡ stepFromCorrection P b delta
+      → bind x (λ d. freeStep (curved (P .k) (P .h) (P .g))
+      (basisFor (b .rank) (b .q) (b .coefficients) (b .order)) delta d) ≡ stepFromCorrection P b delta
   unfolding stepFromCorrection
   corrected-by e = rw e (span-read (directionsOf (P .k) (b .rank) (b .q)))
 
   each-read : (x : Res Directions)
-      → bind x (λ d. freeStep (curved (P .k) (P .h) (P .g)) (basisFor (b .rank) (b .q) (b .coefficients) (b .order)) delta d) ≡ bind x (λ d. freeStep P b delta d)
+      → bind x (λ d. freeStep (curved (P .k) (P .h) (P .g))
+      (basisFor (b .rank) (b .q) (b .coefficients) (b .order)) delta d) ≡ bind x (λ d. freeStep P b delta d)
   unfolding bind
-  each-read (ok d) = sym (free-read (curved (P .k) (P .h) (P .g)) (basisFor (b .rank) (b .q) (b .coefficients) (b .order)) delta d) ∙ free-read P b delta d
+  each-read (ok d) =
+      sym (free-read (curved (P .k) (P .h) (P .g)) (basisFor (b .rank) (b .q) (b .coefficients) (b .order)) delta d)
+      ∙ free-read P b delta d
   each-read (refused e) = refl
 
-  pub corrected-read : stepFromCorrection (curved (P .k) (P .h) (P .g)) (basisFor (b .rank) (b .q) (b .coefficients) (b .order)) delta ≡ stepFromCorrection P b delta
+  pub corrected-read : stepFromCorrection (curved (P .k) (P .h) (P .g))
+      (basisFor (b .rank) (b .q) (b .coefficients) (b .order)) delta ≡ stepFromCorrection P b delta
   unfolding stepFromCorrection
   corrected-read = each-read (directionsOf (P .k) (b .rank) (b .q))
 
@@ -148,7 +154,8 @@ module _ (P : Problem) where
   unfolding stepFromBasis bind
   based-refused b e = rw (← e)
 
-  pub based-on : (b : Basis) {delta : List Float} {x : Res Stepped} → ok delta ≡ correctionOf P b → x ≡ stepFromCorrection P b delta → x ≡ stepFromBasis P b
+  pub based-on : (b : Basis) {delta : List Float} {x : Res Stepped} → ok delta ≡ correctionOf P b
+      → x ≡ stepFromCorrection P b delta → x ≡ stepFromBasis P b
   unfolding stepFromBasis bind
   based-on b e ex = rw (← e) ex
 
@@ -201,23 +208,34 @@ module _ (P : Problem) where
 -- ---- what no damping changes
 
 -- a frame, as it is read
-framed-is : (x : Prepared) (P : Problem) (order : List ℕ) (frame q c delta z : List Float) → length q ≡ 288 → length c ≡ 288 → length delta ≡ 24 → length z ≡ 288 → frame ≡ q ++ (c ++ (delta ++ z))
+framed-is : (x : Prepared) (P : Problem) (order : List ℕ) (frame q c delta z : List Float) → length q ≡ 288
+    → length c ≡ 288 → length delta ≡ 24 → length z ≡ 288 → frame ≡ q ++ (c ++ (delta ++ z))
     → stepFromFactors x P order frame ≡ readyStep x P q c order delta z
 framed-is x P order frame q c delta z lq lc ld lz e =
-    rw (first-of-four frame q c delta z lq lc ld lz e, second-of-four frame q c delta z lq lc ld lz e, third-of-four frame q c delta z lq lc ld lz e, fourth-of-four frame q c delta z lq lc ld lz e)
+    rw (
+      first-of-four frame q c delta z lq lc ld lz e,
+      second-of-four frame q c delta z lq lc ld lz e,
+      third-of-four frame q c delta z lq lc ld lz e,
+      fourth-of-four frame q c delta z lq lc ld lz e,
+    )
 
 -- the step from it, as the correction and the directions ended
 module _ (P : Problem) (b : Basis) (delta z : List Float) where
   ready-is : (d : Done) (f : CountResult) → doneOf d delta ≡ correctionOf P b
       → foundOf f z ≡ spanOf (directionsOf (P .k) (b .rank) (b .q))
-      → readyStep (readyOf d f (b .rank)) (curved (P .k) (P .h) (P .g)) (b .q) (b .coefficients) (b .order) delta z ≡ stepFromBasis P b
+      → readyStep (readyOf d f (b .rank)) (curved (P .k) (P .h) (P .g)) (b .q) (b .coefficients) (b .order) delta z
+      ≡ stepFromBasis P b
   unfolding bind
   ready-is done.Finished (count.Value free) ec ef = based-on P b ec (corrected-by P b delta ef)
   ready-is done.Finished (count.Refused e) ec ef = based-on P b ec (corrected-by P b delta ef)
   ready-is (done.Refused e) f ec ef = based-refused P b ec
 
-  pub ready-framed : {x : Prepared} (frame : List Float) (d : Done) (f : CountResult) → length (b .q) ≡ 288 → length (b .coefficients) ≡ 288 → length delta ≡ 24 → length z ≡ 288 → frame ≡ b .q ++ (b .coefficients ++ (delta ++ z))
-      → x ≡ readyOf d f (b .rank) → doneOf d delta ≡ correctionOf P b → foundOf f z ≡ spanOf (directionsOf (P .k) (b .rank) (b .q)) → stepFromFactors x (curved (P .k) (P .h) (P .g)) (b .order) frame ≡ stepFromBasis P b
+  pub ready-framed : {x : Prepared} (frame : List Float) (d : Done) (f : CountResult) → length (b .q) ≡ 288
+      → length (b .coefficients) ≡ 288 → length delta ≡ 24 → length z ≡ 288
+      → frame ≡ b .q ++ (b .coefficients ++ (delta ++ z))
+      → x ≡ readyOf d f (b .rank) → doneOf d delta ≡ correctionOf P b
+      → foundOf f z ≡ spanOf (directionsOf (P .k) (b .rank) (b .q))
+      → stepFromFactors x (curved (P .k) (P .h) (P .g)) (b .order) frame ≡ stepFromBasis P b
   ready-framed {x} frame d f lq lc ld lz e ex ec ef =
       framed-is x (curved (P .k) (P .h) (P .g)) (b .order) frame (b .q) (b .coefficients) delta z lq lc ld lz e
       ∙ ap (λ (y : Prepared). readyStep y (curved (P .k) (P .h) (P .g)) (b .q) (b .coefficients) (b .order) delta z) ex
@@ -226,7 +244,8 @@ module _ (P : Problem) (b : Basis) (delta z : List Float) where
 -- at most twelve of each
 module _ (k r : ℕ) (q z : List Float) (hk : k ≤ 12) (hr : r ≤ 12) where
   few-found : (d : Done) (f : CountResult) → foundOf f z ≡ spanOf (directionsOf k r q) → Few (readyOf d f r)
-  few-found done.Finished (count.Value free) e = record { independent = hr; free = omega (arith, directions-few k r q e, hk) }
+  few-found done.Finished (count.Value free) e =
+      record { independent = hr; free = omega (arith, directions-few k r q e, hk) }
   few-found done.Finished (count.Refused o) e = record { independent = omega arith; free = omega arith }
   few-found (done.Refused o) f e = record { independent = omega arith; free = omega arith }
 

@@ -19,11 +19,13 @@ use Rattle.run.specs.Vectors.{fillTo, spreadTo}
 use Rattle.run.specs.Rows.{rowNumbers, constraintsOf}
 use Rattle.run.specs.Residuals.{violationOf}
 use Rattle.run.specs.Curvature.{curvatureEntries}
-use Rattle.run.specs.Area.{POINT-LEN, ROWS-LEN, CURVATURE-LEN, FILTER-LEN, SIZES, Memory, padded, memoryOf, startOf}
+use Rattle.run.specs.Area.{POINT-LEN, ROWS-LEN, CURVATURE-LEN, FILTER-LEN, SIZES, Memory, padded, memoryOf}
+use Rattle.run.specs.Area.{startOf}
 use Rattle.run.specs.program.Area.{written}
 use Rattle.run.specs.program.Area.{Holds, slotsOf}
 use Rattle.run.specs.Area.{withStart, usedIn, usedOf, isOpen, isTried, isCorrected}
-use Rattle.run.specs.program.Area.{ZeroBehind, SlotsZeroBehind, Uses, WithStanding, WithViolations, Working, StandingKnown, ViolationsKnown}
+use Rattle.run.specs.program.Area.{ZeroBehind, SlotsZeroBehind, Uses, WithStanding, WithViolations, Working}
+use Rattle.run.specs.program.Area.{StandingKnown, ViolationsKnown}
 use Rattle.run.specs.program.Area.{Limits}
 use Rattle.run.specs.program.Area.{allUsed, pointsUsed}
 use Rattle.run.specs.program.Endings.{Bounded}
@@ -40,12 +42,12 @@ zeros-read zero j = refl
 zeros-read (suc n) zero = refl
 zeros-read (suc n) (suc j) = zeros-read n j
 
-pub tidy-zeros : (size used : ℕ) → ZeroBehind size used (zeros size)
-tidy-zeros size used = record { long = length-replicate size zero64; rest = λ j h. zeros-read size j }
+pub behind-zeros : (size used : ℕ) → ZeroBehind size used (zeros size)
+behind-zeros size used = record { long = length-replicate size zero64; rest = λ j h. zeros-read size j }
 
-pub tidy-padded : (size used : ℕ) (xs : List Float) → length xs ≤ used → length xs ≤ size
+pub behind-padded : (size used : ℕ) (xs : List Float) → length xs ≤ used → length xs ≤ size
     → ZeroBehind size used (padded size xs)
-tidy-padded size used xs h l =
+behind-padded size used xs h l =
     record {
       long = length-padded size xs l;
       rest = λ j k.
@@ -57,12 +59,12 @@ tidy-padded size used xs h l =
 
 module _ {size used : ℕ} {xs : List Float} (t : ZeroBehind size used xs) where
   -- with more places in use
-  pub tidy-more : {most : ℕ} → used ≤ most → ZeroBehind size most xs
-  tidy-more h = record { long = t .long; rest = λ j k. t .rest j (omega arith) }
+  pub behind-more : {most : ℕ} → used ≤ most → ZeroBehind size most xs
+  behind-more h = record { long = t .long; rest = λ j k. t .rest j (omega arith) }
 
-  pub tidy-put : (i : ℕ) (v : Scalar) → 2 * i + 1 < used → ZeroBehind size used (put xs i v)
+  pub behind-put : (i : ℕ) (v : Scalar) → 2 * i + 1 < used → ZeroBehind size used (put xs i v)
   unfolding put
-  tidy-put i v h = record { long = length-put xs i v ∙ t .long; rest = λ j k. stored j k (inside xs i) }
+  behind-put i v h = record { long = length-put xs i v ∙ t .long; rest = λ j k. stored j k (inside xs i) }
     where
       stored : (j : ℕ) → used ≤ j → (b : Bool)
           → getD (pick b (set (set xs (2 * i) (v .lo)) (2 * i + 1) (v .hi)) xs) j zero64 ≡ zero64
@@ -78,19 +80,19 @@ only-zeros [] h = refl
 only-zeros (x ∷ xs) h = ap₂ (λ (y : Float) (ys : List Float). y ∷ ys) (h 0) (only-zeros xs (λ j. h (suc j)))
 
 module _ {size used : ℕ} {xs : List Float} (t : ZeroBehind size used xs) (fit : used ≤ size) where
-  pub tidy-behind : drop used xs ≡ zeros (size - used)
-  tidy-behind =
+  pub zeros-behind : drop used xs ≡ zeros (size - used)
+  zeros-behind =
       only-zeros (drop used xs) (λ j. getD-drop used xs j zero64 ∙ t .rest (used + j) (omega arith))
       ∙ ap zeros (length-drop used xs ∙ ap (λ (n : ℕ). n - used) (t .long))
 
-  pub tidy-length : length (take used xs) ≡ used
-  tidy-length = length-take-le used xs (omega (arith, t .long))
+  pub behind-length : length (take used xs) ≡ used
+  behind-length = length-take-le used xs (omega (arith, t .long))
 
   -- its numbers in use, and +0 behind them
-  pub tidy-is : padded size (take used xs) ≡ xs
-  tidy-is =
-      ap (λ (n : ℕ). take used xs ++ zeros (size - n)) tidy-length
-      ∙ ap (λ (ys : List Float). take used xs ++ ys) (sym tidy-behind)
+  pub behind-is : padded size (take used xs) ≡ xs
+  behind-is =
+      ap (λ (n : ℕ). take used xs ++ zeros (size - n)) behind-length
+      ∙ ap (λ (ys : List Float). take used xs ++ ys) (sym zeros-behind)
       ∙ take-append-drop used xs
 
 -- a slot not in use
@@ -114,7 +116,7 @@ module _ {ls : List (List Float)} {a : List Float} (h : Slots ls a) where
         sym (drop-drop n base a)
         ∙ ap (drop n) whole
         ∙ drop-append-le n xs r (omega (arith, t .long))
-        ∙ ap (λ (u : List Float). u ++ r) (tidy-behind t f)
+        ∙ ap (λ (u : List Float). u ++ r) (zeros-behind t f)
         ∙ ap (λ (u : List Float). zeros (size - n) ++ u) (drop-drop size base a)
 
     -- a run over the first numbers of slot k, where it is +0 behind them
@@ -153,9 +155,9 @@ module _ {ls : List (List Float)} {a : List Float} (h : Slots ls a) where
         (xs : List Float) (n : ℕ) {b : List Float} → n ≤ getD SIZES k 0 → ZeroBehind (getD SIZES k 0) n (getD ls k []) →
         ZeroBehind (getD SIZES k 0) n xs → b ≡ written a (startOf SIZES k) (take n xs) → Slots (set ls k xs) b
     wrote-used xs n {b} f t u q =
-        let m = tidy-length u f in
+        let m = behind-length u f in
         let v = subst (λ (i : ℕ). ZeroBehind (getD SIZES k 0) i (getD ls k [])) (sym m) t in
-        subst (λ (ys : List Float). Slots (set ls k ys) b) (tidy-is u f) (wrote-first (take n xs) (omega arith) v q)
+        subst (λ (ys : List Float). Slots (set ls k ys) b) (behind-is u f) (wrote-first (take n xs) (omega arith) v q)
 
   -- slot j over slot i, where both are +0 behind as many numbers
   pub copied-first :
@@ -173,60 +175,60 @@ pub clear-over :
     c ≡ written b 0 s → c ≡ xs
 clear-over size n {xs} {b} {c} {s} f t eb es q =
     let y : List Float = take n xs in
-    let m : length y ≡ n = tidy-length t f in
+    let m : length y ≡ n = behind-length t f in
     let o : 0 + length y ≡ n = omega arith in
     q
     ∙ ap (λ (u : List Float). written u 0 s) eb
     ∙ ap (λ (u : List Float). written (zeros size) 0 u) es
     ∙ ap (λ (i : ℕ). y ++ drop i (zeros size)) o
-    ∙ ap (λ (u : List Float). y ++ u) (tidy-behind (tidy-zeros size n) f)
+    ∙ ap (λ (u : List Float). y ++ u) (zeros-behind (behind-zeros size n) f)
     ∙ ap (λ (i : ℕ). y ++ zeros (size - i)) (sym m)
-    ∙ tidy-is t f
+    ∙ behind-is t f
 
-pub tidy-fill : {size used : ℕ} {xs : List Float} → ZeroBehind size used xs → (base : ℕ) (f : ℕ → Scalar) (k : ℕ)
+pub behind-fill : {size used : ℕ} {xs : List Float} → ZeroBehind size used xs → (base : ℕ) (f : ℕ → Scalar) (k : ℕ)
     → 2 * (base + k) ≤ used → ZeroBehind size used (fillTo xs base f k)
 unfolding fillTo
-tidy-fill t base f zero h = t
-tidy-fill t base f (suc k) h = tidy-put (tidy-fill t base f k (omega arith)) (base + k) (f k) (omega arith)
+behind-fill t base f zero h = t
+behind-fill t base f (suc k) h = behind-put (behind-fill t base f k (omega arith)) (base + k) (f k) (omega arith)
 
 -- stores at the first places, in any order
-pub tidy-spread : (m : ℕ) (places : List ℕ) (from : List Float) (k : ℕ) → ((t : ℕ) → t < k → getD places t 0 < m)
+pub behind-spread : (m : ℕ) (places : List ℕ) (from : List Float) (k : ℕ) → ((t : ℕ) → t < k → getD places t 0 < m)
     → ZeroBehind 24 (2 * m) (spreadTo places from k)
 unfolding spreadTo
-tidy-spread m places from zero h = tidy-zeros 24 (2 * m)
-tidy-spread m places from (suc k) h =
+behind-spread m places from zero h = behind-zeros 24 (2 * m)
+behind-spread m places from (suc k) h =
     let l = h k (lt-suc-self k) in
-    tidy-put (tidy-spread m places from k (λ t i. h t (omega arith))) (getD places k 0) (at from k) (omega arith)
+    behind-put (behind-spread m places from k (λ t i. h t (omega arith))) (getD places k 0) (at from k) (omega arith)
 
 -- ---- what a call reads
 
-used-tidy : (a : List Float) (base size : ℕ) (inUse : Bool) (count : ℕ) → pick inUse count 0 ≤ size
+used-behind : (a : List Float) (base size : ℕ) (inUse : Bool) (count : ℕ) → pick inUse count 0 ≤ size
     → ZeroBehind size (pick inUse count 0) (usedOf a base size inUse count)
-used-tidy a base size inUse count h =
+used-behind a base size inUse count h =
     let n = pick inUse count 0 in
     let l = length-take n (drop base a) in
-    tidy-padded size n (take n (drop base a)) (omega arith) (omega arith)
+    behind-padded size n (take n (drop base a)) (omega arith) (omega arith)
 
-pub reads-tidy :
+pub reads-behind :
     (st : State) (a : List Float) → Limits (st .sizes) (st .counts .iterations) →
     SlotsZeroBehind (usedIn st) (memoryOf st a)
 unfolding memoryOf
-reads-tidy st a l =
+reads-behind st a l =
     let z = st .sizes in
     let rows = rowNumbers (z .n) (z .m) (z .s) in
     let tried = isTried (st .phase) in
     let corrected = isCorrected (st .phase) in
     let u = used-below st l in
     record {
-      standing = used-tidy a 0 POINT-LEN true (2 * z .n) (u .0);
-      landed = used-tidy a 24 POINT-LEN corrected (2 * z .n) (u .1 .0);
-      asked = used-tidy a 48 POINT-LEN (isOpen (st .phase)) (2 * z .n) (u .1 .1 .0);
-      standing-rows = used-tidy a 72 ROWS-LEN tried rows (u .1 .1 .1 .0);
-      landed-rows = used-tidy a 1008 ROWS-LEN corrected rows (u .1 .1 .1 .1 .0);
-      step = used-tidy a 1944 POINT-LEN tried (2 * z .n) (u .1 .1 .1 .1 .1 .0);
-      multipliers = used-tidy a 1968 POINT-LEN tried (2 * z .m) (u .1 .1 .1 .1 .1 .1 .0);
-      curvature = used-tidy a 1992 CURVATURE-LEN tried (2 * curvatureEntries (z .n)) (u .1 .1 .1 .1 .1 .1 .1 .0);
-      filter = used-tidy a 2280 FILTER-LEN tried (4 * st .counts .iterations) (u .1 .1 .1 .1 .1 .1 .1 .1 .0);
+      standing = used-behind a 0 POINT-LEN true (2 * z .n) (u .0);
+      landed = used-behind a 24 POINT-LEN corrected (2 * z .n) (u .1 .0);
+      asked = used-behind a 48 POINT-LEN (isOpen (st .phase)) (2 * z .n) (u .1 .1 .0);
+      standing-rows = used-behind a 72 ROWS-LEN tried rows (u .1 .1 .1 .0);
+      landed-rows = used-behind a 1008 ROWS-LEN corrected rows (u .1 .1 .1 .1 .0);
+      step = used-behind a 1944 POINT-LEN tried (2 * z .n) (u .1 .1 .1 .1 .1 .0);
+      multipliers = used-behind a 1968 POINT-LEN tried (2 * z .m) (u .1 .1 .1 .1 .1 .1 .0);
+      curvature = used-behind a 1992 CURVATURE-LEN tried (2 * curvatureEntries (z .n)) (u .1 .1 .1 .1 .1 .1 .1 .0);
+      filter = used-behind a 2280 FILTER-LEN tried (4 * st .counts .iterations) (u .1 .1 .1 .1 .1 .1 .1 .1 .0);
     }
 
 at-most : (b : Bool) (n : ℕ) → pick b n 0 ≤ n
@@ -234,28 +236,28 @@ at-most true n = omega arith
 at-most false n = omega arith
 
 -- what is in use by the phase is in use while the call works
-pub all-tidy :
+pub all-behind :
     (st : State) (w : Memory) → SlotsZeroBehind (usedIn st) w →
     SlotsZeroBehind (allUsed (st .sizes) (st .counts .iterations)) w
-all-tidy st w t =
+all-behind st w t =
     let z = st .sizes in
     let rows = rowNumbers (z .n) (z .m) (z .s) in
     let tried = isTried (st .phase) in
     let corrected = isCorrected (st .phase) in
     record {
       standing = t .standing;
-      landed = tidy-more (t .landed) (at-most corrected (2 * z .n));
-      asked = tidy-more (t .asked) (at-most (isOpen (st .phase)) (2 * z .n));
-      standing-rows = tidy-more (t .standing-rows) (at-most tried rows);
-      landed-rows = tidy-more (t .landed-rows) (at-most corrected rows);
-      step = tidy-more (t .step) (at-most tried (2 * z .n));
-      multipliers = tidy-more (t .multipliers) (at-most tried (2 * z .m));
-      curvature = tidy-more (t .curvature) (at-most tried (2 * curvatureEntries (z .n)));
-      filter = tidy-more (t .filter) (at-most tried (4 * st .counts .iterations));
+      landed = behind-more (t .landed) (at-most corrected (2 * z .n));
+      asked = behind-more (t .asked) (at-most (isOpen (st .phase)) (2 * z .n));
+      standing-rows = behind-more (t .standing-rows) (at-most tried rows);
+      landed-rows = behind-more (t .landed-rows) (at-most corrected rows);
+      step = behind-more (t .step) (at-most tried (2 * z .n));
+      multipliers = behind-more (t .multipliers) (at-most tried (2 * z .m));
+      curvature = behind-more (t .curvature) (at-most tried (2 * curvatureEntries (z .n)));
+      filter = behind-more (t .filter) (at-most tried (4 * st .counts .iterations));
     }
 
 pub works : (st : State) {w : Memory} {a : List Float} → Uses (usedIn st) w a → Working st w a
-works st {w} u = record { holds = u .holds; tidy = all-tidy st w (u .tidy) }
+works st {w} u = record { holds = u .holds; zero-behind = all-behind st w (u .zero-behind) }
 
 -- before a start's answer
 pub only-points :
@@ -340,13 +342,15 @@ module _ {s t : State} (e : t ≡ s) where
     pub seeks-as : {standing : Res Scalar} → StandingKnown s standing w a → StandingKnown t standing w a
     seeks-as {standing} u = same-run (λ z i. WithStanding z i standing w a) u
 
-    pub judges-as : {theta : Scalar} {landed : Res Scalar} → ViolationsKnown s theta landed w a → ViolationsKnown t theta landed w a
+    pub judges-as : {theta : Scalar} {landed : Res Scalar} → ViolationsKnown s theta landed w a
+        → ViolationsKnown t theta landed w a
     judges-as {theta} {landed} u = same-run (λ z i. WithViolations z i theta landed w a) u
 
 -- with the violations that were worked out
 module _ (st : State) {w : Memory} {a : List Float} (u : Working st w a) where
   pub measures : {standing : Res Scalar}
-      → standing ≡ violationOf (constraintsOf (st .sizes .n) (st .sizes .m) (w .standingRows)) → StandingKnown st standing w a
+      → standing ≡ violationOf (constraintsOf (st .sizes .n) (st .sizes .m) (w .standingRows))
+      → StandingKnown st standing w a
   measures e = record { uses = u; standing-is = e }
 
   pub compares : {theta : Scalar} {landed : Res Scalar}

@@ -23,7 +23,8 @@ use Rattle.run.specs.Proposal as proposal
 use Rattle.run.specs.Judgement.{Judged, judgeOf}
 use Rattle.run.specs.Limits.{CORRECTIONS}
 use Rattle.run.specs.Corrected.{to, stay, shiftOf, shiftFrom, shiftedStep}
-use Rattle.run.specs.Area.{POINT-LEN, ROWS-LEN, CURVATURE-LEN, FILTER-LEN, Memory, usedIn, padded, onlyStanding, withStart}
+use Rattle.run.specs.Area.{POINT-LEN, ROWS-LEN, CURVATURE-LEN, FILTER-LEN, Memory, usedIn, padded, onlyStanding}
+use Rattle.run.specs.Area.{withStart}
 use Rattle.run.specs.program.Area.{Holds}
 use Rattle.run.specs.Area.{withLanded, withTaken}
 use Rattle.run.specs.Limits.{DAMPINGS}
@@ -61,10 +62,11 @@ use Rattle.run.specs.program.Area.{ZeroBehind, SlotsZeroBehind, Uses, Wo
 use Rattle.run.specs.declared.state.Phase.the-variants.{Open}
 use Rattle.run.proofs.AreaLaws.{rows-fit}
 use Rattle.run.proofs.DecideLaws.{withStep}
-use Rattle.run.proofs.ZeroBehind.{all-tidy, only-points, limits-of}
-use Rattle.run.proofs.ZeroBehind.{tidy-zeros, tidy-padded, tidy-put, tidy-fill, tidy-more}
-use Rattle.run.proofs.RefusalLaws.{Yields, gives, given, TrialTidy, ProposalTidy, div-yields, violation-yields}
-use Rattle.run.proofs.RefusalLaws.{proposal-tidy, judge-yields, shift-yields, shifted-tidy, curvature-tidy}
+use Rattle.run.proofs.ZeroBehind.{all-behind, only-points, limits-of}
+use Rattle.run.proofs.ZeroBehind.{behind-zeros, behind-padded, behind-put, behind-fill, behind-more}
+use Rattle.run.proofs.RefusalLaws.{Yields, gives, given, TrialBehind, ProposalBehind, div-yields}
+use Rattle.run.proofs.RefusalLaws.{violation-yields}
+use Rattle.run.proofs.RefusalLaws.{proposal-behind, judge-yields, shift-yields, shifted-behind, curvature-behind}
 use Rattle.run.proofs.RefusalLaws.{linear-yields}
 use Rattle.run.proofs.RefusalLaws as yields
 
@@ -75,7 +77,7 @@ AtWork st w = SlotsZeroBehind (allUsed (st .sizes) (st .counts .iterations)) w
 -- what a run of these sizes, with the question of that number open, is left as
 pub record Kept (z : Sizes) (question : ℕ) (o : AfterSlots) : Type 0 where
   pub sizes-kept : o .state .sizes ≡ z
-  pub tidy : SlotsZeroBehind (usedIn (o .state)) (o .memory)
+  pub zero-behind : SlotsZeroBehind (usedIn (o .state)) (o .memory)
   pub past-checks : refusedByCheck (o .event) ≡ false
   pub follows : Follows question (o .state) (o .event)
 
@@ -85,15 +87,15 @@ only-standing : (used most : List ℕ) (w : Memory) → getD used 0 0 ≡ getD m
     → SlotsZeroBehind used (onlyStanding w)
 only-standing used most w e t =
     record {
-      standing = tidy-more (t .standing) (omega arith);
-      landed = tidy-zeros POINT-LEN (getD used 1 0);
-      asked = tidy-zeros POINT-LEN (getD used 2 0);
-      standing-rows = tidy-zeros ROWS-LEN (getD used 3 0);
-      landed-rows = tidy-zeros ROWS-LEN (getD used 4 0);
-      step = tidy-zeros POINT-LEN (getD used 5 0);
-      multipliers = tidy-zeros POINT-LEN (getD used 6 0);
-      curvature = tidy-zeros CURVATURE-LEN (getD used 7 0);
-      filter = tidy-zeros FILTER-LEN (getD used 8 0);
+      standing = behind-more (t .standing) (omega arith);
+      landed = behind-zeros POINT-LEN (getD used 1 0);
+      asked = behind-zeros POINT-LEN (getD used 2 0);
+      standing-rows = behind-zeros ROWS-LEN (getD used 3 0);
+      landed-rows = behind-zeros ROWS-LEN (getD used 4 0);
+      step = behind-zeros POINT-LEN (getD used 5 0);
+      multipliers = behind-zeros POINT-LEN (getD used 6 0);
+      curvature = behind-zeros CURVATURE-LEN (getD used 7 0);
+      filter = behind-zeros FILTER-LEN (getD used 8 0);
     }
 
 module _ (st : State) (w : Memory) (t : AtWork st w) where
@@ -101,7 +103,8 @@ module _ (st : State) (w : Memory) (t : AtWork st w) where
   finish-kept s =
       record {
         sizes-kept = refl;
-        tidy = only-standing (usedIn (finish st w s .state)) (allUsed (st .sizes) (st .counts .iterations)) w refl t;
+        zero-behind =
+            only-standing (usedIn (finish st w s .state)) (allUsed (st .sizes) (st .counts .iterations)) w refl t;
         past-checks = refl;
         follows = refl;
       }
@@ -110,7 +113,8 @@ module _ (st : State) (w : Memory) (t : AtWork st w) where
   refuse-kept k h =
       record {
         sizes-kept = refl;
-        tidy = only-standing (usedIn (refuse st w k .state)) (allUsed (st .sizes) (st .counts .iterations)) w refl t;
+        zero-behind =
+            only-standing (usedIn (refuse st w k .state)) (allUsed (st .sizes) (st .counts .iterations)) w refl t;
         past-checks = lt-leb k 4 (above (eqb k 5) (eqb k 6) refl refl h);
         follows = (h, refl);
       }
@@ -122,7 +126,8 @@ module _ (st : State) (w : Memory) (t : AtWork st w) where
 
   -- what may be refused, and what follows it
   or-refuse-kept : {A : Type 0} {P : A → Type 0} (x : Res A) (next : A → AfterSlots) → Yields P x
-      → ((a : A) → P a → Kept (st .sizes) (st .counts .question) (next a)) → Kept (st .sizes) (st .counts .question) (orRefuse st w x next)
+      → ((a : A) → P a → Kept (st .sizes) (st .counts .question) (next a))
+      → Kept (st .sizes) (st .counts .question) (orRefuse st w x next)
   or-refuse-kept (ok a) next (gives p) h = h a p
   or-refuse-kept (refused k) next (yields.refuses p) h = refuse-kept k p
 
@@ -134,51 +139,52 @@ either-kept z question false o o′ h k = k
 -- ---- the search
 
 -- the lists of a trial, and refusals by 5 or 6 only
-abbrev FoundTidy : ℕ → ℕ → Found → Type 0
-FoundTidy n m (asks x t) = TrialTidy n m t
-FoundTidy n m (stops x s) = Unit
-FoundTidy n m (refuses x k) = T (eqb k 5 || eqb k 6)
+abbrev FoundBehind : ℕ → ℕ → Found → Type 0
+FoundBehind n m (asks x t) = TrialBehind n m t
+FoundBehind n m (stops x s) = Unit
+FoundBehind n m (refuses x k) = T (eqb k 5 || eqb k 6)
 
-damped-tidy : (n m : ℕ) (on : Search → Found) → ((y : Search) → FoundTidy n m (on y)) → (x : Search)
-    → FoundTidy n m (damped on (λ y s. stops y s) x)
-damped-tidy n m on h x = by (isFinite (grown x .mu))
+damped-behind : (n m : ℕ) (on : Search → Found) → ((y : Search) → FoundBehind n m (on y)) → (x : Search)
+    → FoundBehind n m (damped on (λ y s. stops y s) x)
+damped-behind n m on h x = by (isFinite (grown x .mu))
   where
-    by : (b : Bool) → FoundTidy n m (pick b (on (grown x)) (stops (grown x) (stop.Damped (x .rejected))))
+    by : (b : Bool) → FoundBehind n m (pick b (on (grown x)) (stops (grown x) (stop.Damped (x .rejected))))
     by true = h (grown x)
     by false = tt
 
-follow-tidy : (n m : ℕ) (on : Search → Found) → ((y : Search) → FoundTidy n m (on y))
-    → (c : ℕ) (max : Scalar) (x : Search) (p : Res Proposal) → Yields (ProposalTidy n m) p
-    → FoundTidy n m (follow on c max x p)
-follow-tidy n m on h c max x (refused k) (yields.refuses p) = p
-follow-tidy n m on h c max x (ok (ask t)) (gives p) = p
-follow-tidy n m on h c max x (ok noChange) (gives p) = tt
-follow-tidy n m on h c max x (ok (noDrop r)) (gives p) = tt
-follow-tidy n m on h c max x (ok unresolved) (gives p) =
-    damped-tidy n m on h (rejectedFor (withRadius x max) why.Unresolved)
-follow-tidy n m on h c max x (ok proposal.notPositive) (gives p) = damped-tidy n m on h (rejectedFor x why.NotPositive)
+follow-behind : (n m : ℕ) (on : Search → Found) → ((y : Search) → FoundBehind n m (on y))
+    → (c : ℕ) (max : Scalar) (x : Search) (p : Res Proposal) → Yields (ProposalBehind n m) p
+    → FoundBehind n m (follow on c max x p)
+follow-behind n m on h c max x (refused k) (yields.refuses p) = p
+follow-behind n m on h c max x (ok (ask t)) (gives p) = p
+follow-behind n m on h c max x (ok noChange) (gives p) = tt
+follow-behind n m on h c max x (ok (noDrop r)) (gives p) = tt
+follow-behind n m on h c max x (ok unresolved) (gives p) =
+    damped-behind n m on h (rejectedFor (withRadius x max) why.Unresolved)
+follow-behind n m on h c max x (ok proposal.notPositive) (gives p) =
+    damped-behind n m on h (rejectedFor x why.NotPositive)
 
-search-tidy : (t : ℕ) (S : Standing) (max : Scalar) (x : Search)
-    → FoundTidy (S .n) (S .e .constraints .count) (searchTo t S max x)
+search-behind : (t : ℕ) (S : Standing) (max : Scalar) (x : Search)
+    → FoundBehind (S .n) (S .e .constraints .count) (searchTo t S max x)
 unfolding searchTo
-search-tidy zero S max x = tt
-search-tidy (suc t) S max x =
-    follow-tidy (S .n) (S .e .constraints .count) (λ y. searchTo t S max y) (λ y. search-tidy t S max y)
+search-behind zero S max x = tt
+search-behind (suc t) S max x =
+    follow-behind (S .n) (S .e .constraints .count) (λ y. searchTo t S max y) (λ y. search-behind t S max y)
     (S .e .constraints .count) max x
-    (proposalOf S (x .mu) (x .radius)) (proposal-tidy S (x .mu) (x .radius))
+    (proposalOf S (x .mu) (x .radius)) (proposal-behind S (x .mu) (x .radius))
 
-left-kept : (st : State) (w : Memory) → AtWork st w → (f : Found) → FoundTidy (st .sizes .n) (st .sizes .m) f
+left-kept : (st : State) (w : Memory) → AtWork st w → (f : Found) → FoundBehind (st .sizes .n) (st .sizes .m) f
     → Kept (st .sizes) (st .counts .question) (leftAt st w f)
 unfolding leftAt
 left-kept st w t (asks x y) h =
     record {
       sizes-kept = refl;
-      tidy = record {
+      zero-behind = record {
         standing = t .standing;
-        landed = tidy-zeros POINT-LEN 0;
+        landed = behind-zeros POINT-LEN 0;
         asked = h .next;
         standing-rows = t .standing-rows;
-        landed-rows = tidy-zeros ROWS-LEN 0;
+        landed-rows = behind-zeros ROWS-LEN 0;
         step = h .delta;
         multipliers = h .lambda;
         curvature = t .curvature;
@@ -197,12 +203,13 @@ search-kept st w t =
     (violation-yields (standingAt st w .constraints))
     (λ theta u.
     left-kept st w t (searchOf (standingOf st w theta) (st .«max_step») (st .search))
-    (search-tidy DAMPINGS (standingOf st w theta) (st .«max_step») (st .search)))
+    (search-behind DAMPINGS (standingOf st w theta) (st .«max_step») (st .search)))
 
 iterate-kept : (st : State) (w : Memory) → AtWork st w → Kept (st .sizes) (st .counts .question) (iterate st w)
 unfolding iterate
 iterate-kept st w t =
-    either-kept (st .sizes) (st .counts .question) (leb (st .sizes .limit) (st .counts .iterations)) _ _ (finish-kept st w t stop.Budget)
+    either-kept (st .sizes) (st .counts .question) (leb (st .sizes .limit) (st .counts .iterations)) _ _
+    (finish-kept st w t stop.Budget)
     (search-kept st w t)
 
 -- ---- a step turned down
@@ -214,7 +221,8 @@ grow-kept st w t =
     either-kept (st .sizes) (st .counts .question) (isFinite (x .mu)) _ _ (search-kept (searching st x) w t)
     (finish-kept (searching st x) w t (stop.Damped (st .search .rejected)))
 
-turn-down-kept : (st : State) (w : Memory) → AtWork st w → (r : Rejection) → Kept (st .sizes) (st .counts .question) (turnDown st w r)
+turn-down-kept : (st : State) (w : Memory) → AtWork st w → (r : Rejection)
+    → Kept (st .sizes) (st .counts .question) (turnDown st w r)
 unfolding turnDown
 turn-down-kept st w t r =
     let x = rejectedFor (st .search) r in
@@ -225,24 +233,26 @@ turn-down-kept st w t r =
 not-lower-kept : (st : State) (w : Memory) → AtWork st w → Kept (st .sizes) (st .counts .question) (notLower st w)
 unfolding notLower
 not-lower-kept st w t =
-    either-kept (st .sizes) (st .counts .question) (not (st .search .plain) && learnedOf (st .sizes .n) (w .curvature)) _ _
+    either-kept (st .sizes) (st .counts .question)
+    (not (st .search .plain) && learnedOf (st .sizes .n) (w .curvature)) _ _
     (search-kept (searching st (retried (rejectedFor (st .search) why.NotLower))) w t)
     (turn-down-kept st w t why.NotLower)
 
 -- ---- a step taken
 
-filter-tidy : (size used count : ℕ) (filter : List Float) (f theta : Scalar) → 4 * count + 3 < used
+filter-behind : (size used count : ℕ) (filter : List Float) (f theta : Scalar) → 4 * count + 3 < used
     → ZeroBehind size used filter → ZeroBehind size used (filterWith filter count f theta)
 unfolding filterWith
-filter-tidy size used count filter f theta h t =
-    tidy-put (tidy-put t (2 * count) f (omega arith)) (2 * count + 1) theta (omega arith)
+filter-behind size used count filter f theta h t =
+    behind-put (behind-put t (2 * count) f (omega arith)) (2 * count + 1) theta (omega arith)
 
 module _ (st : State) (w : Memory) (t : AtWork st w) where
   curvature-used : ZeroBehind CURVATURE-LEN (2 * curvatureEntries (st .sizes .n)) (curvatureOf st w)
   curvature-used = by (st .search .plain)
     where
-      by : (b : Bool) → ZeroBehind CURVATURE-LEN (2 * curvatureEntries (st .sizes .n)) (pick b (zeros CURVATURE-LEN) (w .curvature))
-      by true = tidy-zeros CURVATURE-LEN (2 * curvatureEntries (st .sizes .n))
+      by : (b : Bool) → ZeroBehind CURVATURE-LEN (2 * curvatureEntries (st .sizes .n))
+          (pick b (zeros CURVATURE-LEN) (w .curvature))
+      by true = behind-zeros CURVATURE-LEN (2 * curvatureEntries (st .sizes .n))
       by false = t .curvature
 
   -- with one pair more in the filter
@@ -250,7 +260,7 @@ module _ (st : State) (w : Memory) (t : AtWork st w) where
       (b : List Float) (f theta : Scalar) → ZeroBehind CURVATURE-LEN (2 * curvatureEntries (st .sizes .n)) b →
       SlotsZeroBehind (allUsed (st .sizes) (st .counts .iterations + 1))
       (withTaken w b (filterWith (w .filter) (st .counts .iterations) f theta))
-  taken-working b f theta tidy-b =
+  taken-working b f theta behind-b =
       record {
         standing = t .landed;
         landed = t .landed;
@@ -259,18 +269,19 @@ module _ (st : State) (w : Memory) (t : AtWork st w) where
         landed-rows = t .landed-rows;
         step = t .step;
         multipliers = t .multipliers;
-        curvature = tidy-b;
-        filter = filter-tidy FILTER-LEN (4 * (st .counts .iterations + 1)) (st .counts .iterations) (w .filter) f theta
-            (omega arith) (tidy-more (t .filter) (omega arith));
+        curvature = behind-b;
+        filter =
+            filter-behind FILTER-LEN (4 * (st .counts .iterations + 1)) (st .counts .iterations) (w .filter) f theta
+            (omega arith) (behind-more (t .filter) (omega arith));
       }
 
-  pub learned-tidy : {b : List Float}
+  pub learned-behind : {b : List Float}
       → updateCurvature (st .sizes .n) (curvatureOf st w) (w .step) (standingAt st w) (landedAt st w) (w .multipliers)
       ≡ ok b
       → ZeroBehind CURVATURE-LEN (2 * curvatureEntries (st .sizes .n)) b
-  learned-tidy e =
+  learned-behind e =
       given e
-      (curvature-tidy CURVATURE-LEN (st .sizes .n) (curvatureOf st w) (w .step) (standingAt st w) (landedAt st w)
+      (curvature-behind CURVATURE-LEN (st .sizes .n) (curvatureOf st w) (w .step) (standingAt st w) (landedAt st w)
       (w .multipliers) curvature-used)
 
   take-kept : (theta length : Scalar) → Kept (st .sizes) (st .counts .question) (run.take st w theta length)
@@ -283,23 +294,25 @@ module _ (st : State) (w : Memory) (t : AtWork st w) where
       (λ third v.
       or-refuse-kept st w t
       (updateCurvature (st .sizes .n) (curvatureOf st w) (w .step) (standingAt st w) (landedAt st w) (w .multipliers)) _
-      (curvature-tidy CURVATURE-LEN (st .sizes .n) (curvatureOf st w) (w .step) (standingAt st w) (landedAt st w)
+      (curvature-behind CURVATURE-LEN (st .sizes .n) (curvatureOf st w) (w .step) (standingAt st w) (landedAt st w)
       (w .multipliers) curvature-used)
-      (λ b tidy-b.
+      (λ b behind-b.
       let pairs = filterWith (w .filter) (st .counts .iterations) (sumSquared (standingAt st w .sum)) theta in
       iterate-kept
       (standingOn st length (shrunk (st .search .mu) third)
       (radiusAfter length (st .search .radius) (st .«max_step») linear)) (withTaken w b pairs)
-      (taken-working b (sumSquared (standingAt st w .sum)) theta tidy-b))))
+      (taken-working b (sumSquared (standingAt st w .sum)) theta behind-b))))
 
   -- ---- the judgement
 
   decide-kept : (theta : Scalar) (j : Judged) → Kept (st .sizes) (st .counts .question) (decide st w theta j)
   unfolding decide
   decide-kept theta j =
-      either-kept (st .sizes) (st .counts .question) (st .search .first && j .undecided && wasTaken (st .last) && not (j .contracting)) _ _
+      either-kept (st .sizes) (st .counts .question)
+      (st .search .first && j .undecided && wasTaken (st .last) && not (j .contracting)) _ _
       (finish-kept st w t stop.Undecided)
-      (either-kept (st .sizes) (st .counts .question) (j .lower || (st .search .first && j .undecided && j .contracting)) _ _
+      (either-kept (st .sizes) (st .counts .question)
+      (j .lower || (st .search .first && j .undecided && j .contracting)) _ _
       (take-kept theta (j .length)) (not-lower-kept st w t))
 
   judge-kept : (theta : Scalar) → Kept (st .sizes) (st .counts .question) (judge st w theta)
@@ -318,12 +331,12 @@ module _ (st : State) (w : Memory) (t : AtWork st w) where
   unfolding correct
   correct-kept theta =
       or-refuse-kept st w t (shiftFrom (st .moving) (landedAt st w .constraints) (w .landed)) _
-      (shifted-tidy (st .moving) (landedAt st w .constraints) (w .landed))
+      (shifted-behind (st .moving) (landedAt st w .constraints) (w .landed))
       (λ s. elim s [
         | to next ↦ λ h.
             record {
               sizes-kept = refl;
-              tidy = record {
+              zero-behind = record {
                 standing = t .standing;
                 landed = t .landed;
                 asked = h;
@@ -348,9 +361,10 @@ pub record Answered (st : State) (rows : List Float) : Type 0 where
   pub fit : length rows ≤ ROWS-LEN
 
 module _ (st : State) (w : Memory) (t : AtWork st w) (rows : List Float) (r : Answered st rows) where
-  rows-tidy : ZeroBehind ROWS-LEN (rowNumbers (st .sizes .n) (st .sizes .m) (st .sizes .s)) (padded ROWS-LEN rows)
-  rows-tidy =
-      tidy-padded ROWS-LEN (rowNumbers (st .sizes .n) (st .sizes .m) (st .sizes .s)) rows (omega (arith, r .many)) (r .fit)
+  rows-behind : ZeroBehind ROWS-LEN (rowNumbers (st .sizes .n) (st .sizes .m) (st .sizes .s)) (padded ROWS-LEN rows)
+  rows-behind =
+      behind-padded ROWS-LEN (rowNumbers (st .sizes .n) (st .sizes .m) (st .sizes .s)) rows (omega (arith, r .many))
+      (r .fit)
 
   pub landed-working : (n : ℕ) (step : List Float) → ZeroBehind POINT-LEN (2 * st .sizes .n) step
       → AtWork (landing st n) (withLanded w rows step)
@@ -360,7 +374,7 @@ module _ (st : State) (w : Memory) (t : AtWork st w) (rows : List Float) (r : An
         landed = t .asked;
         asked = t .asked;
         standing-rows = t .standing-rows;
-        landed-rows = rows-tidy;
+        landed-rows = rows-behind;
         step = s;
         multipliers = t .multipliers;
         curvature = t .curvature;
@@ -375,7 +389,8 @@ module _ (st : State) (w : Memory) (t : AtWork st w) (rows : List Float) (r : An
       let u = landed-working 0 (w .step) (t .step) in
       or-refuse-kept s v u (violationOf (landedAt s v .constraints)) _ (violation-yields (landedAt s v .constraints))
       (λ new p.
-      either-kept (st .sizes) (st .counts .question) (definitelyGreater new theta) _ _ (correct-kept s v u theta) (judge-kept s v u theta))
+      either-kept (st .sizes) (st .counts .question) (definitelyGreater new theta) _ _ (correct-kept s v u theta)
+      (judge-kept s v u theta))
 
   keep-kept : (theta : Scalar) → Kept (st .sizes) (st .counts .question) (keep st w rows theta)
   unfolding keep shiftedStep
@@ -386,8 +401,9 @@ module _ (st : State) (w : Memory) (t : AtWork st w) (rows : List Float) (r : An
       let s = landing st (st .counts .corrections + 1) in
       let v = withLanded w rows (shiftedStep (st .sizes .n) (w .step) d) in
       let u = landed-working (st .counts .corrections + 1) (shiftedStep (st .sizes .n) (w .step) d)
-      (tidy-fill (t .step) 0 _ (st .sizes .n) (omega arith)) in
-      either-kept (st .sizes) (st .counts .question) (leb CORRECTIONS (st .counts .corrections + 1)) _ _ (judge-kept s v u theta)
+      (behind-fill (t .step) 0 _ (st .sizes .n) (omega arith)) in
+      either-kept (st .sizes) (st .counts .question) (leb CORRECTIONS (st .counts .corrections + 1)) _ _
+      (judge-kept s v u theta)
       (correct-kept s v u theta))
 
   land-correction-kept : (theta : Scalar) → Kept (st .sizes) (st .counts .question) (landCorrection st w rows theta)
@@ -397,7 +413,8 @@ module _ (st : State) (w : Memory) (t : AtWork st w) (rows : List Float) (r : An
       (violation-yields (rowsAt st rows .constraints))
       (λ new p.
       or-refuse-kept st w t (violationOf (landedAt st w .constraints)) _ (violation-yields (landedAt st w .constraints))
-      (λ old q. either-kept (st .sizes) (st .counts .question) (definitelyLess new old) _ _ (keep-kept theta) (judge-kept st w t theta)))
+      (λ old q. either-kept (st .sizes) (st .counts .question) (definitelyLess new old) _ _ (keep-kept theta)
+      (judge-kept st w t theta)))
 
   -- ---- an accepted answer
 
@@ -405,14 +422,14 @@ module _ (st : State) (w : Memory) (t : AtWork st w) (rows : List Float) (r : An
   start-working =
       record {
         standing = t .standing;
-        landed = tidy-zeros POINT-LEN _;
-        asked = tidy-zeros POINT-LEN _;
-        standing-rows = rows-tidy;
-        landed-rows = tidy-zeros ROWS-LEN _;
-        step = tidy-zeros POINT-LEN _;
-        multipliers = tidy-zeros POINT-LEN _;
-        curvature = tidy-zeros CURVATURE-LEN _;
-        filter = tidy-zeros FILTER-LEN _;
+        landed = behind-zeros POINT-LEN _;
+        asked = behind-zeros POINT-LEN _;
+        standing-rows = rows-behind;
+        landed-rows = behind-zeros ROWS-LEN _;
+        step = behind-zeros POINT-LEN _;
+        multipliers = behind-zeros POINT-LEN _;
+        curvature = behind-zeros CURVATURE-LEN _;
+        filter = behind-zeros FILTER-LEN _;
       }
 
   start-kept : Kept (st .sizes) (st .counts .question) (started st w rows)
@@ -430,7 +447,8 @@ module _ (st : State) (w : Memory) (t : AtWork st w) (rows : List Float) (r : An
       or-refuse-kept st w t (violationOf (standingAt st w .constraints)) _
       (violation-yields (standingAt st w .constraints)) (λ theta p. land-correction-kept theta)
 
-pub answered-none-kept : (st : State) (w : Memory) → AtWork st w → (k : Kind) → Kept (st .sizes) (st .counts .question) (answeredNone k st w)
+pub answered-none-kept : (st : State) (w : Memory) → AtWork st w → (k : Kind)
+    → Kept (st .sizes) (st .counts .question) (answeredNone k st w)
 answered-none-kept st w t kind.Start = finish-kept st w t stop.Infeasible
 answered-none-kept st w t kind.Trial = turn-down-kept st w t why.Infeasible
 answered-none-kept st w t kind.Correction =
@@ -451,7 +469,7 @@ module _ (st : State) {most : ℕ} (bounded : Bounded most st) (rows : List Floa
   starts {w} h e f =
       record {
         holds = f (only-points st e h);
-        tidy = start-working st w (all-tidy st w (h .tidy)) rows as-answered;
+        zero-behind = start-working st w (all-behind st w (h .zero-behind)) rows as-answered;
       }
 
   -- where the asked point landed
@@ -460,8 +478,8 @@ module _ (st : State) {most : ℕ} (bounded : Bounded most st) (rows : List Floa
       Working st (withLanded w rows (w .step)) b
   lands {w} h f =
       record {
-        holds = f (subst (λ (n : ℕ). ZeroBehind ROWS-LEN n (w .landedRows)) (sym many) (h .tidy .landed-rows));
-        tidy = landed-working st w (h .tidy) rows as-answered 0 (w .step) (h .tidy .step);
+        holds = f (subst (λ (n : ℕ). ZeroBehind ROWS-LEN n (w .landedRows)) (sym many) (h .zero-behind .landed-rows));
+        zero-behind = landed-working st w (h .zero-behind) rows as-answered 0 (w .step) (h .zero-behind .step);
       }
 
 -- a step that is shifted
@@ -471,16 +489,16 @@ pub shifts :
     Working st (withStep w (shiftedStep (st .sizes .n) (w .step) d)) b
 unfolding shiftedStep
 shifts st d h k =
-    let t = h .tidy in
+    let t = h .zero-behind in
     record {
       holds = k;
-      tidy = record {
+      zero-behind = record {
         standing = t .standing;
         landed = t .landed;
         asked = t .asked;
         standing-rows = t .standing-rows;
         landed-rows = t .landed-rows;
-        step = tidy-fill (t .step) 0 _ (st .sizes .n) (omega arith);
+        step = behind-fill (t .step) 0 _ (st .sizes .n) (omega arith);
         multipliers = t .multipliers;
         curvature = t .curvature;
         filter = t .filter;

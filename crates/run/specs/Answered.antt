@@ -1,4 +1,4 @@
--- What follows an accepted answer (document 01, "A run by question and reply"), by the kind of its question.
+-- What follows an accepted answer (PROTOCOL, An iteration), by the kind of its question.
 use mathlib.Core.List.{List}
 use lib.Ieee.{Float}
 use Rattle.interval.specs.declared.Scalar.{Scalar}

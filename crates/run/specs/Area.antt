@@ -1,4 +1,4 @@
--- The work area (document 01, "Area"): 8,000 numbers in slots. A slot's used places are from its start; all else is +0
+-- The work area (PROTOCOL, Area): 8,000 numbers in slots. A slot's used places are from its start; all else is +0
 -- after a call.
 use Prim.Native.Nat.{ℕ, _+_, _-_, _*_, zero, suc}
 use mathlib.Core.Bool.{Bool, true, false}

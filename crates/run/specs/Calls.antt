@@ -1,5 +1,5 @@
--- The calls of a run, whole: begin, reply with rows, reply none, and point. The checks go in the order of document 01's
--- table.
+-- The calls of a run, whole: begin, reply with rows, reply none, and point. The checks go in the order of PROTOCOL,
+-- Refusals.
 use Prim.Native.Nat.{ℕ, _*_, _+_}
 use mathlib.Core.Bool.{Bool, false, true, _&&_, _||_}
 use mathlib.Core.List.{List, []}

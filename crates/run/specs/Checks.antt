@@ -1,4 +1,4 @@
--- The checks of a call (document 01's table): what is within the limits, and number 4, a run that no call leaves.
+-- The checks of a call (PROTOCOL, Refusals): what is within the limits, and number 4, a run that no call leaves.
 use Prim.Native.Nat.{ℕ, _+_, _*_}
 use mathlib.Core.Bool.{Bool, _&&_, true}
 use mathlib.Core.List.{List}

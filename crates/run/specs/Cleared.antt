@@ -1,4 +1,4 @@
--- What a call leaves of the run besides its answer (document 01, "Area" and the table of refusals): an area that is +0
+-- What a call leaves of the run besides its answer (PROTOCOL, Area and Refusals): an area that is +0
 -- wherever no number is in use or, on a refusal by 1 to 4, the state and the area that were handed in.
 use Prim.Native.Nat.{ℕ, _+_, _-_, _<_, _≤_}
 use mathlib.Core.Bool.{true, false}
@@ -29,7 +29,7 @@ pub record Replied (st : State) (a : List Float) (l : AfterCall) : Type 0 where
   pub unchanged : refusedByCheck (l .event) ≡ true → (l .state ≡ st) × (l .area ≡ a)
   pub follows : refusedByCheck (l .event) ≡ false → Follows (st .counts .question) (l .state) (l .event)
 
--- demand 1 of the memory (document 01): what every call leaves, on all contents
+-- demand 1 of the memory (PROTOCOL, Area): what every call leaves, on all contents
 pub record Demand1 : Type 0 where
   pub begun :
       (z : Sizes) (start : List Float) (max : Scalar) (a : List Float) →

@@ -1,4 +1,5 @@
--- The damping mu (document 01): the first, the next after a step was taken, and more of it after one was turned down.
+-- The damping mu (PROTOCOL, An iteration): the first, the next after a step was taken, and more of it after one was
+-- turned down.
 use Prim.Native.Nat.{_+_}
 use mathlib.Core.Bool.{false}
 use lib.IntN.{pos}

@@ -1,4 +1,5 @@
--- What a judgement decides (document 01): the run stops, takes the step, tries again without the curvature learned, or
+-- What a judgement decides (PROTOCOL, An iteration): the run stops, takes the step, tries again without the curvature
+-- learned, or
 -- turns the step down.
 use mathlib.Core.Bool.{not, _&&_, Bool, false, true, _||_}
 use Rattle.interval.specs.Result.{Res, ok, refused}

@@ -1,4 +1,5 @@
--- Demand 3 (document 01): one claim about a run from its begin over every list of calls. It speaks of what the calls
+-- Demand 3 (PROTOCOL, What holds of every list of calls): one claim about a run from its begin over every list of
+-- calls. It speaks of what the calls
 -- answer, of the points they asked and of the rows they were given; lengths and damping are those that demand 2's
 -- definition (specs/Calls.antt) has for begin's numbers and the replies.
 use Prim.Native.Nat.{ℕ, _+_, _*_, _≤_}

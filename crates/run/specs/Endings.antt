@@ -1,4 +1,4 @@
--- How a call ends (document 01, "A run by question and reply"): a question, the finish, or refusal 5 or 6. A refusal
+-- How a call ends (PROTOCOL, Calls): a question, the finish, or refusal 5 or 6. A refusal
 -- keeps the point that stands when it is met, with the counts of that moment.
 use Prim.Native.Nat.{ℕ, _+_}
 use Rattle.interval.specs.Result.{Res, ok, refused}

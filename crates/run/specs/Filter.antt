@@ -1,4 +1,4 @@
--- The filter (document 01, "Proposal and judgement"): f and the violation of every point that stood before.
+-- The filter (PROTOCOL, An iteration): f and the violation of every point that stood before.
 use Prim.Native.Nat.{ℕ, _*_, _+_}
 use mathlib.Core.Bool.{Bool, _||_}
 use mathlib.Core.List.{List}

@@ -1,4 +1,5 @@
--- The next iteration (document 01): the search from the standing point, until a question, the finish, or a refusal.
+-- The next iteration (PROTOCOL, An iteration): the search from the standing point, until a question, the finish, or a
+-- refusal.
 use lib.Dec.{leb}
 use Rattle.interval.specs.Scalar.{pick}
 use Rattle.interval.specs.declared.Scalar.{Scalar}

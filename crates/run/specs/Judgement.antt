@@ -1,4 +1,4 @@
--- `judge`: how a step fares where it landed (document 01, "Proposal and judgement").
+-- `judge`: how a step fares where it landed (PROTOCOL, An iteration).
 use Prim.Native.Nat.{ℕ}
 use mathlib.Core.Bool.{Bool, not, _&&_, false, _||_}
 use mathlib.Core.List.{List}

@@ -1,4 +1,4 @@
--- Every limit of the protocol (document 01), once; the code has the same names.
+-- Every limit (PROTOCOL, Limits), once; the code has the same names.
 use Prim.Native.Nat.{ℕ}
 use lib.Ieee.{Float, binary64, ofBits}
 

@@ -1,4 +1,4 @@
--- What one damping proposes (document 01, the search's points 1 to 4): a step, cut to the radius where it is definitely
+-- What one damping proposes (PROTOCOL, An iteration, points 1 to 4): a step, cut to the radius where it is definitely
 -- longer, and the point it leads to.
 use Prim.Native.Nat.{ℕ}
 use mathlib.Core.Bool.{Bool, true}

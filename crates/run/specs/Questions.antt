@@ -1,5 +1,6 @@
--- How long a run is, for every list of calls (document 01, "A run by question and reply"): each accepted reply asks the
--- next number or ends the run, and question numbers are within 5,500 times the limit. So a caller that answers until the
+-- How long a run is, for every list of calls (PROTOCOL, Calls): each accepted reply asks the
+-- next number or ends the run, and question numbers are within 5,500 times the limit. So a caller that answers until
+-- the
 -- run is over needs no bound of its own.
 use Prim.Native.Nat.{ℕ, _+_, _*_, _≤_}
 use mathlib.Core.Bool.{Bool, true, false, cond}

@@ -1,4 +1,4 @@
--- The radius (document 01): a step cut to it, and what it is after a step was taken.
+-- The radius (PROTOCOL, An iteration): a step cut to it, and what it is after a step was taken.
 use Prim.Native.Nat.{ℕ}
 use mathlib.Core.Bool.{Bool, _||_}
 use mathlib.Core.List.{List}

@@ -1,8 +1,8 @@
--- What each result with a refusal means: document 01's number of the refusal, or the value.
+-- What each result with a refusal means: the number of the refusal (PROTOCOL, Refusals), or the value.
 use Prim.Native.Nat.{ℕ}
 use mathlib.Core.Bool.{Bool}
 use Rattle.interval.specs.Result.{Res, ok, refused}
-use Rattle.linear.specs.Answers.{numberOf}
+use Rattle.linear.specs.LinearResult.{numberOf}
 use Rattle.run.specs.declared.results.CountResult.{CountResult}
 use Rattle.run.specs.declared.results.CountResult.the-variants as count
 use Rattle.run.specs.declared.results.TruthResult.{TruthResult}

@@ -1,4 +1,4 @@
--- Rows as they are answered (document 01, "Rows"; the Rust's `Rows`): 2 (m + s) (n + 1) numbers, the constraint values,
+-- Rows as they are answered (PROTOCOL, Rows; the Rust's `Rows`): 2 (m + s) (n + 1) numbers, the constraint values,
 -- their slopes row by row, then the sum's. All is read at its place in the answered list.
 use Prim.Native.Nat.{ℕ, _+_, _*_}
 use mathlib.Core.List.{List}

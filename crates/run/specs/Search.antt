@@ -1,5 +1,4 @@
--- The search for a proposal, over dampings: left at the first question or stop (document 01, "A run by question and
--- reply").
+-- The search for a proposal, over dampings: left at the first question or stop (PROTOCOL, An iteration).
 use Prim.Native.Nat.{ℕ, zero, suc}
 use Rattle.interval.specs.Result.{Res, ok, refused}
 use Rattle.interval.specs.Scalar.{pick}

@@ -33,7 +33,7 @@ use crate::state::Returned;
 use crate::state::State;
 use crate::state::Stop;
 use crate::state::with_moving;
-use linear::Answer;
+use linear::LinearResult;
 
 // A start's rows: which variables they depend on is fixed for the whole run, and the first iteration follows. A
 // variable that no residual definitely depends on would make the curvature singular, so it keeps its place.
@@ -59,13 +59,13 @@ fn land(st: State, area: &mut [f64], rows: &[f64], trial: bool) -> Returned
         (landCorrection st w (now (rows .entry)) theta))) r (now (area .exit))) ⌝ }
 {
     match standing_violation(st.sizes, area) {
-        Answer::Value(theta) => {
+        LinearResult::Value(theta) => {
             if trial {
                 return land_trial(st, area, rows, theta);
             }
             return land_correction(st, area, rows, theta);
         }
-        Answer::Refused(e) => {
+        LinearResult::Refused(e) => {
             return refuse(st, area, e);
         }
     }

@@ -11,7 +11,7 @@ ghost use lib.ListN.{length, take, set, drop};
 ghost use Rattle.interval.specs.Result as scalar;
 ghost use Rattle.interval.specs.Scalar.{zeroS, negOf};
 ghost use Rattle.interval.specs.declared.Scalar as value;
-ghost use Rattle.linear.specs.Answers.{doneOf, resultOf};
+ghost use Rattle.linear.specs.LinearResult.{doneOf, resultOf};
 ghost use Rattle.linear.specs.Choose.{chooseOf};
 ghost use Rattle.linear.specs.Dot.{dotTo, minusTo};
 ghost use Rattle.linear.specs.Flat.{listTo, at, put};
@@ -34,9 +34,9 @@ use crate::vectors::spread;
 use crate::vectors::unit;
 use interval::Scalar;
 use interval::ScalarResult;
-use linear::Answer;
 use linear::Done;
 use linear::LinearError;
+use linear::LinearResult;
 use linear::at;
 use linear::choose;
 use linear::clear;
@@ -258,13 +258,13 @@ fn add_row(
     row_of(k, passed.m, jc, &mut v);
     parts_out(k, r, q, &mut v, coefficients);
     match norm_of(&v, k) {
-        Answer::Value(l) => {
+        LinearResult::Value(l) => {
             let length = l.sharpen();
             unit(&v, 0, length, k, q, 12 * r);
             put(coefficients, 12 * r + r, length);
             return ranked(gram_row(k, r, q, gram), r + 1);
         }
-        Answer::Refused(e) => {
+        LinearResult::Refused(e) => {
             return CountResult::Refused(e);
         }
     }
@@ -281,7 +281,7 @@ fn chosen_at(r: usize, a: &[f64], to: &mut [f64], t0: usize)
 }
 
 // The length of what is left of the row behind the first m, with its coefficients in a.
-fn measure(passed: Shape, wide: &[f64], q: &[f64], gram: &[f64], a: &mut [f64]) -> Answer
+fn measure(passed: Shape, wide: &[f64], q: &[f64], gram: &[f64], a: &mut [f64]) -> LinearResult
     requires { ⌜ NextRow passed × (length (now a) ≡ 24) ⌝ }
     ensures { λ x. ⌜ ((f : List Float → value.Scalar → scalar.Res Basis)
         → bind (resultOf x) (f (take (2 * passed .r) (now (a .exit))))
@@ -295,7 +295,7 @@ fn measure(passed: Shape, wide: &[f64], q: &[f64], gram: &[f64], a: &mut [f64]) 
             return norm_of(&out, passed.k);
         }
         Done::Refused(e) => {
-            return Answer::Refused(e);
+            return LinearResult::Refused(e);
         }
     }
 }
@@ -323,7 +323,7 @@ fn next_row(
     let r = passed.r;
     let mut a = [0.0; 24];
     match measure(passed, wide, q, gram, &mut a) {
-        Answer::Value(l) => {
+        LinearResult::Value(l) => {
             if l.definitely_greater(Scalar::ZERO) {
                 order[r] = i;
                 return add_row(passed, jc, q, gram, coefficients);
@@ -333,7 +333,7 @@ fn next_row(
             chosen_at(r, &a, dependent, 12 * d);
             return CountResult::Value(r);
         }
-        Answer::Refused(e) => {
+        LinearResult::Refused(e) => {
             return CountResult::Refused(e);
         }
     }

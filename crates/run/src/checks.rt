@@ -1,4 +1,4 @@
-// The checks of every call, in the order of document 01's table: numbers 4, 1, 2 and 3. A caller may hand in any state,
+// The checks of every call, in the order of PROTOCOL, Refusals: numbers 4, 1, 2 and 3. A caller may hand in any state,
 // area and rows; what passes them is within the limits that every sum of counts and every place relies on.
 ghost use Prim.Native.Nat.{_≤_};
 ghost use mathlib.Core.Path.{_≡_};

@@ -6,7 +6,7 @@ ghost use mathlib.Core.Path.{_≡_};
 ghost use lib.ListN.{length};
 ghost use Rattle.interval.specs.Result.{ok};
 ghost use Rattle.interval.specs.Scalar.{pick, sharpen};
-ghost use Rattle.linear.specs.Answers.{doneOf, resultOf};
+ghost use Rattle.linear.specs.LinearResult.{doneOf, resultOf};
 ghost use Rattle.linear.specs.Flat.{listTo, at};
 ghost use Rattle.run.specs.Limits.{AREA, CORRECTIONS};
 ghost use Rattle.run.specs.declared.state.Kind.the-variants as kinds;
@@ -43,9 +43,9 @@ use crate::vectors::choose_if;
 use crate::vectors::moved;
 use crate::vectors::same;
 use interval::Scalar;
-use linear::Answer;
 use linear::Done;
 use linear::LinearError;
+use linear::LinearResult;
 use linear::at;
 use linear::clear;
 use linear::minus_solved;
@@ -146,7 +146,7 @@ pub fn shifted_step(n: usize, step: &mut [f64], d: &[f64])
 }
 
 // The landed point is shifted back onto the constraints, and that point asked, or it is judged.
-fn correct(st: State, area: &mut [f64], theta: Scalar, landed: Answer) -> Returned
+fn correct(st: State, area: &mut [f64], theta: Scalar, landed: LinearResult) -> Returned
     requires { ⌜ (length (now area) ≡ AREA) × Underway st ⌝ }
     ensures { λ r. ⌜ ((w : Memory) → ViolationsKnown st theta (resultOf landed) w (now (area .entry)) →
         Leaves (correct st w theta) r (now (area .exit))) ⌝ }
@@ -179,7 +179,7 @@ fn correct_or_judge(
     st: State,
     area: &mut [f64],
     theta: Scalar,
-    landed: Answer,
+    landed: LinearResult,
     corrects: bool,
 ) -> Returned
     requires { ⌜ (length (now area) ≡ AREA) × Underway st ⌝ }
@@ -194,7 +194,7 @@ fn correct_or_judge(
 
 // A correction's rows that are nearer the constraints are kept, and the step is shifted as well, since its length and
 // the curvature are taken from where it led.
-fn keep(st: State, area: &mut [f64], rows: &[f64], theta: Scalar, landed: Answer) -> Returned
+fn keep(st: State, area: &mut [f64], rows: &[f64], theta: Scalar, landed: LinearResult) -> Returned
     requires { ⌜ RowsToLand st (length (now area)) (length (now rows)) × (st .counts .corrections ≤ CORRECTIONS) ⌝ }
     ensures { λ r. ⌜ ((w : Memory) → StandingKnown st (ok theta) w (now (area .entry)) →
         resultOf landed ≡ violationOf (rowsAt st (now (rows .entry)) .constraints) →
@@ -227,19 +227,19 @@ fn keep(st: State, area: &mut [f64], rows: &[f64], theta: Scalar, landed: Answer
 }
 
 // Whether a correction's rows, by their violation, are nearer the constraints than the landed ones.
-fn is_nearer(new: Answer, old: Answer) -> TruthResult
+fn is_nearer(new: LinearResult, old: LinearResult) -> TruthResult
     ensures { λ r. ⌜ truthOf r ≡ nearerOf (resultOf new) (resultOf old) ⌝ }
 {
     match new {
-        Answer::Value(now) => match old {
-            Answer::Value(before) => {
+        LinearResult::Value(now) => match old {
+            LinearResult::Value(before) => {
                 return TruthResult::Value(now.definitely_less(before));
             }
-            Answer::Refused(e) => {
+            LinearResult::Refused(e) => {
                 return TruthResult::Refused(e);
             }
         },
-        Answer::Refused(e) => {
+        LinearResult::Refused(e) => {
             return TruthResult::Refused(e);
         }
     }
@@ -276,10 +276,10 @@ pub fn land_trial(st: State, area: &mut [f64], rows: &[f64], theta: Scalar) -> R
     let t = with_landed_number(st, 0);
     let landed = landed_violation(st.sizes, area);
     match landed {
-        Answer::Value(new) => {
+        LinearResult::Value(new) => {
             return correct_or_judge(t, area, theta, landed, new.definitely_greater(theta));
         }
-        Answer::Refused(e) => {
+        LinearResult::Refused(e) => {
             return refuse(t, area, e);
         }
     }
@@ -292,11 +292,11 @@ pub fn correction_none(st: State, area: &mut [f64]) -> Returned
         Leaves (answeredNone kinds.Correction st w) r (now (area .exit))) ⌝ }
 {
     match standing_violation(st.sizes, area) {
-        Answer::Value(theta) => {
+        LinearResult::Value(theta) => {
             let landed = landed_violation(st.sizes, area);
             return judge_landed(st, area, theta, landed);
         }
-        Answer::Refused(e) => {
+        LinearResult::Refused(e) => {
             return refuse(st, area, e);
         }
     }

@@ -10,7 +10,7 @@ ghost use lib.Ieee.{Float};
 ghost use lib.ListN.{length};
 ghost use Rattle.interval.specs.Result as scalar;
 ghost use Rattle.interval.specs.Scalar.{zeroS, isSharp, definitelyNotEqual, inverseOf, subOf};
-ghost use Rattle.linear.specs.Answers.{doneOf};
+ghost use Rattle.linear.specs.LinearResult.{doneOf};
 ghost use Rattle.linear.specs.Cholesky.{factorOf};
 ghost use Rattle.linear.specs.Choose.{chooseOf};
 ghost use Rattle.linear.specs.Dot.{dotTo};

@@ -5,7 +5,7 @@ ghost use mathlib.Core.Path.{_≡_};
 ghost use lib.ListN.{length};
 ghost use Rattle.interval.specs.Scalar.{pick};
 ghost use Rattle.interval.specs.Scaling.{isPositive};
-ghost use Rattle.linear.specs.Answers.{resultOf, doneOf};
+ghost use Rattle.linear.specs.LinearResult.{resultOf, doneOf};
 ghost use Rattle.linear.specs.Flat.{zeros};
 ghost use Rattle.run.specs.Limits.{AREA, VARIABLES};
 ghost use Rattle.run.specs.Area.{CURVATURE-LEN, Memory, landedAt, standingAt};
@@ -52,12 +52,18 @@ use crate::state::standing_on;
 use crate::state::with_search;
 use interval::Scalar;
 use interval::ScalarResult;
-use linear::Answer;
 use linear::Done;
 use linear::LinearError;
+use linear::LinearResult;
 
 // The search goes on with that radius and more damping, while that is finite.
-fn grow(st: State, area: &mut [f64], radius: Scalar, why: Rejection, standing: Answer) -> Returned
+fn grow(
+    st: State,
+    area: &mut [f64],
+    radius: Scalar,
+    why: Rejection,
+    standing: LinearResult,
+) -> Returned
     requires { ⌜ (length (now area) ≡ AREA) × Bounded 1073741824 st ⌝ }
     ensures { λ r. ⌜ ((w : Memory) → StandingKnown st (resultOf standing) w (now (area .entry)) →
         Leaves (run.grow (searching st (withRadius (rejectedFor (st .search) why) radius)) w) r (now (area .exit))) ⌝ }
@@ -74,7 +80,7 @@ fn grow(st: State, area: &mut [f64], radius: Scalar, why: Rejection, standing: A
 
 // A step is turned down: the model was trusted too far, so a quarter of the length tried is the radius, with more
 // damping.
-pub fn turn_down(st: State, area: &mut [f64], why: Rejection, standing: Answer) -> Returned
+pub fn turn_down(st: State, area: &mut [f64], why: Rejection, standing: LinearResult) -> Returned
     requires { ⌜ (length (now area) ≡ AREA) × Bounded 1073741824 st ⌝ }
     ensures { λ r. ⌜ ((w : Memory) → StandingKnown st (resultOf standing) w (now (area .entry)) →
         Leaves (run.turnDown st w why) r (now (area .exit))) ⌝ }
@@ -104,7 +110,7 @@ fn may_retry(plain: bool, n: usize, area: &[f64]) -> bool
 // A step that is not lower is tried again without the curvature learned, once in an iteration, or turned down.
 // Curvature learned from earlier steps may no longer hold here, as on the far side of a singular point, and without it
 // the step is one of descent; so this comes before more damping.
-pub fn not_lower(st: State, area: &mut [f64], standing: Answer) -> Returned
+pub fn not_lower(st: State, area: &mut [f64], standing: LinearResult) -> Returned
     requires { ⌜ (length (now area) ≡ AREA) × Bounded 1073741824 st ⌝ }
     ensures { λ r. ⌜ ((w : Memory) → StandingKnown st (resultOf standing) w (now (area .entry)) →
         Leaves (run.notLower st w) r (now (area .exit))) ⌝ }
@@ -130,16 +136,16 @@ fn held(old: Scalar, predicted: Scalar, new: Scalar) -> bool
 
 // Whether they did, by the violation of the landed point. It is asked only where there was a violation to lower, and
 // then the radius may grow beyond the longest step that a caller allows at once.
-fn linear_of(st: State, theta: Scalar, landed: Answer) -> TruthResult
+fn linear_of(st: State, theta: Scalar, landed: LinearResult) -> TruthResult
     ensures { λ r. ⌜ ((w : Memory) → resultOf landed ≡ violationOf (landedAt st w .constraints) →
         truthOf r ≡ linearOf st w theta) ⌝ }
 {
     if theta.definitely_greater(Scalar::ZERO) {
         match landed {
-            Answer::Value(new) => {
+            LinearResult::Value(new) => {
                 return TruthResult::Value(held(theta, st.trial.predicted, new));
             }
-            Answer::Refused(e) => {
+            LinearResult::Refused(e) => {
                 return TruthResult::Refused(e);
             }
         }
@@ -150,7 +156,8 @@ fn linear_of(st: State, theta: Scalar, landed: Answer) -> TruthResult
 // The curvature before the step, over +0 into b: none in plain. Of its slot the entries in use are copied.
 fn curvature_in_use(plain: bool, n: usize, area: &[f64], b: &mut [f64])
     requires { ⌜ (n ≤ VARIABLES) × (length (now area) ≡ AREA) × (now b ≡ zeros CURVATURE-LEN) ⌝ }
-    ensures { λ _. ⌜ ((w : Memory) → Holds w (now (area .entry)) → ZeroBehind CURVATURE-LEN (2 * (n * n)) (w .curvature) →
+    ensures { λ _. ⌜ ((w : Memory) → Holds w (now (area .entry)) → ZeroBehind CURVATURE-LEN (2 * (n * n)) (w .curvature)
+        →
         now (b .exit) ≡ pick plain (zeros CURVATURE-LEN) (w .curvature)) ⌝ }
 {
     if !plain {
@@ -163,7 +170,8 @@ fn curvature_in_use(plain: bool, n: usize, area: &[f64], b: &mut [f64])
 // The curvature after the step, over +0 into b.
 fn learn(z: Sizes, plain: bool, area: &[f64], b: &mut [f64]) -> Done
     requires { ⌜ FewRows (rowCounts z) × (length (now area) ≡ AREA) × (now b ≡ zeros CURVATURE-LEN) ⌝ }
-    ensures { λ r. ⌜ ((w : Memory) → Holds w (now (area .entry)) → ZeroBehind CURVATURE-LEN (2 * (z .n * z .n)) (w .curvature) →
+    ensures { λ r. ⌜ ((w : Memory) → Holds w (now (area .entry))
+        → ZeroBehind CURVATURE-LEN (2 * (z .n * z .n)) (w .curvature) →
         doneOf r (now (b .exit))
         ≡ updateCurvature (z .n) (pick plain (zeros CURVATURE-LEN) (w .curvature)) (w .step)
         (evaluationBy (rowCounts z) (w .standingRows)) (evaluationBy (rowCounts z) (w .landedRows))
@@ -185,7 +193,7 @@ fn take_with(
     st: State,
     area: &mut [f64],
     theta: Scalar,
-    landed: Answer,
+    landed: LinearResult,
     span: Scalar,
     mu: Scalar,
     radius: Scalar,
@@ -212,7 +220,13 @@ fn take_with(
 }
 
 // The step of that length is taken, from a point with violation theta to the landed one.
-pub fn take(st: State, area: &mut [f64], theta: Scalar, landed: Answer, span: Scalar) -> Returned
+pub fn take(
+    st: State,
+    area: &mut [f64],
+    theta: Scalar,
+    landed: LinearResult,
+    span: Scalar,
+) -> Returned
     requires { ⌜ (length (now area) ≡ AREA) × Underway st ⌝ }
     ensures { λ r. ⌜ ((w : Memory) → ViolationsKnown st theta (resultOf landed) w (now (area .entry)) →
         Leaves (take st w theta span) r (now (area .exit))) ⌝ }
@@ -279,7 +293,7 @@ fn is_better(first: bool, j: Judged) -> bool
 }
 
 // What follows a judgement, from a standing point with violation theta to the landed one.
-fn decide(st: State, area: &mut [f64], theta: Scalar, landed: Answer, j: Judged) -> Returned
+fn decide(st: State, area: &mut [f64], theta: Scalar, landed: LinearResult, j: Judged) -> Returned
     requires { ⌜ (length (now area) ≡ AREA) × Underway st ⌝ }
     ensures { λ r. ⌜ ((w : Memory) → ViolationsKnown st theta (resultOf landed) w (now (area .entry)) →
         Leaves (decide st w theta j) r (now (area .exit))) ⌝ }
@@ -291,11 +305,11 @@ fn decide(st: State, area: &mut [f64], theta: Scalar, landed: Answer, j: Judged)
     if is_better(st.search.first, j) {
         return take(st, area, theta, landed, j.length);
     }
-    not_lower(st, area, Answer::Value(theta))
+    not_lower(st, area, LinearResult::Value(theta))
 }
 
 // The judgement of the landed point, from a standing point with violation theta.
-fn judge_in(st: State, area: &[f64], theta: Scalar, landed: Answer) -> Judgement
+fn judge_in(st: State, area: &[f64], theta: Scalar, landed: LinearResult) -> Judgement
     requires { ⌜ (length (now area) ≡ AREA) × Underway st ⌝ }
     ensures { λ r. ⌜ ((w : Memory) → ViolationsKnown st theta (resultOf landed) w (now (area .entry)) →
         judgementOf r ≡ judgeOf (st .sizes .n) (standingAt st w) (landedAt st w) theta (w .filter)
@@ -319,7 +333,7 @@ fn judge_in(st: State, area: &[f64], theta: Scalar, landed: Answer) -> Judgement
 }
 
 // The landed point is judged, from a standing point with violation theta.
-pub fn judge_landed(st: State, area: &mut [f64], theta: Scalar, landed: Answer) -> Returned
+pub fn judge_landed(st: State, area: &mut [f64], theta: Scalar, landed: LinearResult) -> Returned
     requires { ⌜ (length (now area) ≡ AREA) × Underway st ⌝ }
     ensures { λ r. ⌜ ((w : Memory) → ViolationsKnown st theta (resultOf landed) w (now (area .entry)) →
         Leaves (judge st w theta) r (now (area .exit))) ⌝ }

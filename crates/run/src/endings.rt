@@ -5,7 +5,7 @@ ghost use mathlib.Core.List.{List};
 ghost use mathlib.Core.Path.{_≡_};
 ghost use lib.Ieee.{Float};
 ghost use lib.ListN.{length};
-ghost use Rattle.linear.specs.Answers.{numberOf};
+ghost use Rattle.linear.specs.LinearResult.{numberOf};
 ghost use Rattle.run.specs.Limits.{AREA};
 ghost use Rattle.run.specs.Area.{Memory};
 ghost use Rattle.run.specs.Endings as run;
@@ -23,7 +23,7 @@ use crate::state::with_question;
 use interval::GeopError;
 use linear::LinearError;
 
-// Document 01's number of a refusal.
+// The number of a refusal (PROTOCOL, Refusals).
 fn number_of(e: LinearError) -> usize
     ensures { λ r. ⌜ r ≡ numberOf e ⌝ }
 {

@@ -1,7 +1,7 @@
 // The next iteration: the search from the standing point, until a question, the finish or a refusal.
 ghost use mathlib.Core.Path.{_≡_};
 ghost use lib.ListN.{length};
-ghost use Rattle.linear.specs.Answers.{resultOf};
+ghost use Rattle.linear.specs.LinearResult.{resultOf};
 ghost use Rattle.run.specs.Limits.{AREA};
 ghost use Rattle.run.specs.Area.{Memory};
 ghost use Rattle.run.specs.Iterate.{leftAt};
@@ -31,7 +31,7 @@ use crate::state::Stop;
 use crate::state::with_search;
 use crate::state::with_trial_of;
 use interval::Scalar;
-use linear::Answer;
+use linear::LinearResult;
 
 // The event that follows where a search was left, with the step and its multipliers.
 fn left_at(st: State, area: &mut [f64], found: Found, delta: &[f64], lambda: &[f64]) -> Returned
@@ -77,7 +77,7 @@ fn search_start(st: State, area: &[f64], theta: Scalar) -> Start
 fn seek_standing(
     st: State,
     area: &[f64],
-    standing: Answer,
+    standing: LinearResult,
     delta: &mut [f64],
     lambda: &mut [f64],
 ) -> Found
@@ -88,17 +88,17 @@ fn seek_standing(
 {
     let from = st.search;
     match standing {
-        Answer::Value(theta) => {
+        LinearResult::Value(theta) => {
             return seek(search_start(st, area, theta), area, from, delta, lambda);
         }
-        Answer::Refused(e) => {
+        LinearResult::Refused(e) => {
             return Found::Refused(from, e);
         }
     }
 }
 
 // The search for a proposal from the standing point with its violation, until a question, the finish or a refusal.
-pub fn search(st: State, area: &mut [f64], standing: Answer) -> Returned
+pub fn search(st: State, area: &mut [f64], standing: LinearResult) -> Returned
     requires { ⌜ (length (now area) ≡ AREA) × Bounded 2147483648 st ⌝ }
     ensures { λ r. ⌜ ((w : Memory) → StandingKnown st (resultOf standing) w (now (area .entry)) →
         Leaves (run.search st w) r (now (area .exit))) ⌝ }
@@ -110,7 +110,7 @@ pub fn search(st: State, area: &mut [f64], standing: Answer) -> Returned
 }
 
 // A new iteration, or the finish where the limit is reached.
-pub fn iterate(st: State, area: &mut [f64], standing: Answer) -> Returned
+pub fn iterate(st: State, area: &mut [f64], standing: LinearResult) -> Returned
     requires { ⌜ (length (now area) ≡ AREA) × Bounded 2147483648 st ⌝ }
     ensures { λ r. ⌜ ((w : Memory) → StandingKnown st (resultOf standing) w (now (area .entry)) →
         Leaves (run.iterate st w) r (now (area .exit))) ⌝ }

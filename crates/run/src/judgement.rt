@@ -5,7 +5,7 @@ ghost use mathlib.Core.Bool.{_&&_, _||_};
 ghost use mathlib.Core.Path.{_≡_};
 ghost use lib.ListN.{length};
 ghost use Rattle.interval.specs.Scalar.{subOf};
-ghost use Rattle.linear.specs.Answers.{resultOf};
+ghost use Rattle.linear.specs.LinearResult.{resultOf};
 ghost use Rattle.run.specs.Filter.{beatsTo};
 ghost use Rattle.run.specs.Judgement.{sumChange, indefinite, rises, contracts, judgedBy, judgeOf};
 ghost use Rattle.run.specs.Residuals.{violationOf};
@@ -21,8 +21,8 @@ use crate::rows::value_of;
 use crate::state::Last;
 use crate::vectors::norm_of;
 use interval::Scalar;
-use linear::Answer;
 use linear::LinearError;
+use linear::LinearResult;
 
 pub struct Judged {
     pub length: Scalar,
@@ -128,7 +128,7 @@ pub fn judge(
     c: RowCounts,
     at: &[f64],
     next: &[f64],
-    landed: Answer,
+    landed: LinearResult,
     base: Baseline,
     filter: &[f64],
     step: &[f64],
@@ -140,14 +140,14 @@ pub fn judge(
         (now (filter .entry)) (base .pairs) (base .last) (now (step .entry))) ⌝ }
 {
     match norm_of(step, c.n) {
-        Answer::Refused(e) => {
+        LinearResult::Refused(e) => {
             return Judgement::Refused(e);
         }
-        Answer::Value(length) => match landed {
-            Answer::Refused(e) => {
+        LinearResult::Value(length) => match landed {
+            LinearResult::Refused(e) => {
                 return Judgement::Refused(e);
             }
-            Answer::Value(theta) => {
+            LinearResult::Value(theta) => {
                 let change = sum_change(at, next, rows::sum(c.n, c.m, c.s));
                 let f = residuals::sum_squared(next, c.n, c.m, c.s);
                 return Judgement::Of(judged_by(change, f, theta, base, filter, length));

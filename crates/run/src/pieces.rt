@@ -3,7 +3,7 @@
 // order of operations, with what is written all +0. Rows have 2 (m + s) (n + 1) numbers, points and steps 24.
 ghost use mathlib.Core.Path.{_≡_};
 ghost use lib.ListN.{length};
-ghost use Rattle.linear.specs.Answers.{doneOf, resultOf};
+ghost use Rattle.linear.specs.LinearResult.{doneOf, resultOf};
 ghost use Rattle.linear.specs.Flat.{zeros};
 ghost use Rattle.linear.specs.Replies.{replied, replyOf};
 ghost use Rattle.run.specs.Pieces.{sizedOf, wantsOf, fitsTwo, variablesRead, squaredReply, predictedReply};
@@ -34,9 +34,9 @@ use crate::state::Sizes;
 use crate::step;
 use crate::step::StepEnd;
 use interval::Scalar;
-use linear::Answer;
 use linear::Done;
 use linear::LinearError;
+use linear::LinearResult;
 use linear::clear;
 use linear::put;
 
@@ -92,25 +92,25 @@ fn variables_read(n: usize, d: usize) -> usize
 }
 
 // |values + slopes delta|² of the sum's rows, over the first d variables: d is n, or 0 for the sum of squares.
-pub fn squared(c: RowCounts, xs: &[f64], delta: &[f64], d: usize) -> Answer
+pub fn squared(c: RowCounts, xs: &[f64], delta: &[f64], d: usize) -> LinearResult
     ensures { λ r. ⌜ resultOf r ≡ squaredReply c (now (xs .entry)) (now (delta .entry)) d ⌝ }
 {
     match fits(c, xs, delta.len(), POINT_LEN, d, variables_read(c.n, d)) {
         Done::Refused(e) => {
-            return Answer::Refused(e);
+            return LinearResult::Refused(e);
         }
         Done::Finished => {}
     }
-    Answer::Value(residuals::squared(xs, rows::sum(c.n, c.m, c.s), delta, d))
+    LinearResult::Value(residuals::squared(xs, rows::sum(c.n, c.m, c.s), delta, d))
 }
 
 // The violation that a step leads to, to first order.
-pub fn predicted(c: RowCounts, xs: &[f64], delta: &[f64]) -> Answer
+pub fn predicted(c: RowCounts, xs: &[f64], delta: &[f64]) -> LinearResult
     ensures { λ r. ⌜ resultOf r ≡ predictedReply c (now (xs .entry)) (now (delta .entry)) ⌝ }
 {
     match wants(sized(c, xs.len()), delta.len(), POINT_LEN) {
         Done::Refused(e) => {
-            return Answer::Refused(e);
+            return LinearResult::Refused(e);
         }
         Done::Finished => {}
     }

@@ -7,7 +7,7 @@ ghost use lib.Ieee.{Float};
 ghost use lib.ListN.{length};
 ghost use Rattle.interval.specs.Result.{ok};
 ghost use Rattle.interval.specs.Scalar.{zeroS, subOf, definitelyGreater};
-ghost use Rattle.linear.specs.Answers.{resultOf};
+ghost use Rattle.linear.specs.LinearResult.{resultOf};
 ghost use Rattle.linear.specs.Results.{bind};
 ghost use Rattle.run.specs.Limits.{AREA, VARIABLES, CONSTRAINTS};
 ghost use Rattle.run.specs.Proposal.{curvatureAlong, expectsOf, ask, trialOf, shortenedOf, withinOf, proposalOf};
@@ -38,8 +38,8 @@ use crate::vectors::norm_of;
 use crate::vectors::same;
 use interval::Scalar;
 use interval::ScalarResult;
-use linear::Answer;
 use linear::LinearError;
+use linear::LinearResult;
 use linear::at;
 use linear::plus_dot;
 use linear::put;
@@ -92,12 +92,12 @@ fn curvature_along(n: usize, b: &[f64], delta: &[f64]) -> Scalar
 }
 
 // Whether the violation falls, from what it is to what is predicted.
-fn falls(theta: Scalar, predicted: Answer) -> TruthResult
+fn falls(theta: Scalar, predicted: LinearResult) -> TruthResult
     ensures { λ r. ⌜ truthOf r ≡ bind (resultOf predicted) (λ v. ok (definitelyGreater (subOf theta v) zeroS)) ⌝ }
 {
     match predicted {
-        Answer::Value(v) => TruthResult::Value(theta.sub(v).definitely_greater(Scalar::ZERO)),
-        Answer::Refused(e) => TruthResult::Refused(e),
+        LinearResult::Value(v) => TruthResult::Value(theta.sub(v).definitely_greater(Scalar::ZERO)),
+        LinearResult::Refused(e) => TruthResult::Refused(e),
     }
 }
 
@@ -117,7 +117,7 @@ pub fn expects(point: StandingPoint, rows: &[f64], b: &[f64], delta: &[f64]) -> 
 }
 
 // The trial, once the step's length is known or refused.
-fn asked(predicted: Scalar, length: Answer) -> Proposal
+fn asked(predicted: Scalar, length: LinearResult) -> Proposal
     ensures { λ r. ⌜ ((delta lambda next : List Float) →
         proposalResult r delta lambda next
         ≡ bind (resultOf length) (λ tried. ok (ask (record {
@@ -129,8 +129,8 @@ fn asked(predicted: Scalar, length: Answer) -> Proposal
         })))) ⌝ }
 {
     match length {
-        Answer::Value(tried) => Proposal::Ask(Trial { predicted, tried }),
-        Answer::Refused(e) => Proposal::Refused(e),
+        LinearResult::Value(tried) => Proposal::Ask(Trial { predicted, tried }),
+        LinearResult::Refused(e) => Proposal::Refused(e),
     }
 }
 
@@ -144,13 +144,13 @@ fn tried(n: usize, m: usize, rows: &[f64], x: &[f64], delta: &[f64]) -> Proposal
     let mut next = [0.0; 24];
     moved(n, x, delta, &mut next);
     match predicted(rows, n, m, delta) {
-        Answer::Value(p) => {
+        LinearResult::Value(p) => {
             if same(n, &next, x) {
                 return Proposal::NoChange;
             }
             return asked(p, norm_of(delta, n));
         }
-        Answer::Refused(e) => {
+        LinearResult::Refused(e) => {
             return Proposal::Refused(e);
         }
     }
@@ -217,7 +217,7 @@ fn within(
 {
     let c = point.counts;
     match norm_of(delta, c.n) {
-        Answer::Value(length) => {
+        LinearResult::Value(length) => {
             if !length.definitely_greater(radius) {
                 return trial(c.n, c.m, rows, x, delta);
             }
@@ -230,7 +230,7 @@ fn within(
                 }
             }
         }
-        Answer::Refused(e) => {
+        LinearResult::Refused(e) => {
             return Proposal::Refused(e);
         }
     }

@@ -3,16 +3,16 @@
 ghost use Prim.Native.Nat.{_≤_};
 ghost use mathlib.Core.Path.{_≡_};
 ghost use lib.ListN.{length};
-ghost use Rattle.linear.specs.Answers.{doneOf};
+ghost use Rattle.linear.specs.LinearResult.{doneOf};
 ghost use Rattle.run.specs.Area.{POINT-LEN};
 ghost use Rattle.run.specs.Limits.{VARIABLES};
 ghost use Rattle.run.specs.Radius.{cutOf, cutWithin, radiusAfter};
 use crate::vectors::norm_of;
 use interval::Scalar;
 use interval::ScalarResult;
-use linear::Answer;
 use linear::Done;
 use linear::LinearError;
+use linear::LinearResult;
 use linear::at;
 use linear::choose;
 use linear::put;
@@ -33,10 +33,10 @@ pub fn cut_within(n: usize, radius: Scalar, delta: &mut [f64]) -> Done
     ensures { λ r. ⌜ doneOf r (now (delta .exit)) ≡ cutWithin n radius (now (delta .entry)) ⌝ }
 {
     match norm_of(delta, n) {
-        Answer::Refused(e) => {
+        LinearResult::Refused(e) => {
             return Done::Refused(e);
         }
-        Answer::Value(length) => {
+        LinearResult::Value(length) => {
             if !length.definitely_greater(radius) {
                 return Done::Finished;
             }

@@ -12,7 +12,7 @@ ghost use Rattle.linear.specs.Flat.{along, at, put, listTo};
 ghost use Rattle.run.specs.Limits.{VARIABLES};
 ghost use Rattle.run.specs.Reduced.{hTimesAt, forceOf, pullOf, reducedOf, againstOf};
 ghost use Rattle.run.specs.Vectors.{row, vector, fillTo, matrix, fillRows, anyTo};
-ghost use Rattle.run.specs.program.Reduced.{curved, lowerAt, alongOf, solvedWith, spanned, freePart};
+ghost use Rattle.run.specs.program.Reduced.{curved, lowerAt, weightsResult, solvedWith, spanned, freePart};
 use crate::vectors::combine;
 use interval::Scalar;
 use linear::Done;
@@ -157,7 +157,7 @@ fn any(marks: &[bool]) -> bool
 // The weights for a reduced matrix, where no pivot of its factor is left out, in place of the right-hand side.
 fn weights_for(t: usize, a: &[f64], w: &mut [f64]) -> WeightsEnd
     requires { ⌜ (t ≤ 12) × ((length (now a) ≡ 2 * (t * t)) × (length (now w) ≡ 2 * t)) ⌝ }
-    ensures { λ r. ⌜ alongOf r (now (w .exit)) ≡ solvedWith t (now (a .entry)) (now (w .entry)) ⌝ }
+    ensures { λ r. ⌜ weightsResult r (now (w .exit)) ≡ solvedWith t (now (a .entry)) (now (w .entry)) ⌝ }
 {
     let q = 2 * t;
     let e = 2 * (t * t);
@@ -187,7 +187,7 @@ fn weights_for(t: usize, a: &[f64], w: &mut [f64]) -> WeightsEnd
 // The weights along Z against a force.
 fn weigh(k: usize, count: usize, h: &[f64], z: &[f64], force: &[f64], w: &mut [f64]) -> WeightsEnd
     requires { ⌜ (k ≤ VARIABLES) × ((count ≤ 12) × (length (now w) ≡ 2 * count)) ⌝ }
-    ensures { λ r. ⌜ alongOf r (now (w .exit))
+    ensures { λ r. ⌜ weightsResult r (now (w .exit))
         ≡ solvedWith count (reducedOf (curved k (now (h .entry)) vector) (spanned count (now (z .entry))))
         (againstOf (curved k (now (h .entry)) vector) (spanned count (now (z .entry))) (now (force .entry))) ⌝ }
 {
@@ -211,7 +211,7 @@ pub fn free_part(
     delta: &mut [f64],
 ) -> WeightsEnd
     requires { ⌜ (k ≤ VARIABLES) × (count ≤ 12) ⌝ }
-    ensures { λ r. ⌜ alongOf r (now (delta .exit))
+    ensures { λ r. ⌜ weightsResult r (now (delta .exit))
         ≡ freePart (curved k (now (h .entry)) (now (g .entry))) (now (delta .entry))
         (spanned count (now (z .entry))) ⌝ }
 {

@@ -4,7 +4,7 @@ ghost use Prim.Native.Nat.{_<_, _≤_, _*_};
 ghost use mathlib.Core.Bool.{_||_};
 ghost use mathlib.Core.Path.{_≡_};
 ghost use lib.ListN.{length};
-ghost use Rattle.linear.specs.Answers.{resultOf};
+ghost use Rattle.linear.specs.LinearResult.{resultOf};
 ghost use Rattle.run.specs.Limits.{AREA, VARIABLES, CONSTRAINTS, SUM-ROWS};
 ghost use Rattle.run.specs.Area.{Memory};
 ghost use Rattle.run.specs.Residuals.{linearizedAt, squaredOf, transposedAt, sumSquared, violationOf};
@@ -23,7 +23,7 @@ use crate::rows::value_of;
 use crate::state::Sizes;
 use crate::vectors::norm_of;
 use interval::Scalar;
-use linear::Answer;
+use linear::LinearResult;
 use linear::choose;
 use linear::plus_dot;
 use linear::put;
@@ -100,7 +100,7 @@ pub fn chosen_slopes(xs: &[f64], e: RowSet, out: &mut [f64])
 }
 
 // The violation of a point, from its rows.
-pub fn violation(xs: &[f64], n: usize, m: usize) -> Answer
+pub fn violation(xs: &[f64], n: usize, m: usize) -> LinearResult
     requires { ⌜ (m ≤ CONSTRAINTS) × (2 * m ≤ length (now xs)) ⌝ }
     ensures { λ r. ⌜ resultOf r ≡ violationOf (constraintsOf n m (now (xs .entry))) ⌝ }
 {
@@ -122,7 +122,7 @@ fn linearized(xs: &[f64], e: RowSet, delta: &[f64], d: usize, out: &mut [f64])
 }
 
 // The violation that a step leads to, to first order.
-pub fn predicted(xs: &[f64], n: usize, m: usize, delta: &[f64]) -> Answer
+pub fn predicted(xs: &[f64], n: usize, m: usize, delta: &[f64]) -> LinearResult
     requires { ⌜ (n ≤ VARIABLES) × (m ≤ CONSTRAINTS) ⌝ }
     ensures { λ r. ⌜ resultOf r ≡ predictedOf (constraintsOf n m (now (xs .entry))) (now (delta .entry)) ⌝ }
 {
@@ -170,7 +170,7 @@ pub fn moving(xs: &[f64], n: usize, m: usize, s: usize) -> [bool; 12]
 }
 
 // The violation of the standing point, from its rows in the area.
-pub fn standing_violation(z: Sizes, area: &[f64]) -> Answer
+pub fn standing_violation(z: Sizes, area: &[f64]) -> LinearResult
     requires { ⌜ (z .m ≤ CONSTRAINTS) × (length (now area) ≡ AREA) ⌝ }
     ensures { λ r. ⌜ ((w : Memory) → Holds w (now (area .entry)) →
         resultOf r ≡ violationOf (constraintsOf (z .n) (z .m) (w .standingRows))) ⌝ }
@@ -179,7 +179,7 @@ pub fn standing_violation(z: Sizes, area: &[f64]) -> Answer
 }
 
 // The violation of the landed point, from its rows in the area.
-pub fn landed_violation(z: Sizes, area: &[f64]) -> Answer
+pub fn landed_violation(z: Sizes, area: &[f64]) -> LinearResult
     requires { ⌜ (z .m ≤ CONSTRAINTS) × (length (now area) ≡ AREA) ⌝ }
     ensures { λ r. ⌜ ((w : Memory) → Holds w (now (area .entry)) →
         resultOf r ≡ violationOf (constraintsOf (z .n) (z .m) (w .landedRows))) ⌝ }

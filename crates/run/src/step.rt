@@ -7,7 +7,7 @@ ghost use mathlib.Core.List.{List, []};
 ghost use mathlib.Core.Path.{_≡_};
 ghost use lib.Ieee.{Float};
 ghost use lib.ListN.{length, replicate};
-ghost use Rattle.linear.specs.Answers.{doneOf};
+ghost use Rattle.linear.specs.LinearResult.{doneOf};
 ghost use Rattle.linear.specs.Flat.{zeros};
 ghost use Rattle.run.specs.Limits.{VARIABLES, CONSTRAINTS};
 ghost use Rattle.run.specs.Reduced.{pullOf};

@@ -5,7 +5,7 @@ ghost use mathlib.Core.Path.{_≡_};
 ghost use lib.ListN.{length};
 ghost use Rattle.interval.specs.Result as scalar;
 ghost use Rattle.interval.specs.Scalar.{pick, zeroS, inverseOf, divOf};
-ghost use Rattle.linear.specs.Answers.{resultOf};
+ghost use Rattle.linear.specs.LinearResult.{resultOf};
 ghost use Rattle.linear.specs.Choose.{chooseOf};
 ghost use Rattle.linear.specs.Flat.{at, along};
 ghost use Rattle.linear.specs.Norm.{normOf};
@@ -13,7 +13,7 @@ ghost use Rattle.run.specs.Vectors.{allFinite, chosenOf, orZero, fillTo,
 ghost use Rattle.run.specs.Vectors.{sameOf};
 use interval::Scalar;
 use interval::ScalarResult;
-use linear::Answer;
+use linear::LinearResult;
 use linear::at;
 use linear::choose;
 use linear::clear;
@@ -34,7 +34,7 @@ pub fn all_finite(xs: &[f64], k: usize) -> bool
 }
 
 // The length of the first k scalars.
-pub fn norm_of(xs: &[f64], k: usize) -> Answer
+pub fn norm_of(xs: &[f64], k: usize) -> LinearResult
     requires { ⌜ (k ≤ 24) × (2 * k ≤ length (now xs)) ⌝ }
     ensures { λ r. ⌜ resultOf r ≡ normOf (at (now (xs .entry))) k ⌝ }
 {

@@ -1,4 +1,4 @@
-// A drawing, and the rows of its problem at a point, as document 02 (i) words them: each constraint's
+// A drawing, and the rows of its problem at a point, as a sheet of rules words them: each constraint's
 // value and slopes by its rule, and of the sum each coordinate less its starting value. The variables are
 // x0, y0, x1, y1 and so on.
 ghost use Prim.Native.Nat.{_<_, _≤_};

@@ -1,5 +1,5 @@
--- The C state, a run as C and Rust hold it: every field of the state, its enums by number (document 01, "A run by
--- question and reply"). `cStateOf` gives the numbers, `stateOf` reads them back and refuses by number 4 those that are
+-- The C state, a run as C and Rust hold it: every field of the state, its enums by number (PROTOCOL, What the run
+-- keeps). `cStateOf` gives the numbers, `stateOf` reads them back and refuses by number 4 those that are
 -- none.
 use Prim.Native.Nat.{ℕ}
 use mathlib.Core.Bool.{Bool, _&&_}

@@ -1,4 +1,4 @@
--- The event that a call returns, as numbers (document 01, "A run by question and reply"): which is 0 for a question, 1
+-- The event that a call returns, as numbers (PROTOCOL, Calls): which is 0 for a question, 1
 -- for the finish, 2 for a refusal; what an event does not tell is 0.
 use Prim.Native.Nat.{ℕ}
 use Rattle.run.specs.declared.state.Event.{Event}

@@ -1,5 +1,5 @@
 -- The calls of a run as C and Rust make them: each is the call of run beneath it, over the state that the C state holds
--- (document 01, "A run by question and reply"). A refusal by 1 to 4 returns the C state that it was given, not the C
+-- (PROTOCOL, Calls). A refusal by 1 to 4 returns the C state that it was given, not the C
 -- state of the state read from it, which has no length where no step was taken. A C state with a number that is none of
 -- an enum's cases is refused by number 4; it has no point.
 use Prim.Native.Nat.{ℕ, _*_}

@@ -3,7 +3,7 @@
 // definition of the call beneath it.
 ghost use mathlib.Core.Path.{_≡_};
 ghost use Rattle.yadzvego.specs.ScalarResult.{scalarResultOf};
-ghost use Rattle.linear.specs.Answers.{numberOf, resultOf, doneOf};
+ghost use Rattle.linear.specs.LinearResult.{numberOf, resultOf, doneOf};
 ghost use Rattle.linear.specs.Calls.{dotReply, normReply, sharpReply, choleskyReply, solveReply, leastSquaresReply};
 ghost use Rattle.linear.specs.Calls.{minusSolvedReply};
 ghost use Rattle.linear.specs.Cholesky.{factorOf};
@@ -26,15 +26,15 @@ pub fn number_of(e: LinearError) -> u64
 }
 
 // Number 0 and the value, or the number of the refusal and zero.
-pub fn scalar_result_of(r: linear::Answer) -> ScalarResult
+pub fn scalar_result_of(r: linear::LinearResult) -> ScalarResult
     ensures { λ a. ⌜ a ≡ scalarResultOf (resultOf r) ⌝ }
 {
     match r {
-        linear::Answer::Value(x) => ScalarResult {
+        linear::LinearResult::Value(x) => ScalarResult {
             number: 0,
             value: x,
         },
-        linear::Answer::Refused(e) => ScalarResult {
+        linear::LinearResult::Refused(e) => ScalarResult {
             number: number_of(e),
             value: Scalar::ZERO,
         },

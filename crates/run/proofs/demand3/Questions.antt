@@ -158,7 +158,7 @@ module _ (z : Sizes) (h : History) (r : Run) (v : Inv z h r) (c : Call) (cs : Li
   by-event : (a : Event) → callResult r c .event ≡ a → FewBy a
   by-event (Question k t s) e =
       let f = subst (λ (a : Event). Follows (r .state .counts .question) (callResult r c .run .state) a) e
-          (call-follows r c (ap refusedByCheck e)) in
+      (call-follows r c (ap refusedByCheck e)) in
       let m = after (ap isArithmetic e) in
       let i : callResult r c .run .state .counts .question ≡ r .state .counts .question + 1 = f .1 ∙ f .0 in
       record {
@@ -175,7 +175,7 @@ module _ (z : Sizes) (h : History) (r : Run) (v : Inv z h r) (c : Call) (cs : Li
       by true l =
           let m = after (ap isArithmetic e ∙ checked-number k l) in
           let kept : callResult r c .run .state .counts .question ≡ r .state .counts .question =
-              ap (λ (st : State). st .counts .question) (refused-state r c (ap refusedByCheck e ∙ l)) in
+          ap (λ (st : State). st .counts .question) (refused-state r c (ap refusedByCheck e ∙ l)) in
           record {
             asked = omega (arith, m .asked, kept);
             accepted = rw l (omega (arith, m .accepted, kept));

@@ -77,7 +77,7 @@ pointsUsed point = point ∷ 0 ∷ point ∷ 0 ∷ 0 ∷ 0 ∷ 0 ∷ 0 ∷ 0 ∷
 -- an area that holds w, with so many numbers of each slot in use
 pub record Uses (used : List ℕ) (w : Memory) (a : List Float) : Type 0 where
   pub holds : Holds w a
-  pub tidy : SlotsZeroBehind used w
+  pub zero-behind : SlotsZeroBehind used w
 
 -- an area while a call works
 abbrev pub Working : State → Memory → List Float → Type 0

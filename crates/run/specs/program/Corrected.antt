@@ -8,7 +8,7 @@ use lib.Ieee.{Float}
 use Rattle.interval.specs.Result.{Res, ok, refused}
 use Rattle.interval.specs.Scalar.{definitelyLess}
 use Rattle.interval.specs.declared.Scalar.{Scalar}
-use Rattle.linear.specs.Answers.{numberOf}
+use Rattle.linear.specs.LinearResult.{numberOf}
 use Rattle.linear.specs.Results.{bind}
 use Rattle.run.specs.Corrected.{Shift, to, stay}
 use Rattle.run.specs.Limits.{AREA, VARIABLES, CONSTRAINTS}

@@ -1,4 +1,4 @@
--- The filter as a list of pairs of intervals (document 01, "Proposal and judgement"), beside the flat numbers that it
+-- The filter as a list of pairs of intervals (PROTOCOL, An iteration), beside the flat numbers that it
 -- is kept in: what it means to beat each pair, and the pairs of the flat numbers.
 use Prim.Native.Nat.{ℕ, zero, suc}
 use mathlib.Core.Bool.{Bool, _||_}

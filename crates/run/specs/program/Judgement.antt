@@ -2,7 +2,7 @@
 use Prim.Native.Nat.{ℕ, _<_}
 use mathlib.Core.Path.{_≡_}
 use Rattle.interval.specs.Result.{Res, ok, refused}
-use Rattle.linear.specs.Answers.{numberOf}
+use Rattle.linear.specs.LinearResult.{numberOf}
 use Rattle.run.specs.Area.{POINT-LEN}
 use Rattle.run.specs.Judgement.{Judged}
 use Rattle.run.specs.declared.judgement.Baseline.{Baseline}

@@ -3,7 +3,7 @@ use Prim.Native.Nat.{ℕ, _+_}
 use mathlib.Core.List.{List}
 use lib.Ieee.{Float}
 use Rattle.interval.specs.Result.{Res, ok, refused}
-use Rattle.linear.specs.Answers.{numberOf}
+use Rattle.linear.specs.LinearResult.{numberOf}
 use Rattle.linear.specs.Results.{bind}
 use Rattle.run.specs.NullSpace.{Directions, squareOf, longestTo, directionsTo}
 use Rattle.run.specs.Results.{countOf, mapR}

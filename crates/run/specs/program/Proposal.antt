@@ -7,7 +7,7 @@ use lib.ListN.{take, drop}
 use Rattle.interval.specs.Result.{Res, ok, refused}
 use Rattle.interval.specs.Scalar.{zeroS, pick}
 use Rattle.interval.specs.declared.Scalar.{Scalar}
-use Rattle.linear.specs.Answers.{numberOf}
+use Rattle.linear.specs.LinearResult.{numberOf}
 use Rattle.linear.specs.Flat.{at}
 use Rattle.linear.specs.Norm.{normOf}
 use Rattle.linear.specs.Results.{bind}

@@ -6,7 +6,7 @@ use lib.Ieee.{Float}
 use Rattle.interval.specs.Result.{Res, ok, refused}
 use Rattle.interval.specs.Scalar.{zeroS, pick}
 use Rattle.interval.specs.declared.Scalar.{Scalar}
-use Rattle.linear.specs.Answers.{numberOf}
+use Rattle.linear.specs.LinearResult.{numberOf}
 use Rattle.linear.specs.Cholesky.{choleskyOf}
 use Rattle.linear.specs.Choose.{chooseOf}
 use Rattle.linear.specs.Dot.{dotTo}
@@ -33,10 +33,10 @@ spanned count z = directionsIn count z matrix
 unfoldable pub lowerAt : ℕ → List Float → List Float → ℕ → ℕ → Scalar
 lowerAt k z hz i j = pick (ltb i j) zeroS (chooseOf (dotTo (row z i) (row hz j) k))
 
-abbrev pub alongOf : WeightsEnd → List Float → Res Weights
-alongOf a.Found w = ok (weights w)
-alongOf a.NotPositive w = ok none
-alongOf (a.Refused e) w = refused (numberOf e)
+abbrev pub weightsResult : WeightsEnd → List Float → Res Weights
+weightsResult a.Found w = ok (weights w)
+weightsResult a.NotPositive w = ok none
+weightsResult (a.Refused e) w = refused (numberOf e)
 
 -- the weights for a reduced matrix
 unfoldable pub solvedWith : ℕ → List Float → List Float → Res Weights

@@ -1,7 +1,7 @@
 -- For private functions: what a turn of the search answers.
 use mathlib.Core.List.{List}
 use lib.Ieee.{Float}
-use Rattle.linear.specs.Answers.{numberOf}
+use Rattle.linear.specs.LinearResult.{numberOf}
 use Rattle.run.specs.Search.{Found, asks, stops, refuses}
 use Rattle.run.specs.declared.damping.Damped.{Damped}
 use Rattle.run.specs.declared.damping.Damped.the-variants as d

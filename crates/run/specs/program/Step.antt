@@ -8,10 +8,10 @@ use lib.ListN.{take, drop, length}
 use Rattle.interval.specs.Result.{Res, ok, refused}
 use Rattle.interval.specs.Scalar.{pick}
 use Rattle.interval.specs.declared.Scalar.{Scalar}
-use Rattle.linear.specs.Answers.{numberOf}
+use Rattle.linear.specs.LinearResult.{numberOf}
 use Rattle.linear.specs.Results.{bind}
-use Rattle.linear.specs.declared.answers.Done.{Done}
-use Rattle.linear.specs.declared.answers.Done.the-variants as done
+use Rattle.linear.specs.declared.results.Done.{Done}
+use Rattle.linear.specs.declared.results.Done.the-variants as done
 use Rattle.run.specs.Basis.{Basis, correctionOf}
 use Rattle.run.specs.Limits.{VARIABLES, CONSTRAINTS}
 use Rattle.run.specs.NullSpace.{Directions, directionsOf}

@@ -2,7 +2,7 @@
 use mathlib.Core.Path.{sym, ap, _∙_}
 use Rattle.interval.specs.declared.Scalar.{Scalar}
 use Rattle.interval.specs.Scalar.{pick}
-use Rattle.linear.specs.Answers.{resultOf}
+use Rattle.linear.specs.LinearResult.{resultOf}
 use Rattle.run.specs.Area.{Memory}
 use Rattle.run.specs.Endings.{AfterSlots}
 use Rattle.run.specs.Corrected.{landTrial, landCorrection}

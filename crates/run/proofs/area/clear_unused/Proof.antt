@@ -1,4 +1,4 @@
--- `tidy` meets its contract: the counts are those of the slots in use.
+-- `clear_unused` meets its contract: the counts are those of the slots in use.
 use mathlib.Core.List.{List, _++_}
 use mathlib.Core.Path.{_≡_, sym, ap, subst, _∙_}
 use Prim.Native.Nat.{ℕ, _≤_}
@@ -7,7 +7,7 @@ use lib.ListN.{length, getD, drop}
 use Rattle.run.specs.Area.{SIZES, startOf, usedIn}
 use Rattle.run.specs.program.Area.{clearedTo}
 use Rattle.run.proofs.AreaLaws.{used-fit, tidied-end, memory-holds}
-use Rattle.run.proofs.ZeroBehind.{reads-tidy}
+use Rattle.run.proofs.ZeroBehind.{reads-behind}
 use borrow.Author.Needs.{needs}
 use Rattle.run.proofs.area.clear_unused.Statement.{statement}
 use Rattle.run.proofs.area.clear_unused.Tie as tie
@@ -15,11 +15,11 @@ use Rattle.run.proofs.area.clear_unused.Tie as tie
 in-use-requires : tie.Need-in-use-requires
 in-use-requires c κs = search needs
 
-slice-aggregate-tidy-slots : tie.Need-slice-aggregate-clear-unused-slots
-slice-aggregate-tidy-slots c = search needs
+slice-aggregate-behind-slots : tie.Need-slice-aggregate-clear-unused-slots
+slice-aggregate-behind-slots c = search needs
 
-slice-aggregate-tidy-slots-2 : tie.Need-slice-aggregate-clear-unused-slots-2
-slice-aggregate-tidy-slots-2 c = search needs
+slice-aggregate-behind-slots-2 : tie.Need-slice-aggregate-clear-unused-slots-2
+slice-aggregate-behind-slots-2 c = search needs
 
 clear-unused-slots-requires : tie.Need-clear-unused-slots-requires
 unfolding startOf
@@ -62,15 +62,15 @@ returns c =
     let k = memory-holds (s .args .st) l a (s .pre .0)
     (tidied-end SIZES (usedIn (s .args .st)) a (used-fit (s .args .st) l a (s .pre .0)) 4920 (omega (arith, s .pre .0))
     e (c .before .before .clear-from .ensures)) in
-    record { holds = k; tidy = reads-tidy (s .args .st) a l }
+    record { holds = k; zero-behind = reads-behind (s .args .st) a l }
 
 pub clear-unused-spec : {M : Type 1} → statement M
 clear-unused-spec =
     tie.close
     (tie.spec
     in-use-requires
-    slice-aggregate-tidy-slots
-    slice-aggregate-tidy-slots-2
+    slice-aggregate-behind-slots
+    slice-aggregate-behind-slots-2
     clear-unused-slots-requires
     sub-clear-from
     clear-from-requires

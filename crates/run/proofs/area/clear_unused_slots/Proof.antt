@@ -1,16 +1,16 @@
--- `tidy_slots` meets its contract: the first k slots are tidy, and what lies behind them is as it was.
+-- `clear_unused_slots` meets its contract: the first k slots are cleared, and what lies behind them is as it was.
 use mathlib.Core.Path.{_≡_, refl}
 use Prim.Native.Nat.{_+_, _-_, _≤_, _<_}
 use native.Mathlib.Omega.{arith}
 use borrow.Author.Needs.{needs}
 use lib.ListN.{length, getD}
-use Rattle.run.proofs.AreaLaws.{Tidying, tidying, tidied-more, tidied-whole, start-upto}
+use Rattle.run.proofs.AreaLaws.{Clearing, clearing, cleared-more, cleared-whole, start-upto}
 use Rattle.run.proofs.area.clear_unused_slots.Statement.{statement}
 use Rattle.run.proofs.area.clear_unused_slots.Tie as tie
 
 abbrev Inv-loop : tie.InvT-loop
 Inv-loop area₀ sizes used base₀ k₀ k-end area base k =
-    (k-end ≡ length sizes) × (k ≤ length sizes) × Tidying sizes used area₀ k base area
+    (k-end ≡ length sizes) × (k ≤ length sizes) × Clearing sizes used area₀ k base area
 
 abbrev μ-loop : tie.MeasureT-loop
 μ-loop area₀ sizes used base₀ k₀ k-end area base k = length sizes - k
@@ -36,7 +36,7 @@ module _ (k : tie.In-loop Inv-loop μ-loop) where
       )
 
 loop-holds : tie.Need-loop-holds Inv-loop μ-loop
-loop-holds c = (refl, omega arith, tidying _ _ _)
+loop-holds c = (refl, omega arith, clearing _ _ _)
 
 mul-size : tie.Need-mul-size Inv-loop μ-loop
 mul-size c = search needs
@@ -80,7 +80,7 @@ loop-again c =
     let i = c .before .before .before .before .before .before .before .loop .inv in (
       i .0,
       omega (arith, another (c .before .before .before .before .before .before)),
-      tidied-more (s .args .sizes .now) (s .args .used .now) (s .args .area .now)
+      cleared-more (s .args .sizes .now) (s .args .used .now) (s .args .area .now)
           (record { below = s .pre .1 .1; inside = s .pre .1 .0 }) (i .2)
           (another (c .before .before .before .before .before .before)) (c .before .before .clear-from .ensures),
     )
@@ -92,7 +92,7 @@ returns : tie.Need-returns Inv-loop μ-loop
 returns c =
     let s = c .before .before .before .before .before in
     let i = c .before .loop .inv in
-    tidied-whole (s .args .sizes .now) (s .args .used .now) (s .args .area .now)
+    cleared-whole (s .args .sizes .now) (s .args .used .now) (s .args .area .now)
     (record { below = s .pre .1 .1; inside = s .pre .1 .0 }) (i .2) (omega (arith, i .0, i .1, c .loop-test .left))
 
 pub clear-unused-slots-spec : {M : Type 1} → statement M

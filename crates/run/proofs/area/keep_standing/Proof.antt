@@ -178,7 +178,7 @@ returns c w h =
     let e = c .before .before .before .before .before .before .before .before .before .before .before .before .before
     .before .before .before .before .before .before .before .before .before .before .before .before .before .before
     .before .before .before .before .before .all-used .ensures in
-    let t = h .tidy in
+    let t = h .zero-behind in
     let f : (k : ℕ) → k < 9 → getD us k 0 ≤ getD SIZES k 0 = fits z (s .pre .1) e in
     let h₁ = wrote (slots-of (h .holds)) 1 (zeros 24) (omega arith) (length-clear 24)
     (c .before .before .before .before .before .before .before .before .before .before .before .before .before .before

@@ -5,7 +5,7 @@ use lib.ListN.{length}
 use Rattle.linear.specs.Flat.{zeros}
 use Rattle.run.specs.Area.{startOf}
 use Rattle.run.proofs.AreaLaws.{slots-of, wrote, length-clear}
-use Rattle.run.proofs.ZeroBehind.{wrote-first, tidy-more, started-holds}
+use Rattle.run.proofs.ZeroBehind.{wrote-first, behind-more, started-holds}
 use borrow.Author.Needs.{needs}
 use Rattle.run.proofs.area.write_start.Statement.{statement}
 use Rattle.run.proofs.area.write_start.Tie as tie
@@ -25,8 +25,8 @@ returns c w point h =
     let s = c .before .before .before .before .before .before .before .before .before .before in
     let cleared = c .before .before .before .before .before .before .clear-from .ensures in
     let h₁ = wrote (slots-of (h .holds)) 2 (zeros 24) (omega arith) (length-clear 24) cleared in
-    let rows = tidy-more (h .tidy .standing-rows) {most = length (s .args .rows .now)} zero-le in
-    started-holds w (s .args .rows .now) (h .tidy)
+    let rows = behind-more (h .zero-behind .standing-rows) {most = length (s .args .rows .now)} zero-le in
+    started-holds w (s .args .rows .now) (h .zero-behind)
     (wrote-first h₁ 3 (omega arith) (s .args .rows .now) (s .pre .1) rows (c .before .before .write .ensures))
 
 pub write-start-spec : {M : Type 1} → statement M

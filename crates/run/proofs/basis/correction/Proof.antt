@@ -6,7 +6,7 @@ use native.Mathlib.Omega.{arith}
 use lib.Seq.{length-take-le}
 use lib.Ieee.{Float}
 use mathlib.Core.List.{List}
-use Rattle.linear.specs.Answers.{doneOf}
+use Rattle.linear.specs.LinearResult.{doneOf}
 use Rattle.linear.specs.Choose.{sharpOf}
 use Rattle.linear.specs.Flat.{zeros}
 use Rattle.linear.specs.Householder.{leastSquaresOf}

@@ -1,6 +1,6 @@
 -- `correction_none` meets its contract: the standing violation, or its refusal.
 use mathlib.Core.Path.{sym, ap, _∙_}
-use Rattle.linear.specs.Answers.{resultOf}
+use Rattle.linear.specs.LinearResult.{resultOf}
 use Rattle.run.specs.Decide.{judge}
 use Rattle.run.proofs.EndingLaws.{or-next, or-refused}
 use Rattle.run.proofs.ZeroBehind.{limits-of, compares}

@@ -1,7 +1,7 @@
 -- `is_nearer` meets its contract: both violations decide, or one is refused.
 use mathlib.Core.Path.{sym, ap, _∙_}
 use Rattle.interval.specs.Result.{ok}
-use Rattle.linear.specs.Answers.{resultOf}
+use Rattle.linear.specs.LinearResult.{resultOf}
 use Rattle.linear.proofs.Folds.{bind-ok, bind-refused}
 use borrow.Author.Needs.{needs}
 use Rattle.run.proofs.corrected.is_nearer.Statement.{statement}

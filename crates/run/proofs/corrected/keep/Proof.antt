@@ -2,8 +2,8 @@
 use mathlib.Core.Path.{_≡_, refl, sym, ap, subst, _∙_}
 use native.Mathlib.Omega.{arith}
 use lib.ListN.{length}
-use Rattle.linear.specs.Answers.{doneOf}
-use Rattle.linear.specs.declared.answers.Done.{Done}
+use Rattle.linear.specs.LinearResult.{doneOf}
+use Rattle.linear.specs.declared.results.Done.{Done}
 use Rattle.run.specs.Area.{withLanded}
 use Rattle.run.specs.Corrected.{shiftedStep}
 use Rattle.run.specs.program.Endings.{Underway}

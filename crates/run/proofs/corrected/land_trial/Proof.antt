@@ -1,7 +1,7 @@
 -- `land_trial` meets its contract: the violation where it landed decides, or is refused.
 use mathlib.Core.Path.{sym, ap, subst, _∙_}
 use native.Mathlib.Omega.{arith}
-use Rattle.linear.specs.Answers.{resultOf}
+use Rattle.linear.specs.LinearResult.{resultOf}
 use Rattle.run.specs.program.Endings.{Underway}
 use Rattle.run.specs.declared.state.State.{State}
 use Rattle.run.proofs.AnsweredLaws.{landed-with, rows-few, trial-known, trial-refused}

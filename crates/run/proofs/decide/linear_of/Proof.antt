@@ -2,7 +2,7 @@
 use mathlib.Core.Path.{sym, ap, _∙_}
 use lib.Ieee.{ofBits}
 use Rattle.interval.specs.Result.{ok}
-use Rattle.linear.specs.Answers.{resultOf}
+use Rattle.linear.specs.LinearResult.{resultOf}
 use Rattle.run.proofs.EndingLaws.{pick-no}
 use Rattle.run.proofs.DecideLaws.{linear-known, linear-refused}
 use borrow.Author.Needs.{needs}

@@ -4,8 +4,8 @@ use mathlib.Core.List.{List}
 use mathlib.Core.Path.{refl, sym, ap, subst, _∙_}
 use native.Mathlib.Omega.{arith}
 use lib.Ieee.{Float, ofBits}
-use Rattle.linear.specs.Answers.{doneOf}
-use Rattle.linear.specs.declared.answers.Done.{Done}
+use Rattle.linear.specs.LinearResult.{doneOf}
+use Rattle.linear.specs.declared.results.Done.{Done}
 use Rattle.run.specs.Rows.{rowCounts, sumOf}
 use Rattle.run.specs.Residuals.{sumSquared}
 use Rattle.run.specs.Area.{withTaken}
@@ -18,7 +18,7 @@ use Rattle.run.specs.declared.state.State.{State}
 use Rattle.run.proofs.AnsweredLaws.{learned-known, learned-refused, stands-on}
 use Rattle.run.proofs.DecideLaws.{stood}
 use Rattle.run.proofs.ZeroBehind.{limits-of, measures}
-use Rattle.run.proofs.ZeroBehindKept.{learned-tidy, taken-working}
+use Rattle.run.proofs.ZeroBehindKept.{learned-behind, taken-working}
 use borrow.Author.Needs.{needs}
 use Rattle.run.proofs.decide.take_with.Statement.{statement}
 use Rattle.run.proofs.decide.take_with.Tie as tie
@@ -59,7 +59,8 @@ returns c w h =
     let a = c .before .before .before .before .before .before .before .before .before .before .before .before .args in
     let l = c .before .before .before .before .before .before .before .before .learn in
     let u = h .measured .uses in
-    let e = sym (l .ensures w (u .holds) (u .tidy .curvature)) ∙ ap (λ (d : Done). doneOf d (l .last .1 .1 .1 .0))
+    let e = sym (l .ensures w (u .holds) (u .zero-behind .curvature))
+    ∙ ap (λ (d : Done). doneOf d (l .last .1 .1 .1 .0))
     (c .before .before .before .before .before .e .given .1) in
     learned-refused (a .st) w (a .theta) (a .span) (a .mu) (a .radius) e (c .before .before .refuse .ensures w u)
 
@@ -120,8 +121,8 @@ returns-2 c w h =
     .before .before .before .learn in
     let b = l .last .1 .1 .1 .0 in
     let u = h .measured .uses in
-    let t = u .tidy in
-    let e = sym (l .ensures w (u .holds) (u .tidy .curvature)) ∙ ap (λ (d : Done). doneOf d b)
+    let t = u .zero-behind in
+    let e = sym (l .ensures w (u .holds) (u .zero-behind .curvature)) ∙ ap (λ (d : Done). doneOf d b)
     (c .before .before .before .before .before .before .before .before .before .before .before .before .before
     .enum-told .given .1) in
     let f = c .before .before .before .before .before .before .before .before .before .before .sum-squared .result in
@@ -134,8 +135,8 @@ returns-2 c w h =
     (c .before .before .before .before .before .before .before .write-taken .last .0) = record {
       holds = c .before .before .before .before .before .before .before .write-taken .ensures w (u .holds)
           (t .standing-rows) (t .landed-rows)
-          (t .curvature) (learned-tidy (a .st) w t e);
-      tidy = taken-working (a .st) w t b f (a .theta) (learned-tidy (a .st) w t e);
+          (t .curvature) (learned-behind (a .st) w t e);
+      zero-behind = taken-working (a .st) w t b f (a .theta) (learned-behind (a .st) w t e);
     } in
     learned-known (a .st) w (a .theta) (a .span) (a .mu) (a .radius) e
     (stands-on (a .st) w (a .theta) (a .span) (a .mu) (a .radius) b

@@ -37,7 +37,7 @@ returns c w h =
     rw (c .before .before .before .before .before .before .before .found .given .1)
     (rw (c .before .with-trial-of .ensures (a .delta .now) (a .lambda .now) next) at (c .ask .ensures (withTrial w next
     (a .delta .now) (a .lambda .now)) _ (c .before .before .before .before .write-trial .ensures w (h .holds)
-    (h .tidy .landed-rows))))
+    (h .zero-behind .landed-rows))))
 
 enum-known-found-2 : tie.Need-enum-known-found-2
 enum-known-found-2 c = search needs

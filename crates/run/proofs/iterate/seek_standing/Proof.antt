@@ -1,6 +1,6 @@
 -- `seek_standing` meets its contract: the violation decides, and then the search from what the area holds.
 use mathlib.Core.Path.{sym, ap, _∙_}
-use Rattle.linear.specs.Answers.{resultOf}
+use Rattle.linear.specs.LinearResult.{resultOf}
 use Rattle.run.specs.program.Iterate.{soughtWith}
 use Rattle.run.specs.program.Rows.{FewRows}
 use Rattle.run.specs.Rows.{rowCounts}

@@ -5,7 +5,7 @@ use mathlib.Core.Path.{_≡_, ap, sym, _∙_}
 use lib.Ieee.{Float}
 use Rattle.interval.specs.Result.{ok}
 use Rattle.interval.specs.declared.Scalar.{Scalar}
-use Rattle.linear.specs.Answers.{resultOf}
+use Rattle.linear.specs.LinearResult.{resultOf}
 use Rattle.linear.proofs.Folds.{bind-ok, bind-refused}
 use Rattle.run.specs.Filter.{beatsTo}
 use Rattle.run.specs.Judgement.{Judged, sumChange, judgedBy, judgeOf}

@@ -5,7 +5,7 @@ use borrow.Author.Tests.{not-true, not-false}
 use lib.Ieee.{Float}
 use Rattle.interval.specs.declared.Scalar.{Scalar}
 use Rattle.interval.specs.Result as scalar
-use Rattle.linear.specs.Answers.{resultOf}
+use Rattle.linear.specs.LinearResult.{resultOf}
 use Rattle.linear.specs.Flat.{at}
 use Rattle.linear.specs.Norm.{normOf}
 use Rattle.linear.proofs.Folds.{bind-ok, bind-refused}

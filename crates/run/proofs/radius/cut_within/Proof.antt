@@ -5,7 +5,7 @@ use borrow.Author.Needs.{needs}
 use borrow.Author.Tests.{not-true, not-false}
 use Rattle.interval.specs.Result as scalar
 use Rattle.interval.specs.Result.{ok}
-use Rattle.linear.specs.Answers.{resultOf}
+use Rattle.linear.specs.LinearResult.{resultOf}
 use Rattle.linear.proofs.Folds.{bind-ok, bind-refused}
 use Rattle.run.proofs.ProposalLaws.{cut-refused, cut-whole, cut-by}
 use Rattle.run.proofs.radius.cut_within.Statement.{statement}

@@ -4,7 +4,7 @@ use mathlib.Core.Path.{_≡_, sym, _∙_}
 use Prim.Native.Nat.{_*_, _≤_}
 use native.Mathlib.Omega.{arith}
 use lib.Seq.{length-take-le}
-use Rattle.linear.specs.Answers.{doneOf}
+use Rattle.linear.specs.LinearResult.{doneOf}
 use Rattle.linear.specs.Cholesky.{factorOf, choleskyOf}
 use Rattle.linear.specs.Substitution.{solveOf}
 use Rattle.run.proofs.LinearCalls.{cholesky-result, sharp-written}
