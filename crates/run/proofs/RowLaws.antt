@@ -1,5 +1,4 @@
--- Rows at their places in an answered list: products of counts are small, so the places are, a slope by its row and by
--- its variable, and the moving marks one by one.
+-- Rows at their places in an answered list: products of counts are small, so the places are, a slope by its row and by its variable, and the moving marks one by one.
 use Prim.Native.Nat.{ℕ, _+_, _*_, _/_, _%_, _<_, _≤_}
 use mathlib.Core.Bool.{Bool, true, false}
 use mathlib.Core.Logic.{⊎-elim}
@@ -27,8 +26,7 @@ pub few-rows : {m n : ℕ} → m ≤ 12 → n ≤ 12 → m * (n + 1) ≤ 156
 few-rows {m} {n} h k = mul-le-mul {n₁ = m} {m₁ = n + 1} {n₂ = 12} {m₂ = 13} h (omega arith)
 
 pub constraints-small : {n m : ℕ} → n ≤ 12 → m ≤ 12 → Small (constraintSet n m)
-constraints-small hn hm =
-    record { few-variables = hn; few-rows = omega arith; values-near = omega arith; slopes-near = omega arith }
+constraints-small hn hm = record { few-variables = hn; few-rows = omega arith; values-near = omega arith; slopes-near = omega arith }
 
 pub sum-small : {n m s : ℕ} → n ≤ 12 → m ≤ 12 → s ≤ 24 → Small (sumSet n m s)
 sum-small {n} {m} hn hm hs =
@@ -48,8 +46,7 @@ unfolding along
 slope-by e i j = let h : e .slopes + i * e .n + j ≡ e .slopes + j + i * e .n = omega arith in rw h
 
 pub slope-among : (e : Rows) (p : ℕ) → slopeAt e (p / e .n) (p % e .n) ≡ at (e .list) (e .slopes + p)
-slope-among e p =
-    let h : e .slopes + p / e .n * e .n + p % e .n ≡ e .slopes + p = omega (arith, div-add-mod' p (e .n)) in rw h
+slope-among e p = let h : e .slopes + p / e .n * e .n + p % e .n ≡ e .slopes + p = omega (arith, div-add-mod' p (e .n)) in rw h
 
 -- a list of 12 marks whose first j are those of g, and which has no other
 pub record Marked (g : ℕ → Bool) (j : ℕ) (xs : List Bool) : Type 0 where
@@ -59,11 +56,9 @@ pub record Marked (g : ℕ → Bool) (j : ℕ) (xs : List Bool) : Type 0 where
 
 module _ (g : ℕ → Bool) where
   pub marked-none : Marked g 0 (replicate 12 false)
-  marked-none =
-      record { long = refl; so = λ i h. absurd (not-suc-le-zero h); clear = λ i l h. getD-replicate 12 i false false h }
+  marked-none = record { long = refl; so = λ i h. absurd (not-suc-le-zero h); clear = λ i l h. getD-replicate 12 i false false h }
 
-  pub marked-more :
-      {j : ℕ} {xs : List Bool} {v : Bool} → j < 12 → Marked g j xs → v ≡ g j → Marked g (j + 1) (set xs j v)
+  pub marked-more : {j : ℕ} {xs : List Bool} {v : Bool} → j < 12 → Marked g j xs → v ≡ g j → Marked g (j + 1) (set xs j v)
   marked-more {j} {xs} {v} l m e = record {
     long = length-set xs j v ∙ m .long;
     so = λ i h.
