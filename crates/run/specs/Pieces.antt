@@ -69,7 +69,8 @@ variablesRead n d = pick (eqb d 0) 0 n
 
 unfoldable pub squaredReply : RowCounts → List Float → List Float → ℕ → Res Scalar
 squaredReply c rows delta d =
-    then (fitsTwo c rows (length delta) POINT-LEN d (variablesRead (c .n) d)) (ok (squaredOf (evaluationBy c rows .sum) delta d))
+    then (fitsTwo c rows (length delta) POINT-LEN d (variablesRead (c .n) d))
+    (ok (squaredOf (evaluationBy c rows .sum) delta d))
 
 unfoldable pub predictedReply : RowCounts → List Float → List Float → Res Scalar
 predictedReply c rows delta =
@@ -82,7 +83,8 @@ transposedReply c rows w out =
 
 unfoldable pub movingReply : RowCounts → List Float → List Bool → Reply (List Bool)
 movingReply c rows marks =
-    thenWrites (fitsOne c rows (length marks) VARIABLES) marks (replyOf marks (ok (movingOf (c .n) (evaluationBy c rows))))
+    thenWrites (fitsOne c rows (length marks) VARIABLES) marks
+    (replyOf marks (ok (movingOf (c .n) (evaluationBy c rows))))
 
 -- ---- of a step that landed
 
