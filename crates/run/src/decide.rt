@@ -156,8 +156,8 @@ fn linear_of(st: State, theta: Scalar, landed: LinearResult) -> TruthResult
 // The curvature before the step, over +0 into b: none in plain. Of its slot the entries in use are copied.
 fn curvature_in_use(plain: bool, n: usize, area: &[f64], b: &mut [f64])
     requires { ⌜ (n ≤ VARIABLES) × (length (now area) ≡ AREA) × (now b ≡ zeros CURVATURE-LEN) ⌝ }
-    ensures { λ _. ⌜ ((w : Memory) → Holds w (now (area .entry)) → ZeroBehind CURVATURE-LEN (2 * (n * n)) (w .curvature)
-        →
+    ensures { λ _. ⌜ ((w : Memory) → Holds w (now (area .entry)) →
+        ZeroBehind CURVATURE-LEN (2 * (n * n)) (w .curvature) →
         now (b .exit) ≡ pick plain (zeros CURVATURE-LEN) (w .curvature)) ⌝ }
 {
     if !plain {
@@ -170,8 +170,8 @@ fn curvature_in_use(plain: bool, n: usize, area: &[f64], b: &mut [f64])
 // The curvature after the step, over +0 into b.
 fn learn(z: Sizes, plain: bool, area: &[f64], b: &mut [f64]) -> Done
     requires { ⌜ FewRows (rowCounts z) × (length (now area) ≡ AREA) × (now b ≡ zeros CURVATURE-LEN) ⌝ }
-    ensures { λ r. ⌜ ((w : Memory) → Holds w (now (area .entry))
-        → ZeroBehind CURVATURE-LEN (2 * (z .n * z .n)) (w .curvature) →
+    ensures { λ r. ⌜ ((w : Memory) → Holds w (now (area .entry)) →
+        ZeroBehind CURVATURE-LEN (2 * (z .n * z .n)) (w .curvature) →
         doneOf r (now (b .exit))
         ≡ updateCurvature (z .n) (pick plain (zeros CURVATURE-LEN) (w .curvature)) (w .step)
         (evaluationBy (rowCounts z) (w .standingRows)) (evaluationBy (rowCounts z) (w .landedRows))

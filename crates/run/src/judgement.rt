@@ -24,6 +24,8 @@ use interval::Scalar;
 use linear::LinearError;
 use linear::LinearResult;
 
+// How a step fares: its length; whether it is lower than where it began and than every point that stood before; whether
+// rounding hides both changes; and whether it is less than half as long as the last step taken.
 pub struct Judged {
     pub length: Scalar,
     pub lower: bool,
@@ -31,6 +33,7 @@ pub struct Judged {
     pub contracting: bool,
 }
 
+// A judgement, or the refusal met on the way.
 pub enum Judgement {
     Of(Judged),
     Refused(LinearError),
@@ -122,11 +125,11 @@ fn judged_by(
     }
 }
 
-// How the step from the rows `at` to the rows `next`, with violation `landed`, fares against the baseline and the first
+// How the step from the rows xs to the rows `next`, with violation `landed`, fares against the baseline and the first
 // pairs of the filter.
 pub fn judge(
     c: RowCounts,
-    at: &[f64],
+    xs: &[f64],
     next: &[f64],
     landed: LinearResult,
     base: Baseline,
@@ -136,7 +139,7 @@ pub fn judge(
     requires { ⌜ Judging c base (length (now step)) ⌝ }
     ensures { λ r. ⌜ (resultOf landed ≡ violationOf (constraintsOf (c .n) (c .m) (now (next .entry))) →
         judgementOf r
-        ≡ judgeOf (c .n) (evaluationBy c (now (at .entry))) (evaluationBy c (now (next .entry))) (base .theta)
+        ≡ judgeOf (c .n) (evaluationBy c (now (xs .entry))) (evaluationBy c (now (next .entry))) (base .theta)
         (now (filter .entry)) (base .pairs) (base .last) (now (step .entry))) ⌝ }
 {
     match norm_of(step, c.n) {
@@ -148,7 +151,7 @@ pub fn judge(
                 return Judgement::Refused(e);
             }
             LinearResult::Value(theta) => {
-                let change = sum_change(at, next, rows::sum(c.n, c.m, c.s));
+                let change = sum_change(xs, next, rows::sum(c.n, c.m, c.s));
                 let f = residuals::sum_squared(next, c.n, c.m, c.s);
                 return Judgement::Of(judged_by(change, f, theta, base, filter, length));
             }

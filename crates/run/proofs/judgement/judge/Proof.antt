@@ -75,7 +75,7 @@ returns-3 c v =
     ∙ ap resultOf (c .before .before .before .before .before .before .before .before .length .given .1) in
     let g = sym v ∙ ap resultOf (c .before .before .before .before .before .landed2 .given .1) in
     let change =
-    c .before .before .sum-change .ensures ∙ ap (λ e. sumChange (rowsIn (a .at .now) e) (rowsIn (a .next .now) e))
+    c .before .before .sum-change .ensures ∙ ap (λ e. sumChange (rowsIn (a .xs .now) e) (rowsIn (a .next .now) e))
     (c .before .before .before .sum .ensures) in
     let judged =
     equal _ _ _ (a .filter .now) (a .base .pairs) (a .base .last) change (c .before .sum-squared .ensures)
