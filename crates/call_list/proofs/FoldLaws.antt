@@ -9,8 +9,8 @@ use lib.Dec.{T}
 use lib.Ieee.{Float, binary64, fits}
 use lib.ListN.{length, getD, take, drop, length-drop, drop-of-length-le}
 use lib.Seq.{drop-cons, drop-drop}
-use Rattle.run.specs.Demand.{Floats, CallResult, callResult}
-use Rattle.call_list.specs.CallList.{countOf, callOf, floats-take, floats-drop, callsOf, Called, playedTo}
+use Rattle.run.specs.Demand.{Floats, CallResult}
+use Rattle.call_list.specs.CallList.{countOf, floats-take, floats-drop, callsOf, Called, playedTo}
 
 -- ---- numbers of a slice
 

@@ -2,7 +2,6 @@
 // of a call, and demand 3 of what it returns.
 ghost use mathlib.Core.Path.{_≡_};
 ghost use Prim.Native.Nat.{_+_, _-_, _≤_, min};
-ghost use lib.ListN.{length};
 ghost use Rattle.interval.specs.Scalar.{pick};
 ghost use Rattle.run.specs.Calls.{afterCall, replyOf, replyNoneOf};
 ghost use Rattle.call_list.specs.CallList.{countOf, callResultOf, Called, Plays};

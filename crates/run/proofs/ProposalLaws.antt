@@ -20,10 +20,11 @@ use Rattle.linear.proofs.FlatLaws.{at-inside}
 use Rattle.linear.proofs.Folds.{bind-ok, bind-refused}
 use Rattle.linear.proofs.Lists.{is-listTo}
 use Rattle.run.specs.Proposal.{Standing, noDrop, unresolved, noChange, ask, expectsOf, trialOf, shortenedOf}
+use Rattle.run.specs.Proposal.{triedOf}
 use Rattle.run.specs.Proposal.{withinOf, proposedBy, proposalOf}
 use Rattle.run.specs.Vectors.{movedOf, sameOf}
 use Rattle.run.specs.Radius.{cutOf, cutWithin}
-use Rattle.run.specs.program.Proposal.{triedOf, standingWith, modelOf, pointOf}
+use Rattle.run.specs.program.Proposal.{standingWith, modelOf, pointOf}
 use Rattle.run.specs.Residuals.{predictedOf}
 use Rattle.run.specs.Vectors.{vector, chosenOf, fillTo}
 use Rattle.run.specs.Step.{Step, Stepped, found, stepOf}

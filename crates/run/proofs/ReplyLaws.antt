@@ -1,12 +1,10 @@
 -- A reply from its parts: what the program leaves as the definition's record, and the bounds that an accepted reply may
 -- rely on.
-use Prim.Native.Nat.{ℕ, _+_, _*_, _<_, _≤_}
 use mathlib.Core.Bool.{true}
 use mathlib.Core.List.{List}
-use mathlib.Core.Path.{_≡_, refl, sym, ap, _∙_}
+use mathlib.Core.Path.{_≡_, sym, ap, _∙_}
 use native.Mathlib.Omega.{arith}
 use lib.Ieee.{Float}
-use Rattle.run.specs.Area.{areaOf}
 use Rattle.run.specs.Endings.{AfterSlots}
 use Rattle.run.specs.program.Endings.{Leaves, Bounded}
 use Rattle.run.specs.Checks.{valid, phaseFits}

@@ -57,11 +57,9 @@ pub data Proposal : Type 0 where
   noChange : Proposal
   ask : Trial → Proposal
 
--- the point that a step leads to
-unfoldable pub trialOf : Standing → List Float → List Float → Res Proposal
-unfolding bind
-trialOf S step lambda =
-    let delta = chosenOf vector step 0 (S .n) in
+-- the point that a chosen step leads to
+abbrev pub triedOf : Standing → List Float → List Float → Res Proposal
+triedOf S delta lambda =
     let next = movedOf (S .n) (S .x) delta in
     bind (predictedOf (S .e .constraints) delta)
     (λ predicted.
@@ -73,6 +71,11 @@ trialOf S step lambda =
       predicted = predicted;
       tried = tried;
     })))))
+
+-- the point that a step leads to, once it is chosen
+unfoldable pub trialOf : Standing → List Float → List Float → Res Proposal
+unfolding bind
+trialOf S step lambda = triedOf S (chosenOf vector step 0 (S .n)) lambda
 
 -- a step once it is cut, if the model still expects something of it
 unfoldable pub shortenedOf : Standing → List Float → List Float → Res Proposal

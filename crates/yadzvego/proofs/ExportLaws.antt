@@ -3,7 +3,7 @@
 -- next call over its state. The last two rest on run's law that such a refusal leaves state and area as they were.
 use Prim.Native.Nat.{ℕ, _≤_}
 use mathlib.Core.Bool.{Bool, true, false, _&&_}
-use mathlib.Core.List.{List, []}
+use mathlib.Core.List.{List}
 use mathlib.Core.Path.{_≡_, refl, _∙_}
 use lib.Dec.{eqb}
 use lib.Ieee.{Float}

@@ -1,12 +1,12 @@
 -- How long a run is: an accepted reply raises the question's number by one or ends the run, a run that is over refuses
 -- every call by 4, and the number is within its bound as long as the invariant of demand 3 holds.
 use Prim.Native.Nat.{ℕ, _+_, _*_, _≤_}
-use mathlib.Core.Bool.{Bool, true, false, cond, _||_}
-use mathlib.Core.Path.{_≡_, refl, sym, ap, _∙_, subst}
+use mathlib.Core.Bool.{Bool, true, false, cond}
+use mathlib.Core.Path.{_≡_, refl, ap, _∙_, subst}
 use mathlib.Core.List.{List, [], _∷_}
 use native.Mathlib.Omega.{arith}
 use borrow.Author.Tests.{leb-true, ne-eqb}
-use lib.Dec.{T, leb, eqb}
+use lib.Dec.{leb}
 use lib.Ieee.{Float}
 use Rattle.interval.specs.declared.Scalar.{Scalar}
 use Rattle.run.specs.Calls.{AfterCall, unchanged, checks, replyOpen, replyOf, noneOpen, replyNoneOf}
@@ -19,7 +19,7 @@ use Rattle.run.specs.Questions.{AllAllowed, acceptedIn, isQuestion, ques
 use Rattle.run.specs.declared.state.Event.{Event}
 use Rattle.run.specs.declared.state.Event.the-variants.{Question, Finish, Refused}
 use Rattle.run.specs.declared.state.Phase.{Phase}
-use Rattle.run.specs.declared.state.Phase.the-variants.{Open, Over}
+use Rattle.run.specs.declared.state.Phase.the-variants.{Over}
 use Rattle.run.specs.declared.state.Sizes.{Sizes}
 use Rattle.run.specs.declared.state.State.{State}
 use Rattle.run.proofs.Cleared.{reply-leaves, reply-none-leaves}

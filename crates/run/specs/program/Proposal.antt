@@ -8,15 +8,11 @@ use Rattle.interval.specs.Result.{Res, ok, refused}
 use Rattle.interval.specs.Scalar.{zeroS, pick}
 use Rattle.interval.specs.declared.Scalar.{Scalar}
 use Rattle.linear.specs.LinearResult.{numberOf}
-use Rattle.linear.specs.Flat.{at}
-use Rattle.linear.specs.Norm.{normOf}
-use Rattle.linear.specs.Results.{bind}
 use Rattle.run.specs.Area.{POINT-LEN, ROWS-LEN, CURVATURE-LEN, STANDING-AT, STANDING-ROWS-AT, CURVATURE-AT}
 use Rattle.run.specs.Area.{SPARE-AT}
 use Rattle.run.specs.Proposal.{Standing, Proposal, noChange, ask, notPositive, noDrop, unresolved}
-use Rattle.run.specs.Residuals.{predictedOf}
 use Rattle.run.specs.Rows.{Evaluation, evaluationBy, Rows}
-use Rattle.run.specs.Vectors.{movedOf, sameOf}
+use Rattle.run.specs.Vectors.{movedOf}
 use Rattle.run.specs.program.Step.{PreparedFor}
 use Rattle.run.specs.declared.proposal.Proposal as declared
 use Rattle.run.specs.declared.proposal.Proposal.the-variants as p
@@ -74,21 +70,6 @@ abbrev pub nextIn : Start → List Float → List Float → List Float
 nextIn z a delta = movedOf (z .point .counts .n) (standingPart a) delta
 
 -- ---- what the functions answer
-
--- the point that a step leads to, where it is chosen
-abbrev pub triedOf : Standing → List Float → List Float → Res Proposal
-triedOf S delta lambda =
-    let next = movedOf (S .n) (S .x) delta in
-    bind (predictedOf (S .e .constraints) delta)
-    (λ predicted.
-    pick (sameOf (S .n) next (S .x)) (ok noChange)
-    (bind (normOf (at delta) (S .n)) (λ tried. ok (ask (record {
-      delta = delta;
-      lambda = lambda;
-      next = next;
-      predicted = predicted;
-      tried = tried;
-    })))))
 
 -- with what is written: the step, its multipliers and the point it leads to
 abbrev pub proposalResult : declared.Proposal → List Float → List Float → List Float → Res Proposal
