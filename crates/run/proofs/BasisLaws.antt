@@ -324,32 +324,32 @@ fold-each f g z (suc n) h =
     ap (λ x. bind x (λ s. f s n)) (fold-each f g z n (λ s i l. h s i (omega arith)))
     ∙ bind-each (foldR g z n) (λ s. f s n) (λ s. g s n) (λ s. h s n (lt-suc-self n))
 
-module _ (k r : ℕ) (frame pull : List Float) (hk : k ≤ 12) (hr : r ≤ 12) (l : 576 ≤ length frame) where
+module _ (k r : ℕ) (factors pull : List Float) (hk : k ≤ 12) (hr : r ≤ 12) (l : 576 ≤ length factors) where
   multiplier-part : (byRow : List Float) (u : ℕ) → u < r
-      → multiplierStep k (basisBy r frame [] (drop 288 frame) [] []) pull byRow u
-      ≡ multiplierStep k (basisBy r (take 288 frame) [] (take 288 (drop 288 frame)) [] []) pull byRow u
+      → multiplierStep k (basisBy r factors [] (drop 288 factors) [] []) pull byRow u
+      ≡ multiplierStep k (basisBy r (take 288 factors) [] (take 288 (drop 288 factors)) [] []) pull byRow u
   unfolding multiplierStep
   multiplier-part byRow u h =
       let t = r - 1 - u in
-      let ld : 2 * 144 ≤ length (drop 288 frame) = omega (arith, length-drop 288 frame, l) in
-      let d : dotTo (row frame t) (at pull) k ≡ dotTo (row (take 288 frame) t) (at pull) k =
-      sym (dotTo-ext _ _ _ _ k (along-take frame 144 (12 * t) 1 k (omega arith) (λ j hj. omega arith))
+      let ld : 2 * 144 ≤ length (drop 288 factors) = omega (arith, length-drop 288 factors, l) in
+      let d : dotTo (row factors t) (at pull) k ≡ dotTo (row (take 288 factors) t) (at pull) k =
+      sym (dotTo-ext _ _ _ _ k (along-take factors 144 (12 * t) 1 k (omega arith) (λ j hj. omega arith))
       (λ j _. refl)) in
-      let m : (z : Scalar) → minusTo (along (drop 288 frame) (12 * (t + 1) + t) 12) (along byRow (t + 1) 1) z
-      u ≡ minusTo (along (take 288 (drop 288 frame)) (12 * (t + 1) + t) 12) (along byRow (t + 1) 1) z u =
+      let m : (z : Scalar) → minusTo (along (drop 288 factors) (12 * (t + 1) + t) 12) (along byRow (t + 1) 1) z
+      u ≡ minusTo (along (take 288 (drop 288 factors)) (12 * (t + 1) + t) 12) (along byRow (t + 1) 1) z u =
       λ z. sym
       (minusTo-ext _ _ _ _ z u
-      (along-take (drop 288 frame) 144 (12 * (t + 1) + t) 12 u ld (λ j hj. omega arith)) (λ j _. refl)) in
-      let e : at (drop 288 frame) (12 * t + t) ≡ at (take 288 (drop 288 frame)) (12 * t + t) =
-      sym (at-take (drop 288 frame) 144 (12 * t + t) (omega arith) ld) in
+      (along-take (drop 288 factors) 144 (12 * (t + 1) + t) 12 u ld (λ j hj. omega arith)) (λ j _. refl)) in
+      let e : at (drop 288 factors) (12 * t + t) ≡ at (take 288 (drop 288 factors)) (12 * t + t) =
+      sym (at-take (drop 288 factors) 144 (12 * t + t) (omega arith) ld) in
       rw (d, m, e)
 
   pub multipliers-part : (order : List ℕ)
-      → multipliersOf k (basisBy r frame [] (drop 288 frame) [] order) pull
-      ≡ multipliersOf k (basisBy r (take 288 frame) [] (take 288 (drop 288 frame)) [] order) pull
+      → multipliersOf k (basisBy r factors [] (drop 288 factors) [] order) pull
+      ≡ multipliersOf k (basisBy r (take 288 factors) [] (take 288 (drop 288 factors)) [] order) pull
   unfolding multipliersOf multiplierStep
   multipliers-part order =
       ap (λ x. bind x (λ byRow. ok (spreadTo order byRow r)))
-      (fold-each (multiplierStep k (basisBy r frame [] (drop 288 frame) [] []) pull)
-      (multiplierStep k (basisBy r (take 288 frame) [] (take 288 (drop 288 frame)) [] []) pull) vector r
+      (fold-each (multiplierStep k (basisBy r factors [] (drop 288 factors) [] []) pull)
+      (multiplierStep k (basisBy r (take 288 factors) [] (take 288 (drop 288 factors)) [] []) pull) vector r
       multiplier-part)

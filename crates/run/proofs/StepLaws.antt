@@ -207,16 +207,16 @@ module _ (P : Problem) where
 
 -- ---- what no damping changes
 
--- a frame, as it is read
-framed-is : (x : Prepared) (P : Problem) (order : List ℕ) (frame q c delta z : List Float) → length q ≡ 288
-    → length c ≡ 288 → length delta ≡ 24 → length z ≡ 288 → frame ≡ q ++ (c ++ (delta ++ z))
-    → stepFromFactors x P order frame ≡ readyStep x P q c order delta z
-framed-is x P order frame q c delta z lq lc ld lz e =
+-- a factors, as it is read
+framed-is : (x : Prepared) (P : Problem) (order : List ℕ) (factors q c delta z : List Float) → length q ≡ 288
+    → length c ≡ 288 → length delta ≡ 24 → length z ≡ 288 → factors ≡ q ++ (c ++ (delta ++ z))
+    → stepFromFactors x P order factors ≡ readyStep x P q c order delta z
+framed-is x P order factors q c delta z lq lc ld lz e =
     rw (
-      first-of-four frame q c delta z lq lc ld lz e,
-      second-of-four frame q c delta z lq lc ld lz e,
-      third-of-four frame q c delta z lq lc ld lz e,
-      fourth-of-four frame q c delta z lq lc ld lz e,
+      first-of-four factors q c delta z lq lc ld lz e,
+      second-of-four factors q c delta z lq lc ld lz e,
+      third-of-four factors q c delta z lq lc ld lz e,
+      fourth-of-four factors q c delta z lq lc ld lz e,
     )
 
 -- the step from it, as the correction and the directions ended
@@ -230,14 +230,14 @@ module _ (P : Problem) (b : Basis) (delta z : List Float) where
   ready-is done.Finished (count.Refused e) ec ef = based-on P b ec (corrected-by P b delta ef)
   ready-is (done.Refused e) f ec ef = based-refused P b ec
 
-  pub ready-framed : {x : Prepared} (frame : List Float) (d : Done) (f : CountResult) → length (b .q) ≡ 288
+  pub ready-framed : {x : Prepared} (factors : List Float) (d : Done) (f : CountResult) → length (b .q) ≡ 288
       → length (b .coefficients) ≡ 288 → length delta ≡ 24 → length z ≡ 288
-      → frame ≡ b .q ++ (b .coefficients ++ (delta ++ z))
+      → factors ≡ b .q ++ (b .coefficients ++ (delta ++ z))
       → x ≡ readyOf d f (b .rank) → doneOf d delta ≡ correctionOf P b
       → foundOf f z ≡ spanOf (directionsOf (P .k) (b .rank) (b .q))
-      → stepFromFactors x (curved (P .k) (P .h) (P .g)) (b .order) frame ≡ stepFromBasis P b
-  ready-framed {x} frame d f lq lc ld lz e ex ec ef =
-      framed-is x (curved (P .k) (P .h) (P .g)) (b .order) frame (b .q) (b .coefficients) delta z lq lc ld lz e
+      → stepFromFactors x (curved (P .k) (P .h) (P .g)) (b .order) factors ≡ stepFromBasis P b
+  ready-framed {x} factors d f lq lc ld lz e ex ec ef =
+      framed-is x (curved (P .k) (P .h) (P .g)) (b .order) factors (b .q) (b .coefficients) delta z lq lc ld lz e
       ∙ ap (λ (y : Prepared). readyStep y (curved (P .k) (P .h) (P .g)) (b .q) (b .coefficients) (b .order) delta z) ex
       ∙ ready-is d f ec ef
 

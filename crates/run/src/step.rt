@@ -71,13 +71,13 @@ const FACTORS_AT: usize = 336;
 pub const FIXED_LEN: usize = 1224;
 
 // Where each part of the factors begins, behind Q.
-const COEFFICIENTS: usize = 288;
+const COEFFICIENTS_AT: usize = 288;
 
-const CORRECTION: usize = 576;
+const CORRECTION_AT: usize = 576;
 
-const DIRECTIONS: usize = 600;
+const DIRECTIONS_AT: usize = 600;
 
-const FRAME: usize = 888;
+const FACTORS_LEN: usize = 888;
 
 // What pulls against the kept step, and whether both are finite: a step is none where they are not.
 pub fn finite_pull(k: usize, h: &[f64], g: &[f64], kept: &[f64], out: &mut [f64]) -> bool
@@ -122,7 +122,14 @@ fn free_step(
         (directionsWith (d .free) (now (factors .entry))) ⌝ }
 {
     let mut p = [0.0; 24];
-    match free_part(d.kept, d.free, h, g, &factors[DIRECTIONS..FRAME], delta) {
+    match free_part(
+        d.kept,
+        d.free,
+        h,
+        g,
+        &factors[DIRECTIONS_AT..FACTORS_LEN],
+        delta,
+    ) {
         WeightsEnd::Found => {
             if finite_pull(d.kept, h, g, delta, &mut p) {
                 return multiplied(
@@ -162,7 +169,7 @@ fn ready(end: Done, found: CountResult, r: usize) -> Prepared
     }
 }
 
-// A frame, clear at first, from the basis on: Q, the coefficients, the correction and the free directions, one behind
+// A factors, clear at first, from the basis on: Q, the coefficients, the correction and the free directions, one behind
 // the other.
 fn prepare_free(
     shape: Shape,
@@ -172,18 +179,18 @@ fn prepare_free(
     order: &[usize],
     xs: &[f64],
     c: RowSet,
-    frame: &mut [f64],
+    factors: &mut [f64],
 ) -> Prepared
-    requires { ⌜ ForPreparing shape (length (now q)) (length (now coefficients)) (length (now order)) (now frame) ⌝ }
+    requires { ⌜ ForPreparing shape (length (now q)) (length (now coefficients)) (length (now order)) (now factors) ⌝ }
     ensures { λ x. ⌜ ((h g : List Float)
-        → stepFromFactors x (curved (shape .k) h g) (now (order .entry)) (now (frame .exit))
+        → stepFromFactors x (curved (shape .k) h g) (now (order .entry)) (now (factors .exit))
         ≡ stepFromBasis (problemIn (shape .k) (shape .m) (valueAt (rowsIn (now (xs .entry)) c)) [] [] h g)
         (basisBy (shape .r) (now (q .entry)) [] (now (coefficients .entry)) (now (dependent .entry))
         (now (order .entry))))
         × Few x ⌝ }
 {
-    write(frame, 0, q);
-    write(frame, COEFFICIENTS, coefficients);
+    write(factors, 0, q);
+    write(factors, COEFFICIENTS_AT, coefficients);
     let end = correction(
         shape,
         q,
@@ -192,9 +199,14 @@ fn prepare_free(
         order,
         xs,
         c,
-        &mut frame[CORRECTION..DIRECTIONS],
+        &mut factors[CORRECTION_AT..DIRECTIONS_AT],
     );
-    let found = free_directions(shape.k, shape.r, q, &mut frame[DIRECTIONS..FRAME]);
+    let found = free_directions(
+        shape.k,
+        shape.r,
+        q,
+        &mut factors[DIRECTIONS_AT..FACTORS_LEN],
+    );
     ready(end, found, shape.r)
 }
 
@@ -207,11 +219,11 @@ fn prepare_kept(
     xs: &[f64],
     c: RowSet,
     order: &mut [usize],
-    frame: &mut [f64],
+    factors: &mut [f64],
 ) -> Prepared
-    requires { ⌜ (k ≤ VARIABLES) × ((m ≤ CONSTRAINTS) × ((now order ≡ replicate 24 0) × (now frame ≡ zeros 888))) ⌝ }
+    requires { ⌜ (k ≤ VARIABLES) × ((m ≤ CONSTRAINTS) × ((now order ≡ replicate 24 0) × (now factors ≡ zeros 888))) ⌝ }
     ensures { λ x. ⌜ ((h g : List Float)
-        → stepFromFactors x (curved k h g) (now (order .exit)) (now (frame .exit))
+        → stepFromFactors x (curved k h g) (now (order .exit)) (now (factors .exit))
         ≡ keptStep (problemIn k m (valueAt (rowsIn (now (xs .entry)) c)) (now (wide .entry)) (now (jc .entry)) h g))
         × Few x ⌝ }
 {
@@ -230,7 +242,7 @@ fn prepare_kept(
     ) {
         CountResult::Value(r) => {
             let shape = Shape { k, m, r };
-            return prepare_free(shape, &q, &coefficients, &dependent, order, xs, c, frame);
+            return prepare_free(shape, &q, &coefficients, &dependent, order, xs, c, factors);
         }
         CountResult::Refused(e) => {
             return Prepared::Refused(e);
@@ -300,7 +312,7 @@ fn prepared_step(
 {
     match prepared {
         Prepared::Ready(r, count) => {
-            write(kept, 0, &factors[CORRECTION..DIRECTIONS]);
+            write(kept, 0, &factors[CORRECTION_AT..DIRECTIONS_AT]);
             let d = Dimensions {
                 kept: k,
                 independent: r,

@@ -82,10 +82,10 @@ pub record ForCorrection (s : Shape) (order delta : ℕ) : Type 0 where
   pub places : order ≡ 24
   pub step : delta ≡ 24
 
--- a basis to copy, and a clear frame to copy it into
-pub record ForPreparing (s : Shape) (q coefficients order : ℕ) (frame : List Float) : Type 0 where
+-- a basis to copy, and a clear factors to copy it into
+pub record ForPreparing (s : Shape) (q coefficients order : ℕ) (factors : List Float) : Type 0 where
   pub few : FewRows s
   pub vectors : q ≡ 288
   pub by-row : coefficients ≡ 288
   pub places : order ≡ 24
-  pub clear : frame ≡ zeros 888
+  pub clear : factors ≡ zeros 888

@@ -20,10 +20,10 @@ use Rattle.run.proofs.step.prepare_free.Tie as tie
 few-independent : (s : tie.Start) → s .args .shape .r ≤ 12
 few-independent s = let p = s .pre .few in omega (arith, p .rows, p .independent)
 
-clear-long : (s : tie.Start) → length (s .args .frame .now) ≡ 888
+clear-long : (s : tie.Start) → length (s .args .factors .now) ≡ 888
 clear-long s = ap length (s .pre .clear) ∙ length-clear 888
 
--- the frame before the correction is written in it, and the correction
+-- the factors before the correction is written in it, and the correction
 copied : (k : tie.After-correction) → length (k .before .before .before .before .write2 .last .0) ≡ 888
 copied k =
     k .before .before .before .before .write2 .kept .0
@@ -95,7 +95,7 @@ free-directions-requires c κs =
     let one = k .before .before .before .before .before .before .before .before .write .ensures in
     let two = k .before .before .before .before .write2 .ensures in
     let e =
-    fourth-clear (a .frame .now) (a .q .now) (a .coefficients .now) t (p .vectors) (p .by-row)
+    fourth-clear (a .factors .now) (a .q .now) (a .coefficients .now) t (p .vectors) (p .by-row)
     (corrected k) one two (part-back x t 576 24 (corrected k)) (p .clear) in
     (p .few .variables, (few-independent s, e))
 
@@ -122,7 +122,7 @@ returns c =
     let one = k .before .before .before .before .before .before .before .before .write .ensures in
     let two = k .before .before .before .before .write2 .ensures in
     let e =
-    four-written (a .frame .now) (a .q .now) (a .coefficients .now) t z (p .vectors) (p .by-row)
+    four-written (a .factors .now) (a .q .now) (a .coefficients .now) t z (p .vectors) (p .by-row)
     (corrected k) lz (clear-long s) one two (part-back x t 576 24 (corrected k)) (part-back y z 600 288 lz) in
     let b = basisBy (a .shape .r) (a .q .now) [] (a .coefficients .now) (a .dependent .now) (a .order .now) in (
       (λ h g.

@@ -1,4 +1,4 @@
--- `prepare_kept` meets its contract: the basis, from clear arrays, and the frame that follows from it.
+-- `prepare_kept` meets its contract: the basis, from clear arrays, and the factors that follows from it.
 use mathlib.Core.Path.{ap, _∙_}
 use native.Mathlib.Omega.{arith}
 use lib.Ieee.{ofBits}
