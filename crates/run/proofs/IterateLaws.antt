@@ -25,14 +25,14 @@ use Rattle.run.specs.State.{searching}
 use Rattle.run.specs.Area.{standingAt}
 use Rattle.run.specs.Iterate.{standingOf, leftAt, search}
 use Rattle.run.specs.Endings.{finish, refuse, orRefuse}
-use Rattle.run.specs.program.Iterate.{soughtWith, soughtOf, searchStart}
+use Rattle.run.specs.program.Iterate.{soughtWith, soughtOf, searchOrigin}
 use Rattle.run.specs.Decide.{grow, turnDown, notLower}
 use Rattle.run.specs.Search.{Found, searchOf}
 use Rattle.run.specs.State.{rejectedFor, withRadius, retried}
 use Rattle.run.specs.Damping.{grown, damped}
 use Rattle.run.specs.program.Search.{foundResult}
 use Rattle.run.specs.program.Damping.{goesOn, stopsAt}
-use Rattle.run.specs.declared.proposal.Start.{Start}
+use Rattle.run.specs.declared.proposal.Origin.{Origin}
 use Rattle.run.specs.declared.damping.Damped.{Damped}
 use Rattle.run.specs.declared.damping.Damped.the-variants as d
 use Rattle.run.specs.declared.search.Found as declared
@@ -106,13 +106,13 @@ curvature-for-read true h = ap (take 288) (spare-drop (slots-of h)) ∙ take-rep
 curvature-for-read false h = curvature-read h
 
 -- where a search from what is read of the slots is left
-module _ (st : State) {theta : Scalar} {w : Memory} {a : List Float} {z : Start} (d lambda : List Float)
+module _ (st : State) {theta : Scalar} {w : Memory} {a : List Float} {z : Origin} (d lambda : List Float)
     (r : declared.Found) where
-  pub sought-by : Holds w a → z ≡ searchStart st a theta → violationOf (standingAt st w .constraints) ≡ ok theta →
+  pub sought-by : Holds w a → z ≡ searchOrigin st a theta → violationOf (standingAt st w .constraints) ≡ ok theta →
       foundResult r d lambda (nextIn z a d) ≡ searchOf (standingIn z a) (z .«max_step») (st .search) →
       foundResult r d lambda (movedOf (st .sizes .n) (w .standing) d) ≡ soughtOf st w
   sought-by h ez ev e =
-      let s : Start = searchStart st a theta in
+      let s : Origin = searchOrigin st a theta in
       let S : standingIn s a ≡ standingOf st w theta =
       rw (standing-read h, standing-rows-read h, curvature-for-read (st .search .plain) h) in
       let x : nextIn s a d ≡ movedOf (st .sizes .n) (w .standing) d = rw (standing-read h) in

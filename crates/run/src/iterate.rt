@@ -10,7 +10,7 @@ ghost use Rattle.run.specs.Rows.{rowCounts};
 ghost use Rattle.run.specs.Vectors.{movedOf};
 ghost use Rattle.run.specs.program.Area.{Working, StandingKnown};
 ghost use Rattle.run.specs.program.Endings.{Leaves, Bounded};
-ghost use Rattle.run.specs.program.Iterate.{soughtOf, searchStart};
+ghost use Rattle.run.specs.program.Iterate.{soughtOf, searchOrigin};
 ghost use Rattle.run.specs.program.Rows.{FewRows};
 ghost use Rattle.run.specs.program.Search.{foundResult};
 ghost use Rattle.run.specs.program.Step.{StepLengths};
@@ -18,8 +18,8 @@ use crate::area;
 use crate::endings::ask;
 use crate::endings::finish;
 use crate::endings::refuse;
+use crate::proposal::Origin;
 use crate::proposal::StandingPoint;
-use crate::proposal::Start;
 use crate::residuals::sum_squared;
 use crate::rows::row_counts;
 use crate::search::Found;
@@ -55,9 +55,9 @@ fn left_at(st: State, area: &mut [f64], found: Found, delta: &[f64], lambda: &[f
 }
 
 // What the search goes out from: the standing point, with the sum from its rows and their violation theta.
-fn search_start(st: State, area: &[f64], theta: Scalar) -> Start
+fn search_origin(st: State, area: &[f64], theta: Scalar) -> Origin
     requires { ⌜ (length (now area) ≡ AREA) × FewRows (rowCounts (st .sizes)) ⌝ }
-    ensures { λ r. ⌜ r ≡ searchStart st (now (area .entry)) theta ⌝ }
+    ensures { λ r. ⌜ r ≡ searchOrigin st (now (area .entry)) theta ⌝ }
 {
     let counts = row_counts(st.sizes);
     let rows = &area[area::STANDING_ROWS_AT..area::LANDED_ROWS_AT];
@@ -65,7 +65,7 @@ fn search_start(st: State, area: &[f64], theta: Scalar) -> Start
     let point = StandingPoint { counts, f, theta };
     let moving = st.moving;
     let max_step = st.max_step;
-    Start {
+    Origin {
         point,
         moving,
         plain: st.search.plain,
@@ -89,7 +89,7 @@ fn seek_standing(
     let from = st.search;
     match standing {
         LinearResult::Value(theta) => {
-            return seek(search_start(st, area, theta), area, from, delta, lambda);
+            return seek(search_origin(st, area, theta), area, from, delta, lambda);
         }
         LinearResult::Refused(e) => {
             return Found::Refused(from, e);

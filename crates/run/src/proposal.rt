@@ -54,7 +54,7 @@ pub struct StandingPoint {
 
 // What every damping of a search goes out from: the standing point, the variables that move, whether the curvature
 // learned is left aside, and the longest step.
-pub struct Start {
+pub struct Origin {
     pub point: StandingPoint,
     pub moving: [bool; 12],
     pub plain: bool,
@@ -240,7 +240,7 @@ fn within(
 // What a search's damping proposes, from what was prepared, within its radius; where it asks, delta and lambda hold the
 // step and its multipliers.
 pub fn propose(
-    start: Start,
+    origin: Origin,
     area: &[f64],
     prepared: Prepared,
     order: &[usize],
@@ -249,14 +249,14 @@ pub fn propose(
     delta: &mut [f64],
     lambda: &mut [f64],
 ) -> Proposal
-    requires { ⌜ FewRows (start .point .counts) × (length (now area) ≡ AREA) × StepLengths (now delta) (now lambda) ⌝ }
-    requires { ⌜ PreparedAt start (now area) prepared (now order) (now fixed) ⌝ }
+    requires { ⌜ FewRows (origin .point .counts) × (length (now area) ≡ AREA) × StepLengths (now delta) (now lambda) ⌝ }
+    requires { ⌜ PreparedAt origin (now area) prepared (now order) (now fixed) ⌝ }
     ensures { λ r. ⌜ proposalResult r (now (delta .exit)) (now (lambda .exit))
-        (nextIn start (now (area .entry)) (now (delta .exit)))
-        ≡ proposalOf (standingIn start (now (area .entry))) (state .mu) (state .radius) ⌝ }
+        (nextIn origin (now (area .entry)) (now (delta .exit)))
+        ≡ proposalOf (standingIn origin (now (area .entry))) (state .mu) (state .radius) ⌝ }
 {
-    let point = start.point;
-    let moving = start.moving;
+    let point = origin.point;
+    let moving = origin.moving;
     match damped_step(
         point.counts.n,
         &moving,
@@ -269,7 +269,7 @@ pub fn propose(
     ) {
         StepEnd::Found(r) => {
             let rows = &area[area::STANDING_ROWS_AT..area::LANDED_ROWS_AT];
-            let b = curvature_for(start.plain, area);
+            let b = curvature_for(origin.plain, area);
             match expects(point, rows, b, delta) {
                 TruthResult::Value(drop) => {
                     if drop {

@@ -20,8 +20,8 @@ ghost use Rattle.run.specs.program.Step.{StepLengths};
 use crate::area;
 use crate::damping::Damped;
 use crate::damping::damp;
+use crate::proposal::Origin;
 use crate::proposal::Proposal;
-use crate::proposal::Start;
 use crate::proposal::curvature_for;
 use crate::proposal::propose;
 use crate::state::Rejection;
@@ -105,7 +105,7 @@ fn follow(p: Proposal, x: Search, m: usize, max: Scalar) -> Turn
 
 // The search, from what no damping changes.
 fn seek_from(
-    start: Start,
+    origin: Origin,
     area: &[f64],
     prepared: Prepared,
     order: &[usize],
@@ -114,17 +114,17 @@ fn seek_from(
     delta: &mut [f64],
     lambda: &mut [f64],
 ) -> Found
-    requires { ⌜ FewRows (start .point .counts) × (length (now area) ≡ AREA) × StepLengths (now delta) (now lambda) ⌝ }
-    requires { ⌜ PreparedAt start (now area) prepared (now order) (now fixed) ⌝ }
+    requires { ⌜ FewRows (origin .point .counts) × (length (now area) ≡ AREA) × StepLengths (now delta) (now lambda) ⌝ }
+    requires { ⌜ PreparedAt origin (now area) prepared (now order) (now fixed) ⌝ }
     requires { ⌜ (from .«turned_down» < 2 ^ 31) × (isPositive (from .mu) ≡ true) ⌝ }
     ensures { λ r. ⌜ foundResult r (now (delta .exit)) (now (lambda .exit))
-        (nextIn start (now (area .entry)) (now (delta .exit)))
-        ≡ searchOf (standingIn start (now (area .entry))) (start .«max_step») from ⌝ }
+        (nextIn origin (now (area .entry)) (now (delta .exit)))
+        ≡ searchOf (standingIn origin (now (area .entry))) (origin .«max_step») from ⌝ }
 {
     let mut state = from;
     let found = loop {
-        let p = propose(start, area, prepared, order, fixed, state, delta, lambda);
-        match follow(p, state, start.point.counts.m, start.max_step) {
+        let p = propose(origin, area, prepared, order, fixed, state, delta, lambda);
+        match follow(p, state, origin.point.counts.m, origin.max_step) {
             Turn::Leave(left) => {
                 break left;
             }
@@ -138,29 +138,29 @@ fn seek_from(
 
 // The search from a standing point, over the area that holds its rows and the curvature learned.
 pub fn seek(
-    start: Start,
+    origin: Origin,
     area: &[f64],
     from: Search,
     delta: &mut [f64],
     lambda: &mut [f64],
 ) -> Found
-    requires { ⌜ FewRows (start .point .counts) × (length (now area) ≡ AREA) × StepLengths (now delta) (now lambda) ⌝ }
+    requires { ⌜ FewRows (origin .point .counts) × (length (now area) ≡ AREA) × StepLengths (now delta) (now lambda) ⌝ }
     requires { ⌜ (from .«turned_down» < 2 ^ 31) × (isPositive (from .mu) ≡ true) ⌝ }
     ensures { λ r. ⌜ foundResult r (now (delta .exit)) (now (lambda .exit))
-        (nextIn start (now (area .entry)) (now (delta .exit)))
-        ≡ searchOf (standingIn start (now (area .entry))) (start .«max_step») from ⌝ }
+        (nextIn origin (now (area .entry)) (now (delta .exit)))
+        ≡ searchOf (standingIn origin (now (area .entry))) (origin .«max_step») from ⌝ }
 {
     let mut order = [0; 24];
     let mut fixed = [0.0; FIXED_LEN];
-    let counts = start.point.counts;
-    let moving = start.moving;
+    let counts = origin.point.counts;
+    let moving = origin.moving;
     let prepared = prepare(
         counts,
         &area[area::STANDING_ROWS_AT..area::LANDED_ROWS_AT],
-        curvature_for(start.plain, area),
+        curvature_for(origin.plain, area),
         &moving,
         &mut order,
         &mut fixed,
     );
-    seek_from(start, area, prepared, &order, &fixed, from, delta, lambda)
+    seek_from(origin, area, prepared, &order, &fixed, from, delta, lambda)
 }

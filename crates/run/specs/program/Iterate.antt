@@ -9,7 +9,7 @@ use Rattle.run.specs.Residuals.{sumSquared, violationOf}
 use Rattle.run.specs.Rows.{rowCounts, sumOf}
 use Rattle.run.specs.Search.{Found, refuses, searchOf}
 use Rattle.run.specs.program.Proposal.{rowsOf}
-use Rattle.run.specs.declared.proposal.Start.{Start}
+use Rattle.run.specs.declared.proposal.Origin.{Origin}
 use Rattle.run.specs.declared.state.State.{State}
 
 -- where the search from the standing point is left, once its violation is known or refused
@@ -21,8 +21,8 @@ abbrev pub soughtOf : State → Memory → Found
 soughtOf st w = soughtWith st w (violationOf (standingAt st w .constraints))
 
 -- what the search goes out from, as it is read of an area
-abbrev pub searchStart : State → List Float → Scalar → Start
-searchStart st a theta =
+abbrev pub searchOrigin : State → List Float → Scalar → Origin
+searchOrigin st a theta =
     let c = rowCounts (st .sizes) in
     record {
       point = record { counts = c; f = sumSquared (sumOf (c .n) (c .m) (c .s) (rowsOf a)); theta = theta };

@@ -17,7 +17,7 @@ use Rattle.run.specs.program.Step.{PreparedFor}
 use Rattle.run.specs.declared.proposal.Proposal as declared
 use Rattle.run.specs.declared.proposal.Proposal.the-variants as p
 use Rattle.run.specs.declared.proposal.StandingPoint.{StandingPoint}
-use Rattle.run.specs.declared.proposal.Start.{Start}
+use Rattle.run.specs.declared.proposal.Origin.{Origin}
 use Rattle.run.specs.declared.step.Prepared.{Prepared}
 
 -- ---- a standing point
@@ -57,16 +57,16 @@ abbrev pub curvatureFor : Bool → List Float → List Float
 curvatureFor plain a = take CURVATURE-LEN (drop (pick plain SPARE-AT CURVATURE-AT) a)
 
 -- what is prepared gives the step of every damping of the search
-abbrev pub PreparedAt : Start → List Float → Prepared → List ℕ → List Float → Type 0
+abbrev pub PreparedAt : Origin → List Float → Prepared → List ℕ → List Float → Type 0
 PreparedAt z a x order fixed =
     let c = z .point .counts in
     PreparedFor (c .n) (evaluationBy c (rowsOf a)) (curvatureFor (z .plain) a) (z .moving) x order fixed
 
 -- what it stands on, and where a step leads
-abbrev pub standingIn : Start → List Float → Standing
+abbrev pub standingIn : Origin → List Float → Standing
 standingIn z a = standingFor (z .point) (rowsOf a) (curvatureFor (z .plain) a) (standingPart a) (z .moving)
 
-abbrev pub nextIn : Start → List Float → List Float → List Float
+abbrev pub nextIn : Origin → List Float → List Float → List Float
 nextIn z a delta = movedOf (z .point .counts .n) (standingPart a) delta
 
 -- ---- what the functions answer

@@ -18,14 +18,14 @@ few s =
 enum-known-standing : tie.Need-enum-known-standing
 enum-known-standing c = search needs
 
-search-start-requires : tie.Need-search-start-requires
-search-start-requires c κs = let s = c .before .before .before .before .before .before .before in (s .pre .0, few s)
+search-origin-requires : tie.Need-search-origin-requires
+search-origin-requires c κs = let s = c .before .before .before .before .before .before .before in (s .pre .0, few s)
 
 seek-requires : tie.Need-seek-requires
 seek-requires c κs =
     let s = c .before .before .before .before .before .before .before .before .before .before in
     let b = s .pre .1 in
-    rw (c .before .before .search-start .ensures) ((few s, s .pre .0, s .pre .2), (b .few-turned, b .damping))
+    rw (c .before .before .search-origin .ensures) ((few s, s .pre .0, s .pre .2), (b .few-turned, b .damping))
 
 same-length : tie.Need-same-length
 same-length c = search needs
@@ -42,7 +42,7 @@ returns c w h =
     let v = sym (h .standing-is)
     ∙ ap resultOf (c .before .before .before .before .before .before .before .before .before .standing .given .1) in
     sought-by st (l .0) (l .1 .0) (k .result) (h .uses .holds)
-    (c .before .before .before .before .before .before .before .search-start .ensures) v (k .ensures)
+    (c .before .before .before .before .before .before .before .search-origin .ensures) v (k .ensures)
 
 enum-known-standing-2 : tie.Need-enum-known-standing-2
 enum-known-standing-2 c = search needs
@@ -57,7 +57,7 @@ seek-standing-spec =
     tie.close
     (tie.spec
     enum-known-standing
-    search-start-requires
+    search-origin-requires
     seek-requires
     same-length
     same-length-2

@@ -22,15 +22,15 @@ use Rattle.run.proofs.proposal.propose.Statement.{statement}
 use Rattle.run.proofs.proposal.propose.Tie as tie
 
 -- as many marks as there may be variables
-marks : (s : tie.Start) → length (s .args .start .moving) ≡ 12
-marks s = length-unmapped Bool (s .args .start .moving) 12 (s .good .0 .1 .1 .1 .0 .1 .0 .1)
+marks : (s : tie.Start) → length (s .args .origin .moving) ≡ 12
+marks s = length-unmapped Bool (s .args .origin .moving) 12 (s .good .0 .1 .1 .1 .0 .1 .0 .1)
 
 -- what it stands on, the step, and its parts
 module _ (k : tie.After-damped-step) where
   abbrev from : Standing
   from =
       let a = k .before .before .before .before .before .before .before .before .before .before .before .args in
-      standingIn (a .start) (a .area .now)
+      standingIn (a .origin) (a .area .now)
 
   abbrev mu : Scalar
   mu = k .before .before .before .before .before .before .before .before .before .before .before .args .state .mu
@@ -63,7 +63,7 @@ expected k =
     let s = k .before .before .before .before .before .before .before .before .before .before .before in
     let a = s .before .before .before .before .before .before .before .before .before .before .before .args in
     sym (k .expects .ensures
-    ∙ ap (λ (b : List Float). expectsOf (modelFor (a .start .point) (rowsOf (a .area .now)) b) (raw s))
+    ∙ ap (λ (b : List Float). expectsOf (modelFor (a .origin .point) (rowsOf (a .area .now)) b) (raw s))
     (k .before .before .curvature-for .ensures)
     ∙ expects-reads (from s) (raw s))
 
@@ -142,7 +142,7 @@ returns c =
     c .before .before .within .ensures (lambda k)
     ∙ ap
     (λ (b : List Float).
-    withinOf (stillFor (a .start .point) (rowsOf (a .area .now)) b (standingPart (a .area .now))) (radius k) (raw k)
+    withinOf (stillFor (a .origin .point) (rowsOf (a .area .now)) b (standingPart (a .area .now))) (radius k) (raw k)
     (lambda k))
     (c .before .before .before .before .before .before .before .before .before .before .before .curvature-for .ensures)
     ∙ within-reads (from k) (radius k) (raw k) (lambda k)

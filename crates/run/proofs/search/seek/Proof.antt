@@ -9,8 +9,8 @@ use Rattle.run.proofs.search.seek.Statement.{statement}
 use Rattle.run.proofs.search.seek.Tie as tie
 
 -- as many marks as there may be variables
-marks : (s : tie.Start) → length (s .args .start .moving) ≡ 12
-marks s = length-unmapped Bool (s .args .start .moving) 12 (s .good .0 .1 .1 .1 .0 .1 .0 .1)
+marks : (s : tie.Start) → length (s .args .origin .moving) ≡ 12
+marks s = length-unmapped Bool (s .args .origin .moving) 12 (s .good .0 .1 .1 .1 .0 .1 .0 .1)
 
 sub-prepare : tie.Need-sub-prepare
 sub-prepare c = search needs

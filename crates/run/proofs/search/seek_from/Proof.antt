@@ -33,17 +33,17 @@ module _ (k : tie.After-follow Inv-loop μ-loop) where
   abbrev standing : Standing
   standing =
       let a = k .before .before .before .before .before .before .before .before .before .before .before .before .before
-      .before .args in standingIn (a .start) (a .area .now)
+      .before .args in standingIn (a .origin) (a .area .now)
 
   abbrev count : ℕ
   count =
       k .before .before .before .before .before .before .before .before .before .before .before .before .before .before
-      .args .start .point .counts .m
+      .args .origin .point .counts .m
 
   abbrev max : Scalar
   max =
       k .before .before .before .before .before .before .before .before .before .before .before .before .before .before
-      .args .start .«max_step»
+      .args .origin .«max_step»
 
   abbrev start : Search
   start =
@@ -61,7 +61,7 @@ module _ (k : tie.After-follow Inv-loop μ-loop) where
       let a = k .before .before .before .before .before .before .before .before .before .before .before .before .before
       .before .args in
       let l = k .before .before .before .before .before .propose .last .1 .1 .1 .1 .1 .1 in
-      turnResult r on (l .0) (l .1 .0) (nextIn (a .start) (a .area .now) (l .0))
+      turnResult r on (l .0) (l .1 .0) (nextIn (a .origin) (a .area .now) (l .0))
 
   followed-as : (r : Turn) → k .follow .result ≡ r → (on : Search → Found) →
       written r on ≡ follow on count max here (proposalOf standing (here .mu) (here .radius))
@@ -70,7 +70,7 @@ module _ (k : tie.After-follow Inv-loop μ-loop) where
       .before .args in
       let l = k .before .before .before .before .before .propose .last .1 .1 .1 .1 .1 .1 in
       sym (ap (λ (t : Turn). written t on) e)
-      ∙ k .follow .ensures on (l .0) (l .1 .0) (nextIn (a .start) (a .area .now) (l .0))
+      ∙ k .follow .ensures on (l .0) (l .1 .0) (nextIn (a .origin) (a .area .now) (l .0))
       ∙ ap (λ (p : Res Proposal). follow on count max here p)
       (k .before .before .before .before .before .propose .ensures)
 

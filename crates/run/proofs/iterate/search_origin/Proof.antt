@@ -1,7 +1,7 @@
--- `search_start` meets its contract: the sum is worked out from the rows.
+-- `search_origin` meets its contract: the sum is worked out from the rows.
 use borrow.Author.Needs.{needs}
-use Rattle.run.proofs.iterate.search_start.Statement.{statement}
-use Rattle.run.proofs.iterate.search_start.Tie as tie
+use Rattle.run.proofs.iterate.search_origin.Statement.{statement}
+use Rattle.run.proofs.iterate.search_origin.Tie as tie
 
 row-counts-requires : tie.Need-row-counts-requires
 row-counts-requires c κs = search needs
@@ -23,8 +23,8 @@ sum-squared-requires c κs =
 returns : tie.Need-returns
 returns c = rw (c .before .before .sum-squared .ensures, c .before .before .before .before .row-counts .ensures)
 
-pub search-start-spec : {M : Type 1} → statement M
-search-start-spec =
+pub search-origin-spec : {M : Type 1} → statement M
+search-origin-spec =
     tie.close
     (tie.spec
     row-counts-requires
