@@ -13,7 +13,7 @@ use Rattle.interval.specs.Step.{nextUp}
 use Rattle.interval.specs.Root.{nearestRoot}
 use Rattle.interval.specs.Scalar.{sqrtOf, clamped, fromRatio}
 use Rattle.linear.specs.Choose.{chooseOf}
-use Rattle.run.specs.Rows.{rowNumbers}
+use Rattle.run.specs.Rows.{rowNumbers, rowCounts}
 use Rattle.run.specs.Vectors.{allTo}
 use Rattle.run.specs.Limits.{AREA}
 use Rattle.run.specs.Area.{Memory, areaOf, begunMemory, memoryOf}
@@ -46,7 +46,7 @@ module _ (z : Sizes) (start : List Float) (max : Scalar) (b : AfterCall) (g : Be
   unfolding checkOf
   accepted = rw (begun-valid z max (g .fit), whole)
 
-  accepted-rows : (rows : List Float) → length rows ≡ rowNumbers (z .n) (z .m) (z .s)
+  accepted-rows : (rows : List Float) → length rows ≡ rowNumbers (rowCounts z)
       → allInDomain rows ((z .m + z .s) * (z .n + 1)) ≡ true
       → checkRowsOf (begunState z max) (length (areaOf (begunMemory start))) rows ≡ Accept kind.Start
   unfolding checkRowsOf
@@ -57,7 +57,7 @@ module _ (z : Sizes) (start : List Float) (max : Scalar) (b : AfterCall) (g : Be
       ∙ ap (λ (o : AfterCall). o .event)
       (none-accepted (begunState z max) (areaOf (begunMemory start)) kind.Start accepted)
 
-  rows-answer : (rows : List Float) → length rows ≡ rowNumbers (z .n) (z .m) (z .s)
+  rows-answer : (rows : List Float) → length rows ≡ rowNumbers (rowCounts z)
       → allInDomain rows ((z .m + z .s) * (z .n + 1)) ≡ true
       → answerTo b rows
       ≡ started (begunState z max) (memoryOf (begunState z max) (areaOf (begunMemory start))) rows .event

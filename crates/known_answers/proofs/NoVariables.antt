@@ -68,14 +68,15 @@ unfolding keptStep bind basisOf foldR correctionOf leastSquaresOf combinedTo dir
 kept-step c wide jc h = rw (zeros-finite 24 12 (omega arith))
 
 step-none : (rows b : List Float) (moving : List Bool) (mu : Scalar)
-    → stepOf 0 (evaluationOf 0 0 0 rows) b moving mu ≡ ok (found (stepIn vector vector 0))
+    → stepOf 0 (evaluationOf (record { n = 0; m = 0; s = 0 }) rows) b moving mu ≡ ok (found (stepIn vector vector 0))
 unfolding stepOf problemOf keptTo dampedOf fillRows gradientOf fillTo spreadTo bind
 step-none rows b moving mu = rw (zeros-finite 288 144 (omega arith), kept-step _ _ _ _)
 
 -- ---- no expected drop
 
 abbrev pub standing : List Float → List Float → List Float → List Bool → Standing
-standing x rows b moving = standingWith 0 x (evaluationOf 0 0 0 rows) zeroS normOfNone b moving
+standing x rows b moving = standingWith 0 x
+    (evaluationOf (record { n = 0; m = 0; s = 0 }) rows) zeroS normOfNone b moving
 
 expects-none : (x rows b delta : List Float) (moving : List Bool)
     → expectsOf (standing x rows b moving) delta ≡ ok false

@@ -14,7 +14,7 @@ use Rattle.interval.specs.Scalar.{sqrtOf, couldBeEqual, definitelyLess, definit
 use Rattle.linear.specs.Choose.{chooseOf}
 use Rattle.linear.specs.Flat.{zeros}
 use Rattle.run.specs.Limits.{AREA}
-use Rattle.run.specs.Rows.{rowNumbers}
+use Rattle.run.specs.Rows.{rowNumbers, rowCounts}
 use Rattle.run.specs.Calls.{AfterCall, Accepted, beginOf, replyOf, replyNoneOf}
 use Rattle.run.specs.Checks.{sizesFit, allInDomain}
 use Rattle.run.specs.Damping.{firstMu}
@@ -94,7 +94,7 @@ pub record OfReply : Type 0 where
       (n m s : ℕ) (start : List Float) (max : Scalar) (a rows : List Float) →
       let b = beginOf (sizes n m s 0) start max a in
       Accepted b →
-      length rows ≡ rowNumbers n m s → allInDomain rows ((m + s) * (n + 1)) ≡ true
+      length rows ≡ rowNumbers (rowCounts (sizes n m s 0)) → allInDomain rows ((m + s) * (n + 1)) ≡ true
       → answerTo b rows ≡ Finish stop.Budget 0 0 0
   -- P13 n = m = s = 0, limit 5: Flat, 0 independent, 0 iterations
   pub p13 :

@@ -20,7 +20,7 @@ use Rattle.run.specs.Corrected.{Shift, to, stay, shiftOf, shiftFrom, shi
 use Rattle.run.specs.Curvature.{updateCurvature}
 use Rattle.run.specs.Judgement.{Judged, judgeOf}
 use Rattle.run.specs.program.Area.{StandingKnown}
-use Rattle.run.specs.Rows.{rowNumbers}
+use Rattle.run.specs.Rows.{rowNumbers, rowCounts}
 use Rattle.run.specs.Residuals.{movingOf, sumSquared, violationOf}
 use Rattle.run.specs.Endings.{AfterSlots, finish, refuse, question, orRefuse}
 use Rattle.run.specs.program.Endings.{Leaves, Bounded, Underway}
@@ -41,6 +41,7 @@ use Rattle.run.specs.declared.state.Returned.{Returned}
 use Rattle.run.specs.declared.state.Phase.the-variants.{Open}
 use Rattle.run.specs.declared.state.State.{State}
 use Rattle.run.specs.declared.state.Stop.the-variants as stop
+use Rattle.run.specs.declared.rows.RowCounts.{RowCounts}
 use Rattle.run.proofs.CheckLaws.{both}
 use Rattle.run.proofs.ZeroBehind.{seeks-as}
 use Rattle.run.proofs.EndingLaws.{or-next, or-refused, when, unless}
@@ -325,17 +326,17 @@ module _ {st : State} (b : Bounded 1073741824 st) where
       let g : phaseFits st (Open kind.Correction) ≡ true = subst (λ (x : Kind). phaseFits st (Open x) ≡ true) e f in
       record { bounded = b; below = ltb-true _ _ (both (ltb (st .counts .iterations) (st .sizes .limit)) _ g .0) }
 
-  pub rows-few : rowNumbers (st .sizes .n) (st .sizes .m) (st .sizes .s) ≤ 936
+  pub rows-few : rowNumbers (rowCounts (st .sizes)) ≤ 936
   rows-few =
       let h : st .sizes .m + st .sizes .s ≤ 36 = omega (arith, b .few-constraints, b .few-sums) in
       let k : st .sizes .n + 1 ≤ 13 = omega (arith, b .few-variables) in
       omega (arith, mul-le-mul {n₁ = st .sizes .m + st .sizes .s} {m₁ = st .sizes .n + 1} {n₂ = 36} {m₂ = 13} h k)
 
-pub rows-enough : (n m s : ℕ) → 2 * m ≤ rowNumbers n m s
-rows-enough n m s =
-    let h : m + s ≤ m + s = omega arith in
-    let k : 1 ≤ n + 1 = omega arith in
-    omega (arith, mul-le-mul {n₁ = m + s} {m₁ = 1} {n₂ = m + s} {m₂ = n + 1} h k)
+pub rows-enough : (c : RowCounts) → 2 * c .m ≤ rowNumbers c
+rows-enough c =
+    let h : c .m + c .s ≤ c .m + c .s = omega arith in
+    let k : 1 ≤ c .n + 1 = omega arith in
+    omega (arith, mul-le-mul {n₁ = c .m + c .s} {m₁ = 1} {n₂ = c .m + c .s} {m₂ = c .n + 1} h k)
 
 module _ (st : State) (w : Memory) {k k′ : Kind} {o : Returned} {a : List Float} (e : k ≡ k′) where
   pub answered-as : (rows : List Float) → Leaves (answered k′ st w rows) o a → Leaves (answered k st w rows) o a

@@ -15,7 +15,7 @@ use Rattle.linear.specs.Flat.{at, zeros}
 use Rattle.linear.specs.Dot.{plusTo}
 use Rattle.linear.proofs.Agree.{Agree, dotTo-ext, normOf-ext}
 use Rattle.linear.proofs.Lists.{at-append}
-use Rattle.run.specs.Rows.{rowNumbers, valueAt, constraintsOf, sumOf}
+use Rattle.run.specs.Rows.{rowNumbers, valueAt, constraintsOf, sumOf, rowCounts}
 use Rattle.run.specs.Residuals.{linearizedAt, squaredOf, sumSquared, violationOf}
 use Rattle.run.specs.Judgement.{sumChange}
 use Rattle.run.specs.Area.{POINT-LEN, ROWS-LEN, CURVATURE-LEN, FILTER-LEN, ASKED-AT, SIZES, Memory, areaOf}
@@ -32,7 +32,7 @@ use Rattle.run.proofs.VectorLaws.{at-take}
 
 -- ---- sizes
 
-pub rows-fit : (z : Sizes) → SizeBounds z → rowNumbers (z .n) (z .m) (z .s) ≤ 936
+pub rows-fit : (z : Sizes) → SizeBounds z → rowNumbers (rowCounts z) ≤ 936
 rows-fit z f = omega (arith, few-scalars {n = z .n} {m = z .m} {s = z .s} (f .n) (f .m) (f .s))
 
 curvature-fits : (z : Sizes) → SizeBounds z → 2 * (z .n * z .n) ≤ 288
@@ -79,8 +79,8 @@ read-sized st a f h =
       standing-size = length-used a 0 POINT-LEN true (2 * z .n) n2;
       landed-size = length-used a 24 POINT-LEN corrected (2 * z .n) n2;
       asked-size = length-used a 48 POINT-LEN (isOpen (st .phase)) (2 * z .n) n2;
-      standing-rows-size = length-used a 72 ROWS-LEN tried (rowNumbers (z .n) (z .m) (z .s)) (rows-fit z f);
-      landed-rows-size = length-used a 1008 ROWS-LEN corrected (rowNumbers (z .n) (z .m) (z .s)) (rows-fit z f);
+      standing-rows-size = length-used a 72 ROWS-LEN tried (rowNumbers (rowCounts z)) (rows-fit z f);
+      landed-rows-size = length-used a 1008 ROWS-LEN corrected (rowNumbers (rowCounts z)) (rows-fit z f);
       step-size = length-used a 1944 POINT-LEN tried (2 * z .n) n2;
       multipliers-size = length-used a 1968 POINT-LEN tried (2 * z .m) m2;
       curvature-size = length-used a 1992 CURVATURE-LEN tried (2 * (z .n * z .n)) (curvature-fits z f);
@@ -138,7 +138,7 @@ used-part a base size count inUse u h =
 
 module _ (st : State) (w : Memory) (f : Sized w) (small : SizeBounds (st .sizes)) where
   count : ℕ
-  count = rowNumbers (st .sizes .n) (st .sizes .m) (st .sizes .s)
+  count = rowNumbers (rowCounts (st .sizes))
 
   read-rows : (a r : List Float) (base : ℕ) (inUse : Bool) (xs : List Float) → inUse ≡ true
       → length xs ≡ count → r ≡ padded ROWS-LEN xs → take count (drop base a) ≡ take count r
@@ -146,7 +146,7 @@ module _ (st : State) (w : Memory) (f : Sized w) (small : SizeBounds (st .sizes)
   read-rows a r base inUse xs u e p q = rw (u, q, p, take-at xs (zeros (ROWS-LEN - length xs)) count e)
 
   pub standing-rows-back : isTried (st .phase) ≡ true → (xs : List Float)
-      → length xs ≡ rowNumbers (st .sizes .n) (st .sizes .m) (st .sizes .s)
+      → length xs ≡ rowNumbers (rowCounts (st .sizes))
       → w .standingRows ≡ padded ROWS-LEN xs → memoryOf st (areaOf w) .standingRows ≡ padded ROWS-LEN xs
   unfolding memoryOf count startOf
   standing-rows-back u xs e p =
@@ -154,7 +154,7 @@ module _ (st : State) (w : Memory) (f : Sized w) (small : SizeBounds (st .sizes)
       (slot-part w f 3 count (omega arith) (rows-fit (st .sizes) small))
 
   pub landed-rows-back : isCorrected (st .phase) ≡ true → (xs : List Float)
-      → length xs ≡ rowNumbers (st .sizes .n) (st .sizes .m) (st .sizes .s)
+      → length xs ≡ rowNumbers (rowCounts (st .sizes))
       → w .landedRows ≡ padded ROWS-LEN xs → memoryOf st (areaOf w) .landedRows ≡ padded ROWS-LEN xs
   unfolding memoryOf count startOf
   landed-rows-back u xs e p =
@@ -178,47 +178,47 @@ module _ (st : State) (w : Memory) (f : Sized w) (small : SizeBounds (st .sizes)
 
 -- ---- rows with +0 behind them
 
-module _ (z : Sizes) (xs : List Float) (e : length xs ≡ rowNumbers (z .n) (z .m) (z .s)) where
-  pub constraints-agree : Agree (valueAt (constraintsOf (z .n) (z .m) (padded ROWS-LEN xs)))
-      (valueAt (constraintsOf (z .n) (z .m) xs)) (z .m)
+module _ (z : Sizes) (xs : List Float) (e : length xs ≡ rowNumbers (rowCounts z)) where
+  pub constraints-agree : Agree (valueAt (constraintsOf (rowCounts z) (padded ROWS-LEN xs)))
+      (valueAt (constraintsOf (rowCounts z) xs)) (z .m)
   constraints-agree i h =
       at-padded ROWS-LEN xs (0 + i) (omega (arith, mul-le-mul-left {m = 1} {n = z .n + 1} (z .m + z .s) (omega arith)))
 
-  pub sum-agrees : Agree (valueAt (sumOf (z .n) (z .m) (z .s) (padded ROWS-LEN xs)))
-      (valueAt (sumOf (z .n) (z .m) (z .s) xs)) (z .s)
+  pub sum-agrees : Agree (valueAt (sumOf (rowCounts z) (padded ROWS-LEN xs)))
+      (valueAt (sumOf (rowCounts z) xs)) (z .s)
   sum-agrees i h =
       at-padded ROWS-LEN xs (z .m * (z .n + 1) + i)
       (omega (arith, add-mul (z .m) (z .s) (z .n + 1), mul-le-mul-left {m = 1} {n = z .n + 1} (z .s) (omega arith)))
 
-  pub violation-padded : violationOf (constraintsOf (z .n) (z .m) (padded ROWS-LEN xs))
-      ≡ violationOf (constraintsOf (z .n) (z .m) xs)
+  pub violation-padded : violationOf (constraintsOf (rowCounts z) (padded ROWS-LEN xs))
+      ≡ violationOf (constraintsOf (rowCounts z) xs)
   unfolding violationOf
   violation-padded =
-      normOf-ext (valueAt (constraintsOf (z .n) (z .m) (padded ROWS-LEN xs)))
-      (valueAt (constraintsOf (z .n) (z .m) xs)) (z .m) constraints-agree
+      normOf-ext (valueAt (constraintsOf (rowCounts z) (padded ROWS-LEN xs)))
+      (valueAt (constraintsOf (rowCounts z) xs)) (z .m) constraints-agree
 
-  pub squared-padded : sumSquared (sumOf (z .n) (z .m) (z .s) (padded ROWS-LEN xs))
-      ≡ sumSquared (sumOf (z .n) (z .m) (z .s) xs)
+  pub squared-padded : sumSquared (sumOf (rowCounts z) (padded ROWS-LEN xs))
+      ≡ sumSquared (sumOf (rowCounts z) xs)
   unfolding squaredOf linearizedAt plusTo
   squared-padded =
-      let d = sumOf (z .n) (z .m) (z .s) (padded ROWS-LEN xs) in
-      let b = sumOf (z .n) (z .m) (z .s) xs in
+      let d = sumOf (rowCounts z) (padded ROWS-LEN xs) in
+      let b = sumOf (rowCounts z) xs in
       let same : Agree (linearizedAt d (d .list) 0) (linearizedAt b (b .list) 0) (z .s) =
       λ i h. ap (λ (v : Scalar). addOf v zeroS) (sum-agrees i h) in
       dotTo-ext (linearizedAt d (d .list) 0) (linearizedAt b (b .list) 0) (linearizedAt d (d .list) 0)
       (linearizedAt b (b .list) 0) (z .s) same same
 
-pub change-padded : (z : Sizes) (xs ys : List Float) → length xs ≡ rowNumbers (z .n) (z .m) (z .s)
-    → length ys ≡ rowNumbers (z .n) (z .m) (z .s)
-    → sumChange (sumOf (z .n) (z .m) (z .s) (padded ROWS-LEN xs))
-    (sumOf (z .n) (z .m) (z .s) (padded ROWS-LEN ys))
-    ≡ sumChange (sumOf (z .n) (z .m) (z .s) xs) (sumOf (z .n) (z .m) (z .s) ys)
+pub change-padded : (z : Sizes) (xs ys : List Float) → length xs ≡ rowNumbers (rowCounts z)
+    → length ys ≡ rowNumbers (rowCounts z)
+    → sumChange (sumOf (rowCounts z) (padded ROWS-LEN xs))
+    (sumOf (rowCounts z) (padded ROWS-LEN ys))
+    ≡ sumChange (sumOf (rowCounts z) xs) (sumOf (rowCounts z) ys)
 unfolding sumChange
 change-padded z xs ys p q =
-    let d = valueAt (sumOf (z .n) (z .m) (z .s) (padded ROWS-LEN xs)) in
-    let d′ = valueAt (sumOf (z .n) (z .m) (z .s) (padded ROWS-LEN ys)) in
-    let b = valueAt (sumOf (z .n) (z .m) (z .s) xs) in
-    let b′ = valueAt (sumOf (z .n) (z .m) (z .s) ys) in
+    let d = valueAt (sumOf (rowCounts z) (padded ROWS-LEN xs)) in
+    let d′ = valueAt (sumOf (rowCounts z) (padded ROWS-LEN ys)) in
+    let b = valueAt (sumOf (rowCounts z) xs) in
+    let b′ = valueAt (sumOf (rowCounts z) ys) in
     dotTo-ext (λ i. subOf (d i) (d′ i)) (λ i. subOf (b i) (b′ i)) (λ i. addOf (d i) (d′ i))
     (λ i. addOf (b i) (b′ i)) (z .s)
     (λ i h. ap₂ subOf (sum-agrees z xs p i h) (sum-agrees z ys q i h))

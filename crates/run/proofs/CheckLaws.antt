@@ -15,7 +15,7 @@ use lib.Ieee.{Float}
 use lib.ListN.{length}
 use Rattle.interval.specs.Scalar.{pick}
 use Rattle.interval.specs.Scaling.{isPositive}
-use Rattle.run.specs.Rows.{rowNumbers}
+use Rattle.run.specs.Rows.{rowNumbers, rowCounts}
 use Rattle.run.specs.Limits.{CORRECTIONS}
 use Rattle.run.specs.Limits.{AREA}
 use Rattle.run.specs.Area.{memoryOf}
@@ -182,7 +182,7 @@ module _ (st : State) (area : ℕ) (k : Kind) where
 -- a reply with rows
 pub record AcceptedRows (st : State) (area : ℕ) (rows : List Float) (k : Kind) : Type 0 where
   pub reply : Accepted st area k
-  pub full : length rows ≡ rowNumbers (st .sizes .n) (st .sizes .m) (st .sizes .s)
+  pub full : length rows ≡ rowNumbers (rowCounts (st .sizes))
   pub inside : allInDomain rows ((st .sizes .m + st .sizes .s) * (st .sizes .n + 1)) ≡ true
 
 module _ (st : State) (area : ℕ) (rows : List Float) (k : Kind) where
@@ -190,7 +190,7 @@ module _ (st : State) (area : ℕ) (rows : List Float) (k : Kind) where
       → AcceptedRows st area rows k
   then-accepted (Refuse j) h x = refuse-accept x
   then-accepted (Accept j) h x =
-      let b = passed (eqb (length rows) (rowNumbers (st .sizes .n) (st .sizes .m) (st .sizes .s))) _ 2 x in
+      let b = passed (eqb (length rows) (rowNumbers (rowCounts (st .sizes)))) _ 2 x in
       let d = passed (allInDomain rows ((st .sizes .m + st .sizes .s) * (st .sizes .n + 1))) (Accept j) 3 (b .1) in
       record { reply = accepted st area k (h ∙ d .1); full = eqb-true _ _ (b .0); inside = d .0 }
 
@@ -270,7 +270,7 @@ module _ (st : State) (a rows : List Float) where
       opened Over = refl
       opened (Open k) =
           let z = st .sizes in
-          let c = eqb (length rows) (rowNumbers (z .n) (z .m) (z .s)) in
+          let c = eqb (length rows) (rowNumbers (rowCounts z)) in
           let d = allInDomain rows ((z .m + z .s) * (z .n + 1)) in
           whole k (eqb (length a) AREA) c d (rowsCheck z rows k) (sym (full k c d))
           ∙ ap afterRows (sym (open-is k (eqb (length a) AREA)))

@@ -14,7 +14,7 @@ use lib.ListN.{length, drop, getD, getD-replicate}
 use lib.Seq.{getD-drop, getD-take}
 use Rattle.interval.specs.declared.Scalar.{Scalar}
 use Rattle.interval.specs.Scalar.{zero64}
-use Rattle.run.specs.Rows.{rowNumbers}
+use Rattle.run.specs.Rows.{rowNumbers, rowCounts}
 use Rattle.run.specs.Area.{POINT-LEN, ROWS-LEN, CURVATURE-LEN, FILTER-LEN, SPARE-LEN, SIZES, Memory, areaOf}
 use Rattle.run.specs.Area.{memoryOf}
 use Rattle.run.specs.Limits.{AREA}
@@ -141,7 +141,7 @@ reply-leaves st a rows =
     opened b Over = refused-replied st a 4 (omega arith)
     opened b (Open k) =
         let z = st .sizes in
-        let many = eqb (length rows) (rowNumbers (z .n) (z .m) (z .s)) in
+        let many = eqb (length rows) (rowNumbers (rowCounts z)) in
         checked (Replied st a) (eqb (length a) AREA && many) 2 (unchanged st a) _ (refused-replied st a 2 (omega arith))
         (λ e.
         checked (Replied st a) (allInDomain rows ((z .m + z .s) * (z .n + 1))) 3 (unchanged st a) _

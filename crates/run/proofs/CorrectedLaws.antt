@@ -1,5 +1,5 @@
 -- The steps of a correction, from what each call gives.
-use Prim.Native.Nat.{ℕ, _*_, _/_, _%_, _≤_}
+use Prim.Native.Nat.{ℕ, _*_, _/_, _%_}
 use mathlib.Core.Bool.{Bool, true, false}
 use mathlib.Core.List.{List}
 use mathlib.Core.Path.{_≡_, refl, ap, _∙_}
@@ -22,7 +22,9 @@ use Rattle.linear.specs.declared.results.LinearError.{LinearError}
 use Rattle.linear.proofs.Lists.{length-listTo}
 use Rattle.run.specs.Vectors.{vector, fillTo, chosenOf, allFinite}
 use Rattle.run.specs.Rows.{Rows, constraintSet, constraintsOf, valueAt, slopeAt}
+use Rattle.run.specs.declared.rows.RowCounts.{RowCounts}
 use Rattle.run.specs.declared.rows.RowSet.{RowSet}
+use Rattle.run.specs.program.Rows.{FewRows}
 use Rattle.run.specs.Vectors.{movedOf, sameOf}
 use Rattle.run.specs.Corrected.{movingSlope, shiftOf, shiftFrom, to, stay}
 use Rattle.run.proofs.VectorLaws.{fill-whole}
@@ -30,24 +32,29 @@ use Rattle.run.proofs.LinearCalls.{minus-solved-result}
 
 -- a slope, from what was read of its row and variable
 pub slope-is :
-    (moving : List Bool) (xs : List Float) (n m p : ℕ) {v r : Scalar} →
-    v ≡ slopeAt (constraintsOf n m xs) (p / n) (p % n) → r ≡ pick (getD moving (p % n) false) (chooseOf v) zeroS →
-    r ≡ movingSlope moving (constraintsOf n m xs) (p / n) (p % n)
-slope-is moving xs n m p ev er = rw (er, ev)
+    (moving : List Bool) (e : Rows) (i j : ℕ) {v r : Scalar} → v ≡ slopeAt e i j →
+    r ≡ pick (getD moving j false) (chooseOf v) zeroS → r ≡ movingSlope moving e i j
+slope-is moving e i j ev er = rw (er, ev)
 
 shift-solved :
-    (n m : ℕ) (moving : List Bool) (xs jc c₀ c clear out : List Float) (r : Done) (x : List Float) → n ≤ 12 → m ≤ 12 →
-    length out ≡ 2 * n → length c₀ ≡ 2 * m →
-    jc ≡ listTo (λ p. movingSlope moving (constraintsOf n m xs) (p / n) (p % n)) (m * n) → c ≡ chosenOf c₀ xs 0 m →
-    clear ≡ zeros (2 * n) → replied r x ≡ minusSolvedReply m n jc c clear out →
-    doneOf r x ≡ minusSolvedOf m n (listTo (λ p. movingSlope moving (constraintsOf n m xs) (p / n) (p % n)) (m * n))
-    (listTo (λ i. chooseOf (valueAt (constraintsOf n m xs) i)) m) (zeros (2 * n))
-shift-solved n m moving xs jc c₀ c clear out r x hn hm lo lc ej ec ez e =
-    let w = ec ∙ fill-whole c₀ _ m lc in
+    (c : RowCounts) (moving : List Bool) (xs jc values₀ values clear out : List Float) (r : Done) (x : List Float) →
+    FewRows c → length out ≡ 2 * c .n → length values₀ ≡ 2 * c .m →
+    jc ≡ listTo (λ p. movingSlope moving (constraintsOf c xs) (p / c .n) (p % c .n)) (c .m * c .n) →
+    values ≡ chosenOf values₀ xs 0 (c .m) → clear ≡ zeros (2 * c .n) →
+    replied r x ≡ minusSolvedReply (c .m) (c .n) jc values clear out →
+    doneOf r x ≡ minusSolvedOf (c .m) (c .n)
+    (listTo (λ p. movingSlope moving (constraintsOf c xs) (p / c .n) (p % c .n)) (c .m * c .n))
+    (listTo (λ i. chooseOf (valueAt (constraintsOf c xs) i)) (c .m)) (zeros (2 * c .n))
+shift-solved c moving xs jc values₀ values clear out r x f lo lv ej ev ez e =
+    let n = c .n in
+    let m = c .m in
+    let w = ev ∙ fill-whole values₀ _ m lv in
     let kj : length jc ≡ 2 * (m * n) = rw ej (length-listTo _ (m * n)) in
-    let kc : length c ≡ 2 * m = rw w (length-listTo _ m) in
+    let kv : length values ≡ 2 * m = rw w (length-listTo _ m) in
     let kz : length clear ≡ 2 * n = rw ez (length-replicate (2 * n) zero64) in
-    rw (ej, w, ez) at (minus-solved-result r m n jc c clear out x (omega arith) (omega arith) kj kc kz lo e)
+    rw (ej, w, ez)
+    at (minus-solved-result r m n jc values clear out x (omega (arith, f .few-constraints))
+    (omega (arith, f .few-variables)) kj kv kz lo e)
 
 -- what was solved for, sharpened, or its refusal
 shift-ends :
@@ -58,19 +65,21 @@ unfolding bind
 shift-ends n done.Finished x e ed = rw (← e) (ap ok ed)
 shift-ends n (done.Refused k) x e ed = rw (← e)
 
--- jc′, c′ and x′ are the fronts of the arrays that were written
+-- jc′, values′ and x′ are the fronts of the arrays that were written
 pub shift-is :
-    (n m : ℕ) (moving : List Bool) (xs c₀ out : List Float) {jc c clear jc′ c′ x′ d : List Float} {set : RowSet}
-    (r : Done) (x : List Float) →
-    n ≤ 12 → m ≤ 12 → length out ≡ 2 * n → length c₀ ≡ 2 * m → jc′ ≡ jc → c′ ≡ c → x′ ≡ x → set ≡ constraintSet n m →
-    jc ≡ listTo (λ p. movingSlope moving (constraintsOf n m xs) (p / n) (p % n)) (m * n) →
-    c ≡ chosenOf c₀ xs (set .values) (set .count) → clear ≡ zeros (2 * n) →
-    replied r x ≡ minusSolvedReply m n jc′ c′ clear out → d ≡ fillTo vector 0 (λ i. sharpen (at x′ i)) n →
-    doneOf r d ≡ shiftOf moving (constraintsOf n m xs)
+    (c : RowCounts) (moving : List Bool) (xs values₀ out : List Float)
+    {jc values clear jc′ values′ x′ d : List Float} {set : RowSet} (r : Done) (x : List Float) →
+    FewRows c → length out ≡ 2 * c .n → length values₀ ≡ 2 * c .m →
+    jc′ ≡ jc → values′ ≡ values → x′ ≡ x → set ≡ constraintSet c →
+    jc ≡ listTo (λ p. movingSlope moving (constraintsOf c xs) (p / c .n) (p % c .n)) (c .m * c .n) →
+    values ≡ chosenOf values₀ xs (set .values) (set .count) → clear ≡ zeros (2 * c .n) →
+    replied r x ≡ minusSolvedReply (c .m) (c .n) jc′ values′ clear out →
+    d ≡ fillTo vector 0 (λ i. sharpen (at x′ i)) (c .n) → doneOf r d ≡ shiftOf moving (constraintsOf c xs)
 unfolding shiftOf
-shift-is n m moving xs c₀ out {jc} {c} {clear} r x hn hm lo lc fj fc fx es ej ec ez e ed =
-    let solved = shift-solved n m moving xs jc c₀ c clear out r x hn hm lo lc ej (rw es at ec) ez (rw (fj, fc) at e) in
-    shift-ends n r x solved (rw fx at ed)
+shift-is c moving xs values₀ out {jc} {values} {clear} r x f lo lv fj fv fx es ej ev ez e ed =
+    let solved = shift-solved c moving xs jc values₀ values clear out r x f lo lv ej (rw es at ev) ez
+    (rw (fj, fv) at e) in
+    shift-ends (c .n) r x solved (rw fx at ed)
 
 -- where a shift d takes the landed point
 module _ (moving : List Bool) (c : Rows) (landed d : List Float) {r : Done} where

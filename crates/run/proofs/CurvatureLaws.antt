@@ -26,7 +26,9 @@ use Rattle.linear.proofs.Lists.{length-listTo}
 use Rattle.linear.proofs.Sums.{along-start}
 use Rattle.run.specs.Vectors.{vector, fillTo, chosenOf}
 use Rattle.run.specs.Rows.{Rows, Evaluation, constraintSet, constraintsOf}
+use Rattle.run.specs.declared.rows.RowCounts.{RowCounts}
 use Rattle.run.specs.declared.rows.RowSet.{RowSet}
+use Rattle.run.specs.program.Rows.{FewRows}
 use Rattle.run.specs.Curvature.{
   alongOf,
   lagrangianChangeAt,
@@ -43,21 +45,25 @@ use Rattle.run.specs.program.Curvature.{updatedAlong}
 use Rattle.run.proofs.VectorLaws.{filled, fill-ext, fill-whole, prefix-list}
 use Rattle.run.proofs.LinearCalls.{minus-solved-result}
 
-module _ (n m : ℕ) (xs v jc rhs out : List Float) (hn : n ≤ 12) (hm : m ≤ 12) (hv : 2 * n ≤ length v) where
-  pub along-lists : jc ≡ listTo (λ p. chooseOf (at xs (constraintsOf n m xs .slopes + p))) (m * n) → rhs ≡ listTo
-      (λ i. dotTo (along jc (i * n) 1) (at v) n) m
-      → minusSolvedOf m n jc rhs (take (2 * n) v) ≡ alongOf (constraintsOf n m xs) v
+module _ (c : RowCounts) (xs v jc rhs out : List Float) (f : FewRows c) (hv : 2 * c .n ≤ length v) where
+  pub along-lists : jc ≡ listTo (λ p. chooseOf (at xs (constraintsOf c xs .slopes + p))) (c .m * c .n) →
+      rhs ≡ listTo (λ i. dotTo (along jc (i * c .n) 1) (at v) (c .n)) (c .m) →
+      minusSolvedOf (c .m) (c .n) jc rhs (take (2 * c .n) v) ≡ alongOf (constraintsOf c xs) v
   unfolding alongOf
-  along-lists ej er = rw (prefix-list v n hv, er, ej)
+  along-lists ej er = rw (prefix-list v (c .n) hv, er, ej)
 
   -- jc′ and rhs′ are the fronts of the arrays that were written
   pub along-is :
-      (jc₀ rhs₀ : List Float) {jc′ rhs′ : List Float} {set : RowSet} (r : Done) (x : List Float) → length out ≡ 2 * n →
-      length jc₀ ≡ 2 * (m * n) → length rhs₀ ≡ 2 * m → jc′ ≡ jc → rhs′ ≡ rhs → set ≡ constraintSet n m →
+      (jc₀ rhs₀ : List Float) {jc′ rhs′ : List Float} {set : RowSet} (r : Done) (x : List Float) →
+      length out ≡ 2 * c .n → length jc₀ ≡ 2 * (c .m * c .n) → length rhs₀ ≡ 2 * c .m →
+      jc′ ≡ jc → rhs′ ≡ rhs → set ≡ constraintSet c →
       jc ≡ chosenOf jc₀ xs (set .slopes) (set .count * set .n) →
-      rhs ≡ fillTo rhs₀ 0 (λ i. dotTo (along jc′ (i * n) 1) (at v) n) m →
-      replied r x ≡ minusSolvedReply m n jc′ rhs′ (take (2 * n) v) out → doneOf r x ≡ alongOf (constraintsOf n m xs) v
+      rhs ≡ fillTo rhs₀ 0 (λ i. dotTo (along jc′ (i * c .n) 1) (at v) (c .n)) (c .m) →
+      replied r x ≡ minusSolvedReply (c .m) (c .n) jc′ rhs′ (take (2 * c .n) v) out →
+      doneOf r x ≡ alongOf (constraintsOf c xs) v
   along-is jc₀ rhs₀ r x lo lj lr fj fr es ej₀ er₀ e₀ =
+      let n = c .n in
+      let m = c .m in
       let ej : jc ≡ chosenOf jc₀ xs m (m * n) = rw es at ej₀ in
       let er : rhs ≡ fillTo rhs₀ 0 (λ i. dotTo (along jc (i * n) 1) (at v) n) m = rw fj at er₀ in
       let e : replied r x ≡ minusSolvedReply m n jc rhs (take (2 * n) v) out = rw (fj, fr) at e₀ in
@@ -65,8 +71,8 @@ module _ (n m : ℕ) (xs v jc rhs out : List Float) (hn : n ≤ 12) (hm : m ≤ 
       let wr = er ∙ fill-whole rhs₀ _ m lr in
       let kj : length jc ≡ 2 * (m * n) = rw wj (length-listTo _ (m * n)) in
       let kr : length rhs ≡ 2 * m = rw wr (length-listTo _ m) in
-      minus-solved-result r m n jc rhs (take (2 * n) v) out x (omega arith) (omega arith) kj kr (length-take-le _ _ hv)
-      lo e ∙ along-lists wj wr
+      minus-solved-result r m n jc rhs (take (2 * n) v) out x (omega (arith, f .few-constraints))
+      (omega (arith, f .few-variables)) kj kr (length-take-le _ _ hv) lo e ∙ along-lists wj wr
 
 -- a refusal handed on, whatever the slices hold
 pub handed-on :

@@ -23,7 +23,7 @@ use Rattle.linear.specs.Flat.{at}
 use Rattle.run.specs.Corrected.{Shift, shiftOf, shiftFrom, shiftedStep}
 use Rattle.run.specs.Curvature.{updateCurvature}
 use Rattle.run.specs.Judgement.{Judged, judgeOf}
-use Rattle.run.specs.Rows.{rowCounts, constraintsOf, evaluationBy}
+use Rattle.run.specs.Rows.{rowCounts, constraintsOf, evaluationOf}
 use Rattle.run.specs.Residuals.{violationOf}
 use Rattle.run.specs.declared.rows.RowCounts.{RowCounts}
 use Rattle.run.specs.declared.state.Last.{Last}
@@ -59,13 +59,13 @@ module _ {w : Memory} {a : List Float} (h : Holds w a) where
 -- the shift of the landed point, by the rows and the point that are read of their slots
 pub shift-read :
     (st : State) (w : Memory) {xs : List Float} {x : Res (List Float)} → xs ≡ w .landedRows →
-    x ≡ shiftOf (st .moving) (constraintsOf (st .sizes .n) (st .sizes .m) xs) →
+    x ≡ shiftOf (st .moving) (constraintsOf (rowCounts (st .sizes)) xs) →
     x ≡ shiftOf (st .moving) (landedAt st w .constraints)
 shift-read st w ex e = rw ex at e
 
 pub shifted-read :
     (st : State) (w : Memory) {xs landed : List Float} {x : Res Shift} → xs ≡ w .landedRows → landed ≡ w .landed →
-    x ≡ shiftFrom (st .moving) (constraintsOf (st .sizes .n) (st .sizes .m) xs) landed →
+    x ≡ shiftFrom (st .moving) (constraintsOf (rowCounts (st .sizes)) xs) landed →
     x ≡ shiftFrom (st .moving) (landedAt st w .constraints) (w .landed)
 shifted-read st w ex el e = rw (ex, el) at e
 
@@ -162,10 +162,10 @@ module _ (length radius max : Scalar) {reach : Scalar} (e : reach ≡ mulOf (deg
 pub learned-is :
     (z : Sizes) (w : Memory) {c : RowCounts} {b b′ d x y l : List Float} {r : Res (List Float)} →
     c ≡ rowCounts z → b ≡ b′ → d ≡ w .step → x ≡ w .standingRows → y ≡ w .landedRows → l ≡ w .multipliers →
-    r ≡ updateCurvature (c .n) b d (evaluationBy c x) (evaluationBy c y) l →
+    r ≡ updateCurvature (c .n) b d (evaluationOf c x) (evaluationOf c y) l →
     r
-    ≡ updateCurvature (z .n) b′ (w .step) (evaluationBy (rowCounts z) (w .standingRows))
-    (evaluationBy (rowCounts z) (w .landedRows)) (w .multipliers)
+    ≡ updateCurvature (z .n) b′ (w .step) (evaluationOf (rowCounts z) (w .standingRows))
+    (evaluationOf (rowCounts z) (w .landedRows)) (w .multipliers)
 learned-is z w ec eb ed ex ey el e = rw (ec, eb, ed, ex, ey, el) at e
 
 -- how a step fares, from the slots
@@ -173,11 +173,11 @@ pub judged-is :
     (z : Sizes) (w : Memory) (theta : Scalar) (count : ℕ) (last : Last)
     {c : RowCounts} {x y f d : List Float} {v : Res Scalar} {r : Res Judged} →
     c ≡ rowCounts z → x ≡ w .standingRows → y ≡ w .landedRows → f ≡ w .filter → d ≡ w .step →
-    v ≡ violationOf (constraintsOf (z .n) (z .m) (w .landedRows)) →
-    (v ≡ violationOf (constraintsOf (c .n) (c .m) y) →
-    r ≡ judgeOf (c .n) (evaluationBy c x) (evaluationBy c y) theta f count last d) →
+    v ≡ violationOf (constraintsOf (rowCounts z) (w .landedRows)) →
+    (v ≡ violationOf (constraintsOf c y) →
+    r ≡ judgeOf (c .n) (evaluationOf c x) (evaluationOf c y) theta f count last d) →
     r
-    ≡ judgeOf (z .n) (evaluationBy (rowCounts z) (w .standingRows)) (evaluationBy (rowCounts z) (w .landedRows)) theta
+    ≡ judgeOf (z .n) (evaluationOf (rowCounts z) (w .standingRows)) (evaluationOf (rowCounts z) (w .landedRows)) theta
     (w .filter) count last (w .step)
 judged-is z w theta count last ec ex ey ef ed ev k = (rw (ec, ex, ey, ef, ed) at k) ev
 

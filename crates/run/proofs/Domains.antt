@@ -18,7 +18,7 @@ use Rattle.interval.specs.Scalar.{pick}
 use Rattle.linear.specs.Flat.{at, inside}
 use Rattle.linear.proofs.FlatLaws.{at-outside}
 use Rattle.run.specs.Vectors.{allTo}
-use Rattle.run.specs.Rows.{rowNumbers}
+use Rattle.run.specs.Rows.{rowNumbers, rowCounts}
 use Rattle.run.specs.Limits.{MOST}
 use Rattle.run.specs.Checks.{inDomain, allInDomain}
 use Rattle.run.specs.Demand.{Floats}
@@ -94,7 +94,7 @@ none-beyond xs count h =
 
 -- ---- rows
 
-pub domain-rows : (z : Sizes) (xs : List Float) → Floats xs → length xs ≡ rowNumbers (z .n) (z .m) (z .s)
+pub domain-rows : (z : Sizes) (xs : List Float) → Floats xs → length xs ≡ rowNumbers (rowCounts z)
     → allInDomain xs ((z .m + z .s) * (z .n + 1)) ≡ true → Good z xs
 domain-rows z xs f e d =
     record {

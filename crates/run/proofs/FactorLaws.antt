@@ -28,7 +28,9 @@ use Rattle.run.specs.Curvature.{alongOf, updateCurvature}
 use Rattle.run.specs.program.Curvature.{Factored}
 use Rattle.run.specs.Rows.{constraintSet, constraintsOf, evaluationOf}
 use Rattle.run.specs.Vectors.{fillTo, chosenOf}
+use Rattle.run.specs.declared.rows.RowCounts.{RowCounts}
 use Rattle.run.specs.declared.rows.RowSet.{RowSet}
+use Rattle.run.specs.program.Rows.{FewRows}
 use Rattle.run.proofs.CurvatureLaws.{along-lists}
 use Rattle.run.proofs.VectorLaws.{fill-whole}
 
@@ -60,49 +62,52 @@ module _ (r : Done) (m n : ℕ) (hm : m ≤ 24) (hn : n ≤ 24) (jc : List Float
         eq-eqb _ _ u,
       ) at e)
 
-module _ (n m : ℕ) (xs : List Float) (hn : n ≤ 12) (hm : m ≤ 12) where
+module _ (c : RowCounts) (xs : List Float) (few : FewRows c) where
   -- a part along the constraints by the factor; rhs′ is the front of the array that was written
-  pub along-by : (v jc rhs out : List Float) (f : Factor) → 2 * n ≤ length v → Factored (constraintsOf n m xs) jc f →
-      (rhs₀ : List Float) {rhs′ : List Float} (r : Done) (x : List Float) →
-      length out ≡ 2 * n → length rhs₀ ≡ 2 * m → rhs′ ≡ rhs →
-      rhs ≡ fillTo rhs₀ 0 (λ i. dotTo (along jc (i * n) 1) (at v) n) m →
-      replied r x ≡ minusFactoredReply m n jc f rhs′ (take (2 * n) v) out →
-      doneOf r x ≡ alongOf (constraintsOf n m xs) v
+  pub along-by : (v jc rhs out : List Float) (f : Factor) → 2 * c .n ≤ length v →
+      Factored (constraintsOf c xs) jc f → (rhs₀ : List Float) {rhs′ : List Float} (r : Done) (x : List Float) →
+      length out ≡ 2 * c .n → length rhs₀ ≡ 2 * c .m → rhs′ ≡ rhs →
+      rhs ≡ fillTo rhs₀ 0 (λ i. dotTo (along jc (i * c .n) 1) (at v) (c .n)) (c .m) →
+      replied r x ≡ minusFactoredReply (c .m) (c .n) jc f rhs′ (take (2 * c .n) v) out →
+      doneOf r x ≡ alongOf (constraintsOf c xs) v
   along-by v jc rhs out f hv F rhs₀ r x lo lr fr er e₀ =
+      let n = c .n in
+      let m = c .m in
       let e : replied r x ≡ minusFactoredReply m n jc f rhs (take (2 * n) v) out = rw fr at e₀ in
       let wr = er ∙ fill-whole rhs₀ _ m lr in
       let kj : length jc ≡ 2 * (m * n) = rw (F .slopes) (length-listTo _ (m * n)) in
       let kr : length rhs ≡ 2 * m = rw wr (length-listTo _ m) in
-      minus-result r m n (omega arith) (omega arith) jc kj f rhs (take (2 * n) v) out x (F .entries) (F .marks) kr
-      (length-take-le _ _ hv) lo e
+      minus-result r m n (omega (arith, few .few-constraints)) (omega (arith, few .few-variables)) jc kj f rhs
+      (take (2 * n) v) out x (F .entries) (F .marks) kr (length-take-le _ _ hv) lo e
       ∙ sym (solved-by-factor m n jc rhs (take (2 * n) v) f (F .factor))
-      ∙ along-lists n m xs v jc rhs out hn hm hv (F .slopes) wr
+      ∙ along-lists c xs v jc rhs out few hv (F .slopes) wr
 
   -- jc′ and jc″ are the front of the array that was written, l′ and left′ those of the factor's
   module _ (g : List Float) (f₀ f : Factor) (jc₀ : List Float) (r : Done) {g′ jc jc′ : List Float} {set : RowSet}
-      (lj : length jc₀ ≡ 2 * (m * n)) (lg : length g ≡ 2 * (m * m))
-      (ll : length (f₀ .l) ≡ 2 * (m * m)) (lf : length (f₀ .left-out) ≡ m)
-      (es : set ≡ constraintSet n m) (ej : jc ≡ chosenOf jc₀ xs (set .slopes) (set .count * set .n))
-      (fj : jc′ ≡ jc) (e : replied r (g′, f) ≡ gramFactorReply m n jc′ g f₀) where
-    written : jc ≡ listTo (λ p. chooseOf (at xs (m + p))) (m * n)
-    written = rw es at ej ∙ fill-whole jc₀ _ (m * n) lj
+      (lj : length jc₀ ≡ 2 * (c .m * c .n)) (lg : length g ≡ 2 * (c .m * c .m))
+      (ll : length (f₀ .l) ≡ 2 * (c .m * c .m)) (lf : length (f₀ .left-out) ≡ c .m)
+      (es : set ≡ constraintSet c) (ej : jc ≡ chosenOf jc₀ xs (set .slopes) (set .count * set .n))
+      (fj : jc′ ≡ jc) (e : replied r (g′, f) ≡ gramFactorReply (c .m) (c .n) jc′ g f₀) where
+    written : jc ≡ listTo (λ p. chooseOf (at xs (c .m + p))) (c .m * c .n)
+    written = rw es at ej ∙ fill-whole jc₀ _ (c .m * c .n) lj
 
-    ended : doneOf r f ≡ gramFactorOf m n jc
+    ended : doneOf r f ≡ gramFactorOf (c .m) (c .n) jc
     ended =
-        let k : length jc ≡ 2 * (m * n) = rw written (length-listTo _ (m * n)) in
-        factor-result r m n (omega arith) (omega arith) jc k g f₀ f lg ll lf (rw fj at e)
+        let k : length jc ≡ 2 * (c .m * c .n) = rw written (length-listTo _ (c .m * c .n)) in
+        factor-result r (c .m) (c .n) (omega (arith, few .few-constraints)) (omega (arith, few .few-variables)) jc k g
+        f₀ f lg ll lf (rw fj at e)
 
     pub factored : {jc″ l′ : List Float} {left′ : List Bool} →
-        length (f .l) ≡ 2 * (m * m) → length (f .left-out) ≡ m →
+        length (f .l) ≡ 2 * (c .m * c .m) → length (f .left-out) ≡ c .m →
         r ≡ done.Finished → jc″ ≡ jc → l′ ≡ f .l → left′ ≡ f .left-out →
-        Factored (constraintsOf n m xs) jc″ (factorOf l′ left′)
+        Factored (constraintsOf c xs) jc″ (factorOf l′ left′)
     factored kl kf h ej″ el ef =
         rw (ej″, el, ef)
         (record { slopes = written; factor = sym ended ∙ ap (λ (z : Done). doneOf z f) h; entries = kl; marks = kf })
 
-    pub unfactored : (s : ℕ) (b step next lambda x : List Float) {k : LinearError} → r ≡ done.Refused k →
-        doneOf r x ≡ updateCurvature n b step (evaluationOf n m s xs) (evaluationOf n m s next) lambda
+    pub unfactored : (b step next lambda x : List Float) {k : LinearError} → r ≡ done.Refused k →
+        doneOf r x ≡ updateCurvature (c .n) b step (evaluationOf c xs) (evaluationOf c next) lambda
     unfolding updateCurvature alongOf bind
-    unfactored s b step next lambda x {k} h =
-        let q : gramFactorOf m n jc ≡ refused (numberOf k) = sym ended ∙ ap (λ (z : Done). doneOf z f) h in
-        rw (h, ← written, solved-refused m n jc _ _ _ q)
+    unfactored b step next lambda x {k} h =
+        let q : gramFactorOf (c .m) (c .n) jc ≡ refused (numberOf k) = sym ended ∙ ap (λ (z : Done). doneOf z f) h in
+        rw (h, ← written, solved-refused (c .m) (c .n) jc _ _ _ q)

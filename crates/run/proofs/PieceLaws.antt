@@ -60,7 +60,7 @@ checked-ok false k r e = absurd (refused-ok e)
 
 pub record Sized (c : RowCounts) (count : ℕ) : Type 0 where
   pub counts : FewRows c
-  pub whole : count ≡ rowNumbers (c .n) (c .m) (c .s)
+  pub whole : count ≡ rowNumbers c
 
 sized-ok : {c : RowCounts} {count : ℕ} → sizedOf c count ≡ ok tt → Sized c count
 unfolding sizedOf
@@ -68,7 +68,7 @@ sized-ok {c} {count} e =
     let a = checked-ok (leb (c .n) 12) 1 _ e in
     let b = checked-ok (leb (c .m) 12) 1 _ (a .1) in
     let d = checked-ok (leb (c .s) 24) 1 _ (b .1) in
-    let f = checked-ok (eqb count (rowNumbers (c .n) (c .m) (c .s))) 2 (ok tt) (d .1) in
+    let f = checked-ok (eqb count (rowNumbers c)) 2 (ok tt) (d .1) in
     record {
       counts = record {
         few-variables = leb-true _ _ (a .0);
@@ -77,10 +77,6 @@ sized-ok {c} {count} e =
       };
       whole = eqb-true _ _ (f .0);
     }
-
--- the bounds of the counts, as the functions of the rows ask for them
-pub bounds : {c : RowCounts} {count : ℕ} → Sized c count → (c .n ≤ 12) × ((c .m ≤ 12) × (c .s ≤ 24))
-bounds z = (z .counts .few-variables, (z .counts .few-constraints, z .counts .few-sums))
 
 -- the constraint values stand in a list as long as the rows
 pub values-inside : {c : RowCounts} {count length : ℕ} → Sized c count → length ≡ count → 2 * c .m ≤ length

@@ -24,6 +24,7 @@ use Rattle.run.specs.program.Problem.{squeezedAs, problemIn, undampedAt,
 use Rattle.run.specs.program.Problem.{dampedEntry, dampedBy, dampedFrom, gradientIn, gradientAt}
 use Rattle.run.specs.Rows.{Rows, rowsIn, constraintSet, sumSet, constraintsOf, evaluationOf, valueAt, slopeAt}
 use Rattle.run.specs.Vectors.{vector, matrix, column, fillTo, fillRows, chosenOf}
+use Rattle.run.specs.declared.rows.RowCounts.{RowCounts}
 use Rattle.run.specs.declared.rows.RowSet.{RowSet}
 use Rattle.run.proofs.Concatenation.{length-both, first-of-three, second-of-three, third-of-three}
 use Rattle.run.proofs.Sublists.{fill-front, fill-behind, rows-front, at-part}
@@ -265,12 +266,13 @@ squeezed-chosen k e hk he ej₀ ej =
 
 -- ---- the whole problem, from what each call gives
 
-pub problem-is : (n m s : ℕ) (k : Kept) (xs b : List Float) (mu : Scalar) {e c : RowSet}
-    {wide₀ jc₀ wide jc jr h g : List Float}
-    → e ≡ sumSet n m s → c ≡ constraintSet n m → wide₀ ≡ matrix → jc₀ ≡ matrix
-    → wide ≡ squeezedOf k (rowsIn xs c) wide₀ → jc ≡ chosenOf jc₀ wide 0 (12 * c .count)
+pub problem-is : (c : RowCounts) (k : Kept) (xs b : List Float) (mu : Scalar) {e h : RowSet}
+    {wide₀ jc₀ wide jc jr hessian g : List Float}
+    → e ≡ sumSet c → h ≡ constraintSet c → wide₀ ≡ matrix → jc₀ ≡ matrix
+    → wide ≡ squeezedOf k (rowsIn xs h) wide₀ → jc ≡ chosenOf jc₀ wide 0 (12 * h .count)
     → jr ≡ chosenOf (zeros 576) (squeezedOf k (rowsIn xs e) (zeros 576)) 0 (12 * e .count)
-    → h ≡ dampedOf n k jr (e .count) jc m b mu → g ≡ gradientOf k (rowsIn xs e)
-    → problemIn (k .count) m (valueAt (constraintsOf n m xs)) wide jc h g ≡ problemOf n k (evaluationOf n m s xs) b mu
+    → hessian ≡ dampedOf (c .n) k jr (e .count) jc (c .m) b mu → g ≡ gradientOf k (rowsIn xs e)
+    → problemIn (k .count) (c .m) (valueAt (constraintsOf c xs)) wide jc hessian g
+    ≡ problemOf (c .n) k (evaluationOf c xs) b mu
 unfolding problemOf
-problem-is n m s k xs b mu ee ec ew₀ ej₀ ew ej er eh eg = rw (eg, eh, er, ej, ew, ej₀, ew₀, ec, ee)
+problem-is c k xs b mu ee ec ew₀ ej₀ ew ej er eh eg = rw (eg, eh, er, ej, ew, ej₀, ew₀, ec, ee)

@@ -17,7 +17,8 @@ use Rattle.linear.specs.Flat.{at, along}
 use Rattle.linear.proofs.Marks.{is-marksTo}
 use Rattle.linear.proofs.Sums.{along-row}
 use Rattle.run.specs.Rows.{Rows, constraintSet, sumSet, slopeAt, slopesOf, slopesBy}
-use Rattle.run.specs.program.Rows.{Small}
+use Rattle.run.specs.program.Rows.{Small, FewRows}
+use Rattle.run.specs.declared.rows.RowCounts.{RowCounts}
 
 -- products of counts
 pub few : {m n : ℕ} → m ≤ 12 → n ≤ 12 → m * n ≤ 144
@@ -26,14 +27,25 @@ few h k = mul-le-mul h k
 pub few-rows : {m n : ℕ} → m ≤ 12 → n ≤ 12 → m * (n + 1) ≤ 156
 few-rows {m} {n} h k = mul-le-mul {n₁ = m} {m₁ = n + 1} {n₂ = 12} {m₂ = 13} h (omega arith)
 
-pub constraints-small : {n m : ℕ} → n ≤ 12 → m ≤ 12 → Small (constraintSet n m)
-constraints-small hn hm =
-    record { few-variables = hn; few-rows = omega arith; values-near = omega arith; slopes-near = omega arith }
+pub constraints-small : {c : RowCounts} → FewRows c → Small (constraintSet c)
+constraints-small f =
+    let h = f .few-constraints in
+    record {
+      few-variables = f .few-variables;
+      few-rows = omega (arith, h);
+      values-near = omega arith;
+      slopes-near = omega (arith, h);
+    }
 
-pub sum-small : {n m s : ℕ} → n ≤ 12 → m ≤ 12 → s ≤ 24 → Small (sumSet n m s)
-sum-small {n} {m} hn hm hs =
-    let p = few-rows {m = m} {n = n} hm hn in
-    record { few-variables = hn; few-rows = hs; values-near = omega (arith, p); slopes-near = omega (arith, p, hs) }
+pub sum-small : {c : RowCounts} → FewRows c → Small (sumSet c)
+sum-small {c} f =
+    let p = few-rows {m = c .m} {n = c .n} (f .few-constraints) (f .few-variables) in
+    record {
+      few-variables = f .few-variables;
+      few-rows = f .few-sums;
+      values-near = omega (arith, p);
+      slopes-near = omega (arith, p, f .few-sums);
+    }
 
 -- the start of row i
 pub row-near : {i n : ℕ} → i < 65536 → n ≤ 12 → i * n ≤ 786432

@@ -16,7 +16,7 @@ use Rattle.interval.specs.Scalar.{zero64, pick}
 use Rattle.linear.specs.Flat.{at, put, inside, zeros}
 use Rattle.linear.proofs.FlatLaws.{length-put}
 use Rattle.run.specs.Vectors.{fillTo, spreadTo}
-use Rattle.run.specs.Rows.{rowNumbers, constraintsOf}
+use Rattle.run.specs.Rows.{rowNumbers, constraintsOf, rowCounts}
 use Rattle.run.specs.Residuals.{violationOf}
 use Rattle.run.specs.Curvature.{curvatureEntries}
 use Rattle.run.specs.Area.{POINT-LEN, ROWS-LEN, CURVATURE-LEN, FILTER-LEN, SIZES, Memory, padded, memoryOf}
@@ -33,6 +33,8 @@ use Rattle.run.specs.declared.state.Kind.the-variants as kind
 use Rattle.run.specs.declared.state.Phase.the-variants.{Open}
 use Rattle.run.specs.declared.state.Sizes.{Sizes}
 use Rattle.run.specs.declared.state.State.{State}
+use Rattle.run.specs.declared.rows.RowCounts.{RowCounts}
+use Rattle.run.specs.program.Rows.{FewRows}
 use Rattle.run.proofs.AreaLaws.{Slots, holds-of, wrote, slot-read, length-padded, length-clear, used-below}
 use Rattle.run.proofs.AreaLaws.{Below, below-at, rows-fit, entries-fit}
 use Rattle.run.proofs.CheckLaws.{few-scalars}
@@ -215,7 +217,7 @@ pub reads-behind :
 unfolding memoryOf
 reads-behind st a l =
     let z = st .sizes in
-    let rows = rowNumbers (z .n) (z .m) (z .s) in
+    let rows = rowNumbers (rowCounts z) in
     let tried = isTried (st .phase) in
     let corrected = isCorrected (st .phase) in
     let u = used-below st l in
@@ -241,7 +243,7 @@ pub all-behind :
     SlotsZeroBehind (allUsed (st .sizes) (st .counts .iterations)) w
 all-behind st w t =
     let z = st .sizes in
-    let rows = rowNumbers (z .n) (z .m) (z .s) in
+    let rows = rowNumbers (rowCounts z) in
     let tried = isTried (st .phase) in
     let corrected = isCorrected (st .phase) in
     record {
@@ -294,7 +296,7 @@ module _ (z : Sizes) {iterations : ℕ} (l : Limits z iterations) {us : List ℕ
   all-below : Below (allUsed z iterations) SIZES
   all-below =
       let point : 2 * z .n ≤ POINT-LEN = omega (arith, l .n) in
-      let rows : rowNumbers (z .n) (z .m) (z .s) ≤ ROWS-LEN = omega (arith, rows-fit z l) in
+      let rows : rowNumbers (rowCounts z) ≤ ROWS-LEN = omega (arith, rows-fit z l) in
       let multipliers : 2 * z .m ≤ POINT-LEN = omega (arith, l .m) in
       let entries : 2 * curvatureEntries (z .n) ≤ CURVATURE-LEN = omega (arith, entries-fit z l) in
       let pairs : 4 * iterations ≤ FILTER-LEN = omega (arith, l .iterations-fit) in
@@ -311,13 +313,25 @@ pub used-as : {us vs : List ℕ} → us ≡ vs → (k : ℕ) {size : ℕ} {xs : 
 used-as e k {size} {xs} t = subst (λ (us : List ℕ). ZeroBehind size (getD us k 0) xs) (sym e) t
 
 pub few-rows :
-    (z : Sizes) {n : ℕ} → (z .n ≤ 12) × ((z .m ≤ 12) × (z .s ≤ 24)) → n ≡ rowNumbers (z .n) (z .m) (z .s) → n ≤ ROWS-LEN
-few-rows z p e = omega (arith, e, few-scalars {n = z .n} {m = z .m} {s = z .s} (p .0) (p .1 .0) (p .1 .1))
+    (c : RowCounts) {n : ℕ} → FewRows c → n ≡ rowNumbers c → n ≤ ROWS-LEN
+few-rows c f e =
+    omega (
+      arith,
+      e,
+      few-scalars {n = c .n} {m = c .m} {s = c .s} (f .few-variables) (f .few-constraints) (f .few-sums),
+    )
 
 pub rows-as : {n m size : ℕ} {xs : List Float} → n ≡ m → ZeroBehind size m xs → ZeroBehind size n xs
 rows-as {size = size} {xs = xs} e t = subst (λ (k : ℕ). ZeroBehind size k xs) (sym e) t
 
 -- ---- what a call hands on
+
+pub rows-of : {t : ℕ} {st : State} → Bounded t st → FewRows (rowCounts (st .sizes))
+rows-of b = record {
+  few-variables = b .few-variables;
+  few-constraints = b .few-constraints;
+  few-sums = b .few-sums;
+}
 
 pub limits-of : {t : ℕ} {st : State} → Bounded t st → Limits (st .sizes) (st .counts .iterations)
 limits-of b = record {
@@ -349,12 +363,12 @@ module _ {s t : State} (e : t ≡ s) where
 -- with the violations that were worked out
 module _ (st : State) {w : Memory} {a : List Float} (u : Working st w a) where
   pub measures : {standing : Res Scalar}
-      → standing ≡ violationOf (constraintsOf (st .sizes .n) (st .sizes .m) (w .standingRows))
+      → standing ≡ violationOf (constraintsOf (rowCounts (st .sizes)) (w .standingRows))
       → StandingKnown st standing w a
   measures e = record { uses = u; standing-is = e }
 
   pub compares : {theta : Scalar} {landed : Res Scalar}
-      → ok theta ≡ violationOf (constraintsOf (st .sizes .n) (st .sizes .m) (w .standingRows))
-      → landed ≡ violationOf (constraintsOf (st .sizes .n) (st .sizes .m) (w .landedRows))
+      → ok theta ≡ violationOf (constraintsOf (rowCounts (st .sizes)) (w .standingRows))
+      → landed ≡ violationOf (constraintsOf (rowCounts (st .sizes)) (w .landedRows))
       → ViolationsKnown st theta landed w a
   compares e f = record { measured = measures e; landed-is = f }

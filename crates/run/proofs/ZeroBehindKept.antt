@@ -15,7 +15,7 @@ use Rattle.interval.specs.Result.{Res, ok, refused}
 use Rattle.interval.specs.Scalar.{pick, degenerate, divOf, isFinite, sharpen, definitelyGreater, definitelyLess}
 use Rattle.interval.specs.Scaling.{three64, four64}
 use Rattle.linear.specs.Flat.{zeros}
-use Rattle.run.specs.Rows.{rowNumbers}
+use Rattle.run.specs.Rows.{rowNumbers, rowCounts}
 use Rattle.run.specs.Residuals.{sumSquared, violationOf, movingOf}
 use Rattle.run.specs.Curvature.{curvatureEntries, learnedOf, updateCurvature}
 use Rattle.run.specs.Proposal.{Standing, Trial, Proposal, noDrop, unresolved, noChange, ask, proposalOf}
@@ -357,13 +357,13 @@ module _ (st : State) (w : Memory) (t : AtWork st w) where
 
 -- rows as they are answered
 pub record Answered (st : State) (rows : List Float) : Type 0 where
-  pub many : length rows ≡ rowNumbers (st .sizes .n) (st .sizes .m) (st .sizes .s)
+  pub many : length rows ≡ rowNumbers (rowCounts (st .sizes))
   pub fit : length rows ≤ ROWS-LEN
 
 module _ (st : State) (w : Memory) (t : AtWork st w) (rows : List Float) (r : Answered st rows) where
-  rows-behind : ZeroBehind ROWS-LEN (rowNumbers (st .sizes .n) (st .sizes .m) (st .sizes .s)) (padded ROWS-LEN rows)
+  rows-behind : ZeroBehind ROWS-LEN (rowNumbers (rowCounts (st .sizes))) (padded ROWS-LEN rows)
   rows-behind =
-      behind-padded ROWS-LEN (rowNumbers (st .sizes .n) (st .sizes .m) (st .sizes .s)) rows (omega (arith, r .many))
+      behind-padded ROWS-LEN (rowNumbers (rowCounts (st .sizes))) rows (omega (arith, r .many))
       (r .fit)
 
   pub landed-working : (n : ℕ) (step : List Float) → ZeroBehind POINT-LEN (2 * st .sizes .n) step
@@ -458,7 +458,7 @@ answered-none-kept st w t kind.Correction =
 -- ---- the area of a call that works
 
 module _ (st : State) {most : ℕ} (bounded : Bounded most st) (rows : List Float)
-    (many : length rows ≡ rowNumbers (st .sizes .n) (st .sizes .m) (st .sizes .s)) where
+    (many : length rows ≡ rowNumbers (rowCounts (st .sizes))) where
   as-answered : Answered st rows
   as-answered = record { many = many; fit = omega (arith, rows-fit (st .sizes) (limits-of bounded), many) }
 

@@ -8,7 +8,7 @@ use lib.ListN.{length, take, drop, getD}
 use Rattle.interval.specs.Scalar.{pick}
 use Rattle.linear.specs.Flat.{zeros}
 use Rattle.run.specs.Curvature.{curvatureEntries}
-use Rattle.run.specs.Rows.{rowNumbers, Evaluation, evaluationOf}
+use Rattle.run.specs.Rows.{rowNumbers, Evaluation, evaluationOf, rowCounts}
 use Rattle.run.specs.declared.state.Kind.the-variants as kind
 use Rattle.run.specs.declared.state.Phase.{Phase}
 use Rattle.run.specs.declared.state.Phase.the-variants.{Open, Over}
@@ -109,7 +109,7 @@ isCorrected Over = false
 unfoldable pub memoryOf : State → List Float → Memory
 memoryOf st a =
     let n = st .sizes .n in
-    let rows = rowNumbers n (st .sizes .m) (st .sizes .s) in
+    let rows = rowNumbers (rowCounts (st .sizes)) in
     let tried = isTried (st .phase) in
     let corrected = isCorrected (st .phase) in
     record {
@@ -232,7 +232,7 @@ SIZES =
 abbrev pub usedIn : State → List ℕ
 usedIn st =
     let n = st .sizes .n in
-    let rows = rowNumbers n (st .sizes .m) (st .sizes .s) in
+    let rows = rowNumbers (rowCounts (st .sizes)) in
     let tried = isTried (st .phase) in
     let corrected = isCorrected (st .phase) in
     2 * n
@@ -253,7 +253,7 @@ startOf sizes (suc k) = startOf sizes k + getD sizes k 0
 -- ---- what it reads: the rows of the standing and of the landed point
 
 abbrev pub rowsAt : State → List Float → Evaluation
-rowsAt st rows = evaluationOf (st .sizes .n) (st .sizes .m) (st .sizes .s) rows
+rowsAt st rows = evaluationOf (rowCounts (st .sizes)) rows
 
 abbrev pub standingAt : State → Memory → Evaluation
 standingAt st w = rowsAt st (w .standingRows)

@@ -15,7 +15,7 @@ use Rattle.run.specs.Checks.{sizesFit, allInDomain, stepFits, valid}
 use Rattle.run.specs.Damping.{firstMu}
 use Rattle.run.specs.Endings.{AfterSlots}
 use Rattle.run.specs.Limits.{AREA}
-use Rattle.run.specs.Rows.{rowNumbers}
+use Rattle.run.specs.Rows.{rowNumbers, rowCounts}
 use Rattle.run.specs.State.{stateWith, noRun}
 use Rattle.run.specs.declared.state.Event.{Event}
 use Rattle.run.specs.declared.state.Event.the-variants as event
@@ -93,7 +93,7 @@ abbrev pub replyOpen : State → List Float → List Float → Phase → AfterCa
 replyOpen st a rows Over = unchanged st a 4
 replyOpen st a rows (Open k) =
     let z = st .sizes in
-    let count = rowNumbers (z .n) (z .m) (z .s) in
+    let count = rowNumbers (rowCounts z) in
     checks (eqb (length a) AREA && eqb (length rows) count) 2 (unchanged st a)
     (checks (allInDomain rows ((z .m + z .s) * (z .n + 1))) 3 (unchanged st a)
     (inArea (answered k st (memoryOf st a) rows)))

@@ -23,7 +23,7 @@ use Rattle.run.specs.Damping.{firstMu}
 use Rattle.run.specs.Judgement.{sumChange, indefinite, contracts}
 use Rattle.run.specs.Limits.{AREA, TURN-DOWNS, QUESTIONS}
 use Rattle.run.specs.Residuals.{violationOf}
-use Rattle.run.specs.Rows.{rowNumbers, Rows, valueAt, constraintsOf, sumOf}
+use Rattle.run.specs.Rows.{rowNumbers, Rows, valueAt, constraintsOf, sumOf, rowCounts}
 use Rattle.run.specs.declared.state.Event.{Event}
 use Rattle.run.specs.declared.state.Event.the-variants.{Question, Finish, Refused}
 use Rattle.run.specs.declared.state.Last.{Last}
@@ -52,7 +52,7 @@ pub data Call : Type 0 where
 -- another area is lent only to a call that is refused for its length, that of the area or that of the rows
 abbrev pub Allowed : Sizes → Call → Type 0
 Allowed z (rows same xs f) = Unit
-Allowed z (rows (other a) xs f) = (length a ≢ AREA) ⊎ (length xs ≢ rowNumbers (z .n) (z .m) (z .s))
+Allowed z (rows (other a) xs f) = (length a ≢ AREA) ⊎ (length xs ≢ rowNumbers (rowCounts z))
 Allowed z (none same) = Unit
 Allowed z (none (other a)) = length a ≢ AREA
 
@@ -177,7 +177,7 @@ In e (x ∷ xs) = (e ≡ x) ⊎ In e xs
 
 -- rows of the right length, with every end in the domain
 pub record Fitting (z : Sizes) (xs : List Float) : Type 0 where
-  pub length-is : length xs ≡ rowNumbers (z .n) (z .m) (z .s)
+  pub length-is : length xs ≡ rowNumbers (rowCounts z)
   pub in-domain : allInDomain xs ((z .m + z .s) * (z .n + 1)) ≡ true
 
 abbrev pub Answered : Sizes → AnsweredRows → Type 0
@@ -204,8 +204,8 @@ Falls e e′ =
 -- one and the same of a point's two sums is lower
 abbrev pub LowerRows : Sizes → List Float → List Float → Type 0
 LowerRows z xs ys =
-    Falls (sumOf (z .n) (z .m) (z .s) xs) (sumOf (z .n) (z .m) (z .s) ys)
-    ⊎ Falls (constraintsOf (z .n) (z .m) xs) (constraintsOf (z .n) (z .m) ys)
+    Falls (sumOf (rowCounts z) xs) (sumOf (rowCounts z) ys)
+    ⊎ Falls (constraintsOf (rowCounts z) xs) (constraintsOf (rowCounts z) ys)
 
 abbrev pub Lower : Sizes → AnsweredRows → AnsweredRows → Type 0
 Lower z = BothWith (LowerRows z)
@@ -220,9 +220,9 @@ Progress z h h′ = (e : ℕ) → In e (h .stood) → Lower z (h′ .rows e) (h�
 pub record UndecidedRows (z : Sizes) (xs ys : List Float) : Type 0 where
   pub before : Scalar
   pub after : Scalar
-  pub before-is : violationOf (constraintsOf (z .n) (z .m) xs) ≡ ok before
-  pub after-is : violationOf (constraintsOf (z .n) (z .m) ys) ≡ ok after
-  pub sum-undecided : T (indefinite (sumChange (sumOf (z .n) (z .m) (z .s) xs) (sumOf (z .n) (z .m) (z .s) ys)))
+  pub before-is : violationOf (constraintsOf (rowCounts z) xs) ≡ ok before
+  pub after-is : violationOf (constraintsOf (rowCounts z) ys) ≡ ok after
+  pub sum-undecided : T (indefinite (sumChange (sumOf (rowCounts z) xs) (sumOf (rowCounts z) ys)))
   pub violation-undecided : T (indefinite (subOf before after))
 
 abbrev pub Undecided : Sizes → AnsweredRows → AnsweredRows → Type 0

@@ -21,7 +21,7 @@ use Rattle.run.specs.Limits.{VARIABLES, CONSTRAINTS, SUM-ROWS, ITERATION
 use Rattle.run.specs.Proposal.{expectsOf}
 use Rattle.run.specs.Radius.{cutWithin}
 use Rattle.run.specs.Residuals.{squaredOf, predictedOf, transposedAt, movingOf}
-use Rattle.run.specs.Rows.{rowNumbers, evaluationBy}
+use Rattle.run.specs.Rows.{rowNumbers, evaluationOf}
 use Rattle.run.specs.Step.{Stepped, found, notPositive, stepOf}
 use Rattle.run.specs.Vectors.{vector, fillTo}
 use Rattle.run.specs.program.Proposal.{modelOf}
@@ -38,7 +38,7 @@ sizedOf c count =
     checkedValue (leb (c .n) VARIABLES) 1
     (checkedValue (leb (c .m) CONSTRAINTS) 1
     (checkedValue (leb (c .s) SUM-ROWS) 1
-    (checkedValue (eqb count (rowNumbers (c .n) (c .m) (c .s))) 2 (ok tt))))
+    (checkedValue (eqb count (rowNumbers c)) 2 (ok tt))))
 
 -- what was checked before, then that a count is the one wanted
 unfoldable pub wantsOf : Res (Unit {0}) → ℕ → ℕ → Res (Unit {0})
@@ -70,21 +70,21 @@ variablesRead n d = pick (eqb d 0) 0 n
 unfoldable pub squaredReply : RowCounts → List Float → List Float → ℕ → Res Scalar
 squaredReply c rows delta d =
     then (fitsTwo c rows (length delta) POINT-LEN d (variablesRead (c .n) d))
-    (ok (squaredOf (evaluationBy c rows .sum) delta d))
+    (ok (squaredOf (evaluationOf c rows .sum) delta d))
 
 unfoldable pub predictedReply : RowCounts → List Float → List Float → Res Scalar
 predictedReply c rows delta =
-    then (fitsOne c rows (length delta) POINT-LEN) (predictedOf (evaluationBy c rows .constraints) delta)
+    then (fitsOne c rows (length delta) POINT-LEN) (predictedOf (evaluationOf c rows .constraints) delta)
 
 unfoldable pub transposedReply : RowCounts → List Float → List Float → List Float → Reply (List Float)
 transposedReply c rows w out =
     thenWrites (fitsTwo c rows (length w) 48 (length out) POINT-LEN) out
-    (replyOf vector (ok (fillTo vector 0 (transposedAt (evaluationBy c rows .sum) w) (c .n))))
+    (replyOf vector (ok (fillTo vector 0 (transposedAt (evaluationOf c rows .sum) w) (c .n))))
 
 unfoldable pub movingReply : RowCounts → List Float → List Bool → Reply (List Bool)
 movingReply c rows marks =
     thenWrites (fitsOne c rows (length marks) VARIABLES) marks
-    (replyOf marks (ok (movingOf (c .n) (evaluationBy c rows))))
+    (replyOf marks (ok (movingOf (c .n) (evaluationOf c rows))))
 
 -- ---- of a step that landed
 
@@ -94,14 +94,14 @@ unfoldable pub judgeReply :
 judgeReply c rows next theta filter count last step =
     checkedValue (leb count ITERATIONS) 1
     (then (wantsOf (fitsTwo c rows (length next) (length rows) (length filter) FILTER-LEN) (length step) POINT-LEN)
-    (judgeOf (c .n) (evaluationBy c rows) (evaluationBy c next) theta filter count last step))
+    (judgeOf (c .n) (evaluationOf c rows) (evaluationOf c next) theta filter count last step))
 
 -- ---- of a step proposed, its correction, and the curvature: 12 rows of 12 scalars, of which n rows of n are used
 
 unfoldable pub expectsReply : RowCounts → List Float → List Float → Scalar → Scalar → List Float → Res Bool
 expectsReply c rows b f theta delta =
     then (fitsTwo c rows (length b) CURVATURE-LEN (length delta) POINT-LEN)
-    (expectsOf (modelOf (c .n) (evaluationBy c rows) f theta b) delta)
+    (expectsOf (modelOf (c .n) (evaluationOf c rows) f theta b) delta)
 
 unfoldable pub cutReply : ℕ → Scalar → List Float → Reply (List Float)
 cutReply n radius delta =
@@ -112,19 +112,19 @@ unfoldable pub alongReply : RowCounts → List Float → List Float → List Flo
 alongReply c rows v out =
     thenWrites (fitsOne c rows (length v) POINT-LEN) out
     (checked (eqb (length out) (2 * c .n)) 2 out
-    (replyOf (zeros (2 * c .n)) (alongOf (evaluationBy c rows .constraints) v)))
+    (replyOf (zeros (2 * c .n)) (alongOf (evaluationOf c rows .constraints) v)))
 
 unfoldable pub shiftReply : RowCounts → List Float → List Bool → List Float → Reply (List Float)
 shiftReply c rows moving d =
     thenWrites (fitsTwo c rows (length moving) VARIABLES (length d) POINT-LEN) d
-    (replyOf vector (shiftOf moving (evaluationBy c rows .constraints)))
+    (replyOf vector (shiftOf moving (evaluationOf c rows .constraints)))
 
 unfoldable pub updateReply :
     RowCounts → List Float → List Float → List Float → List Float → List Float → Reply (List Float)
 updateReply c b step rows next lambda =
     let rowsFit = fitsTwo c rows (length next) (length rows) (length b) CURVATURE-LEN in
     thenWrites (wantsOf (wantsOf rowsFit (length step) POINT-LEN) (length lambda) POINT-LEN) b
-    (replyOf (zeros CURVATURE-LEN) (updateCurvature (c .n) b step (evaluationBy c rows) (evaluationBy c next) lambda))
+    (replyOf (zeros CURVATURE-LEN) (updateCurvature (c .n) b step (evaluationOf c rows) (evaluationOf c next) lambda))
 
 unfoldable pub learnedReply : ℕ → List Float → Res Bool
 learnedReply n b = checkedValue (leb n VARIABLES) 1 (checkedValue (eqb (length b) CURVATURE-LEN) 2 (ok (learnedOf n b)))
@@ -167,4 +167,4 @@ unfoldable pub stepReply :
 stepReply c rows b moving mu delta lambda =
     let rowsFit = fitsTwo c rows (length b) CURVATURE-LEN (length moving) VARIABLES in
     thenSteps (wantsOf (wantsOf rowsFit (length delta) POINT-LEN) (length lambda) POINT-LEN) delta lambda
-    (stepReplyOf vector vector (stepOf (c .n) (evaluationBy c rows) b moving mu))
+    (stepReplyOf vector vector (stepOf (c .n) (evaluationOf c rows) b moving mu))

@@ -10,8 +10,8 @@ use Rattle.run.specs.declared.rows.RowSet.{RowSet}
 use Rattle.run.specs.declared.state.Sizes.{Sizes}
 
 -- how many numbers an answer has
-abbrev pub rowNumbers : ℕ → ℕ → ℕ → ℕ
-rowNumbers n m s = 2 * ((m + s) * (n + 1))
+abbrev pub rowNumbers : RowCounts → ℕ
+rowNumbers c = 2 * ((c .m + c .s) * (c .n + 1))
 
 -- the counts of an answer in a run of these sizes
 abbrev pub rowCounts : Sizes → RowCounts
@@ -29,29 +29,31 @@ pub record Rows : Type 0 where
 abbrev pub rowsIn : List Float → RowSet → Rows
 rowsIn xs e = record { list = xs; n = e .n; count = e .count; values = e .values; slopes = e .slopes }
 
-abbrev pub constraintSet : ℕ → ℕ → RowSet
-constraintSet n m = record { n = n; count = m; values = 0; slopes = m }
+-- by the counts of an answer: the constraints' rows, which come first, and the sum's behind them
+abbrev pub constraintSet : RowCounts → RowSet
+constraintSet c = record { n = c .n; count = c .m; values = 0; slopes = c .m }
 
-abbrev pub sumSet : ℕ → ℕ → ℕ → RowSet
-sumSet n m s = record { n = n; count = s; values = m * (n + 1); slopes = m * (n + 1) + s }
+abbrev pub sumSet : RowCounts → RowSet
+sumSet c = record {
+  n = c .n;
+  count = c .s;
+  values = c .m * (c .n + 1);
+  slopes = c .m * (c .n + 1) + c .s;
+}
 
-abbrev pub constraintsOf : ℕ → ℕ → List Float → Rows
-constraintsOf n m xs = rowsIn xs (constraintSet n m)
+abbrev pub constraintsOf : RowCounts → List Float → Rows
+constraintsOf c xs = rowsIn xs (constraintSet c)
 
-abbrev pub sumOf : ℕ → ℕ → ℕ → List Float → Rows
-sumOf n m s xs = rowsIn xs (sumSet n m s)
+abbrev pub sumOf : RowCounts → List Float → Rows
+sumOf c xs = rowsIn xs (sumSet c)
 
 -- what an answer says at a point (the Rust's `Evaluation`)
 pub record Evaluation : Type 0 where
   pub constraints : Rows
   pub sum : Rows
 
-abbrev pub evaluationOf : ℕ → ℕ → ℕ → List Float → Evaluation
-evaluationOf n m s xs = record { constraints = constraintsOf n m xs; sum = sumOf n m s xs }
-
--- by the counts of an answer
-abbrev pub evaluationBy : RowCounts → List Float → Evaluation
-evaluationBy c xs = evaluationOf (c .n) (c .m) (c .s) xs
+abbrev pub evaluationOf : RowCounts → List Float → Evaluation
+evaluationOf c xs = record { constraints = constraintsOf c xs; sum = sumOf c xs }
 
 abbrev pub valueAt : Rows → ℕ → Scalar
 valueAt e i = at (e .list) (e .values + i)

@@ -13,7 +13,7 @@ ghost use Rattle.run.specs.Answered.{started, fromStanding, answered, an
 ghost use Rattle.run.specs.Area.{Memory, usedIn};
 ghost use Rattle.run.specs.Checks.{phaseFits};
 ghost use Rattle.run.specs.Corrected.{landTrial, landCorrection};
-ghost use Rattle.run.specs.Rows.{rowNumbers};
+ghost use Rattle.run.specs.Rows.{rowNumbers, rowCounts};
 ghost use Rattle.run.specs.program.Area.{Uses, Working};
 ghost use Rattle.run.specs.program.Corrected.{RowsToLand};
 ghost use Rattle.run.specs.program.Endings.{Leaves, Bounded};
@@ -27,6 +27,7 @@ use crate::endings::refuse;
 use crate::iterate::iterate;
 use crate::residuals;
 use crate::residuals::standing_violation;
+use crate::rows::row_counts;
 use crate::state::Kind;
 use crate::state::Rejection;
 use crate::state::Returned;
@@ -39,13 +40,13 @@ use linear::LinearResult;
 // variable that no residual definitely depends on would make the curvature singular, so it keeps its place.
 fn started(st: State, area: &mut [f64], rows: &[f64]) -> Returned
     requires { ⌜ (length (now area) ≡ AREA)
-        × (length (now rows) ≡ rowNumbers (st .sizes .n) (st .sizes .m) (st .sizes .s))
+        × (length (now rows) ≡ rowNumbers (rowCounts (st .sizes)))
         × Bounded 1073741824 st
         × (st .phase ≡ Open kinds.Start) ⌝ }
     ensures { λ r. ⌜ ((w : Memory) → Uses (usedIn st) w (now (area .entry)) →
         Leaves (started st w (now (rows .entry))) r (now (area .exit))) ⌝ }
 {
-    let moving = residuals::moving(rows, st.sizes.n, st.sizes.m, st.sizes.s);
+    let moving = residuals::moving(rows, row_counts(st.sizes));
     area::write_start(area, rows);
     let standing = standing_violation(st.sizes, area);
     iterate(with_moving(st, moving), area, standing)
@@ -74,7 +75,7 @@ fn land(st: State, area: &mut [f64], rows: &[f64], trial: bool) -> Returned
 // What follows an accepted answer with rows.
 pub fn answered(kind: Kind, st: State, area: &mut [f64], rows: &[f64]) -> Returned
     requires { ⌜ (length (now area) ≡ AREA) ×
-        ((length (now rows) ≡ rowNumbers (st .sizes .n) (st .sizes .m) (st .sizes .s)) ×
+        ((length (now rows) ≡ rowNumbers (rowCounts (st .sizes))) ×
         (Bounded 1073741824 st × ((st .counts .corrections ≤ CORRECTIONS) ×
         ((phaseFits st (Open kind) ≡ true) × (st .phase ≡ Open kind))))) ⌝ }
     ensures { λ r. ⌜ ((w : Memory) → Uses (usedIn st) w (now (area .entry)) →

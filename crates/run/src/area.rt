@@ -14,9 +14,12 @@ ghost use Rattle.run.specs.Filter.{filterWith};
 ghost use Rattle.run.specs.Rows.{rowNumbers};
 ghost use Rattle.run.specs.Vectors.{movedOf};
 ghost use Rattle.run.specs.program.Area.{written, clearedTo, Limits, allUsed, Uses, Holds, pointsUsed};
-ghost use Rattle.run.specs.program.Area.{ZeroBehind, SlotRead, RowLimits};
+ghost use Rattle.run.specs.program.Area.{ZeroBehind, SlotRead};
+ghost use Rattle.run.specs.program.Rows.{FewRows};
 use crate::filter::push;
 use crate::limits::AREA;
+use crate::rows::RowCounts;
+use crate::rows::row_counts;
 use crate::state::Kind;
 use crate::state::Phase;
 use crate::state::Sizes;
@@ -113,11 +116,11 @@ fn clear_unused_slots(area: &mut [f64], sizes: &[usize], used: &[usize])
 }
 
 // How many numbers an answer's rows have.
-fn row_numbers(z: Sizes) -> usize
-    requires { ⌜ RowLimits z ⌝ }
-    ensures { λ r. ⌜ r ≡ rowNumbers (z .n) (z .m) (z .s) ⌝ }
+fn row_numbers(c: RowCounts) -> usize
+    requires { ⌜ FewRows c ⌝ }
+    ensures { λ r. ⌜ r ≡ rowNumbers c ⌝ }
 {
-    2 * ((z.m + z.s) * (z.n + 1))
+    2 * ((c.m + c.s) * (c.n + 1))
 }
 
 // How many numbers of each slot may be in use while a call works.
@@ -126,7 +129,7 @@ fn all_used(z: Sizes, iterations: usize) -> [usize; 9]
     ensures { λ r. ⌜ r ≡ allUsed z iterations ⌝ }
 {
     let point = 2 * z.n;
-    let rows = row_numbers(z);
+    let rows = row_numbers(row_counts(z));
     let multipliers = 2 * z.m;
     let entries = 2 * (z.n * z.n);
     let pairs = 4 * iterations;
@@ -300,17 +303,17 @@ fn write_next(area: &mut [f64], n: usize, delta: &[f64])
 }
 
 // A trial asked, where the step leads: nothing has landed. Of the landed rows those in use are cleared.
-pub fn write_trial(area: &mut [f64], z: Sizes, delta: &[f64], lambda: &[f64])
+pub fn write_trial(area: &mut [f64], c: RowCounts, delta: &[f64], lambda: &[f64])
     requires { ⌜ (length (now area) ≡ AREA) ×
-        (RowLimits z × ((length (now delta) ≡ POINT-LEN) × (length (now lambda) ≡ POINT-LEN))) ⌝ }
+        (FewRows c × ((length (now delta) ≡ POINT-LEN) × (length (now lambda) ≡ POINT-LEN))) ⌝ }
     ensures { λ _. ⌜ ((w : Memory) → Holds w (now (area .entry)) →
-        ZeroBehind ROWS-LEN (rowNumbers (z .n) (z .m) (z .s)) (w .landedRows) →
-        Holds (withTrial w (movedOf (z .n) (w .standing) (now (delta .entry))) (now (delta .entry))
+        ZeroBehind ROWS-LEN (rowNumbers c) (w .landedRows) →
+        Holds (withTrial w (movedOf (c .n) (w .standing) (now (delta .entry))) (now (delta .entry))
         (now (lambda .entry))) (now (area .exit))) ⌝ }
 {
-    write_next(area, z.n, delta);
+    write_next(area, c.n, delta);
     clear_from(area, LANDED_AT, POINT_LEN);
-    clear_from(area, LANDED_ROWS_AT, row_numbers(z));
+    clear_from(area, LANDED_ROWS_AT, row_numbers(c));
     write(area, STEP_AT, delta);
     write(area, MULTIPLIERS_AT, lambda);
 }
@@ -330,24 +333,24 @@ pub fn write_landed(area: &mut [f64], rows: &[f64])
 // and of the curvature the numbers in use are copied.
 pub fn write_taken(
     area: &mut [f64],
-    z: Sizes,
+    c: RowCounts,
     curvature: &[f64],
     count: usize,
     f: Scalar,
     theta: Scalar,
 )
     requires { ⌜ (length (now area) ≡ AREA) ×
-        (RowLimits z × ((length (now curvature) ≡ CURVATURE-LEN) × (count < ITERATIONS))) ⌝ }
+        (FewRows c × ((length (now curvature) ≡ CURVATURE-LEN) × (count < ITERATIONS))) ⌝ }
     ensures { λ _. ⌜ ((w : Memory) → Holds w (now (area .entry)) →
-        ZeroBehind ROWS-LEN (rowNumbers (z .n) (z .m) (z .s)) (w .standingRows) →
-        ZeroBehind ROWS-LEN (rowNumbers (z .n) (z .m) (z .s)) (w .landedRows) →
-        ZeroBehind CURVATURE-LEN (2 * (z .n * z .n)) (w .curvature) →
-        ZeroBehind CURVATURE-LEN (2 * (z .n * z .n)) (now (curvature .entry)) →
+        ZeroBehind ROWS-LEN (rowNumbers c) (w .standingRows) →
+        ZeroBehind ROWS-LEN (rowNumbers c) (w .landedRows) →
+        ZeroBehind CURVATURE-LEN (2 * (c .n * c .n)) (w .curvature) →
+        ZeroBehind CURVATURE-LEN (2 * (c .n * c .n)) (now (curvature .entry)) →
         Holds (withTaken w (now (curvature .entry)) (filterWith (w .filter) count f theta)) (now (area .exit))) ⌝ }
 {
     copy(area, LANDED_AT, STANDING_AT, POINT_LEN);
-    copy(area, LANDED_ROWS_AT, STANDING_ROWS_AT, row_numbers(z));
-    let entries = 2 * (z.n * z.n);
+    copy(area, LANDED_ROWS_AT, STANDING_ROWS_AT, row_numbers(c));
+    let entries = 2 * (c.n * c.n);
     write(area, CURVATURE_AT, &curvature[0..entries]);
     push(&mut area[FILTER_AT..SPARE_AT], count, f, theta);
 }

@@ -32,7 +32,9 @@ use crate::residuals::chosen_values;
 use crate::residuals::landed_violation;
 use crate::residuals::standing_violation;
 use crate::results::TruthResult;
+use crate::rows::RowCounts;
 use crate::rows::constraints;
+use crate::rows::row_counts;
 use crate::rows::slope_of;
 use crate::state::Kind;
 use crate::state::Returned;
@@ -59,13 +61,15 @@ pub enum Shifted {
 }
 
 // The slopes of the constraints by the variables that move, chosen, and zero by the others.
-fn moving_slopes(n: usize, m: usize, xs: &[f64], moving: &[bool], jc: &mut [f64])
-    requires { ⌜ MarkedCounts n m (length (now moving)) × (length (now jc) ≡ 2 * (m * n)) ⌝ }
+fn moving_slopes(c: RowCounts, xs: &[f64], moving: &[bool], jc: &mut [f64])
+    requires { ⌜ MarkedCounts c (length (now moving)) × (length (now jc) ≡ 2 * (c .m * c .n)) ⌝ }
     ensures { λ _. ⌜ now (jc .exit) ≡ listTo
-        (λ p. movingSlope (now (moving .entry)) (constraintsOf n m (now (xs .entry))) (p / n) (p % n)) (m * n) ⌝ }
+        (λ p. movingSlope (now (moving .entry)) (constraintsOf c (now (xs .entry))) (p / c .n) (p % c .n))
+        (c .m * c .n) ⌝ }
 {
-    let e = constraints(n, m);
-    let q = m * n;
+    let n = c.n;
+    let e = constraints(c);
+    let q = c.m * n;
     for p in 0..q {
         let v = slope_of(xs, e, p / n, p % n);
         put(jc, p, choose_if(moving[p % n], v));
@@ -85,39 +89,41 @@ fn sharpened(n: usize, from: &[f64], to: &mut [f64])
 }
 
 // The shortest move that meets the linearized constraints, among the variables that move.
-pub fn shift(n: usize, m: usize, xs: &[f64], moving: &[bool], d: &mut [f64]) -> Done
-    requires { ⌜ MarkedCounts n m (length (now moving)) × (length (now d) ≡ POINT-LEN) ⌝ }
-    ensures { λ r. ⌜ doneOf r (now (d .exit)) ≡ shiftOf (now (moving .entry)) (constraintsOf n m (now (xs .entry))) ⌝ }
+pub fn shift(c: RowCounts, xs: &[f64], moving: &[bool], d: &mut [f64]) -> Done
+    requires { ⌜ MarkedCounts c (length (now moving)) × (length (now d) ≡ POINT-LEN) ⌝ }
+    ensures { λ r. ⌜ doneOf r (now (d .exit)) ≡ shiftOf (now (moving .entry)) (constraintsOf c (now (xs .entry))) ⌝ }
 {
+    let n = c.n;
+    let m = c.m;
     let q = 2 * (m * n);
     let k = 2 * m;
     let w = 2 * n;
     let mut jc = [0.0; 288];
-    let mut c = [0.0; 24];
+    let mut values = [0.0; 24];
     let zero = [0.0; 24];
     let mut out = [0.0; 24];
-    moving_slopes(n, m, xs, moving, &mut jc[..q]);
-    chosen_values(xs, constraints(n, m), &mut c[..k]);
-    let end = minus_solved(m, n, &jc[..q], &c[..k], &zero[..w], &mut out[..w]);
+    moving_slopes(c, xs, moving, &mut jc[..q]);
+    chosen_values(xs, constraints(c), &mut values[..k]);
+    let end = minus_solved(m, n, &jc[..q], &values[..k], &zero[..w], &mut out[..w]);
     sharpened(n, &out[..w], d);
     end
 }
 
 // Where the shift takes the landed point, with its rows xs: `next` has the point where it is another.
 pub fn shift_from(
-    n: usize,
-    m: usize,
+    c: RowCounts,
     xs: &[f64],
     moving: &[bool],
     landed: &[f64],
     next: &mut [f64],
 ) -> Shifted
-    requires { ⌜ MarkedCounts n m (length (now moving)) × (length (now next) ≡ POINT-LEN) ⌝ }
+    requires { ⌜ MarkedCounts c (length (now moving)) × (length (now next) ≡ POINT-LEN) ⌝ }
     ensures { λ r. ⌜ shiftedOf r (now (next .exit))
-        ≡ shiftFrom (now (moving .entry)) (constraintsOf n m (now (xs .entry))) (now (landed .entry)) ⌝ }
+        ≡ shiftFrom (now (moving .entry)) (constraintsOf c (now (xs .entry))) (now (landed .entry)) ⌝ }
 {
+    let n = c.n;
     let mut d = [0.0; 24];
-    match shift(n, m, xs, moving, &mut d) {
+    match shift(c, xs, moving, &mut d) {
         Done::Refused(e) => {
             return Shifted::Refused(e);
         }
@@ -154,8 +160,7 @@ fn correct(st: State, area: &mut [f64], theta: Scalar, landed: LinearResult) -> 
     let moving = st.moving;
     let mut next = [0.0; 24];
     let shifted = shift_from(
-        st.sizes.n,
-        st.sizes.m,
+        row_counts(st.sizes),
         area::landed_rows(area),
         &moving,
         area::landed_point(area),
@@ -203,8 +208,7 @@ fn keep(st: State, area: &mut [f64], rows: &[f64], theta: Scalar, landed: Linear
     let moving = st.moving;
     let mut d = [0.0; 24];
     let shift = shift(
-        st.sizes.n,
-        st.sizes.m,
+        row_counts(st.sizes),
         area::landed_rows(area),
         &moving,
         &mut d,
@@ -251,7 +255,7 @@ pub fn land_correction(st: State, area: &mut [f64], rows: &[f64], theta: Scalar)
     ensures { λ r. ⌜ ((w : Memory) → StandingKnown st (ok theta) w (now (area .entry)) →
         Leaves (landCorrection st w (now (rows .entry)) theta) r (now (area .exit))) ⌝ }
 {
-    let new = residuals::violation(rows, st.sizes.n, st.sizes.m);
+    let new = residuals::violation(rows, row_counts(st.sizes));
     let old = landed_violation(st.sizes, area);
     match is_nearer(new, old) {
         TruthResult::Value(kept) => {

@@ -16,11 +16,11 @@ ghost use Rattle.linear.specs.Choose.{chooseOf};
 ghost use Rattle.linear.specs.Dot.{dotTo};
 ghost use Rattle.linear.specs.Flat.{at, along};
 ghost use Rattle.linear.specs.Substitution.{storeR};
-ghost use Rattle.run.specs.Limits.{VARIABLES, CONSTRAINTS};
+ghost use Rattle.run.specs.Limits.{VARIABLES};
 ghost use Rattle.run.specs.Area.{POINT-LEN};
 ghost use Rattle.run.specs.Curvature.{learnedOf, alongOf, lagrangianChangeAt, lagrangianChange, chosenSum};
 ghost use Rattle.run.specs.Curvature.{rankOneStep, rankOneOf, correctedBy, updatedBy, updateCurvature};
-ghost use Rattle.run.specs.Rows.{constraintsOf, evaluationBy};
+ghost use Rattle.run.specs.Rows.{constraintsOf, evaluationOf};
 ghost use Rattle.run.specs.Vectors.{fillTo, vector};
 ghost use Rattle.run.specs.program.Curvature.{AlongLengths, UpdateLengths, Factored, updatedAlong};
 ghost use Rattle.run.specs.program.Rows.{FewRows};
@@ -84,16 +84,18 @@ pub fn products(n: usize, k: usize, rows: &[f64], v: &[f64], out: &mut [f64])
 }
 
 // The part of v along the constraints, that is, square to their slopes.
-pub fn along_constraints(n: usize, m: usize, xs: &[f64], v: &[f64], out: &mut [f64]) -> Done
-    requires { ⌜ AlongLengths n m (length (now v)) (length (now out)) ⌝ }
-    ensures { λ r. ⌜ doneOf r (now (out .exit)) ≡ alongOf (constraintsOf n m (now (xs .entry))) (now (v .entry)) ⌝ }
+pub fn along_constraints(c: RowCounts, xs: &[f64], v: &[f64], out: &mut [f64]) -> Done
+    requires { ⌜ AlongLengths c (length (now v)) (length (now out)) ⌝ }
+    ensures { λ r. ⌜ doneOf r (now (out .exit)) ≡ alongOf (constraintsOf c (now (xs .entry))) (now (v .entry)) ⌝ }
 {
+    let n = c.n;
+    let m = c.m;
     let q = 2 * (m * n);
     let k = 2 * m;
     let w = 2 * n;
     let mut jc = [0.0; 288];
     let mut rhs = [0.0; 24];
-    chosen_slopes(xs, constraints(n, m), &mut jc[..q]);
+    chosen_slopes(xs, constraints(c), &mut jc[..q]);
     let slopes = &jc[..q];
     products(n, m, slopes, v, &mut rhs[..k]);
     minus_solved(m, n, slopes, &rhs[..k], &v[..w], out)
@@ -102,19 +104,20 @@ pub fn along_constraints(n: usize, m: usize, xs: &[f64], v: &[f64], out: &mut [f
 // The same by the constraints' slopes, chosen, and the factor of their products, so that these are worked out once for
 // several vectors.
 fn along_factored(
-    n: usize,
-    m: usize,
+    c: RowCounts,
     slopes: &[f64],
     l: &[f64],
     left_out: &[bool],
     v: &[f64],
     out: &mut [f64],
 ) -> Done
-    requires { ⌜ AlongLengths n m (length (now v)) (length (now out)) ⌝ }
+    requires { ⌜ AlongLengths c (length (now v)) (length (now out)) ⌝ }
     ensures { λ r. ⌜ ((xs : List Float) →
-        Factored (constraintsOf n m xs) (now (slopes .entry)) (factorOf (now (l .entry)) (now («left_out» .entry))) →
-        doneOf r (now (out .exit)) ≡ alongOf (constraintsOf n m xs) (now (v .entry))) ⌝ }
+        Factored (constraintsOf c xs) (now (slopes .entry)) (factorOf (now (l .entry)) (now («left_out» .entry))) →
+        doneOf r (now (out .exit)) ≡ alongOf (constraintsOf c xs) (now (v .entry))) ⌝ }
 {
+    let n = c.n;
+    let m = c.m;
     let k = 2 * m;
     let w = 2 * n;
     let mut rhs = [0.0; 24];
@@ -133,11 +136,11 @@ fn lagrangian_change_at(
 ) -> Scalar
     requires { ⌜ FewRows c × (j < 65536) ⌝ }
     ensures { λ y. ⌜ y
-        ≡ lagrangianChangeAt (evaluationBy c (now (xs .entry))) (evaluationBy c (now (next .entry)))
+        ≡ lagrangianChangeAt (evaluationOf c (now (xs .entry))) (evaluationOf c (now (next .entry)))
         (now (lambda .entry)) (now (r .entry)) j ⌝ }
 {
-    let held = constraints(c.n, c.m);
-    let summed = sum(c.n, c.m, c.s);
+    let held = constraints(c);
+    let summed = sum(c);
     let a = transposed_at(next, held, lambda, j).sub(transposed_at(xs, held, lambda, j));
     let b = a.add(transposed_at(next, summed, r, j));
     b.sub(transposed_at(xs, summed, r, j))
@@ -148,12 +151,12 @@ fn lagrangian_change_at(
 fn lagrangian_change(c: RowCounts, xs: &[f64], next: &[f64], lambda: &[f64], y: &mut [f64])
     requires { ⌜ FewRows c × (now y ≡ vector) ⌝ }
     ensures { λ _. ⌜ now (y .exit)
-        ≡ lagrangianChange (c .n) (evaluationBy c (now (xs .entry))) (evaluationBy c (now (next .entry)))
+        ≡ lagrangianChange (c .n) (evaluationOf c (now (xs .entry))) (evaluationOf c (now (next .entry)))
         (now (lambda .entry)) ⌝ }
 {
     let n = c.n;
     let mut r = [0.0; 48];
-    chosen_values(next, sum(c.n, c.m, c.s), &mut r);
+    chosen_values(next, sum(c), &mut r);
     let values: &[f64] = &r;
     for j in 0..n {
         put(y, j, lagrangian_change_at(c, xs, next, lambda, values, j));
@@ -237,8 +240,7 @@ pub fn corrected_by(n: usize, b: &mut [f64], y: &[f64], bs: &[f64], s: &[f64]) -
 // The update, from y and the step s along the constraints. There is none where the curvature may explain y already, and
 // none where what it lacks may be square to the step, since its size is then not known.
 fn updated(
-    n: usize,
-    m: usize,
+    c: RowCounts,
     slopes: &[f64],
     l: &[f64],
     left_out: &[bool],
@@ -246,12 +248,13 @@ fn updated(
     y: &[f64],
     s: &[f64],
 ) -> Done
-    requires { ⌜ (n ≤ VARIABLES) × (m ≤ CONSTRAINTS) × (length (now y) ≡ POINT-LEN) ⌝ }
+    requires { ⌜ FewRows c × (length (now y) ≡ POINT-LEN) ⌝ }
     ensures { λ r. ⌜ ((xs : List Float) →
-        Factored (constraintsOf n m xs) (now (slopes .entry)) (factorOf (now (l .entry)) (now («left_out» .entry))) →
+        Factored (constraintsOf c xs) (now (slopes .entry)) (factorOf (now (l .entry)) (now («left_out» .entry))) →
         doneOf r (now (b .exit))
-        ≡ updatedBy n (constraintsOf n m xs) (now (b .entry)) (now (y .entry)) (now (s .entry))) ⌝ }
+        ≡ updatedBy (c .n) (constraintsOf c xs) (now (b .entry)) (now (y .entry)) (now (s .entry))) ⌝ }
 {
+    let n = c.n;
     let w = 2 * n;
     let mut bs = [0.0; 24];
     let mut y_along = [0.0; 24];
@@ -261,7 +264,7 @@ fn updated(
     if !d.definitely_not_equal(Scalar::ZERO) {
         return Done::Finished;
     }
-    let end = along_factored(n, m, slopes, l, left_out, y, &mut y_along[..w]);
+    let end = along_factored(c, slopes, l, left_out, y, &mut y_along[..w]);
     let Done::Finished = end else {
         return end;
     };
@@ -270,8 +273,7 @@ fn updated(
 
 // The curvature b, updated from a step and y, by the constraints' slopes and the factor of their products.
 fn update_factored(
-    n: usize,
-    m: usize,
+    c: RowCounts,
     slopes: &[f64],
     l: &[f64],
     left_out: &[bool],
@@ -279,19 +281,19 @@ fn update_factored(
     y: &[f64],
     step: &[f64],
 ) -> Done
-    requires { ⌜ UpdateLengths n m (length (now y)) (length (now step)) ⌝ }
+    requires { ⌜ UpdateLengths c (length (now y)) (length (now step)) ⌝ }
     ensures { λ r. ⌜ ((xs : List Float) →
-        Factored (constraintsOf n m xs) (now (slopes .entry)) (factorOf (now (l .entry)) (now («left_out» .entry))) →
+        Factored (constraintsOf c xs) (now (slopes .entry)) (factorOf (now (l .entry)) (now («left_out» .entry))) →
         doneOf r (now (b .exit))
-        ≡ updatedAlong n (constraintsOf n m xs) (now (b .entry)) (now (y .entry)) (now (step .entry))) ⌝ }
+        ≡ updatedAlong (c .n) (constraintsOf c xs) (now (b .entry)) (now (y .entry)) (now (step .entry))) ⌝ }
 {
-    let w = 2 * n;
+    let w = 2 * c.n;
     let mut s_along = [0.0; 24];
-    let end = along_factored(n, m, slopes, l, left_out, step, &mut s_along[..w]);
+    let end = along_factored(c, slopes, l, left_out, step, &mut s_along[..w]);
     let Done::Finished = end else {
         return end;
     };
-    updated(n, m, slopes, l, left_out, b, y, &s_along[..w])
+    updated(c, slopes, l, left_out, b, y, &s_along[..w])
 }
 
 // The curvature b, updated from the step between two points with their rows, so that along the step it turns the
@@ -306,8 +308,8 @@ pub fn update_curvature(
 ) -> Done
     requires { ⌜ FewRows c × (length (now step) ≡ POINT-LEN) ⌝ }
     ensures { λ r. ⌜ doneOf r (now (b .exit))
-        ≡ updateCurvature (c .n) (now (b .entry)) (now (step .entry)) (evaluationBy c (now (xs .entry)))
-        (evaluationBy c (now (next .entry))) (now (lambda .entry)) ⌝ }
+        ≡ updateCurvature (c .n) (now (b .entry)) (now (step .entry)) (evaluationOf c (now (xs .entry)))
+        (evaluationOf c (now (next .entry))) (now (lambda .entry)) ⌝ }
 {
     let n = c.n;
     let m = c.m;
@@ -319,10 +321,10 @@ pub fn update_curvature(
     let mut l = [0.0; 288];
     let mut left_out = [false; 12];
     lagrangian_change(c, xs, next, lambda, &mut y);
-    chosen_slopes(xs, constraints(n, m), &mut jc[..q]);
+    chosen_slopes(xs, constraints(c), &mut jc[..q]);
     let end = gram_factor(m, n, &jc[..q], &mut g[..e], &mut l[..e], &mut left_out[..m]);
     let Done::Finished = end else {
         return end;
     };
-    update_factored(n, m, &jc[..q], &l[..e], &left_out[..m], b, &y, step)
+    update_factored(c, &jc[..q], &l[..e], &left_out[..m], b, &y, step)
 }

@@ -15,7 +15,7 @@ ghost use Rattle.run.specs.Decide as run;
 ghost use Rattle.run.specs.Judgement.{judgeOf};
 ghost use Rattle.run.specs.Residuals.{violationOf};
 ghost use Rattle.run.specs.Results.{truthOf};
-ghost use Rattle.run.specs.Rows.{rowCounts, evaluationBy};
+ghost use Rattle.run.specs.Rows.{rowCounts, evaluationOf};
 ghost use Rattle.run.specs.State.{searching, rejectedFor, withRadius};
 ghost use Rattle.run.specs.program.Area.{StandingKnown, Holds, ZeroBehind, ViolationsKnown};
 ghost use Rattle.run.specs.program.Decide.{takenWith};
@@ -174,7 +174,7 @@ fn learn(z: Sizes, plain: bool, area: &[f64], b: &mut [f64]) -> Done
         ZeroBehind CURVATURE-LEN (2 * (z .n * z .n)) (w .curvature) →
         doneOf r (now (b .exit))
         ≡ updateCurvature (z .n) (pick plain (zeros CURVATURE-LEN) (w .curvature)) (w .step)
-        (evaluationBy (rowCounts z) (w .standingRows)) (evaluationBy (rowCounts z) (w .landedRows))
+        (evaluationOf (rowCounts z) (w .standingRows)) (evaluationOf (rowCounts z) (w .landedRows))
         (w .multipliers)) ⌝ }
 {
     curvature_in_use(plain, z.n, area, b);
@@ -209,13 +209,15 @@ fn take_with(
             return refuse(st, area, e);
         }
     }
-    let f = residuals::sum_squared(
-        area::standing_rows(area),
-        st.sizes.n,
-        st.sizes.m,
-        st.sizes.s,
+    let f = residuals::sum_squared(area::standing_rows(area), row_counts(st.sizes));
+    area::write_taken(
+        area,
+        row_counts(st.sizes),
+        &b,
+        st.counts.iterations,
+        f,
+        theta,
     );
-    area::write_taken(area, st.sizes, &b, st.counts.iterations, f, theta);
     iterate(standing_on(st, span, mu, radius), area, landed)
 }
 

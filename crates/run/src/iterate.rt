@@ -42,7 +42,7 @@ fn left_at(st: State, area: &mut [f64], found: Found, delta: &[f64], lambda: &[f
 {
     match found {
         Found::Ask(x, t) => {
-            area::write_trial(area, st.sizes, delta, lambda);
+            area::write_trial(area, row_counts(st.sizes), delta, lambda);
             return ask(with_trial_of(st, x, t), Kind::Trial, 0);
         }
         Found::Stop(x, stop) => {
@@ -61,7 +61,7 @@ fn search_origin(st: State, area: &[f64], theta: Scalar) -> Origin
 {
     let counts = row_counts(st.sizes);
     let rows = &area[area::STANDING_ROWS_AT..area::LANDED_ROWS_AT];
-    let f = sum_squared(rows, counts.n, counts.m, counts.s);
+    let f = sum_squared(rows, counts);
     let point = StandingPoint { counts, f, theta };
     let moving = st.moving;
     let max_step = st.max_step;

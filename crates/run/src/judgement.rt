@@ -9,7 +9,7 @@ ghost use Rattle.linear.specs.LinearResult.{resultOf};
 ghost use Rattle.run.specs.Filter.{beatsTo};
 ghost use Rattle.run.specs.Judgement.{sumChange, indefinite, rises, contracts, judgedBy, judgeOf};
 ghost use Rattle.run.specs.Residuals.{violationOf};
-ghost use Rattle.run.specs.Rows.{rowsIn, constraintsOf, evaluationBy};
+ghost use Rattle.run.specs.Rows.{rowsIn, constraintsOf, evaluationOf};
 ghost use Rattle.run.specs.program.Judgement.{Judging, judgementOf};
 ghost use Rattle.run.specs.program.Rows.{Small};
 use crate::filter::beats_as_pairs;
@@ -137,9 +137,9 @@ pub fn judge(
     step: &[f64],
 ) -> Judgement
     requires { ⌜ Judging c base (length (now step)) ⌝ }
-    ensures { λ r. ⌜ (resultOf landed ≡ violationOf (constraintsOf (c .n) (c .m) (now (next .entry))) →
+    ensures { λ r. ⌜ (resultOf landed ≡ violationOf (constraintsOf c (now (next .entry))) →
         judgementOf r
-        ≡ judgeOf (c .n) (evaluationBy c (now (xs .entry))) (evaluationBy c (now (next .entry))) (base .theta)
+        ≡ judgeOf (c .n) (evaluationOf c (now (xs .entry))) (evaluationOf c (now (next .entry))) (base .theta)
         (now (filter .entry)) (base .pairs) (base .last) (now (step .entry))) ⌝ }
 {
     match norm_of(step, c.n) {
@@ -151,8 +151,8 @@ pub fn judge(
                 return Judgement::Refused(e);
             }
             LinearResult::Value(theta) => {
-                let change = sum_change(xs, next, rows::sum(c.n, c.m, c.s));
-                let f = residuals::sum_squared(next, c.n, c.m, c.s);
+                let change = sum_change(xs, next, rows::sum(c));
+                let f = residuals::sum_squared(next, c);
                 return Judgement::Of(judged_by(change, f, theta, base, filter, length));
             }
         },

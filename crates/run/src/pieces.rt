@@ -101,7 +101,7 @@ pub fn squared(c: RowCounts, xs: &[f64], delta: &[f64], d: usize) -> LinearResul
         }
         Done::Finished => {}
     }
-    LinearResult::Value(residuals::squared(xs, rows::sum(c.n, c.m, c.s), delta, d))
+    LinearResult::Value(residuals::squared(xs, rows::sum(c), delta, d))
 }
 
 // The violation that a step leads to, to first order.
@@ -114,7 +114,7 @@ pub fn predicted(c: RowCounts, xs: &[f64], delta: &[f64]) -> LinearResult
         }
         Done::Finished => {}
     }
-    residuals::predicted(xs, c.n, c.m, delta)
+    residuals::predicted(xs, c, delta)
 }
 
 // The slopes of the sum's rows by each variable, times their weights: 48 numbers in w, 24 in out.
@@ -129,11 +129,7 @@ pub fn transposed(c: RowCounts, xs: &[f64], w: &[f64], out: &mut [f64]) -> Done
     let n = c.n;
     clear(out);
     for j in 0..n {
-        put(
-            out,
-            j,
-            residuals::transposed_at(xs, rows::sum(c.n, c.m, c.s), w, j),
-        );
+        put(out, j, residuals::transposed_at(xs, rows::sum(c), w, j));
     }
     fit
 }
@@ -146,7 +142,7 @@ pub fn moving(c: RowCounts, xs: &[f64], marks: &mut [bool]) -> Done
     let Done::Finished = fit else {
         return fit;
     };
-    let found = residuals::moving(xs, c.n, c.m, c.s);
+    let found = residuals::moving(xs, c);
     for j in 0..VARIABLES {
         marks[j] = found[j];
     }
@@ -179,7 +175,7 @@ pub fn judge(
         }
         Done::Finished => {}
     }
-    let landed = residuals::violation(next, c.n, c.m);
+    let landed = residuals::violation(next, c);
     let base = Baseline {
         theta,
         pairs: count,
@@ -251,7 +247,7 @@ pub fn along(c: RowCounts, xs: &[f64], v: &[f64], out: &mut [f64]) -> Done
     if out.len() != 2 * c.n {
         return Done::Refused(LinearError::WrongLength);
     }
-    cleared(curvature::along_constraints(c.n, c.m, xs, v, out), out)
+    cleared(curvature::along_constraints(c, xs, v, out), out)
 }
 
 // The shortest move that meets the linearized constraints, among the variables that move: 12 marks, 24 numbers in d.
@@ -263,7 +259,7 @@ pub fn shift(c: RowCounts, xs: &[f64], moving: &[bool], d: &mut [f64]) -> Done
     let Done::Finished = fit else {
         return fit;
     };
-    cleared(corrected::shift(c.n, c.m, xs, moving, d), d)
+    cleared(corrected::shift(c, xs, moving, d), d)
 }
 
 // The curvature b, updated from the step between two points with their rows: 288 numbers in b, 24 in step and lambda.

@@ -8,7 +8,7 @@ ghost use lib.ListN.{length, replicate, getD};
 ghost use Rattle.linear.specs.Flat.{at, zeros};
 ghost use Rattle.run.specs.Limits.{VARIABLES};
 ghost use Rattle.run.specs.Problem.{keepNext, keptTo, scalingAt, squeezedOf, problemOf};
-ghost use Rattle.run.specs.Rows.{rowsIn, slopeAt, constraintsOf, evaluationBy, valueAt};
+ghost use Rattle.run.specs.Rows.{rowsIn, slopeAt, constraintsOf, evaluationOf, valueAt};
 ghost use Rattle.run.specs.Vectors.{fillTo, fillRows, matrix, chosenOf};
 ghost use Rattle.run.specs.program.Problem.{keptBy, KeptFits, chosenIf, squeezedAs, undampedAt, undampedBetween};
 ghost use Rattle.run.specs.program.Problem.{dampedEntry, dampedFrom, gradientAt, problemIn, gradientIn};
@@ -323,13 +323,13 @@ pub fn problem(
     requires { ⌜ FewRows c × KeptFits k (now index) ⌝ }
     requires { ⌜ (now wide ≡ matrix) × (now jc ≡ matrix) × (now undamped ≡ zeros 336) ⌝ }
     ensures { λ _. ⌜ ((mu : Scalar) →
-        problemIn k (c .m) (valueAt (constraintsOf (c .n) (c .m) (now (xs .entry)))) (now (wide .exit)) (now (jc .exit))
+        problemIn k (c .m) (valueAt (constraintsOf c (now (xs .entry)))) (now (wide .exit)) (now (jc .exit))
         (dampedFrom k (now (undamped .exit)) mu) (gradientIn (now (undamped .exit)))
-        ≡ problemOf (c .n) (keptBy k (now (index .entry))) (evaluationBy c (now (xs .entry))) (now (b .entry)) mu) ⌝ }
+        ≡ problemOf (c .n) (keptBy k (now (index .entry))) (evaluationOf c (now (xs .entry))) (now (b .entry)) mu) ⌝ }
 {
-    let e = sum(c.n, c.m, c.s);
+    let e = sum(c);
     let mut jr = [0.0; 576];
-    slopes(xs, constraints(c.n, c.m), index, k, wide, jc);
+    slopes(xs, constraints(c), index, k, wide, jc);
     squeeze(xs, e, index, k, true, &mut jr);
     fill_undamped(c.n, index, k, &jr, e.count, b, undamped);
     scalings(k, &jr, e.count, jc, c.m, undamped);

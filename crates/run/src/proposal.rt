@@ -9,7 +9,7 @@ ghost use Rattle.interval.specs.Result.{ok};
 ghost use Rattle.interval.specs.Scalar.{zeroS, subOf, definitelyGreater};
 ghost use Rattle.linear.specs.LinearResult.{resultOf};
 ghost use Rattle.linear.specs.Results.{bind};
-ghost use Rattle.run.specs.Limits.{AREA, VARIABLES, CONSTRAINTS};
+ghost use Rattle.run.specs.Limits.{AREA, VARIABLES};
 ghost use Rattle.run.specs.Proposal.{curvatureAlong, expectsOf, ask, trialOf, shortenedOf, withinOf, proposalOf};
 ghost use Rattle.run.specs.Proposal.{triedOf};
 ghost use Rattle.run.specs.Radius.{cutOf};
@@ -109,12 +109,12 @@ pub fn expects(point: StandingPoint, rows: &[f64], b: &[f64], delta: &[f64]) -> 
         ≡ expectsOf (modelFor point (now (rows .entry)) (now (b .entry))) (now (delta .entry)) ⌝ }
 {
     let c = point.counts;
-    let left = squared(rows, sum(c.n, c.m, c.s), delta, c.n);
+    let left = squared(rows, sum(c), delta, c.n);
     let drop = point.f.sub(left).sub(curvature_along(c.n, b, delta));
     if drop.definitely_greater(Scalar::ZERO) {
         return TruthResult::Value(true);
     }
-    falls(point.theta, predicted(rows, c.n, c.m, delta))
+    falls(point.theta, predicted(rows, c, delta))
 }
 
 // The trial, once the step's length is known or refused.
@@ -136,15 +136,17 @@ fn asked(predicted: Scalar, length: LinearResult) -> Proposal
 }
 
 // The trial of a step whose choices are made: none where the point would be the same.
-fn tried(n: usize, m: usize, rows: &[f64], x: &[f64], delta: &[f64]) -> Proposal
-    requires { ⌜ (n ≤ VARIABLES) × (m ≤ CONSTRAINTS) × (length (now delta) ≡ 24) ⌝ }
+fn tried(c: RowCounts, rows: &[f64], x: &[f64], delta: &[f64]) -> Proposal
+    requires { ⌜ FewRows c × (length (now delta) ≡ 24) ⌝ }
     ensures { λ r. ⌜ ((lambda : List Float) →
-        proposalResult r (now (delta .entry)) lambda (movedOf n (now (x .entry)) (now (delta .entry)))
-        ≡ triedOf (pointOf n (now (x .entry)) (constraintsOf n m (now (rows .entry)))) (now (delta .entry)) lambda) ⌝ }
+        proposalResult r (now (delta .entry)) lambda (movedOf (c .n) (now (x .entry)) (now (delta .entry)))
+        ≡ triedOf (pointOf (c .n) (now (x .entry)) (constraintsOf c (now (rows .entry)))) (now (delta .entry))
+        lambda) ⌝ }
 {
+    let n = c.n;
     let mut next = [0.0; 24];
     moved(n, x, delta, &mut next);
-    match predicted(rows, n, m, delta) {
+    match predicted(rows, c, delta) {
         LinearResult::Value(p) => {
             if same(n, &next, x) {
                 return Proposal::NoChange;
@@ -158,17 +160,19 @@ fn tried(n: usize, m: usize, rows: &[f64], x: &[f64], delta: &[f64]) -> Proposal
 }
 
 // The trial of a step, after each of its entries is chosen in its place.
-fn trial(n: usize, m: usize, rows: &[f64], x: &[f64], delta: &mut [f64]) -> Proposal
-    requires { ⌜ (n ≤ VARIABLES) × (m ≤ CONSTRAINTS) × (length (now delta) ≡ 24) ⌝ }
+fn trial(c: RowCounts, rows: &[f64], x: &[f64], delta: &mut [f64]) -> Proposal
+    requires { ⌜ FewRows c × (length (now delta) ≡ 24) ⌝ }
     ensures { λ r. ⌜ ((lambda : List Float) →
-        proposalResult r (now (delta .exit)) lambda (movedOf n (now (x .entry)) (now (delta .exit)))
-        ≡ trialOf (pointOf n (now (x .entry)) (constraintsOf n m (now (rows .entry)))) (now (delta .entry)) lambda) ⌝ }
+        proposalResult r (now (delta .exit)) lambda (movedOf (c .n) (now (x .entry)) (now (delta .exit)))
+        ≡ trialOf (pointOf (c .n) (now (x .entry)) (constraintsOf c (now (rows .entry)))) (now (delta .entry))
+        lambda) ⌝ }
 {
+    let n = c.n;
     for i in 0..12 {
         let d = at(delta, i);
         put(delta, i, choose_if(i < n, d));
     }
-    tried(n, m, rows, x, delta)
+    tried(c, rows, x, delta)
 }
 
 // The trial of a step once it is cut, if the model still expects something of it.
@@ -191,7 +195,7 @@ fn shortened(
     match expects(point, rows, b, delta) {
         TruthResult::Value(drop) => {
             if drop {
-                return trial(c.n, c.m, rows, x, delta);
+                return trial(c, rows, x, delta);
             }
             return Proposal::Unresolved;
         }
@@ -220,7 +224,7 @@ fn within(
     match norm_of(delta, c.n) {
         LinearResult::Value(length) => {
             if !length.definitely_greater(radius) {
-                return trial(c.n, c.m, rows, x, delta);
+                return trial(c, rows, x, delta);
             }
             match radius.div(length) {
                 ScalarResult::Value(shrink) => {

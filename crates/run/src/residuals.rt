@@ -5,17 +5,19 @@ ghost use mathlib.Core.Bool.{_||_};
 ghost use mathlib.Core.Path.{_≡_};
 ghost use lib.ListN.{length};
 ghost use Rattle.linear.specs.LinearResult.{resultOf};
-ghost use Rattle.run.specs.Limits.{AREA, VARIABLES, CONSTRAINTS, SUM-ROWS};
+ghost use Rattle.run.specs.Limits.{AREA, CONSTRAINTS};
 ghost use Rattle.run.specs.Area.{Memory};
 ghost use Rattle.run.specs.Residuals.{linearizedAt, squaredOf, transposedAt, sumSquared, violationOf};
 ghost use Rattle.run.specs.Residuals.{predictedOf, dependsOn, movingOf};
-ghost use Rattle.run.specs.Rows.{rowsIn, sumOf, valueAt, constraintsOf, evaluationOf};
+ghost use Rattle.run.specs.Rows.{rowsIn, sumOf, valueAt, constraintsOf, evaluationOf, rowCounts};
 ghost use Rattle.run.specs.Vectors.{fillTo, chosenOf};
 ghost use Rattle.run.specs.program.Area.{Holds};
-ghost use Rattle.run.specs.program.Rows.{Small};
+ghost use Rattle.run.specs.program.Rows.{Small, FewRows};
 use crate::area;
+use crate::rows::RowCounts;
 use crate::rows::RowSet;
 use crate::rows::constraints;
+use crate::rows::row_counts;
 use crate::rows::slope_of;
 use crate::rows::slopes_of;
 use crate::rows::sum;
@@ -60,11 +62,11 @@ pub fn transposed_at(xs: &[f64], e: RowSet, w: &[f64], j: usize) -> Scalar
 }
 
 // f of a point, from its rows.
-pub fn sum_squared(xs: &[f64], n: usize, m: usize, s: usize) -> Scalar
-    requires { ⌜ (n ≤ VARIABLES) × ((m ≤ CONSTRAINTS) × (s ≤ SUM-ROWS)) ⌝ }
-    ensures { λ r. ⌜ r ≡ sumSquared (sumOf n m s (now (xs .entry))) ⌝ }
+pub fn sum_squared(xs: &[f64], c: RowCounts) -> Scalar
+    requires { ⌜ FewRows c ⌝ }
+    ensures { λ r. ⌜ r ≡ sumSquared (sumOf c (now (xs .entry))) ⌝ }
 {
-    squared(xs, sum(n, m, s), xs, 0)
+    squared(xs, sum(c), xs, 0)
 }
 
 // Writes all values, from the start of `out` on.
@@ -100,13 +102,13 @@ pub fn chosen_slopes(xs: &[f64], e: RowSet, out: &mut [f64])
 }
 
 // The violation of a point, from its rows.
-pub fn violation(xs: &[f64], n: usize, m: usize) -> LinearResult
-    requires { ⌜ (m ≤ CONSTRAINTS) × (2 * m ≤ length (now xs)) ⌝ }
-    ensures { λ r. ⌜ resultOf r ≡ violationOf (constraintsOf n m (now (xs .entry))) ⌝ }
+pub fn violation(xs: &[f64], c: RowCounts) -> LinearResult
+    requires { ⌜ (c .m ≤ CONSTRAINTS) × (2 * c .m ≤ length (now xs)) ⌝ }
+    ensures { λ r. ⌜ resultOf r ≡ violationOf (constraintsOf c (now (xs .entry))) ⌝ }
 {
-    let mut c = [0.0; 24];
-    values(xs, constraints(n, m), &mut c);
-    norm_of(&c, m)
+    let mut out = [0.0; 24];
+    values(xs, constraints(c), &mut out);
+    norm_of(&out, c.m)
 }
 
 // Writes all rows linearized, from the start of `out` on.
@@ -122,13 +124,13 @@ fn linearized(xs: &[f64], e: RowSet, delta: &[f64], d: usize, out: &mut [f64])
 }
 
 // The violation that a step leads to, to first order.
-pub fn predicted(xs: &[f64], n: usize, m: usize, delta: &[f64]) -> LinearResult
-    requires { ⌜ (n ≤ VARIABLES) × (m ≤ CONSTRAINTS) ⌝ }
-    ensures { λ r. ⌜ resultOf r ≡ predictedOf (constraintsOf n m (now (xs .entry))) (now (delta .entry)) ⌝ }
+pub fn predicted(xs: &[f64], c: RowCounts, delta: &[f64]) -> LinearResult
+    requires { ⌜ FewRows c ⌝ }
+    ensures { λ r. ⌜ resultOf r ≡ predictedOf (constraintsOf c (now (xs .entry))) (now (delta .entry)) ⌝ }
 {
     let mut out = [0.0; 24];
-    linearized(xs, constraints(n, m), delta, n, &mut out);
-    norm_of(&out, m)
+    linearized(xs, constraints(c), delta, c.n, &mut out);
+    norm_of(&out, c.m)
 }
 
 // Whether some slope by variable j is definitely not zero.
@@ -146,25 +148,26 @@ pub fn depends_on(xs: &[f64], e: RowSet, j: usize) -> bool
 }
 
 // Whether some residual definitely depends on variable j.
-fn moves(xs: &[f64], n: usize, m: usize, s: usize, j: usize) -> bool
-    requires { ⌜ (n ≤ VARIABLES) × ((m ≤ CONSTRAINTS) × ((s ≤ SUM-ROWS) × (j < 65536))) ⌝ }
+fn moves(xs: &[f64], c: RowCounts, j: usize) -> bool
+    requires { ⌜ FewRows c × (j < 65536) ⌝ }
     ensures { λ r. ⌜ r
-        ≡ dependsOn (sumOf n m s (now (xs .entry))) j || dependsOn (constraintsOf n m (now (xs .entry))) j ⌝ }
+        ≡ dependsOn (sumOf c (now (xs .entry))) j || dependsOn (constraintsOf c (now (xs .entry))) j ⌝ }
 {
-    if depends_on(xs, sum(n, m, s), j) {
+    if depends_on(xs, sum(c), j) {
         return true;
     }
-    depends_on(xs, constraints(n, m), j)
+    depends_on(xs, constraints(c), j)
 }
 
 // Marks of the variables that some residual definitely depends on.
-pub fn moving(xs: &[f64], n: usize, m: usize, s: usize) -> [bool; 12]
-    requires { ⌜ (n ≤ VARIABLES) × ((m ≤ CONSTRAINTS) × (s ≤ SUM-ROWS)) ⌝ }
-    ensures { λ r. ⌜ r ≡ movingOf n (evaluationOf n m s (now (xs .entry))) ⌝ }
+pub fn moving(xs: &[f64], c: RowCounts) -> [bool; 12]
+    requires { ⌜ FewRows c ⌝ }
+    ensures { λ r. ⌜ r ≡ movingOf (c .n) (evaluationOf c (now (xs .entry))) ⌝ }
 {
+    let n = c.n;
     let mut marks = [false; 12];
     for j in 0..n {
-        marks[j] = moves(xs, n, m, s, j);
+        marks[j] = moves(xs, c, j);
     }
     marks
 }
@@ -173,16 +176,16 @@ pub fn moving(xs: &[f64], n: usize, m: usize, s: usize) -> [bool; 12]
 pub fn standing_violation(z: Sizes, area: &[f64]) -> LinearResult
     requires { ⌜ (z .m ≤ CONSTRAINTS) × (length (now area) ≡ AREA) ⌝ }
     ensures { λ r. ⌜ ((w : Memory) → Holds w (now (area .entry)) →
-        resultOf r ≡ violationOf (constraintsOf (z .n) (z .m) (w .standingRows))) ⌝ }
+        resultOf r ≡ violationOf (constraintsOf (rowCounts z) (w .standingRows))) ⌝ }
 {
-    violation(area::standing_rows(area), z.n, z.m)
+    violation(area::standing_rows(area), row_counts(z))
 }
 
 // The violation of the landed point, from its rows in the area.
 pub fn landed_violation(z: Sizes, area: &[f64]) -> LinearResult
     requires { ⌜ (z .m ≤ CONSTRAINTS) × (length (now area) ≡ AREA) ⌝ }
     ensures { λ r. ⌜ ((w : Memory) → Holds w (now (area .entry)) →
-        resultOf r ≡ violationOf (constraintsOf (z .n) (z .m) (w .landedRows))) ⌝ }
+        resultOf r ≡ violationOf (constraintsOf (rowCounts z) (w .landedRows))) ⌝ }
 {
-    violation(area::landed_rows(area), z.n, z.m)
+    violation(area::landed_rows(area), row_counts(z))
 }

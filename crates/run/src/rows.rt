@@ -4,9 +4,9 @@ ghost use Prim.Native.Nat.{_≤_, _+_, _*_, _<_};
 ghost use mathlib.Core.Path.{_≡_};
 ghost use lib.ListN.{drop};
 ghost use Rattle.linear.specs.Flat.{at};
-ghost use Rattle.run.specs.Limits.{VARIABLES, CONSTRAINTS, SUM-ROWS};
+ghost use Rattle.run.specs.Limits.{VARIABLES};
 ghost use Rattle.run.specs.Rows.{rowCounts, constraintSet, sumSet, rowsIn, valueAt, slopeAt};
-ghost use Rattle.run.specs.program.Rows.{Small};
+ghost use Rattle.run.specs.program.Rows.{Small, FewRows};
 use crate::state::Sizes;
 use interval::Scalar;
 use linear::along;
@@ -38,28 +38,28 @@ pub struct RowSet {
 }
 
 // The constraints' rows, which come first.
-pub fn constraints(n: usize, m: usize) -> RowSet
-    ensures { λ r. ⌜ r ≡ constraintSet n m ⌝ }
+pub fn constraints(c: RowCounts) -> RowSet
+    ensures { λ r. ⌜ r ≡ constraintSet c ⌝ }
 {
     RowSet {
-        n,
-        count: m,
+        n: c.n,
+        count: c.m,
         values: 0,
-        slopes: m,
+        slopes: c.m,
     }
 }
 
 // The sum's rows, behind the constraints'.
-pub fn sum(n: usize, m: usize, s: usize) -> RowSet
-    requires { ⌜ (n ≤ VARIABLES) × ((m ≤ CONSTRAINTS) × (s ≤ SUM-ROWS)) ⌝ }
-    ensures { λ r. ⌜ r ≡ sumSet n m s ⌝ }
+pub fn sum(c: RowCounts) -> RowSet
+    requires { ⌜ FewRows c ⌝ }
+    ensures { λ r. ⌜ r ≡ sumSet c ⌝ }
 {
-    let values = m * (n + 1);
+    let values = c.m * (c.n + 1);
     RowSet {
-        n,
-        count: s,
+        n: c.n,
+        count: c.s,
         values,
-        slopes: values + s,
+        slopes: values + c.s,
     }
 }
 

@@ -11,7 +11,7 @@ ghost use Rattle.linear.specs.LinearResult.{doneOf};
 ghost use Rattle.linear.specs.Flat.{zeros};
 ghost use Rattle.run.specs.Limits.{VARIABLES, CONSTRAINTS};
 ghost use Rattle.run.specs.Reduced.{pullOf};
-ghost use Rattle.run.specs.Rows.{rowsIn, valueAt, evaluationBy};
+ghost use Rattle.run.specs.Rows.{rowsIn, valueAt, evaluationOf};
 ghost use Rattle.run.specs.Step.{freeStep, keptStep, stepOf};
 ghost use Rattle.run.specs.Vectors.{vector, allFinite};
 ghost use Rattle.run.specs.program.Basis.{basisBy, ForPreparing};
@@ -262,7 +262,7 @@ pub fn prepare(
 ) -> Prepared
     requires { ⌜ FewRows c × (length (now moving) ≡ 12) × (now order ≡ replicate 24 0) ×
         (now fixed ≡ zeros FIXED-LEN) ⌝ }
-    ensures { λ x. ⌜ PreparedFor (c .n) (evaluationBy c (now (rows .entry))) (now (b .entry)) (now (moving .entry))
+    ensures { λ x. ⌜ PreparedFor (c .n) (evaluationOf c (now (rows .entry))) (now (b .entry)) (now (moving .entry))
         x (now (order .exit)) (now (fixed .exit)) ⌝ }
 {
     let mut index = [0; 12];
@@ -285,7 +285,7 @@ pub fn prepare(
         &wide,
         &jc,
         rows,
-        constraints(c.n, c.m),
+        constraints(c),
         order,
         &mut fixed[FACTORS_AT..FIXED_LEN],
     )
@@ -398,7 +398,7 @@ pub fn step(
 ) -> StepEnd
     requires { ⌜ FewRows c × (length (now moving) ≡ 12) × StepLengths (now delta) (now lambda) ⌝ }
     ensures { λ r. ⌜ endOf r (now (delta .exit)) (now (lambda .exit))
-        ≡ stepOf (c .n) (evaluationBy c (now (rows .entry))) (now (b .entry)) (now (moving .entry)) mu ⌝ }
+        ≡ stepOf (c .n) (evaluationOf c (now (rows .entry))) (now (b .entry)) (now (moving .entry)) mu ⌝ }
 {
     let mut order = [0; 24];
     let mut fixed = [0.0; FIXED_LEN];

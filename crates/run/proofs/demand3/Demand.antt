@@ -12,7 +12,7 @@ use lib.Ieee.{Float}
 use lib.ListN.{length, take, length-replicate}
 use Rattle.interval.specs.declared.Scalar.{Scalar}
 use Rattle.interval.specs.Scalar.{zero64}
-use Rattle.run.specs.Rows.{rowNumbers}
+use Rattle.run.specs.Rows.{rowNumbers, rowCounts}
 use Rattle.run.specs.Area.{POINT-LEN, ROWS-LEN, CURVATURE-LEN, FILTER-LEN, ASKED-AT, begunMemory, areaOf}
 use Rattle.run.specs.Limits.{AREA}
 use Rattle.run.specs.Calls.{AfterCall, unchanged, beginOf, replyOpen, replyOf, noneOpen, replyNoneOf}
@@ -152,7 +152,7 @@ module _ (law : ExactLaws) (h : History) (r : Run) (v : Inv (r .state .sizes) h 
   rows-open xs f (Open k) q =
       let z = r .state .sizes in
       let fits = eqb (length (r .area)) AREA in
-      let count = rowNumbers (z .n) (z .m) (z .s) in
+      let count = rowNumbers (rowCounts z) in
       checked (Ends (rows same xs f)) (fits && eqb (length xs) count) 2 (unchanged (r .state) (r .area)) _
       (refused-same (rows same xs f) 2)
       (λ lengths.
@@ -181,7 +181,7 @@ module _ (law : ExactLaws) (h : History) (r : Run) (v : Inv (r .state .sizes) h 
   rows-other a xs f x Over = refused-other (rows (other a) xs f) a 4
   rows-other a xs f x (Open k) =
       let z = r .state .sizes in
-      let count = rowNumbers (z .n) (z .m) (z .s) in
+      let count = rowNumbers (rowCounts z) in
       let fits = eqb (length a) AREA in
       let long = eqb (length xs) count in
       checked (EndsOther (rows (other a) xs f)) (fits && long) 2 (unchanged (r .state) a) _

@@ -14,7 +14,7 @@ use Rattle.interval.specs.Scalar.{subOf, definitelyLess}
 use Rattle.linear.specs.Squares as squares
 use Rattle.linear.specs.Squares.{squaresTo, Chosen}
 use Rattle.linear.proofs.SquareLaws.{chosen-rescaled}
-use Rattle.run.specs.Rows.{Rows, rowNumbers, valueAt, constraintsOf, sumOf}
+use Rattle.run.specs.Rows.{Rows, rowNumbers, valueAt, constraintsOf, sumOf, rowCounts}
 use Rattle.run.specs.Residuals.{sumSquared, violationOf}
 use Rattle.run.specs.Judgement.{sumChange, rises}
 use Rattle.run.specs.Demand.{Falls}
@@ -37,9 +37,9 @@ falls-each e e′ h p q j k c a b =
 
 -- rows as they are answered: of the right length, with finite values
 pub record Good (z : Sizes) (xs : List Float) : Type 0 where
-  pub size : length xs ≡ rowNumbers (z .n) (z .m) (z .s)
-  pub constraints-finite : FiniteRows (constraintsOf (z .n) (z .m) xs)
-  pub sum-finite : FiniteRows (sumOf (z .n) (z .m) (z .s) xs)
+  pub size : length xs ≡ rowNumbers (rowCounts z)
+  pub constraints-finite : FiniteRows (constraintsOf (rowCounts z) xs)
+  pub sum-finite : FiniteRows (sumOf (rowCounts z) xs)
 
 pub record ExactLaws : Type 0 where
   pub change-falls : (e e′ : Rows) → e .count ≡ e′ .count → FiniteRows e → FiniteRows e′ → T (rises (sumChange e e′))

@@ -11,7 +11,7 @@ use lib.Ieee.{Float}
 use lib.ListN.{length, take}
 use Rattle.interval.specs.declared.Scalar.{Scalar}
 use Rattle.interval.specs.Result.{ok}
-use Rattle.run.specs.Rows.{constraintsOf, sumOf}
+use Rattle.run.specs.Rows.{constraintsOf, sumOf, rowCounts}
 use Rattle.run.specs.Residuals.{sumSquared, violationOf}
 use Rattle.run.specs.Filter.{filterSum, filterViolation}
 use Rattle.run.specs.Area.{ROWS-LEN, Memory, memoryOf, padded}
@@ -69,8 +69,8 @@ pub record Slot (z : Sizes) (given : AnsweredRows) (slot : List Float) : Type 0 
 -- the i-th pair is f and the violation of those rows
 pub record Pair (z : Sizes) (given : AnsweredRows) (filter : List Float) (i : ℕ) : Type 0 where
   pub rowed : FittingRows z given
-  pub pair-sum : filterSum filter i ≡ sumSquared (sumOf (z .n) (z .m) (z .s) (rowed .rows))
-  pub pair-violation : violationOf (constraintsOf (z .n) (z .m) (rowed .rows)) ≡ ok (filterViolation filter i)
+  pub pair-sum : filterSum filter i ≡ sumSquared (sumOf (rowCounts z) (rowed .rows))
+  pub pair-violation : violationOf (constraintsOf (rowCounts z) (rowed .rows)) ≡ ok (filterViolation filter i)
 
 -- a pair for each number that stood before, the last one first
 abbrev pub Pairs : Sizes → (ℕ → AnsweredRows) → List Float → List ℕ → Type 0

@@ -11,7 +11,7 @@ use Rattle.interval.specs.declared.Scalar.{Scalar}
 use Rattle.interval.specs.Result.{ok}
 use Rattle.interval.specs.Scalar.{subOf, definitelyLess}
 use Rattle.interval.proofs.Given.{yes}
-use Rattle.run.specs.Rows.{Rows, constraintsOf, sumOf}
+use Rattle.run.specs.Rows.{Rows, constraintsOf, sumOf, rowCounts}
 use Rattle.run.specs.Residuals.{sumSquared, violationOf}
 use Rattle.run.specs.Vectors.{allTo}
 use Rattle.run.specs.Judgement.{sumChange, rises, indefinite}
@@ -32,10 +32,10 @@ of-rows P {x} {y} {xs} {ys} e e′ p =
 
 -- the sum's rows and the constraints' of an answer
 abbrev pub sums : Sizes → List Float → Rows
-sums z xs = sumOf (z .n) (z .m) (z .s) xs
+sums z xs = sumOf (rowCounts z) xs
 
 abbrev pub constraints : Sizes → List Float → Rows
-constraints z xs = constraintsOf (z .n) (z .m) xs
+constraints z xs = constraintsOf (rowCounts z) xs
 
 module _ (law : ExactLaws) (z : Sizes) (xs ys : List Float) (gx : Good z xs) (gy : Good z ys) (theta theta′ : Scalar)
     (e : violationOf (constraints z xs) ≡ ok theta) (e′ : violationOf (constraints z ys) ≡ ok theta′) where

@@ -13,7 +13,7 @@ use Rattle.run.specs.Limits.{VARIABLES, CONSTRAINTS, SUM-ROWS, ITERATION
 use Rattle.run.specs.Area.{Memory, areaOf, SIZES, padded, startOf, POINT-LEN, ROWS-LEN, CURVATURE-LEN, FILTER-LEN}
 use Rattle.run.specs.Curvature.{curvatureEntries}
 use Rattle.run.specs.Residuals.{violationOf}
-use Rattle.run.specs.Rows.{rowNumbers, constraintsOf}
+use Rattle.run.specs.Rows.{rowNumbers, constraintsOf, rowCounts}
 use Rattle.run.specs.declared.state.Sizes.{Sizes}
 use Rattle.run.specs.declared.state.State.{State}
 
@@ -65,7 +65,7 @@ pub record SlotsZeroBehind (used : List ℕ) (w : Memory) : Type 0 where
 -- every slot in use, as while a correction is open
 abbrev pub allUsed : Sizes → ℕ → List ℕ
 allUsed z iterations =
-    let rows = rowNumbers (z .n) (z .m) (z .s) in
+    let rows = rowNumbers (rowCounts z) in
     let point = 2 * z .n in
     let entries = 2 * curvatureEntries (z .n) in
     point ∷ point ∷ point ∷ rows ∷ rows ∷ point ∷ 2 * z .m ∷ entries ∷ 4 * iterations ∷ []
@@ -87,24 +87,20 @@ Working st w a = Uses (allUsed (st .sizes) (st .counts .iterations)) w a
 pub record WithStanding (z : Sizes) (iterations : ℕ) (standing : Res Scalar) (w : Memory)
     (a : List Float) : Type 0 where
   pub uses : Uses (allUsed z iterations) w a
-  pub standing-is : standing ≡ violationOf (constraintsOf (z .n) (z .m) (w .standingRows))
+  pub standing-is : standing ≡ violationOf (constraintsOf (rowCounts z) (w .standingRows))
 
 -- and that of the landed point
 pub record WithViolations (z : Sizes) (iterations : ℕ) (theta : Scalar) (landed : Res Scalar) (w : Memory)
     (a : List Float) :
     Type 0 where
   pub measured : WithStanding z iterations (ok theta) w a
-  pub landed-is : landed ≡ violationOf (constraintsOf (z .n) (z .m) (w .landedRows))
+  pub landed-is : landed ≡ violationOf (constraintsOf (rowCounts z) (w .landedRows))
 
 abbrev pub StandingKnown : State → Res Scalar → Memory → List Float → Type 0
 StandingKnown st standing w a = WithStanding (st .sizes) (st .counts .iterations) standing w a
 
 abbrev pub ViolationsKnown : State → Scalar → Res Scalar → Memory → List Float → Type 0
 ViolationsKnown st theta landed w a = WithViolations (st .sizes) (st .counts .iterations) theta landed w a
-
--- sizes whose rows fit their slot
-abbrev pub RowLimits : Sizes → Type 0
-RowLimits z = (z .n ≤ VARIABLES) × ((z .m ≤ CONSTRAINTS) × (z .s ≤ SUM-ROWS))
 
 -- sizes and iterations whose numbers in use fit the slots
 pub record Limits (z : Sizes) (iterations : ℕ) : Type 0 where

@@ -10,7 +10,7 @@ use Rattle.interval.specs.Scalar.{pick}
 use Rattle.interval.specs.declared.Scalar.{Scalar}
 use Rattle.run.specs.Checks.{sizesFit, stepFits, valid, allInDomain}
 use Rattle.run.specs.Limits.{AREA}
-use Rattle.run.specs.Rows.{rowNumbers}
+use Rattle.run.specs.Rows.{rowNumbers, rowCounts}
 use Rattle.run.specs.declared.checks.Checked.{Checked}
 use Rattle.run.specs.declared.checks.Checked.the-variants.{Refuse, Accept}
 use Rattle.run.specs.declared.state.Kind.{Kind}
@@ -39,7 +39,7 @@ checkOf st area = pick (valid st) (checkOpen area (st .phase)) (Refuse 4)
 
 abbrev pub rowsCheck : Sizes → List Float → Kind → Checked
 rowsCheck z rows k =
-    pick (eqb (length rows) (rowNumbers (z .n) (z .m) (z .s)))
+    pick (eqb (length rows) (rowNumbers (rowCounts z)))
     (pick (allInDomain rows ((z .m + z .s) * (z .n + 1))) (Accept k) (Refuse 3)) (Refuse 2)
 
 abbrev pub thenRows : Sizes → List Float → Checked → Checked

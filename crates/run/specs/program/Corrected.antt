@@ -1,6 +1,6 @@
 -- For private functions: what a shift and the answer to a trial are given, what a shift answers, and whether a
 -- correction is nearer the constraints.
-use Prim.Native.Nat.{ℕ, _≤_}
+use Prim.Native.Nat.{ℕ}
 use mathlib.Core.Bool.{Bool}
 use mathlib.Core.List.{List}
 use mathlib.Core.Path.{_≡_}
@@ -11,25 +11,26 @@ use Rattle.interval.specs.declared.Scalar.{Scalar}
 use Rattle.linear.specs.LinearResult.{numberOf}
 use Rattle.linear.specs.Results.{bind}
 use Rattle.run.specs.Corrected.{Shift, to, stay}
-use Rattle.run.specs.Limits.{AREA, VARIABLES, CONSTRAINTS}
-use Rattle.run.specs.Rows.{rowNumbers}
+use Rattle.run.specs.Limits.{AREA, VARIABLES}
+use Rattle.run.specs.Rows.{rowNumbers, rowCounts}
 use Rattle.run.specs.program.Endings.{Underway}
+use Rattle.run.specs.program.Rows.{FewRows}
 use Rattle.run.specs.declared.corrected.Shifted.{Shifted}
 use Rattle.run.specs.declared.corrected.Shifted.the-variants as shifted
+use Rattle.run.specs.declared.rows.RowCounts.{RowCounts}
 use Rattle.run.specs.declared.state.State.{State}
 
 -- ---- counts and lengths
 
--- n variables and m constraints within the limits, and a mark for each variable that there may be
-pub record MarkedCounts (n m moving : ℕ) : Type 0 where
-  pub few-variables : n ≤ VARIABLES
-  pub few-constraints : m ≤ CONSTRAINTS
+-- counts within the limits, and a mark for each variable that there may be
+pub record MarkedCounts (c : RowCounts) (moving : ℕ) : Type 0 where
+  pub few : FewRows c
   pub marks : moving ≡ VARIABLES
 
 -- the area and an answer's rows have their lengths, and a trial or a correction is open
 pub record RowsToLand (st : State) (area rows : ℕ) : Type 0 where
   pub whole-area : area ≡ AREA
-  pub whole-rows : rows ≡ rowNumbers (st .sizes .n) (st .sizes .m) (st .sizes .s)
+  pub whole-rows : rows ≡ rowNumbers (rowCounts (st .sizes))
   pub underway : Underway st
 
 -- ---- what is answered

@@ -13,22 +13,21 @@ use Rattle.linear.specs.Results.{bind}
 use Rattle.linear.specs.Solved.{gramFactorOf}
 use Rattle.run.specs.Area.{POINT-LEN}
 use Rattle.run.specs.Curvature.{alongOf, updatedBy}
-use Rattle.run.specs.Limits.{VARIABLES, CONSTRAINTS}
 use Rattle.run.specs.Rows.{Rows}
+use Rattle.run.specs.program.Rows.{FewRows}
+use Rattle.run.specs.declared.rows.RowCounts.{RowCounts}
 
 -- ---- counts and lengths
 
--- n variables and m constraints, a vector that has a number for each variable, and a slice for as many
-pub record AlongLengths (n m v out : ℕ) : Type 0 where
-  pub few-variables : n ≤ VARIABLES
-  pub few-constraints : m ≤ CONSTRAINTS
-  pub enough : 2 * n ≤ v
-  pub values : out ≡ 2 * n
+-- counts within the limits, a vector that has a number for each variable, and a slice for as many
+pub record AlongLengths (c : RowCounts) (v out : ℕ) : Type 0 where
+  pub few : FewRows c
+  pub enough : 2 * c .n ≤ v
+  pub values : out ≡ 2 * c .n
 
 -- the same counts, with y and a step
-pub record UpdateLengths (n m y step : ℕ) : Type 0 where
-  pub few-variables : n ≤ VARIABLES
-  pub few-constraints : m ≤ CONSTRAINTS
+pub record UpdateLengths (c : RowCounts) (y step : ℕ) : Type 0 where
+  pub few : FewRows c
   pub y-is : y ≡ POINT-LEN
   pub step-is : step ≡ POINT-LEN
 

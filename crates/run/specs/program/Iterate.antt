@@ -25,7 +25,7 @@ abbrev pub searchOrigin : State → List Float → Scalar → Origin
 searchOrigin st a theta =
     let c = rowCounts (st .sizes) in
     record {
-      point = record { counts = c; f = sumSquared (sumOf (c .n) (c .m) (c .s) (rowsOf a)); theta = theta };
+      point = record { counts = c; f = sumSquared (sumOf c (rowsOf a)); theta = theta };
       moving = st .moving;
       plain = st .search .plain;
       «max_step» = st .«max_step»;

@@ -11,7 +11,7 @@ use Rattle.linear.specs.LinearResult.{numberOf}
 use Rattle.run.specs.Area.{POINT-LEN, ROWS-LEN, CURVATURE-LEN, STANDING-AT, STANDING-ROWS-AT, CURVATURE-AT}
 use Rattle.run.specs.Area.{SPARE-AT}
 use Rattle.run.specs.Proposal.{Standing, Proposal, noChange, ask, notPositive, noDrop, unresolved}
-use Rattle.run.specs.Rows.{Evaluation, evaluationBy, Rows}
+use Rattle.run.specs.Rows.{Evaluation, evaluationOf, Rows}
 use Rattle.run.specs.Vectors.{movedOf}
 use Rattle.run.specs.program.Step.{PreparedFor}
 use Rattle.run.specs.declared.proposal.Proposal as declared
@@ -29,7 +29,7 @@ standingWith n x e f theta b moving = record { n = n; x = x; e = e; f = f; theta
 -- by its numbers, with its rows and its curvature, the point x and the moving marks
 abbrev pub standingFor : StandingPoint → List Float → List Float → List Float → List Bool → Standing
 standingFor z rows b x moving =
-    standingWith (z .counts .n) x (evaluationBy (z .counts) rows) (z .f) (z .theta) b moving
+    standingWith (z .counts .n) x (evaluationOf (z .counts) rows) (z .f) (z .theta) b moving
 
 -- one of which only some parts are read: all but the moving marks; the model; the point and the constraints
 abbrev pub stillFor : StandingPoint → List Float → List Float → List Float → Standing
@@ -60,7 +60,7 @@ curvatureFor plain a = take CURVATURE-LEN (drop (pick plain SPARE-AT CURVATURE-A
 abbrev pub PreparedAt : Origin → List Float → Prepared → List ℕ → List Float → Type 0
 PreparedAt z a x order fixed =
     let c = z .point .counts in
-    PreparedFor (c .n) (evaluationBy c (rowsOf a)) (curvatureFor (z .plain) a) (z .moving) x order fixed
+    PreparedFor (c .n) (evaluationOf c (rowsOf a)) (curvatureFor (z .plain) a) (z .moving) x order fixed
 
 -- what it stands on, and where a step leads
 abbrev pub standingIn : Origin → List Float → Standing

@@ -14,14 +14,14 @@ add-result-2 c = search needs
 mul-result : tie.Need-mul-result
 mul-result c =
     let p = c .before .before .pre in
-    let z = c .before .before .args .z in
-    omega (arith, few-scalars {n = z .n} {m = z .m} {s = z .s} (p .0) (p .1 .0) (p .1 .1))
+    let k = c .before .before .args .c in
+    omega (arith, few-scalars {n = k .n} {m = k .m} {s = k .s} (p .few-variables) (p .few-constraints) (p .few-sums))
 
 mul-result-2 : tie.Need-mul-result-2
 mul-result-2 c =
     let p = c .before .before .pre in
-    let z = c .before .before .args .z in
-    omega (arith, few-scalars {n = z .n} {m = z .m} {s = z .s} (p .0) (p .1 .0) (p .1 .1))
+    let k = c .before .before .args .c in
+    omega (arith, few-scalars {n = k .n} {m = k .m} {s = k .s} (p .few-variables) (p .few-constraints) (p .few-sums))
 
 returns : tie.Need-returns
 returns c = search needs

@@ -27,7 +27,7 @@ row-numbers-requires c κs = c .before .before .before .before .before .before .
 copy-requires-2 : tie.Need-copy-requires-2
 copy-requires-2 c κs =
     let s = c .before .before .before .before .before .before .before .before in
-    let rows = few-rows (s .args .z) (s .pre .1 .0) (c .row-numbers .ensures) in (
+    let rows = few-rows (s .args .c) (s .pre .1 .0) (c .row-numbers .ensures) in (
       omega (arith, rows),
       room 1008 936 rows (omega arith) (omega (
         arith,
@@ -39,12 +39,20 @@ copy-requires-2 c κs =
 mul-entries : tie.Need-mul-entries
 mul-entries c =
     let s = c .before .before .before .before .before .before .before .before .before .before .before .before in
-    omega (arith, few {m = s .args .z .n} {n = s .args .z .n} (s .pre .1 .0 .0) (s .pre .1 .0 .0))
+    omega (
+      arith,
+      few {m = s .args .c .n} {n = s .args .c .n} (s .pre .1 .0 .few-variables)
+          (s .pre .1 .0 .few-variables),
+    )
 
 mul-entries-2 : tie.Need-mul-entries-2
 mul-entries-2 c =
     let s = c .before .before .before .before .before .before .before .before .before .before .before .before in
-    omega (arith, few {m = s .args .z .n} {n = s .args .z .n} (s .pre .1 .0 .0) (s .pre .1 .0 .0))
+    omega (
+      arith,
+      few {m = s .args .c .n} {n = s .args .c .n} (s .pre .1 .0 .few-variables)
+          (s .pre .1 .0 .few-variables),
+    )
 
 sub-place : tie.Need-sub-write
 sub-place c = search needs
@@ -55,14 +63,19 @@ part-place-start c = search needs
 part-place-end : tie.Need-part-write-end
 part-place-end c =
     let s = c .before .before .before .before .before .before .before .before .before .before .before .before .before in
-    omega (arith, few {m = s .args .z .n} {n = s .args .z .n} (s .pre .1 .0 .0) (s .pre .1 .0 .0), s .pre .1 .1 .0)
+    omega (
+      arith,
+      few {m = s .args .c .n} {n = s .args .c .n} (s .pre .1 .0 .few-variables)
+          (s .pre .1 .0 .few-variables),
+      s .pre .1 .1 .0,
+    )
 
 write-requires : tie.Need-write-requires
 write-requires c κs =
     let s = c .before .before .before .before .before .before .before .before .before .before .before .before .before
     .before in
-    let n = s .args .z .n in
-    let fit = few {m = s .args .z .n} {n = s .args .z .n} (s .pre .1 .0 .0) (s .pre .1 .0 .0) in
+    let n = s .args .c .n in
+    let fit = few {m = s .args .c .n} {n = s .args .c .n} (s .pre .1 .0 .few-variables) (s .pre .1 .0 .few-variables) in
     let cut = cut-length (2 * (n * n) - 0) 0 (s .args .curvature .now) (omega (arith, fit, s .pre .1 .1 .0)) in
     omega (
       arith,
@@ -98,7 +111,7 @@ returns c w h t u b₀ b₁ =
     let a = s .args in
     let e = c .before .before .before .before .before .before .before .before .before .before .before .before .before
     .row-numbers .ensures in
-    let rows = few-rows (a .z) (s .pre .1 .0) e in
+    let rows = few-rows (a .c) (s .pre .1 .0) e in
     let h₁ = copied (slots-of h) 0 1 (omega arith) (omega arith) refl
     (c .before .before .before .before .before .before .before .before .before .before .before .before .before .before
     .before .before .before .copy .ensures) in
@@ -106,8 +119,8 @@ returns c w h t u b₀ b₁ =
     .before .before .before .row-numbers .result) (omega arith) (omega arith) refl rows (rows-as e t)
     (rows-as e u) (c .before .before .before .before .before .before .before .before .before .before .before .before
     .copy2 .ensures) in
-    let entries = 2 * (a .z .n * a .z .n) in
-    let fit = few {m = s .args .z .n} {n = s .args .z .n} (s .pre .1 .0 .0) (s .pre .1 .0 .0) in
+    let entries = 2 * (a .c .n * a .c .n) in
+    let fit = few {m = s .args .c .n} {n = s .args .c .n} (s .pre .1 .0 .few-variables) (s .pre .1 .0 .few-variables) in
     let whole : entries - 0 ≡ entries = omega arith in
     let before : List Float = c .before .before .before .before .before .before .before .before .before .before .before
     .before .copy2 .last .0 in

@@ -28,7 +28,7 @@ row-numbers-requires c κs =
 clear-from-requires-2 : tie.Need-clear-from-requires-2
 clear-from-requires-2 c κs =
     let s = c .before .before .before .before .before .before .before .before .before .before .before .before .before in
-    room 1008 936 (few-rows (s .args .z) (s .pre .1 .0) (c .row-numbers .ensures)) (omega arith)
+    room 1008 936 (few-rows (s .args .c) (s .pre .1 .0) (c .row-numbers .ensures)) (omega arith)
     (omega (
       arith,
       c .before .before .before .before .clear-from .kept,
@@ -53,10 +53,10 @@ returns c w h t =
     let a = s .args in
     let e = c .before .before .before .before .before .before .before .before .before .before .before .row-numbers
     .ensures in
-    let next = movedOf (a .z .n) (w .standing) (a .delta .now) in
-    let read = ap (λ (x : List Float). written (a .area .now) 48 (movedOf (a .z .n) x (a .delta .now))) (standing-read
+    let next = movedOf (a .c .n) (w .standing) (a .delta .now) in
+    let read = ap (λ (x : List Float). written (a .area .now) 48 (movedOf (a .c .n) x (a .delta .now))) (standing-read
     h) in
-    let h₁ = wrote (slots-of h) 2 next (omega arith) (length-moved (a .z .n) (w .standing) (a .delta .now))
+    let h₁ = wrote (slots-of h) 2 next (omega arith) (length-moved (a .c .n) (w .standing) (a .delta .now))
     (c .before .before .before .before .before .before .before .before .before .before .before .before .before .before
     .before .before .before .before .before .write-next .ensures ∙ read) in
     let h₂ = wrote h₁ 1 (zeros 24) (omega arith) (length-clear 24)
@@ -64,7 +64,7 @@ returns c w h t =
     .before .clear-from .ensures) in
     let h₃ = cleared-first h₂ 4 (omega arith)
     (c .before .before .before .before .before .before .before .before .before .before .before .row-numbers .result)
-    (few-rows (a .z) (s .pre .1 .0) e)
+    (few-rows (a .c) (s .pre .1 .0) e)
     (rows-as e t) (c .before .before .before .before .before .before .before .before .before .before .clear-from2
     .ensures) in
     let h₄ = wrote h₃ 5 (a .delta .now) (omega arith) (s .pre .1 .1 .0)

@@ -10,7 +10,7 @@ use Rattle.run.specs.program.Endings.{Underway}
 use Rattle.run.specs.declared.state.State.{State}
 use Rattle.run.proofs.AnsweredLaws.{keep-known, keep-refused, kept-known, rows-few}
 use Rattle.run.proofs.DecideLaws.{marks-count, shift-read, landed-again, withStep, stepped}
-use Rattle.run.proofs.ZeroBehind.{limits-of, judges-as, compares}
+use Rattle.run.proofs.ZeroBehind.{limits-of, judges-as, compares, rows-of}
 use Rattle.run.proofs.AreaRead.{violation-padded}
 use Rattle.run.proofs.ZeroBehindKept.{shifts, lands}
 use borrow.Author.Needs.{needs}
@@ -21,24 +21,23 @@ use Rattle.run.proofs.corrected.keep.Tie as tie
 marks : (s : tie.Start) → length (s .args .st .moving) ≡ 12
 marks s = marks-count (s .args .st .moving) (s .good .0 .1 .1 .1 .1 .1 .1 .1 .1 .1 .0 .1 .0 .1)
 
+row-counts-requires : tie.Need-row-counts-requires
+row-counts-requires c κs = search needs
+
 landed-rows-requires : tie.Need-landed-rows-requires
 landed-rows-requires c κs = search needs
 
 slice-aggregate-shift : tie.Need-slice-aggregate-shift
-slice-aggregate-shift c = sym (marks (c .before .before .before .before .before .before))
+slice-aggregate-shift c = sym (marks (c .before .before .before .before .before .before .before))
 
 slice-aggregate-shift-2 : tie.Need-slice-aggregate-shift-2
 slice-aggregate-shift-2 c = search needs
 
 shift-requires : tie.Need-shift-requires
 shift-requires c κs =
-    let s = c .before .before .before .before .before .before .before in
+    let s = c .before .before .before .before .before .before .before .before in
     let b = s .pre .0 .underway .bounded in (
-      record {
-        few-variables = b .few-variables;
-        few-constraints = b .few-constraints;
-        marks = marks s;
-      },
+      record { few = rw (c .before .before .before .before .row-counts .ensures) (rows-of b); marks = marks s },
       refl,
     )
 
@@ -51,6 +50,7 @@ enum-known-shift c = search needs
 refuse-requires : tie.Need-refuse-requires
 refuse-requires c κs =
     let p = c .before .before .before .before .before .before .before .before .before .before .before .before .before
+    .before
     .pre in (p .0 .whole-area, limits-of (p .0 .underway .bounded))
 
 same-length : tie.Need-same-length
@@ -59,13 +59,15 @@ same-length c = search needs
 returns : tie.Need-returns
 returns c w h v =
     let a = c .before .before .before .before .before .before .before .before .before .before .before .before .before
-    .before .before .before .args in
+    .before .before .before .before .args in
     let x = c .before .before .before .before .before .before .before .before .shift in
     keep-refused (a .st) w (a .rows .now) (a .theta) refl
     (shift-read (a .st) w
     (c .before .before .before .before .before .before .before .before .before .before .before .landed-rows .ensures
-    .read w (h .uses .holds)) (x .ensures))
-    (ap (λ (r : Done). doneOf r (x .last .1 .1 .1 .1 .0)) (c .before .before .before .before .before .shift2 .given .1))
+    .read w (h .uses .holds))
+    (rw (c .before .before .before .before .before .before .before .before .before .before .before .before .before
+    .row-counts .ensures) at (x .ensures)))
+    (ap (λ (r : Done). doneOf r (x .last .1 .1 .1 .0)) (c .before .before .before .before .before .shift2 .given .1))
     (c .before .before .refuse .ensures w (h .uses))
 
 sub-shifted-step : tie.Need-sub-shifted-step
@@ -86,7 +88,7 @@ shifted-step-requires c κs = search needs
 write-landed-requires : tie.Need-write-landed-requires
 write-landed-requires c κs =
     let p = c .before .before .before .before .before .before .before .before .before .before .before .before .before
-    .before .before .before .before .pre in
+    .before .before .before .before .before .pre in
     (search needs, omega (arith, rows-few (p .0 .underway .bounded), p .0 .whole-rows))
 
 add-corrections : tie.Need-add-corrections
@@ -94,7 +96,7 @@ add-corrections c =
     omega (
       arith,
       c .before .before .before .before .before .before .before .before .before .before .before .before .before .before
-          .before .before .before .before .before .before .before .pre .1,
+          .before .before .before .before .before .before .before .before .pre .1,
     )
 
 with-landed-number-requires : tie.Need-with-landed-number-requires
@@ -103,7 +105,7 @@ with-landed-number-requires c κs = search needs
 correct-or-judge-requires : tie.Need-correct-or-judge-requires
 correct-or-judge-requires c κs =
     let p = c .before .before .before .before .before .before .before .before .before .before .before .before .before
-    .before .before .before .before .before .before .before .before .before .before .pre in (
+    .before .before .before .before .before .before .before .before .before .before .before .pre in (
       search needs,
       subst (λ (x : State). Underway x) (sym (c .before .with-landed-number .ensures))
           (landed-again _ (omega (arith, p .1)) (p .0 .underway)),
@@ -117,20 +119,22 @@ same-length-2 c =
       correct-or-judge-requires (c .before .before .before)
           (c .before .before .correct-or-judge .lifetimes) .0,
       c .before .before .before .before .before .before .before .before .before .before .before .before .before .before
-          .before .before .before .before .before .before .before .before .before .before .before .before .pre .0
-          .whole-area,
+          .before .before .before .before .before .before .before .before .before .before .before .before
+          .before .pre .0 .whole-area,
     )
 
 returns-2 : tie.Need-returns-2
 returns-2 c w h v =
     let a = c .before .before .before .before .before .before .before .before .before .before .before .before .before
-    .before .before .before .before .before .before .before .before .before .before .before .before .before .args in
+    .before .before .before .before .before .before .before .before .before .before .before .before .before .before
+    .args in
     let p = c .before .before .before .before .before .before .before .before .before .before .before .before .before
-    .before .before .before .before .before .before .before .before .before .before .before .before .before .pre in
+    .before .before .before .before .before .before .before .before .before .before .before .before .before .before
+    .pre in
     let z = a .st .sizes in
     let shifting = c .before .before .before .before .before .before .before .before .before .before .before .before in
     let x = shifting .before .before .before .before .before .before .shift in
-    let d = x .last .1 .1 .1 .1 .0 in
+    let d = x .last .1 .1 .1 .0 in
     let s = shiftedStep (z .n) (w .step) d in
     let t = c .before .before .before .before .with-landed-number .ensures in
     let hs = shifts (a .st) d (h .uses) (stepped (z .n) d (h .uses .holds)
@@ -144,9 +148,12 @@ returns-2 c w h v =
     (shift-read (a .st) w
     (c .before .before .before .before .before .before .before .before .before .before .before .before .before .before
     .before .before .before .before .before .before .before .landed-rows .ensures .read w (h .uses .holds))
-    (x .ensures))
-    (ap (λ (r : Done). doneOf r d) (c .before .before .before .before .before .before .before .before .before .before
-    .before .before .before .before .before .enum-told .given .1))
+    (rw (c .before .before .before .before .before .before .before .before .before .before .before .before .before
+    .before .before .before .before .before .before .before .before .before .before .row-counts .ensures) at
+    (x .ensures)))
+    (ap (λ (r : Done). doneOf r d)
+    (c .before .before .before .before .before .before .before .before .before .before .before .before .before .before
+    .before .enum-told .given .1))
     (kept-known (a .st) w (a .rows .now) (a .theta) d t
     (c .before .before .correct-or-judge .ensures (withLanded w (a .rows .now) s) (judges-as t hj)))
 
@@ -154,6 +161,7 @@ pub keep-spec : {M : Type 1} → statement M
 keep-spec =
     tie.close
     (tie.spec
+    row-counts-requires
     landed-rows-requires
     slice-aggregate-shift
     slice-aggregate-shift-2

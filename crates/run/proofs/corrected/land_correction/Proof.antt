@@ -8,6 +8,7 @@ use Rattle.run.specs.Endings.{AfterSlots}
 use Rattle.run.specs.Corrected.{keep}
 use Rattle.run.specs.Decide.{judge}
 use Rattle.run.specs.Results.{truthOf}
+use Rattle.run.specs.Rows.{rowCounts}
 use Rattle.run.proofs.AnsweredLaws.{correction-by, nearer-read, rows-enough}
 use Rattle.run.proofs.EndingLaws.{or-next, or-refused, when, unless}
 use Rattle.run.proofs.ZeroBehind.{limits-of, compares}
@@ -21,15 +22,19 @@ next s w kept =
     let a = s .args in
     pick kept (keep (a .st) w (a .rows .now) (a .theta)) (judge (a .st) w (a .theta))
 
+row-counts-requires : tie.Need-row-counts-requires
+row-counts-requires c κs = search needs
+
 violation-requires : tie.Need-violation-requires
 violation-requires c κs =
-    let p = c .before .before .pre in
-    let z = c .before .before .args .st .sizes in
-    (p .0 .underway .bounded .few-constraints, omega (arith, rows-enough (z .n) (z .m) (z .s), p .0 .whole-rows))
+    let p = c .before .before .before .pre in
+    let z = c .before .before .before .args .st .sizes in
+    rw (c .row-counts .ensures)
+    (p .0 .underway .bounded .few-constraints, omega (arith, rows-enough (rowCounts z), p .0 .whole-rows))
 
 landed-violation-requires : tie.Need-landed-violation-requires
 landed-violation-requires c κs =
-    let p = c .before .before .before .before .pre in
+    let p = c .before .before .before .before .before .pre in
     (p .0 .underway .bounded .few-constraints, p .0 .whole-area)
 
 is-nearer-requires : tie.Need-is-nearer-requires
@@ -39,7 +44,8 @@ enum-known-kept : tie.Need-enum-known-kept
 enum-known-kept c = search needs
 
 keep-requires : tie.Need-keep-requires
-keep-requires c κs = c .before .before .before .before .before .before .before .before .before .before .before .pre
+keep-requires c κs =
+    c .before .before .before .before .before .before .before .before .before .before .before .before .pre
 
 same-length : tie.Need-same-length
 same-length c = search needs
@@ -47,22 +53,24 @@ same-length c = search needs
 returns : tie.Need-returns
 returns c w h =
     let a = c .before .before .before .before .before .before .before .before .before .before .before .before .before
-    .before .args in
+    .before .before .args in
     let k = h .uses .holds in
-    let new = c .before .before .before .before .before .before .before .before .before .before .before .violation
-    .ensures in
+    let new = rw (c .before .before .before .before .before .before .before .before .before .before .before .before
+    .row-counts .ensures) at
+    (c .before .before .before .before .before .before .before .before .before .before .before .violation .ensures) in
     let old = c .before .before .before .before .before .before .before .before .before .landed-violation .ensures w k
     in
     let e = nearer-read (c .before .before .before .before .before .before .before .before .is-nearer .ensures) new old
     ∙ ap truthOf (c .before .before .before .before .before .before .kept .given .1) in
     correction-by (a .st) w (a .rows .now) (a .theta)
-    (or-next (a .st) w (next (c .before .before .before .before .before .before .before .before .before .before .before
-    .before .before .before) w) e (when _ _ (c .before .before .before .before .if1 .taken)
+    (or-next (a .st) w (next
+    (c .before .before .before .before .before .before .before .before .before .before .before .before .before .before
+    .before) w) e (when _ _ (c .before .before .before .before .if1 .taken)
     (c .before .before .keep .ensures w h new)))
 
 judge-landed-requires : tie.Need-judge-landed-requires
 judge-landed-requires c κs =
-    let p = c .before .before .before .before .before .before .before .before .before .before .before .pre in
+    let p = c .before .before .before .before .before .before .before .before .before .before .before .before .pre in
     (p .0 .whole-area, p .0 .underway)
 
 same-length-2 : tie.Need-same-length-2
@@ -71,18 +79,20 @@ same-length-2 c = search needs
 returns-2 : tie.Need-returns-2
 returns-2 c w h =
     let a = c .before .before .before .before .before .before .before .before .before .before .before .before .before
-    .before .args in
+    .before .before .args in
     let k = h .uses .holds in
-    let new = c .before .before .before .before .before .before .before .before .before .before .before .violation
-    .ensures in
+    let new = rw (c .before .before .before .before .before .before .before .before .before .before .before .before
+    .row-counts .ensures) at
+    (c .before .before .before .before .before .before .before .before .before .before .before .violation .ensures) in
     let old = c .before .before .before .before .before .before .before .before .before .landed-violation .ensures w k
     in
     let e = nearer-read (c .before .before .before .before .before .before .before .before .is-nearer .ensures) new old
     ∙ ap truthOf (c .before .before .before .before .before .before .kept .given .1) in
     let hj = compares (a .st) (h .uses) (h .standing-is) old in
     correction-by (a .st) w (a .rows .now) (a .theta)
-    (or-next (a .st) w (next (c .before .before .before .before .before .before .before .before .before .before .before
-    .before .before .before) w) e (unless _ _ (c .before .before .before .before .if1 .left)
+    (or-next (a .st) w (next
+    (c .before .before .before .before .before .before .before .before .before .before .before .before .before .before
+    .before) w) e (unless _ _ (c .before .before .before .before .if1 .left)
     (c .before .before .judge-landed .ensures w hj)))
 
 enum-known-e : tie.Need-enum-known-e
@@ -90,7 +100,7 @@ enum-known-e c = search needs
 
 refuse-requires : tie.Need-refuse-requires
 refuse-requires c κs =
-    let p = c .before .before .before .before .before .before .before .before .before .before .pre in
+    let p = c .before .before .before .before .before .before .before .before .before .before .before .pre in
     (p .0 .whole-area, limits-of (p .0 .underway .bounded))
 
 same-length-3 : tie.Need-same-length-3
@@ -99,20 +109,25 @@ same-length-3 c = search needs
 returns-3 : tie.Need-returns-3
 returns-3 c w h =
     let a = c .before .before .before .before .before .before .before .before .before .before .before .before .before
+    .before
     .args in
     let k = h .uses .holds in
-    let new = c .before .before .before .before .before .before .before .before .before .before .violation .ensures in
+    let new = rw (c .before .before .before .before .before .before .before .before .before .before .before
+    .row-counts .ensures) at
+    (c .before .before .before .before .before .before .before .before .before .before .violation .ensures) in
     let old = c .before .before .before .before .before .before .before .before .landed-violation .ensures w k in
     let e = nearer-read (c .before .before .before .before .before .before .before .is-nearer .ensures) new old ∙ ap
     truthOf (c .before .before .before .before .before .e .given .1) in
     correction-by (a .st) w (a .rows .now) (a .theta)
-    (or-refused (a .st) w (next (c .before .before .before .before .before .before .before .before .before .before
-    .before .before .before) w) e (c .before .before .refuse .ensures w (h .uses)))
+    (or-refused (a .st) w
+    (next (c .before .before .before .before .before .before .before .before .before .before .before .before .before
+    .before) w) e (c .before .before .refuse .ensures w (h .uses)))
 
 pub land-correction-spec : {M : Type 1} → statement M
 land-correction-spec =
     tie.close
     (tie.spec
+    row-counts-requires
     violation-requires
     landed-violation-requires
     is-nearer-requires

@@ -13,14 +13,14 @@ use borrow.Author.Needs.{needs}
 use Rattle.run.proofs.corrected.shift.Statement.{statement}
 use Rattle.run.proofs.corrected.shift.Tie as tie
 
-room : (s : tie.Start) → 2 * (s .args .m * s .args .n) ≤ 288
-room s = omega (arith, few (s .pre .0 .few-constraints) (s .pre .0 .few-variables))
+room : (s : tie.Start) → 2 * (s .args .c .m * s .args .c .n) ≤ 288
+room s = omega (arith, few (s .pre .0 .few .few-constraints) (s .pre .0 .few .few-variables))
 
-high : (s : tie.Start) → 2 * s .args .m ≤ 24
-high s = omega (arith, s .pre .0 .few-constraints)
+high : (s : tie.Start) → 2 * s .args .c .m ≤ 24
+high s = omega (arith, s .pre .0 .few .few-constraints)
 
-short : (s : tie.Start) → 2 * s .args .n ≤ 24
-short s = omega (arith, s .pre .0 .few-variables)
+short : (s : tie.Start) → 2 * s .args .c .n ≤ 24
+short s = omega (arith, s .pre .0 .few .few-variables)
 
 mul-q : tie.Need-mul-q
 mul-q c = omega (arith, room (c .before .before .before))
@@ -48,8 +48,8 @@ moving-slopes-requires c κs =
 constraints-requires : tie.Need-constraints-requires
 constraints-requires c κs = tt
 
-array-borrow-prefix-c : tie.Need-array-borrow-prefix-c
-array-borrow-prefix-c c = high (c .before .before .before .before .before .before .before)
+array-borrow-prefix-values : tie.Need-array-borrow-prefix-values
+array-borrow-prefix-values c = high (c .before .before .before .before .before .before .before)
 
 slice-aggregate-chosen-values : tie.Need-slice-aggregate-chosen-values
 slice-aggregate-chosen-values c =
@@ -60,19 +60,19 @@ chosen-values-requires c κs = tt
 
 array-share-prefix-jc : tie.Need-array-share-prefix-jc
 array-share-prefix-jc c =
-    front-room _ (c .before .before .before .before .before .moving-slopes .last .1 .1 .1 .1 .0) _
+    front-room _ (c .before .before .before .before .before .moving-slopes .last .1 .1 .1 .0) _
     (room (c .before .before .before .before .before .before .before .before .before .before))
-    (c .before .before .before .before .before .moving-slopes .kept .1 .1 .1 .1 .0)
+    (c .before .before .before .before .before .moving-slopes .kept .1 .1 .1 .0)
 
 slice-aggregate-minus-solved : tie.Need-slice-aggregate-minus-solved
 slice-aggregate-minus-solved c =
     sym (length-take-le _ _
-    (front-room _ (c .before .before .before .before .before .before .moving-slopes .last .1 .1 .1 .1 .0) _
+    (front-room _ (c .before .before .before .before .before .before .moving-slopes .last .1 .1 .1 .0) _
     (room (c .before .before .before .before .before .before .before .before .before .before .before))
-    (c .before .before .before .before .before .before .moving-slopes .kept .1 .1 .1 .1 .0)))
+    (c .before .before .before .before .before .before .moving-slopes .kept .1 .1 .1 .0)))
 
-array-share-prefix-c : tie.Need-array-share-prefix-c
-array-share-prefix-c c =
+array-share-prefix-values : tie.Need-array-share-prefix-values
+array-share-prefix-values c =
     front-room _ (c .before .before .chosen-values .last .1 .1 .0) _
     (high (c .before .before .before .before .before .before .before .before .before .before .before))
     (c .before .before .chosen-values .kept .1 .1 .0)
@@ -134,9 +134,9 @@ returns c =
     let p = s .pre .0 in
     let fj = front-kept _
     (c .before .before .before .before .before .before .before .before .before .before .before .before .before .before
-    .before .before .moving-slopes .last .1 .1 .1 .1 .0) _ (room s)
+    .before .before .moving-slopes .last .1 .1 .1 .0) _ (room s)
     (c .before .before .before .before .before .before .before .before .before .before .before .before .before .before
-    .before .before .moving-slopes .kept .1 .1 .1 .1 .0) in
+    .before .before .moving-slopes .kept .1 .1 .1 .0) in
     let fc = front-kept _
     (c .before .before .before .before .before .before .before .before .before .before .before .before .chosen-values
     .last .1 .1 .0) _ (high s)
@@ -144,8 +144,8 @@ returns c =
     .kept .1 .1 .0) in
     let fo = front-kept _ (c .before .before .before .before .before .before .minus-solved .last .1 .1 .1 .1 .1 .0) _
     (short s) (c .before .before .before .before .before .before .minus-solved .kept .1 .1 .1 .1 .1 .0) in
-    shift-is (a .n) (a .m) (a .moving .now) (a .xs .now) _ _
-    (c .before .before .before .before .before .before .minus-solved .result) _ (p .few-variables) (p .few-constraints)
+    shift-is (a .c) (a .moving .now) (a .xs .now) _ _
+    (c .before .before .before .before .before .before .minus-solved .result) _ (p .few)
     (length-take-le _ _ (short s)) (length-take-le _ _ (high s)) fj fc fo
     (c .before .before .before .before .before .before .before .before .before .before .before .before .before .before
     .constraints .ensures)
@@ -167,12 +167,12 @@ shift-spec =
     slice-aggregate-moving-slopes
     moving-slopes-requires
     constraints-requires
-    array-borrow-prefix-c
+    array-borrow-prefix-values
     slice-aggregate-chosen-values
     chosen-values-requires
     array-share-prefix-jc
     slice-aggregate-minus-solved
-    array-share-prefix-c
+    array-share-prefix-values
     slice-aggregate-minus-solved-2
     array-share-prefix-zero
     slice-aggregate-minus-solved-3

@@ -19,7 +19,7 @@ enum-known-e c = search needs
 returns : tie.Need-returns
 returns c =
     let a = c .before .before .before .before .before .before .before .before .before .before .args in
-    shift-refused (a .moving .now) (constraintsOf (a .n) (a .m) (a .xs .now)) (a .landed .now) _
+    shift-refused (a .moving .now) (constraintsOf (a .c) (a .xs .now)) (a .landed .now) _
     (c .before .e .given .1) (c .before .before .before .before .shift .ensures)
 
 enum-told : tie.Need-enum-told
@@ -34,7 +34,7 @@ all-finite-requires c κs = search needs
 returns-2 : tie.Need-returns-2
 returns-2 c =
     let a = c .before .before .before .before .before .before .before .before .before .before .before .before .args in
-    not-finite (a .moving .now) (constraintsOf (a .n) (a .m) (a .xs .now)) (a .landed .now) _
+    not-finite (a .moving .now) (constraintsOf (a .c) (a .xs .now)) (a .landed .now) _
     (c .before .before .before .enum-told .given .1) (c .before .before .before .before .before .before .shift .ensures)
     (c .before .all-finite .ensures) (not-true _ (c .if1 .taken))
 
@@ -51,7 +51,7 @@ returns-3 : tie.Need-returns-3
 returns-3 c =
     let a = c .before .before .before .before .before .before .before .before .before .before .before .before .before
     .before .before .before .before .before .before .args in
-    changes-nothing (a .moving .now) (constraintsOf (a .n) (a .m) (a .xs .now)) (a .landed .now) _
+    changes-nothing (a .moving .now) (constraintsOf (a .c) (a .xs .now)) (a .landed .now) _
     (c .before .before .before .before .before .before .before .before .before .before .enum-told .given .1)
     (c .before .before .before .before .before .before .before .before .before .before .before .before .before .shift
     .ensures) (c .before .before .before .before .before .before .before .before .all-finite .ensures)
@@ -65,7 +65,7 @@ returns-4 : tie.Need-returns-4
 returns-4 c =
     let a = c .before .before .before .before .before .before .before .before .before .before .before .before .before
     .before .before .before .before .before .before .args in
-    goes (a .moving .now) (constraintsOf (a .n) (a .m) (a .xs .now)) (a .landed .now) _
+    goes (a .moving .now) (constraintsOf (a .c) (a .xs .now)) (a .landed .now) _
     (c .before .before .before .before .before .before .before .before .before .before .enum-told .given .1)
     (c .before .before .before .before .before .before .before .before .before .before .before .before .before .shift
     .ensures) (c .before .before .before .before .before .before .before .before .all-finite .ensures)

@@ -11,11 +11,11 @@ use borrow.Author.Needs.{needs}
 use Rattle.run.proofs.curvature.along_constraints.Statement.{statement}
 use Rattle.run.proofs.curvature.along_constraints.Tie as tie
 
-room : (s : tie.Start) → 2 * (s .args .m * s .args .n) ≤ 288
-room s = omega (arith, few (s .pre .few-constraints) (s .pre .few-variables))
+room : (s : tie.Start) → 2 * (s .args .c .m * s .args .c .n) ≤ 288
+room s = omega (arith, few (s .pre .few .few-constraints) (s .pre .few .few-variables))
 
-high : (s : tie.Start) → 2 * s .args .m ≤ 24
-high s = omega (arith, s .pre .few-constraints)
+high : (s : tie.Start) → 2 * s .args .c .m ≤ 24
+high s = omega (arith, s .pre .few .few-constraints)
 
 mul-q : tie.Need-mul-q
 mul-q c = omega (arith, room (c .before .before .before))
@@ -41,7 +41,7 @@ slice-aggregate-chosen-slopes c = sym (length-take-le _ _ (room (c .before .befo
 chosen-slopes-requires : tie.Need-chosen-slopes-requires
 chosen-slopes-requires c κs =
     let s = c .before .before .before .before .before in
-    rw (c .before .constraints .ensures) (constraints-small (s .pre .few-variables) (s .pre .few-constraints))
+    rw (c .before .constraints .ensures) (constraints-small (s .pre .few))
 
 array-share-prefix-jc : tie.Need-array-share-prefix-jc
 array-share-prefix-jc c =
@@ -101,8 +101,8 @@ returns c =
     .1 .0) in
     let fr = front-kept _ (c .before .before .before .before .before .before .before .products .last .1 .1 .1 .1 .0) _
     (high s) (c .before .before .before .before .before .before .before .products .kept .1 .1 .1 .1 .0) in
-    along-is (a .n) (a .m) (a .xs .now) (a .v .now) _ _ (a .out .now) (p .few-variables) (p .few-constraints)
-    (p .enough) _ _ (c .before .before .minus-solved .result) _ (p .values) (length-take-le _ _ (room s))
+    along-is (a .c) (a .xs .now) (a .v .now) _ _ (a .out .now) (p .few) (p .enough) _ _
+    (c .before .before .minus-solved .result) _ (p .values) (length-take-le _ _ (room s))
     (length-take-le _ _ (high s)) fj fr
     (c .before .before .before .before .before .before .before .before .before .before .before .before .before
     .constraints .ensures)

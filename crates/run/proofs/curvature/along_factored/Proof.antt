@@ -11,8 +11,8 @@ use borrow.Author.Needs.{needs}
 use Rattle.run.proofs.curvature.along_factored.Statement.{statement}
 use Rattle.run.proofs.curvature.along_factored.Tie as tie
 
-high : (s : tie.Start) → 2 * s .args .m ≤ 24
-high s = omega (arith, s .pre .few-constraints)
+high : (s : tie.Start) → 2 * s .args .c .m ≤ 24
+high s = omega (arith, s .pre .few .few-constraints)
 
 mul-k : tie.Need-mul-k
 mul-k c = search needs
@@ -59,7 +59,7 @@ returns c = λ xs f.
     let p = s .pre in
     let k = c .before .before .before .before .before .before .before in
     let fr = front-kept _ (k .products .last .1 .1 .1 .1 .0) _ (high s) (k .products .kept .1 .1 .1 .1 .0) in
-    along-by (a .n) (a .m) xs (p .few-variables) (p .few-constraints) (a .v .now) (a .slopes .now) _ (a .out .now)
+    along-by (a .c) xs (p .few) (a .v .now) (a .slopes .now) _ (a .out .now)
     (factorOf (a .l .now) (a .«left-out» .now)) (p .enough) f _ (c .before .before .minus-factored .result) _
     (p .values) (length-take-le _ _ (high s)) fr (k .products .ensures) (c .before .before .minus-factored .ensures)
 

@@ -8,7 +8,7 @@ use native.Mathlib.Omega.{arith}
 use lib.Ieee.{ofBits}
 use lib.ListN.{length}
 use Rattle.run.specs.Vectors.{vector, fillTo}
-use Rattle.run.specs.Rows.{evaluationBy}
+use Rattle.run.specs.Rows.{evaluationOf}
 use Rattle.run.specs.Curvature.{lagrangianChangeAt}
 use Rattle.run.proofs.CurvatureLaws.{turned-is}
 use Rattle.run.proofs.VectorLaws.{fill-none, fill-first}
@@ -19,7 +19,7 @@ use Rattle.run.proofs.curvature.lagrangian_change.Tie as tie
 abbrev Inv-loop : tie.InvT-loop
 Inv-loop c xs next lambda y₀ n values j₀ y j =
     (j ≤ n) × (length y ≡ length y₀) ×
-    (y ≡ fillTo vector 0 (lagrangianChangeAt (evaluationBy c xs) (evaluationBy c next) lambda values) j)
+    (y ≡ fillTo vector 0 (lagrangianChangeAt (evaluationOf c xs) (evaluationOf c next) lambda values) j)
 
 abbrev μ-loop : tie.MeasureT-loop
 μ-loop c xs next lambda y₀ n values j₀ y j = n - j
@@ -73,7 +73,7 @@ returns c =
     let a = c .before .before .before .before .before .before .before .before .before .before .before .args in
     let r = rw (c .before .before .before .before .before .before .sum .ensures)
     at (c .before .before .before .before .chosen-values .ensures) in
-    turned-is (a .c .n) (evaluationBy (a .c) (a .xs .now)) (evaluationBy (a .c) (a .next .now)) (a .lambda .now) refl r
+    turned-is (a .c .n) (evaluationOf (a .c) (a .xs .now)) (evaluationOf (a .c) (a .next .now)) (a .lambda .now) refl r
     (rw (le-antisymm (c .before .loop .inv .0) (c .loop-test .left)) at (c .before .loop .inv .2))
 
 pub lagrangian-change-spec : {M : Type 1} → statement M

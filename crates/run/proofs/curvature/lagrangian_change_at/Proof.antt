@@ -7,7 +7,7 @@ use Rattle.interval.specs.declared.Scalar.{Scalar}
 use Rattle.interval.specs.Scalar.{addOf, subOf}
 use Rattle.run.specs.declared.rows.RowCounts.{RowCounts}
 use Rattle.run.specs.declared.rows.RowSet.{RowSet}
-use Rattle.run.specs.Rows.{rowsIn, constraintSet, sumSet, evaluationBy}
+use Rattle.run.specs.Rows.{rowsIn, constraintSet, sumSet, evaluationOf}
 use Rattle.run.specs.Residuals.{transposedAt}
 use Rattle.run.specs.Curvature.{lagrangianChangeAt}
 use Rattle.run.specs.program.Rows.{Small}
@@ -18,19 +18,19 @@ use Rattle.run.proofs.curvature.lagrangian_change_at.Tie as tie
 
 value :
     (c : RowCounts) (xs next lambda r : List Float) (j : ℕ) {e q : RowSet} {t u v w a b y : Scalar} →
-    e ≡ constraintSet (c .n) (c .m) → q ≡ sumSet (c .n) (c .m) (c .s) →
+    e ≡ constraintSet c → q ≡ sumSet c →
     t ≡ transposedAt (rowsIn next e) lambda j → u ≡ transposedAt (rowsIn xs e) lambda j → a ≡ subOf t u →
     v ≡ transposedAt (rowsIn next q) r j → b ≡ addOf a v →
     w ≡ transposedAt (rowsIn xs q) r j → y ≡ subOf b w →
-    y ≡ lagrangianChangeAt (evaluationBy c xs) (evaluationBy c next) lambda r j
+    y ≡ lagrangianChangeAt (evaluationOf c xs) (evaluationOf c next) lambda r j
 value c xs next lambda r j ee eq et eu ea ev eb ew ey = rw (ey, eb, ea, et, eu, ev, ew, ee, eq)
 
 -- the row sets, in their places
-held-small : (s : tie.Start) {e : RowSet} → e ≡ constraintSet (s .args .c .n) (s .args .c .m) → Small e
-held-small s q = let f = s .pre .0 in rw q (constraints-small (f .few-variables) (f .few-constraints))
+held-small : (s : tie.Start) {e : RowSet} → e ≡ constraintSet (s .args .c) → Small e
+held-small s q = let f = s .pre .0 in rw q (constraints-small f)
 
-summed-small : (s : tie.Start) {e : RowSet} → e ≡ sumSet (s .args .c .n) (s .args .c .m) (s .args .c .s) → Small e
-summed-small s q = let f = s .pre .0 in rw q (sum-small (f .few-variables) (f .few-constraints) (f .few-sums))
+summed-small : (s : tie.Start) {e : RowSet} → e ≡ sumSet (s .args .c) → Small e
+summed-small s q = let f = s .pre .0 in rw q (sum-small f)
 
 constraints-requires : tie.Need-constraints-requires
 constraints-requires c κs = search needs

@@ -5,7 +5,7 @@ use native.Mathlib.Omega.{arith}
 use lib.Ieee.{ofBits}
 use lib.Seq.{length-take-le}
 use Rattle.linear.specs.Cholesky.{factorOf}
-use Rattle.run.specs.Rows.{evaluationBy}
+use Rattle.run.specs.Rows.{evaluationOf}
 use Rattle.run.proofs.CurvatureLaws.{update-is}
 use Rattle.run.proofs.FactorLaws.{factored, unfactored}
 use Rattle.run.proofs.Prefixes.{front-room, front-kept}
@@ -52,7 +52,7 @@ slice-aggregate-chosen-slopes c =
 chosen-slopes-requires : tie.Need-chosen-slopes-requires
 chosen-slopes-requires c κs =
     let f = c .before .before .before .before .before .before .before .before .before .before .pre .0 in
-    rw (c .before .constraints .ensures) (constraints-small (f .few-variables) (f .few-constraints))
+    rw (c .before .constraints .ensures) (constraints-small f)
 
 array-share-prefix-jc : tie.Need-array-share-prefix-jc
 array-share-prefix-jc c =
@@ -115,18 +115,17 @@ returns c =
     let s = c .before .before .before .before .before .before .before .before .before .before .before .before .before
     .before .before .before .before .before .before .before .before .before in
     let a = s .args in
-    let few-n = s .pre .0 .few-variables in
     let few-m = s .pre .0 .few-constraints in
     let k = c .before .before .before .before .before .before .before .before .before .before .before .chosen-slopes in
     let fj = front-kept _ (k .last .1 .1 .0) _ (room s) (k .kept .1 .1 .0) in
     let g = c .before .before .before .before .before .gram-factor in
     let l = length-take-le _ _ (square s) in
-    unfactored (a .c .n) (a .c .m) (a .xs .now) few-n few-m _ _
+    unfactored (a .c) (a .xs .now) (s .pre .0) _ _
     (factorOf (g .last .1 .1 .1 .1 .0) (g .last .1 .1 .1 .1 .1 .0)) _ (g .result)
     (length-take-le _ _ (room s)) l l (length-take-le _ _ few-m)
     (c .before .before .before .before .before .before .before .before .before .before .before .before .before
     .constraints .ensures) (k .ensures) fj
-    (g .ensures) (a .c .s) (a .b .now) (a .step .now) (a .next .now) (a .lambda .now) _ (c .enum-told2 .given .1)
+    (g .ensures) (a .b .now) (a .step .now) (a .next .now) (a .lambda .now) _ (c .enum-told2 .given .1)
 
 array-share-prefix-jc-2 : tie.Need-array-share-prefix-jc-2
 array-share-prefix-jc-2 c =
@@ -184,8 +183,7 @@ update-factored-requires c κs =
     .before .before .before .before .before .before .before .before .before .before .before .before .before .before
     .pre in
     record {
-      few-variables = p .0 .few-variables;
-      few-constraints = p .0 .few-constraints;
+      few = p .0;
       y-is =
           c .before .before .before .before .before .before .before .before .before .before .before .before .before
           .before .before .before .before .before .before .before .lagrangian-change .kept .1 .1 .1 .1 .0;
@@ -201,7 +199,6 @@ returns-2 c =
     .before .before .before .before .before .before .before .before .before .before .before .before .before .before
     .before .before .before in
     let a = s .args in
-    let few-n = s .pre .0 .few-variables in
     let few-m = s .pre .0 .few-constraints in
     let k = c .before .before .before .before .before .before .before .before .before .before .before .before .before
     .before .before .before .before .before .before .chosen-slopes in
@@ -211,7 +208,7 @@ returns-2 c =
     let l = length-take-le _ _ (square s) in
     let m = length-take-le _ _ few-m in
     let d =
-    factored (a .c .n) (a .c .m) (a .xs .now) few-n few-m _ _
+    factored (a .c) (a .xs .now) (s .pre .0) _ _
     (factorOf (g .last .1 .1 .1 .1 .0) (g .last .1 .1 .1 .1 .1 .0)) _ (g .result)
     (length-take-le _ _ (room s)) l l m
     (c .before .before .before .before .before .before .before .before .before .before .before .before .before .before
@@ -221,8 +218,8 @@ returns-2 c =
     (c .before .before .before .before .before .before .before .before .enum-told .given .1) fj
     (front-kept _ (g .last .1 .1 .1 .1 .0) _ (square s) (g .kept .1 .1 .1 .1 .0))
     (front-kept _ (g .last .1 .1 .1 .1 .1 .0) _ few-m (g .kept .1 .1 .1 .1 .1 .0)) in
-    update-is (a .c .n) (a .b .now) (a .step .now) (evaluationBy (a .c) (a .xs .now))
-    (evaluationBy (a .c) (a .next .now)) (a .lambda .now)
+    update-is (a .c .n) (a .b .now) (a .step .now) (evaluationOf (a .c) (a .xs .now))
+    (evaluationOf (a .c) (a .next .now)) (a .lambda .now)
     (c .before .before .before .before .before .before .before .before .before .before .before .before .before .before
     .before .before .before .before .before .before .before .before .before .lagrangian-change .ensures)
     (c .before .before .update-factored .ensures (a .xs .now) d)

@@ -9,8 +9,8 @@ use borrow.Author.Needs.{needs}
 use Rattle.run.proofs.curvature.update_factored.Statement.{statement}
 use Rattle.run.proofs.curvature.update_factored.Tie as tie
 
-short : (s : tie.Start) → 2 * s .args .n ≤ 24
-short s = omega (arith, s .pre .few-variables)
+short : (s : tie.Start) → 2 * s .args .c .n ≤ 24
+short s = omega (arith, s .pre .few .few-variables)
 
 mul-w : tie.Need-mul-w
 mul-w c = search needs
@@ -20,16 +20,15 @@ array-borrow-prefix-s-along c = search needs
 
 slice-aggregate-along-factored : tie.Need-slice-aggregate-along-factored
 slice-aggregate-along-factored c =
-    sym (length-take-le _ _ (short (c .before .before .before .before .before .before .before)))
+    sym (length-take-le _ _ (short (c .before .before .before .before .before .before .before .before)))
 
 along-factored-requires : tie.Need-along-factored-requires
 along-factored-requires c κs =
-    let s = c .before .before .before .before .before .before .before in
+    let s = c .before .before .before .before .before .before .before .before in
     let p = s .pre in
     record {
-      few-variables = p .few-variables;
-      few-constraints = p .few-constraints;
-      enough = omega (arith, p .few-variables, p .step-is);
+      few = p .few;
+      enough = omega (arith, p .few .few-variables, p .step-is);
       values = length-take-le _ _ (short s);
     }
 
@@ -45,23 +44,25 @@ returns c xs f = handed-on _ _ _ (c .enum-told2 .given .1) (c .before .before .b
 array-share-prefix-s-along : tie.Need-array-share-prefix-s-along
 array-share-prefix-s-along c =
     let k = c .before .before .before .before .along-factored in
-    front-room _ (k .last .1 .1 .1 .1 .1 .1 .0) _
-    (short (c .before .before .before .before .before .before .before .before .before .before .before .before))
-    (k .kept .1 .1 .1 .1 .1 .1 .0)
+    front-room _ (k .last .1 .1 .1 .1 .1 .0) _
+    (short (c .before .before .before .before .before .before .before .before .before .before .before .before .before))
+    (k .kept .1 .1 .1 .1 .1 .0)
 
 slice-aggregate-updated : tie.Need-slice-aggregate-updated
 slice-aggregate-updated c =
     let k = c .before .before .before .before .before .along-factored in
     sym (length-take-le _ _
-    (front-room _ (k .last .1 .1 .1 .1 .1 .1 .0) _
-    (short (c .before .before .before .before .before .before .before .before .before .before .before .before .before))
-    (k .kept .1 .1 .1 .1 .1 .1 .0)))
+    (front-room _ (k .last .1 .1 .1 .1 .1 .0) _
+    (short (c .before .before .before .before .before .before .before .before .before .before .before .before .before
+    .before))
+    (k .kept .1 .1 .1 .1 .1 .0)))
 
 updated-requires : tie.Need-updated-requires
 updated-requires c κs =
     let p = c .before .before .before .before .before .before .before .before .before .before .before .before .before
+    .before
     .pre in
-    (p .few-variables, p .few-constraints, p .y-is)
+    (p .few, p .y-is)
 
 same-length : tie.Need-same-length
 same-length c = search needs
@@ -69,9 +70,9 @@ same-length c = search needs
 returns-2 : tie.Need-returns-2
 returns-2 c xs f =
     let k = c .before .before .before .before .before .before .before .before .along-factored in
-    let front = front-kept _ (k .last .1 .1 .1 .1 .1 .1 .0) _
+    let front = front-kept _ (k .last .1 .1 .1 .1 .1 .0) _
     (short (c .before .before .before .before .before .before .before .before .before .before .before .before .before
-    .before .before .before)) (k .kept .1 .1 .1 .1 .1 .1 .0) in
+    .before .before .before .before)) (k .kept .1 .1 .1 .1 .1 .0) in
     went-on _ (c .before .before .before .before .before .enum-told .given .1) (k .ensures xs f) front
     (c .before .before .updated .ensures xs f)
 

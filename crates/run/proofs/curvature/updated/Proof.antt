@@ -13,8 +13,8 @@ use borrow.Author.Needs.{needs}
 use Rattle.run.proofs.curvature.updated.Statement.{statement}
 use Rattle.run.proofs.curvature.updated.Tie as tie
 
-short : (s : tie.Start) → 2 * s .args .n ≤ 24
-short s = omega (arith, s .pre .0)
+short : (s : tie.Start) → 2 * s .args .c .n ≤ 24
+short s = omega (arith, s .pre .0 .few-variables)
 
 mul-w : tie.Need-mul-w
 mul-w c = search needs
@@ -48,7 +48,7 @@ unfolding ofBits
 returns c = λ xs f.
     let a = c .before .before .before .before .before .before .before .before .before .before .before .before .before
     .before .before .before .args in
-    leaves (a .n) (constraintsOf (a .n) (a .m) xs) (a .b .now) (a .y .now) (a .s .now) refl
+    leaves (a .c .n) (constraintsOf (a .c) xs) (a .b .now) (a .y .now) (a .s .now) refl
     (c .before .before .before .before .before .before .before .products .ensures)
     (c .before .before .before .before .dot-of .ensures) (c .before .before .before .dot-of2 .ensures)
     (c .before .before .sub .ensures .value) (c .before .definitely-not-equal .ensures) (not-true _ (c .if1 .taken))
@@ -67,9 +67,8 @@ along-factored-requires c κs =
     let s = c .before .before .before .before .before .before .before .before .before .before .before .before .before
     .before .before .before .before in let p = s .pre in
     record {
-      few-variables = p .0;
-      few-constraints = p .1;
-      enough = omega (arith, p .0, p .2);
+      few = p .0;
+      enough = omega (arith, p .0 .few-variables, p .1);
       values = length-take-le _ _ (short s);
     }
 
@@ -87,9 +86,9 @@ unfolding ofBits
 returns-2 c = λ xs f.
     let a = c .before .before .before .before .before .before .before .before .before .before .before .before .before
     .before .before .before .before .before .before .before .before .args in
-    updates (a .n) (constraintsOf (a .n) (a .m) xs) (a .b .now) (a .y .now) (a .s .now) refl
-    (c .before .before .before .before .before .before .before .before .before .before .before
-    .before .products .ensures)
+    updates (a .c .n) (constraintsOf (a .c) xs) (a .b .now) (a .y .now) (a .s .now) refl
+    (c .before .before .before .before .before .before .before .before .before .before .before .before
+    .products .ensures)
     (c .before .before .before .before .before .before .before .before .before .dot-of .ensures)
     (c .before .before .before .before .before .before .before .before .dot-of2 .ensures)
     (c .before .before .before .before .before .before .before .sub .ensures .value)
@@ -99,23 +98,23 @@ returns-2 c = λ xs f.
 
 array-share-prefix-y-along : tie.Need-array-share-prefix-y-along
 array-share-prefix-y-along c =
-    front-room _ (c .before .before .before .before .along-factored .last .1 .1 .1 .1 .1 .1 .0) _ (short
+    front-room _ (c .before .before .before .before .along-factored .last .1 .1 .1 .1 .1 .0) _ (short
     (c .before .before .before .before .before .before .before .before .before .before .before .before .before .before
     .before .before .before .before .before .before .before .before))
-    (c .before .before .before .before .along-factored .kept .1 .1 .1 .1 .1 .1 .0)
+    (c .before .before .before .before .along-factored .kept .1 .1 .1 .1 .1 .0)
 
 slice-aggregate-corrected-by : tie.Need-slice-aggregate-corrected-by
 slice-aggregate-corrected-by c =
     sym (length-take-le _ _ (front-room _
-    (c .before .before .before .before .before .along-factored .last .1 .1 .1 .1 .1 .1 .0) _ (short
+    (c .before .before .before .before .before .along-factored .last .1 .1 .1 .1 .1 .0) _ (short
     (c .before .before .before .before .before .before .before .before .before .before .before .before .before .before
     .before .before .before .before .before .before .before .before .before))
-    (c .before .before .before .before .before .along-factored .kept .1 .1 .1 .1 .1 .1 .0)))
+    (c .before .before .before .before .before .along-factored .kept .1 .1 .1 .1 .1 .0)))
 
 corrected-by-requires : tie.Need-corrected-by-requires
 corrected-by-requires c κs =
     c .before .before .before .before .before .before .before .before .before .before .before .before .before .before
-    .before .before .before .before .before .before .before .before .before .pre .0
+    .before .before .before .before .before .before .before .before .before .pre .0 .few-variables
 
 same-length-3 : tie.Need-same-length-3
 same-length-3 c = search needs
@@ -127,20 +126,20 @@ returns-3 c = λ xs f.
     .before .before .before .before .before .before .before .before .before .before .before .before .before in
     let a = s .args in
     let front = front-kept _
-    (c .before .before .before .before .before .before .before .before .along-factored .last .1 .1 .1 .1 .1 .1 .0) _
-    (short s) (c .before .before .before .before .before .before .before
-    .before .along-factored .kept .1 .1 .1 .1 .1 .1 .0) in
-    updates (a .n) (constraintsOf (a .n) (a .m) xs) (a .b .now) (a .y .now) (a .s .now) refl
+    (c .before .before .before .before .before .before .before .before .along-factored .last .1 .1 .1 .1 .1 .0) _
+    (short s) (c .before .before .before .before .before .before .before .before
+    .along-factored .kept .1 .1 .1 .1 .1 .0) in
+    updates (a .c .n) (constraintsOf (a .c) xs) (a .b .now) (a .y .now) (a .s .now) refl
     (c .before .before .before .before .before .before .before .before .before .before .before .before .before .before
     .before .before .before .products .ensures)
+    (c .before .before .before .before .before .before .before .before .before .before .before .before .before .before
+    .dot-of .ensures)
     (c .before .before .before .before .before .before .before .before .before .before .before .before .before
-    .before .dot-of .ensures)
+    .dot-of2 .ensures)
     (c .before .before .before .before .before .before .before .before .before .before .before .before
-    .before .dot-of2 .ensures)
+    .sub .ensures .value)
     (c .before .before .before .before .before .before .before .before .before .before .before
-    .before .sub .ensures .value)
-    (c .before .before .before .before .before .before .before .before .before .before
-    .before .definitely-not-equal .ensures) (not-false _
+    .definitely-not-equal .ensures) (not-false _
     (c .before .before .before .before .before .before .before .before .before .before .if1 .left)) (went-on _
     (c .before .before .before .before .before .enum-told .given .1)
     (c .before .before .before .before .before .before .before .before .along-factored .ensures xs f) front

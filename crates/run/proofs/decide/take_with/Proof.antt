@@ -11,13 +11,12 @@ use Rattle.run.specs.Residuals.{sumSquared}
 use Rattle.run.specs.Area.{withTaken}
 use Rattle.run.specs.program.Area.{Working}
 use Rattle.run.specs.program.Endings.{Bounded}
-use Rattle.run.specs.program.Rows.{FewRows}
 use Rattle.run.specs.Filter.{filterWith}
 use Rattle.run.specs.State.{standingOn}
 use Rattle.run.specs.declared.state.State.{State}
 use Rattle.run.proofs.AnsweredLaws.{learned-known, learned-refused, stands-on}
 use Rattle.run.proofs.DecideLaws.{stood}
-use Rattle.run.proofs.ZeroBehind.{limits-of, measures}
+use Rattle.run.proofs.ZeroBehind.{limits-of, rows-of, measures}
 use Rattle.run.proofs.ZeroBehindKept.{learned-behind, taken-working}
 use borrow.Author.Needs.{needs}
 use Rattle.run.proofs.decide.take_with.Statement.{statement}
@@ -31,12 +30,7 @@ unfolding ofBits
 learn-requires c κs =
     let s = c .before .before .before in
     let b = s .pre .1 .bounded in
-    let few : FewRows (rowCounts (s .args .st .sizes)) = record {
-      few-variables = b .few-variables;
-      few-constraints = b .few-constraints;
-      few-sums = b .few-sums;
-    } in
-    (few, s .pre .0, refl)
+    (rows-of b, s .pre .0, refl)
 
 enum-told : tie.Need-enum-told
 enum-told c = search needs
@@ -67,23 +61,30 @@ returns c w h =
 standing-rows-requires : tie.Need-standing-rows-requires
 standing-rows-requires c κs = search needs
 
+row-counts-requires : tie.Need-row-counts-requires
+row-counts-requires c κs = search needs
+
 sum-squared-requires : tie.Need-sum-squared-requires
 sum-squared-requires c κs =
-    let b = c .before .before .before .before .before .before .before .before .before .pre .1 .bounded in
-    (b .few-variables, (b .few-constraints, b .few-sums))
+    let b = c .before .before .before .before .before .before .before .before .before .before .pre .1 .bounded in
+    rw (c .row-counts .ensures) (rows-of b)
+
+row-counts-requires-2 : tie.Need-row-counts-requires-2
+row-counts-requires-2 c κs = search needs
 
 slice-aggregate-with-taken : tie.Need-slice-aggregate-write-taken
 slice-aggregate-with-taken c = search needs
 
 write-taken-requires : tie.Need-write-taken-requires
 write-taken-requires c κs =
-    let s = c .before .before .before .before .before .before .before .before .before .before .before .before in let u =
+    let s = c .before .before .before .before .before .before .before .before .before .before .before .before .before
+    .before in let u =
     s .pre .1 in let b = u .bounded in (
       s .pre .0,
       (
-        (b .few-variables, (b .few-constraints, b .few-sums)),
+        rw (c .before .row-counts2 .ensures) (rows-of b),
         (
-          c .before .before .before .before .before .before .before .before .learn .kept .1 .1 .1 .0,
+          c .before .before .before .before .before .before .before .before .before .before .learn .kept .1 .1 .1 .0,
           omega (
             arith,
             u .below,
@@ -96,12 +97,12 @@ write-taken-requires c κs =
 standing-on-requires : tie.Need-standing-on-requires
 standing-on-requires c κs =
     let u = c .before .before .before .before .before .before .before .before .before .before .before .before .before
-    .before .before .pre .1 in omega (arith, u .below, u .bounded .few-iterations)
+    .before .before .before .before .pre .1 in omega (arith, u .below, u .bounded .few-iterations)
 
 iterate-requires : tie.Need-iterate-requires
 iterate-requires c κs =
     let s = c .before .before .before .before .before .before .before .before .before .before .before .before .before
-    .before .before .before .before in
+    .before .before .before .before .before .before in
     let a = s .args in (
       omega (arith, c .before .before .before .before .write-taken .kept, s .pre .0),
       subst
@@ -115,25 +116,32 @@ same-length-2 c = search needs
 returns-2 : tie.Need-returns-2
 returns-2 c w h =
     let a = c .before .before .before .before .before .before .before .before .before .before .before .before .before
-    .before .before .before .before .before .before .before .args in
+    .before .before .before .before .before .before .before .before .before .args in
     let z = a .st .sizes in
     let l = c .before .before .before .before .before .before .before .before .before .before .before .before .before
-    .before .before .before .learn in
+    .before .before .before .before .before .learn in
     let b = l .last .1 .1 .1 .0 in
     let u = h .measured .uses in
     let t = u .zero-behind in
     let e = sym (l .ensures w (u .holds) (u .zero-behind .curvature)) ∙ ap (λ (d : Done). doneOf d b)
-    (c .before .before .before .before .before .before .before .before .before .before .before .before .before
+    (c .before .before .before .before .before .before .before .before .before .before .before .before .before .before
+    .before
     .enum-told .given .1) in
-    let f = c .before .before .before .before .before .before .before .before .before .before .sum-squared .result in
-    let sum = c .before .before .before .before .before .before .before .before .before .before .sum-squared .ensures
-    ∙ ap (λ (x : List Float). sumSquared (sumOf (z .n) (z .m) (z .s) x))
-    (c .before .before .before .before .before .before .before .before .before .before .before .standing-rows .ensures
+    let f = c .before .before .before .before .before .before .before .before .before .before .before
+    .sum-squared .result in
+    let sum = rw (c .before .before .before .before .before .before .before .before .before .before .before .before
+    .row-counts .ensures) at
+    (c .before .before .before .before .before .before .before .before .before .before .before .sum-squared .ensures)
+    ∙ ap (λ (x : List Float). sumSquared (sumOf (rowCounts z) x))
+    (c .before .before .before .before .before .before .before .before .before .before .before .before .before
+    .standing-rows .ensures
     .read w (u .holds)) in
     let kept : Working (standingOn (a .st) (a .span) (a .mu) (a .radius))
     (withTaken w b (filterWith (w .filter) (a .st .counts .iterations) f (a .theta)))
     (c .before .before .before .before .before .before .before .write-taken .last .0) = record {
-      holds = c .before .before .before .before .before .before .before .write-taken .ensures w (u .holds)
+      holds =
+          (rw (c .before .before .before .before .before .before .before .before .before .row-counts2 .ensures) at
+          (c .before .before .before .before .before .before .before .write-taken .ensures)) w (u .holds)
           (t .standing-rows) (t .landed-rows)
           (t .curvature) (learned-behind (a .st) w t e);
       zero-behind = taken-working (a .st) w t b f (a .theta) (learned-behind (a .st) w t e);
@@ -156,7 +164,9 @@ take-with-spec =
     same-length
     returns
     standing-rows-requires
+    row-counts-requires
     sum-squared-requires
+    row-counts-requires-2
     slice-aggregate-with-taken
     write-taken-requires
     standing-on-requires

@@ -3,7 +3,7 @@ use mathlib.Core.List.{[]}
 use Rattle.run.specs.Area.{withTrial}
 use Rattle.run.specs.Vectors.{movedOf}
 use Rattle.run.specs.Iterate.{leftAt}
-use Rattle.run.proofs.ZeroBehind.{limits-of, limits-as, works-as}
+use Rattle.run.proofs.ZeroBehind.{limits-of, limits-as, works-as, rows-of}
 use borrow.Author.Needs.{needs}
 use Rattle.run.proofs.iterate.left_at.Statement.{statement}
 use Rattle.run.proofs.iterate.left_at.Tie as tie
@@ -11,20 +11,24 @@ use Rattle.run.proofs.iterate.left_at.Tie as tie
 enum-known-found : tie.Need-enum-known-found
 enum-known-found c = search needs
 
+row-counts-requires : tie.Need-row-counts-requires
+row-counts-requires c κs = search needs
+
 write-trial-requires : tie.Need-write-trial-requires
 write-trial-requires c κs =
-    let p = c .before .before .before .before .before .before .before .pre in
+    let p = c .before .before .before .before .before .before .before .before .pre in
     let b = p .1 in
     let l = p .2 in
-    (p .0, ((b .few-variables, (b .few-constraints, b .few-sums)), (l .delta-length, l .lambda-length)))
+    (p .0, (rw (c .row-counts .ensures) (rows-of b), (l .delta-length, l .lambda-length)))
 
 with-trial-of-requires : tie.Need-with-trial-of-requires
 with-trial-of-requires c κs = search needs
 
 ask-requires : tie.Need-ask-requires
 ask-requires c κs =
-    rw (c .with-trial-of .ensures [] [] []) (c .before .before .before .before .before .before .before .before .before
-    .before .before .pre .1 .few-questions)
+    rw (c .with-trial-of .ensures [] [] [])
+    (c .before .before .before .before .before .before .before .before .before .before .before .before
+    .pre .1 .few-questions)
 
 same-length : tie.Need-same-length
 same-length c = search needs
@@ -32,12 +36,14 @@ same-length c = search needs
 returns : tie.Need-returns
 unfolding leftAt
 returns c w h =
-    let a = c .before .before .before .before .before .before .before .before .before .before .before .before .args in
+    let a = c .before .before .before .before .before .before .before .before .before .before .before .before .before
+    .args in
     let next = movedOf (a .st .sizes .n) (w .standing) (a .delta .now) in
-    rw (c .before .before .before .before .before .before .before .found .given .1)
+    rw (c .before .before .before .before .before .before .before .before .found .given .1)
     (rw (c .before .with-trial-of .ensures (a .delta .now) (a .lambda .now) next) at (c .ask .ensures (withTrial w next
-    (a .delta .now) (a .lambda .now)) _ (c .before .before .before .before .write-trial .ensures w (h .holds)
-    (h .zero-behind .landed-rows))))
+    (a .delta .now) (a .lambda .now)) _
+    ((rw (c .before .before .before .before .before .row-counts .ensures) at
+    (c .before .before .before .before .write-trial .ensures)) w (h .holds) (h .zero-behind .landed-rows))))
 
 enum-known-found-2 : tie.Need-enum-known-found-2
 enum-known-found-2 c = search needs
@@ -90,6 +96,7 @@ left-at-spec =
     tie.close
     (tie.spec
     enum-known-found
+    row-counts-requires
     write-trial-requires
     with-trial-of-requires
     ask-requires

@@ -17,8 +17,7 @@ part-rows-end c = search needs
 
 sum-squared-requires : tie.Need-sum-squared-requires
 sum-squared-requires c κs =
-    let f = c .before .before .before .pre .1 in
-    rw (c .before .row-counts .ensures) (f .few-variables, (f .few-constraints, f .few-sums))
+    rw (c .before .row-counts .ensures) (c .before .before .before .pre .1)
 
 returns : tie.Need-returns
 returns c = rw (c .before .before .sum-squared .ensures, c .before .before .before .before .row-counts .ensures)

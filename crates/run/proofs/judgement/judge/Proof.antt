@@ -58,7 +58,7 @@ sum-change-requires : tie.Need-sum-change-requires
 sum-change-requires c κs =
     let p = c .before .before .before .before .before .before .before .before .before .before .before .before .pre
     .counts in
-    rw (c .sum .ensures) (sum-small (p .few-variables) (p .few-constraints) (p .few-sums))
+    rw (c .sum .ensures) (sum-small p)
 
 sum-squared-requires : tie.Need-sum-squared-requires
 sum-squared-requires c κs = search needs

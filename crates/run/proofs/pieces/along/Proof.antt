@@ -50,8 +50,7 @@ along-constraints-requires c κs =
     (c .before .before .before .before .before .wants .ensures) in
     let z = sized-passed (p .0) (c .before .before .before .before .before .before .sized .ensures) .counts in
     record {
-      few-variables = z .few-variables;
-      few-constraints = z .few-constraints;
+      few = z;
       enough = omega (arith, z .few-variables, p .1);
       values = c .before .if1 .left;
     }
@@ -69,7 +68,7 @@ returns-3 c =
     let t = c .before .before .before .before .before .before .before .before in
     let n = t .before .before .before .before .before .before .before .before .before .args .c .n in
     let long = t .if1 .left in
-    let size : length (k .last .1 .1 .1 .1 .0) ≡ 2 * n = omega (arith, k .kept, long) in
+    let size : length (k .last .1 .1 .1 .0) ≡ 2 * n = omega (arith, k .kept, long) in
     rw (
       ← t .before .before .before .before .before .sized .ensures,
       ← t .before .before .before .before .wants .ensures,

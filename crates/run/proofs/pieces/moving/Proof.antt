@@ -4,7 +4,7 @@ use Prim.Native.Nat.{_≤_, _-_}
 use native.Mathlib.Omega.{arith}
 use lib.ListN.{length}
 use Rattle.run.specs.Pieces.{movingReply}
-use Rattle.run.proofs.PieceLaws.{finished, bounds, sized-passed, wants-passed, Copied, copied-none}
+use Rattle.run.proofs.PieceLaws.{finished, sized-passed, wants-passed, Copied, copied-none}
 use Rattle.run.proofs.PieceLaws.{copied-more, copied-all}
 use borrow.Author.Needs.{needs}
 use Rattle.run.proofs.pieces.moving.Statement.{statement}
@@ -37,7 +37,7 @@ moving-requires : tie.Need-moving-requires Inv-loop μ-loop
 moving-requires c κs =
     let p = wants-passed _ _ _ (finished (c .enum-told .given .1)) (c .before .before .wants .ensures) in
     let z = sized-passed (p .0) (c .before .before .before .sized .ensures) in
-    bounds z
+    z .counts
 
 loop-holds : tie.Need-loop-holds Inv-loop μ-loop
 loop-holds c = (

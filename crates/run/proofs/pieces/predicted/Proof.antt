@@ -31,7 +31,7 @@ predicted-requires : tie.Need-predicted-requires
 predicted-requires c κs =
     let p = wants-passed _ _ _ (finished (c .enum-told .given .1)) (c .before .before .wants .ensures) in
     let z = sized-passed (p .0) (c .before .before .before .sized .ensures) in
-    (z .counts .few-variables, z .counts .few-constraints)
+    z .counts
 
 returns-2 : tie.Need-returns-2
 unfolding predictedReply

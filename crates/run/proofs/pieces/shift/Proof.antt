@@ -25,7 +25,7 @@ shift-requires : tie.Need-shift-requires
 shift-requires c κs =
     let p = fits-passed (finished (c .before .enum-told .given .1)) (c .before .before .before .fits2 .ensures) in
     let z = p .sized .counts in
-    (record { few-variables = z .few-variables; few-constraints = z .few-constraints; marks = p .first }, p .second)
+    (record { few = z; marks = p .first }, p .second)
 
 cleared-requires : tie.Need-cleared-requires
 cleared-requires c κs = search needs
@@ -40,7 +40,7 @@ returns-2 c =
     (finished (c .before .before .before .before .before .before .before .before .enum-told .given .1))
     (c .before .before .before .before .before .before .before .before .before .before .fits2 .ensures) in
     let k = c .before .before .before .before .before .before .shift in
-    let size : length (k .last .1 .1 .1 .1 .0) ≡ 24 = omega (arith, k .kept, p .second) in
+    let size : length (k .last .1 .1 .1 .0) ≡ 24 = omega (arith, k .kept, p .second) in
     rw (
       ← c .before .before .before .before .before .before .before .before .before .before .fits2 .ensures,
       c .before .before .before .before .before .before .before .before .enum-told .given .1,

@@ -5,7 +5,7 @@ use Rattle.run.specs.Rows.{rowsIn}
 use Rattle.run.specs.Residuals.{squaredOf}
 use Rattle.run.specs.Pieces.{squaredReply}
 use Rattle.run.proofs.RowLaws.{sum-small}
-use Rattle.run.proofs.PieceLaws.{finished, bounds, fits-passed}
+use Rattle.run.proofs.PieceLaws.{finished, fits-passed}
 use borrow.Author.Needs.{needs}
 use Rattle.run.proofs.pieces.squared.Statement.{statement}
 use Rattle.run.proofs.pieces.squared.Tie as tie
@@ -34,13 +34,13 @@ enum-told c = search needs
 sum-requires : tie.Need-sum-requires
 sum-requires c κs =
     let z = fits-passed (finished (c .enum-told .given .1)) (c .before .before .fits2 .ensures) .sized in
-    bounds z
+    z .counts
 
 squared-requires : tie.Need-squared-requires
 squared-requires c κs =
     let z = fits-passed (finished (c .before .enum-told .given .1))
     (c .before .before .before .fits2 .ensures) .sized in
-    rw (c .sum .ensures) (sum-small (z .counts .few-variables) (z .counts .few-constraints) (z .counts .few-sums))
+    rw (c .sum .ensures) (sum-small (z .counts))
 
 returns-2 : tie.Need-returns-2
 unfolding squaredReply

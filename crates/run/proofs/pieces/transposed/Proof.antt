@@ -6,19 +6,19 @@ use native.Mathlib.Omega.{arith}
 use lib.ListN.{length}
 use Rattle.linear.specs.Flat.{zeros}
 use Rattle.run.specs.Vectors.{vector, fillTo}
-use Rattle.run.specs.Rows.{rowsIn, evaluationBy}
+use Rattle.run.specs.Rows.{rowsIn, evaluationOf}
 use Rattle.run.specs.Residuals.{transposedAt}
 use Rattle.run.specs.Pieces.{transposedReply}
 use Rattle.run.proofs.RowLaws.{sum-small}
 use Rattle.run.proofs.VectorLaws.{fill-first}
-use Rattle.run.proofs.PieceLaws.{finished, bounds, fits-passed}
+use Rattle.run.proofs.PieceLaws.{finished, fits-passed}
 use borrow.Author.Needs.{needs}
 use Rattle.run.proofs.pieces.transposed.Statement.{statement}
 use Rattle.run.proofs.pieces.transposed.Tie as tie
 
 abbrev Inv-loop : tie.InvT-loop
 Inv-loop c xs w out₀ fit n j₀ out j =
-    (j ≤ n) × (length out ≡ length out₀) × (out ≡ fillTo vector 0 (transposedAt (evaluationBy c xs .sum) w) j)
+    (j ≤ n) × (length out ≡ length out₀) × (out ≡ fillTo vector 0 (transposedAt (evaluationOf c xs .sum) w) j)
 
 abbrev μ-loop : tie.MeasureT-loop
 μ-loop c xs w out₀ fit n j₀ out j = n - j
@@ -50,14 +50,14 @@ sum-requires : tie.Need-sum-requires Inv-loop μ-loop
 sum-requires c κs =
     let z = fits-passed (finished (c .before .before .before .before .before .before .before .enum-told .given .1))
     (c .before .before .before .before .before .before .before .before .before .fits2 .ensures) .sized in
-    bounds z
+    z .counts
 
 transposed-at-requires : tie.Need-transposed-at-requires Inv-loop μ-loop
 transposed-at-requires c κs =
     let z = fits-passed
     (finished (c .before .before .before .before .before .before .before .before .enum-told .given .1))
     (c .before .before .before .before .before .before .before .before .before .before .fits2 .ensures) .sized in (
-      rw (c .sum .ensures) (sum-small (z .counts .few-variables) (z .counts .few-constraints) (z .counts .few-sums)),
+      rw (c .sum .ensures) (sum-small (z .counts)),
       omega (arith, z .counts .few-variables, c .before .before .loop-test .taken),
     )
 

@@ -14,12 +14,11 @@ use Rattle.run.proofs.problem.problem.Tie as tie
 sum-near : (k : tie.After-sum) → Small (k .sum .result)
 sum-near k =
     let f = k .before .before .before .before .before .before .before .pre .0 .0 in
-    subst Small (sym (k .sum .ensures)) (sum-small (f .few-variables) (f .few-constraints) (f .few-sums))
+    subst Small (sym (k .sum .ensures)) (sum-small f)
 
 sum-requires : tie.Need-sum-requires
 sum-requires c κs =
-    let f = c .before .before .before .before .before .before .pre .0 .0 in
-    (f .few-variables, (f .few-constraints, f .few-sums))
+    c .before .before .before .before .before .before .pre .0 .0
 
 constraints-requires : tie.Need-constraints-requires
 constraints-requires c κs = search needs
@@ -27,7 +26,7 @@ constraints-requires c κs = search needs
 slopes-requires : tie.Need-slopes-requires
 slopes-requires c κs =
     let p = c .before .before .before .before .before .before .before .before .before .before .pre .0 in
-    let near = constraints-small (p .0 .few-variables) (p .0 .few-constraints) in
+    let near = constraints-small (p .0) in
     (subst Small (sym (c .before .before .constraints .ensures)) near, p .1 .few, p .1 .long)
 
 slice-aggregate-squeeze : tie.Need-slice-aggregate-squeeze
@@ -98,7 +97,7 @@ returns c =
     (c .before .before .before .before .before .before .before .before .before .before .before .before .before .before
     .before .before .squeeze .ensures) in
     λ mu.
-    problem-is _ _ _ k _ _ mu (s .sum .ensures)
+    problem-is _ k _ _ mu (s .sum .ensures)
     (c .before .before .before .before .before .before .before .before .before .before .before .before .before .before
     .before .before .before .before .before .before .before .before .before .before .before .constraints .ensures)
     (p .1 .0) (p .1 .1) (l .0) (l .1) jr

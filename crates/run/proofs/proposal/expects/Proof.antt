@@ -18,7 +18,7 @@ module _ (k : tie.After-definitely-greater) where
   sum-left =
       let a = k .before .before .before .before .before .before .before .before .before .before .args in
       let n = a .point .counts .n in
-      squaredOf (sumOf n (a .point .counts .m) (a .point .counts .s) (a .rows .now)) (a .delta .now) n
+      squaredOf (sumOf (a .point .counts) (a .rows .now)) (a .delta .now) n
 
   abbrev bent : Scalar
   bent =
@@ -48,7 +48,7 @@ sum-requires c κs = search needs
 squared-requires : tie.Need-squared-requires
 squared-requires c κs =
     let f = c .before .before .before .before .before .pre in
-    rw (c .sum .ensures) (sum-small (f .few-variables) (f .few-constraints) (f .few-sums))
+    rw (c .sum .ensures) (sum-small f)
 
 sub-requires : tie.Need-sub-requires
 sub-requires c κs = search needs

@@ -48,7 +48,7 @@ trial-requires c κs =
     let p = c .before .before .before .before .before .before .before .before .before .before .before .before .before
     .before .before .before .pre in
     let k = c .before .before .before .before .before .before .before .before .before .cut .kept in
-    (p .0 .few-variables, p .0 .few-constraints, omega (arith, k, p .1))
+    (p .0, omega (arith, k, p .1))
 
 same-length : tie.Need-same-length
 same-length c = search needs

@@ -19,12 +19,12 @@ use Rattle.run.proofs.proposal.trial.Statement.{statement}
 use Rattle.run.proofs.proposal.trial.Tie as tie
 
 abbrev Inv-loop : tie.InvT-loop
-Inv-loop n m rows x delta₀ i₀ delta i =
+Inv-loop c rows x delta₀ n i₀ delta i =
     (i ≤ 12) × (length delta ≡ length delta₀) ×
-    (delta ≡ fillTo delta₀ 0 (λ j. pick (ltb j n) (chooseOf (at delta₀ j)) zeroS) i)
+    (delta ≡ fillTo delta₀ 0 (λ j. pick (ltb j (c .n)) (chooseOf (at delta₀ j)) zeroS) i)
 
 abbrev μ-loop : tie.MeasureT-loop
-μ-loop n m rows x delta₀ i₀ delta i = 12 - i
+μ-loop c rows x delta₀ n i₀ delta i = 12 - i
 
 loop-holds : tie.Need-loop-holds Inv-loop μ-loop
 unfolding fillTo
@@ -49,10 +49,10 @@ loop-again : tie.Need-loop-again Inv-loop μ-loop
 loop-again c =
     let l = c .before .before .before .before .before .before .before .before .loop in
     let a = c .before .before .before .before .before .before .before .before .before .before .before .before .args in
-    let f : ℕ → Scalar = λ j. pick (ltb j (a .n)) (chooseOf (at (a .delta .now) j)) zeroS in
+    let f : ℕ → Scalar = λ j. pick (ltb j (a .c .n)) (chooseOf (at (a .delta .now) j)) zeroS in
     let z : 0 + l .i ≡ l .i = omega arith in
     let v : c .before .before .before .choose-if .result ≡ f (l .i) = c .before .before .before .choose-if .ensures
-    ∙ ap (λ (s : Scalar). pick (ltb (l .i) (a .n)) (chooseOf s) zeroS)
+    ∙ ap (λ (s : Scalar). pick (ltb (l .i) (a .c .n)) (chooseOf s) zeroS)
     (c .before .before .before .before .before .at .ensures ∙ at-next (a .delta .now) f (l .i) (l .inv .2)) in (
       search needs,
       search needs,
@@ -63,7 +63,7 @@ loop-again c =
 tried-requires : tie.Need-tried-requires Inv-loop μ-loop
 tried-requires c κs =
     let p = c .before .before .before .before .before .before .pre in
-    (p .0, p .1, c .before .before .loop .inv .1 ∙ p .2)
+    (p .0, c .before .before .loop .inv .1 ∙ p .1)
 
 same-length : tie.Need-same-length Inv-loop μ-loop
 same-length c = search needs
@@ -72,11 +72,11 @@ returns : tie.Need-returns Inv-loop μ-loop
 returns c lambda =
     let s = c .before .before .before .before .before .before .before in
     let a = s .args in
-    let e : c .before .before .before .loop .delta ≡ chosenOf vector (a .delta .now) 0 (a .n) =
+    let e : c .before .before .before .loop .delta ≡ chosenOf vector (a .delta .now) 0 (a .c .n) =
     rw (le-antisymm (c .before .before .before .loop .inv .0)
     (c .before .before .loop-test .left)) at (c .before .before .before .loop .inv .2)
-    ∙ chosen-in-place (a .delta .now) (a .n) (s .pre .2) (s .pre .0) in
-    c .tried .ensures lambda ∙ trial-is (pointOf (a .n) (a .x .now) (constraintsOf (a .n) (a .m) (a .rows .now)))
+    ∙ chosen-in-place (a .delta .now) (a .c .n) (s .pre .1) (s .pre .0 .few-variables) in
+    c .tried .ensures lambda ∙ trial-is (pointOf (a .c .n) (a .x .now) (constraintsOf (a .c) (a .rows .now)))
     (a .delta .now) (c .before .before .before .loop .delta) lambda e
 
 pub trial-spec : {M : Type 1} → statement M

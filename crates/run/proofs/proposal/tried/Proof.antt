@@ -17,7 +17,7 @@ module _ (k : tie.After-predicted) where
   abbrev from : Standing
   from =
       let a = k .before .before .before .before .before .before .before .args in
-      pointOf (a .n) (a .x .now) (constraintsOf (a .n) (a .m) (a .rows .now))
+      pointOf (a .c .n) (a .x .now) (constraintsOf (a .c) (a .rows .now))
 
   abbrev next : List Float
   next = k .before .before .moved .last .1 .1 .1 .0

@@ -45,7 +45,7 @@ trial-requires : tie.Need-trial-requires
 trial-requires c κs =
     let p =
     c .before .before .before .before .before .before .before .before .before .before .before .before .before .pre in
-    (p .0 .few-variables, p .0 .few-constraints, p .1)
+    (p .0, p .1)
 
 same-length : tie.Need-same-length
 same-length c = search needs

@@ -12,7 +12,7 @@ sum-requires c κs = search needs
 
 depends-on-requires : tie.Need-depends-on-requires
 depends-on-requires c κs =
-    let p = c .before .before .pre in (rw (c .sum .ensures) (sum-small (p .0) (p .1 .0) (p .1 .1 .0)), p .1 .1 .1)
+    let p = c .before .before .pre in (rw (c .sum .ensures) (sum-small (p .0)), p .1)
 
 returns : tie.Need-returns
 returns c =
@@ -27,7 +27,7 @@ constraints-requires c κs = search needs
 depends-on-requires-2 : tie.Need-depends-on-requires-2
 depends-on-requires-2 c κs =
     let p = c .before .before .before .before .before .pre in
-    (rw (c .constraints .ensures) (constraints-small (p .0) (p .1 .0)), p .1 .1 .1)
+    (rw (c .constraints .ensures) (constraints-small (p .0)), p .1)
 
 returns-2 : tie.Need-returns-2
 returns-2 c =

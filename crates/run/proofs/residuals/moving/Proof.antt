@@ -11,11 +11,11 @@ use Rattle.run.proofs.residuals.moving.Statement.{statement}
 use Rattle.run.proofs.residuals.moving.Tie as tie
 
 abbrev Inv-loop : tie.InvT-loop
-Inv-loop xs n m s marks₀ j₀ marks j =
-    (j ≤ n) × Marked (λ i. dependsOn (sumOf n m s xs) i || dependsOn (constraintsOf n m xs) i) j marks
+Inv-loop xs c n marks₀ j₀ marks j =
+    (j ≤ n) × Marked (λ i. dependsOn (sumOf c xs) i || dependsOn (constraintsOf c xs) i) j marks
 
 abbrev μ-loop : tie.MeasureT-loop
-μ-loop xs n m s marks₀ j₀ marks j = n - j
+μ-loop xs c n marks₀ j₀ marks j = n - j
 
 loop-holds : tie.Need-loop-holds Inv-loop μ-loop
 loop-holds c = (search needs, marked-none _)
@@ -35,7 +35,7 @@ loop-less c = search needs
 loop-again : tie.Need-loop-again Inv-loop μ-loop
 loop-again c = (
   search needs,
-  marked-more _ (omega (arith, c .before .before .before .before .pre .0, c .before .loop-test .taken))
+  marked-more _ (omega (arith, c .before .before .before .before .pre .few-variables, c .before .loop-test .taken))
       (c .before .before .loop .inv .1) (c .moves .ensures),
 )
 

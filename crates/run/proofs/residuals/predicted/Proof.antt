@@ -19,8 +19,7 @@ slice-aggregate-linearized c = search needs
 
 linearized-requires : tie.Need-linearized-requires
 linearized-requires c κs =
-    rw (c .before .constraints .ensures) (constraints-small (c .before .before .before .before .pre .0)
-    (c .before .before .before .before .pre .1))
+    rw (c .before .constraints .ensures) (constraints-small (c .before .before .before .before .pre))
 
 slice-aggregate-norm-of : tie.Need-slice-aggregate-norm-of
 slice-aggregate-norm-of c = search needs
@@ -30,7 +29,7 @@ norm-of-requires c κs =
     let p = c .before .before .before .before .before .before .before .pre in
     let o = c .before .before .linearized in
     let l : length (o .last .1 .1 .1 .1 .0) ≡ 24 = o .kept .1 .1 .1 .1 .0 in
-    (omega (arith, p .1), omega (arith, p .1, l))
+    (omega (arith, p .few-constraints), omega (arith, p .few-constraints, l))
 
 returns : tie.Need-returns
 unfolding predictedOf
@@ -39,9 +38,9 @@ returns c =
     let a = s .args in
     let e = rw (c .before .before .before .before .before .constraints .ensures)
     at (c .before .before .before .linearized .ensures) in
-    let h : 2 * a .m ≤ 24 = omega (arith, s .pre .1) in
+    let h : 2 * a .c .m ≤ 24 = omega (arith, s .pre .few-constraints) in
     rw e at (c .norm-of .ensures)
-    ∙ norm-fill _ (linearizedAt (constraintsOf (a .n) (a .m) (a .xs .now)) (a .delta .now) (a .n)) (a .m) h
+    ∙ norm-fill _ (linearizedAt (constraintsOf (a .c) (a .xs .now)) (a .delta .now) (a .c .n)) (a .c .m) h
 
 pub predicted-spec : {M : Type 1} → statement M
 predicted-spec =

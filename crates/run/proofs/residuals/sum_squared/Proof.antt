@@ -12,8 +12,7 @@ sum-requires c κs = search needs
 
 squared-requires : tie.Need-squared-requires
 squared-requires c κs =
-    rw (c .sum .ensures) (sum-small (c .before .before .pre .0) (c .before .before .pre .1 .0)
-    (c .before .before .pre .1 .1))
+    rw (c .sum .ensures) (sum-small (c .before .before .pre))
 
 returns : tie.Need-returns
 returns c =

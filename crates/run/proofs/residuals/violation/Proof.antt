@@ -36,8 +36,8 @@ returns c =
     let a = s .args in
     let e = rw (c .before .before .before .before .before .constraints .ensures)
     at (c .before .before .before .values .ensures) in
-    let h : 2 * a .m ≤ 24 = omega (arith, s .pre .0) in
-    rw e at (c .norm-of .ensures) ∙ norm-fill _ (valueAt (constraintsOf (a .n) (a .m) (a .xs .now))) (a .m) h
+    let h : 2 * a .c .m ≤ 24 = omega (arith, s .pre .0) in
+    rw e at (c .norm-of .ensures) ∙ norm-fill _ (valueAt (constraintsOf (a .c) (a .xs .now))) (a .c .m) h
 
 pub violation-spec : {M : Type 1} → statement M
 violation-spec =
