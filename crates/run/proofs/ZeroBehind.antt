@@ -20,6 +20,7 @@ use Rattle.run.specs.Rows.{rowNumbers, constraintsOf, rowCounts}
 use Rattle.run.specs.Residuals.{violationOf}
 use Rattle.run.specs.Curvature.{curvatureEntries}
 use Rattle.run.specs.Area.{POINT-LEN, ROWS-LEN, CURVATURE-LEN, FILTER-LEN, SIZES, Memory, padded, memoryOf}
+use Rattle.run.specs.Area.{standingCounts, landedCounts}
 use Rattle.run.specs.Area.{startOf}
 use Rattle.run.specs.program.Area.{written}
 use Rattle.run.specs.program.Area.{Holds, slotsOf}
@@ -363,12 +364,12 @@ module _ {s t : State} (e : t ≡ s) where
 -- with the violations that were worked out
 module _ (st : State) {w : Memory} {a : List Float} (u : Working st w a) where
   pub measures : {standing : Res Scalar}
-      → standing ≡ violationOf (constraintsOf (rowCounts (st .sizes)) (w .standingRows))
+      → standing ≡ violationOf (constraintsOf (standingCounts st) (w .standingRows))
       → StandingKnown st standing w a
   measures e = record { uses = u; standing-is = e }
 
   pub compares : {theta : Scalar} {landed : Res Scalar}
-      → ok theta ≡ violationOf (constraintsOf (rowCounts (st .sizes)) (w .standingRows))
-      → landed ≡ violationOf (constraintsOf (rowCounts (st .sizes)) (w .landedRows))
+      → ok theta ≡ violationOf (constraintsOf (standingCounts st) (w .standingRows))
+      → landed ≡ violationOf (constraintsOf (landedCounts st) (w .landedRows))
       → ViolationsKnown st theta landed w a
   compares e f = record { measured = measures e; landed-is = f }
