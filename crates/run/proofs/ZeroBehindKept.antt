@@ -24,6 +24,7 @@ use Rattle.run.specs.Judgement.{Judged, judgeOf}
 use Rattle.run.specs.Limits.{CORRECTIONS}
 use Rattle.run.specs.Corrected.{to, stay, shiftOf, shiftFrom, shiftedStep}
 use Rattle.run.specs.Area.{POINT-LEN, ROWS-LEN, CURVATURE-LEN, FILTER-LEN, Memory, usedIn, padded, onlyStanding}
+use Rattle.run.specs.Area.{standingCounts}
 use Rattle.run.specs.Area.{landedCounts}
 use Rattle.run.specs.Area.{withStart}
 use Rattle.run.specs.program.Area.{Holds}
@@ -73,7 +74,7 @@ use Rattle.run.proofs.RefusalLaws as yields
 
 -- the memory while a call works
 abbrev pub AtWork : State → Memory → Type 0
-AtWork st w = SlotsZeroBehind (allUsed (st .sizes) (st .counts .iterations)) w
+AtWork st w = SlotsZeroBehind (allUsed (standingCounts st) (landedCounts st) (st .counts .iterations)) w
 
 -- what a run of these sizes, with the question of that number open, is left as
 pub record Kept (z : Sizes) (question : ℕ) (o : AfterSlots) : Type 0 where
@@ -105,7 +106,8 @@ module _ (st : State) (w : Memory) (t : AtWork st w) where
       record {
         sizes-kept = refl;
         zero-behind =
-            only-standing (usedIn (finish st w s .state)) (allUsed (st .sizes) (st .counts .iterations)) w refl t;
+            only-standing (usedIn (finish st w s .state))
+            (allUsed (standingCounts st) (landedCounts st) (st .counts .iterations)) w refl t;
         past-checks = refl;
         follows = refl;
       }
@@ -115,7 +117,8 @@ module _ (st : State) (w : Memory) (t : AtWork st w) where
       record {
         sizes-kept = refl;
         zero-behind =
-            only-standing (usedIn (refuse st w k .state)) (allUsed (st .sizes) (st .counts .iterations)) w refl t;
+            only-standing (usedIn (refuse st w k .state))
+            (allUsed (standingCounts st) (landedCounts st) (st .counts .iterations)) w refl t;
         past-checks = lt-leb k 4 (above (eqb k 5) (eqb k 6) refl refl h);
         follows = (h, refl);
       }
@@ -259,7 +262,7 @@ module _ (st : State) (w : Memory) (t : AtWork st w) where
   -- with one pair more in the filter
   pub taken-working :
       (b : List Float) (f theta : Scalar) → ZeroBehind CURVATURE-LEN (2 * curvatureEntries (st .sizes .n)) b →
-      SlotsZeroBehind (allUsed (st .sizes) (st .counts .iterations + 1))
+      SlotsZeroBehind (allUsed (standingCounts st) (landedCounts st) (st .counts .iterations + 1))
       (withTaken w b (filterWith (w .filter) (st .counts .iterations) f theta))
   taken-working b f theta behind-b =
       record {

@@ -11,7 +11,7 @@ ghost use Rattle.run.specs.Area.{padded, startOf, usedIn, memoryOf, begu
 ghost use Rattle.run.specs.Area.{POINT-LEN, ROWS-LEN, CURVATURE-LEN, FILTER-LEN, STANDING-AT, ASKED-AT};
 ghost use Rattle.run.specs.Area.{withStart, withTrial, withLanded, withTaken};
 ghost use Rattle.run.specs.Filter.{filterWith};
-ghost use Rattle.run.specs.Rows.{rowNumbers};
+ghost use Rattle.run.specs.Rows.{rowNumbers, rowCounts};
 ghost use Rattle.run.specs.Vectors.{movedOf};
 ghost use Rattle.run.specs.program.Area.{written, clearedTo, Limits, allUsed, Uses, Holds, pointsUsed};
 ghost use Rattle.run.specs.program.Area.{ZeroBehind, SlotRead};
@@ -126,7 +126,7 @@ fn row_numbers(c: RowCounts) -> usize
 // How many numbers of each slot may be in use while a call works.
 fn all_used(z: Sizes, iterations: usize) -> [usize; 9]
     requires { ⌜ Limits z iterations ⌝ }
-    ensures { λ r. ⌜ r ≡ allUsed z iterations ⌝ }
+    ensures { λ r. ⌜ r ≡ allUsed (rowCounts z) (rowCounts z) iterations ⌝ }
 {
     let point = 2 * z.n;
     let rows = row_numbers(row_counts(z));
@@ -266,7 +266,7 @@ pub fn write_begun(area: &mut [f64], start: &[f64])
 // smallest drawings clearing is most of a call's time.
 pub fn keep_standing(area: &mut [f64], z: Sizes, iterations: usize)
     requires { ⌜ (length (now area) ≡ AREA) × Limits z iterations ⌝ }
-    ensures { λ _. ⌜ ((w : Memory) → Uses (allUsed z iterations) w (now (area .entry)) →
+    ensures { λ _. ⌜ ((w : Memory) → Uses (allUsed (rowCounts z) (rowCounts z) iterations) w (now (area .entry)) →
         Holds (onlyStanding w) (now (area .exit))) ⌝ }
 {
     let used = all_used(z, iterations);
