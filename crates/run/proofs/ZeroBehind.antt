@@ -297,9 +297,9 @@ module _ (z : Sizes) {iterations : ℕ} (l : Limits z iterations) {us : List ℕ
     (e : us ≡ allUsed (rowCounts z) (rowCounts z) iterations) where
   all-below : Below (allUsed (rowCounts z) (rowCounts z) iterations) SIZES
   all-below =
-      let point : 2 * z .n ≤ POINT-LEN = omega (arith, l .n) in
+      let point : 2 * z .n ≤ POINT-LEN = omega (arith, l .few .few-variables) in
       let rows : rowNumbers (rowCounts z) ≤ ROWS-LEN = omega (arith, rows-fit z l) in
-      let multipliers : 2 * z .m ≤ POINT-LEN = omega (arith, l .m) in
+      let multipliers : 2 * z .m ≤ POINT-LEN = omega (arith, l .few .few-constraints) in
       let entries : 2 * curvatureEntries (z .n) ≤ CURVATURE-LEN = omega (arith, entries-fit z l) in
       let pairs : 4 * iterations ≤ FILTER-LEN = omega (arith, l .iterations-fit) in
       (point, (point, (point, (rows, (rows, (point, (multipliers, (entries, (pairs, tt)))))))))
@@ -337,12 +337,7 @@ rows-of b = record {
 }
 
 pub limits-of : {t : ℕ} {st : State} → Bounded t st → Limits (st .sizes) (st .counts .iterations)
-limits-of b = record {
-  n = b .few-variables;
-  m = b .few-constraints;
-  s = b .few-sums;
-  iterations-fit = omega (arith, b .within, b .few-iterations);
-}
+limits-of b = record { few = rows-of b; iterations-fit = omega (arith, b .within, b .few-iterations) }
 
 -- what the sizes and the iterations decide, for another state of the run
 module _ {s t : State} (e : t ≡ s) where

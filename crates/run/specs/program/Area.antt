@@ -9,15 +9,16 @@ use lib.ListN.{length, take, drop, getD}
 use Rattle.interval.specs.Result.{Res, ok}
 use Rattle.interval.specs.Scalar.{zero64}
 use Rattle.interval.specs.declared.Scalar.{Scalar}
-use Rattle.run.specs.Limits.{VARIABLES, CONSTRAINTS, SUM-ROWS, ITERATIONS}
+use Rattle.run.specs.Limits.{ITERATIONS}
 use Rattle.run.specs.Area.{Memory, areaOf, SIZES, padded, startOf, POINT-LEN, ROWS-LEN, CURVATURE-LEN, FILTER-LEN}
 use Rattle.run.specs.Area.{standingCounts, landedCounts}
 use Rattle.run.specs.Curvature.{curvatureEntries}
 use Rattle.run.specs.Residuals.{violationOf}
-use Rattle.run.specs.Rows.{rowNumbers, constraintsOf}
+use Rattle.run.specs.Rows.{rowNumbers, constraintsOf, rowCounts}
 use Rattle.run.specs.declared.state.Sizes.{Sizes}
 use Rattle.run.specs.declared.state.State.{State}
 use Rattle.run.specs.declared.rows.RowCounts.{RowCounts}
+use Rattle.run.specs.program.Rows.{FewRows}
 
 -- ---- slots in the area
 
@@ -107,7 +108,5 @@ ViolationsKnown st theta landed w a =
 
 -- sizes and iterations whose numbers in use fit the slots
 pub record Limits (z : Sizes) (iterations : ℕ) : Type 0 where
-  pub n : z .n ≤ VARIABLES
-  pub m : z .m ≤ CONSTRAINTS
-  pub s : z .s ≤ SUM-ROWS
+  pub few : FewRows (rowCounts z)
   pub iterations-fit : iterations ≤ ITERATIONS

@@ -9,7 +9,7 @@ use Rattle.run.proofs.area.all_used.Tie as tie
 
 -- the counts of either answer are within the limits
 rows : (s : tie.Start) → FewRows (standingCounts (s .args .st))
-rows s = let l = s .pre in record { few-variables = l .n; few-constraints = l .m; few-sums = l .s }
+rows s = s .pre .few
 
 standing : (k : tie.After-standing-counts) → FewRows (k .standing-counts .result)
 standing k = rw (k .standing-counts .ensures) (rows (k .before))
