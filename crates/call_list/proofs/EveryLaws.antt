@@ -15,7 +15,8 @@ use Rattle.run.specs.Limits.{AREA}
 use Rattle.run.specs.Calls.{replyOpen, replyOf, noneOpen, replyNoneOf, checks, unchanged}
 use Rattle.run.specs.Checks.{valid}
 use Rattle.run.specs.Demand.{same, other, Floats, Call, rows, none, Allowed, Run, CallResult, callResultBy, callResult}
-use Rattle.run.specs.Rows.{rowNumbers, rowCounts}
+use Rattle.run.specs.Area.{landedCounts}
+use Rattle.run.specs.Rows.{rowNumbers}
 use Rattle.run.specs.declared.state.Phase.{Phase}
 use Rattle.run.specs.declared.state.Phase.the-variants.{Open, Over}
 use Rattle.run.specs.declared.state.Sizes.{Sizes}
@@ -58,13 +59,13 @@ module _ (st : State) (a own : List Float) where
 
   rows-refused :
       (xs : List Float) →
-      (length a ≢ AREA) ⊎ (length xs ≢ rowNumbers (rowCounts (st .sizes))) →
+      (length a ≢ AREA) ⊎ (length xs ≢ rowNumbers (landedCounts st)) →
       (v : Bool) (p : Phase) →
       callResultBy (checks v 4 (unchanged st a) (replyOpen st a xs p)) own
       ≡ callResultBy (checks v 4 (unchanged st []) (replyOpen st [] xs p)) own
   rows-refused xs x false p = refl
   rows-refused xs x true Over = refl
-  rows-refused xs x true (Open k) = rw (lengths xs (rowNumbers (rowCounts (st .sizes))) x) refl
+  rows-refused xs x true (Open k) = rw (lengths xs (rowNumbers (landedCounts st)) x) refl
 
 none-other : (r : Run) (a : List Float) → length a ≢ AREA → callResult r (none noArea) ≡ callResult r (none (other a))
 unfolding replyNoneOf

@@ -13,14 +13,14 @@ use Rattle.interval.specs.Result.{Res, ok, refused}
 use Rattle.interval.specs.Scalar.{degenerate, pick, divOf, definitelyGreater, definitelyLess}
 use Rattle.interval.specs.Scaling.{three64}
 use Rattle.linear.specs.Results.{bind}
-use Rattle.run.specs.Area.{Memory, withStart, withAsked, withLanded, withTaken}
+use Rattle.run.specs.Area.{Memory, withStart, withAsked, withLanded, withTaken, landedCounts}
 use Rattle.run.specs.Checks.{phaseFits}
 use Rattle.run.specs.Limits.{CORRECTIONS}
 use Rattle.run.specs.Corrected.{Shift, to, stay, shiftOf, shiftFrom, shiftedStep}
 use Rattle.run.specs.Curvature.{updateCurvature}
 use Rattle.run.specs.Judgement.{Judged, judgeOf}
 use Rattle.run.specs.program.Area.{StandingKnown}
-use Rattle.run.specs.Rows.{rowNumbers, rowCounts}
+use Rattle.run.specs.Rows.{rowNumbers}
 use Rattle.run.specs.Residuals.{movingOf, sumSquared, violationOf}
 use Rattle.run.specs.Endings.{AfterSlots, finish, refuse, question, orRefuse}
 use Rattle.run.specs.program.Endings.{Leaves, Bounded, Underway}
@@ -326,7 +326,7 @@ module _ {st : State} (b : Bounded 1073741824 st) where
       let g : phaseFits st (Open kind.Correction) ≡ true = subst (λ (x : Kind). phaseFits st (Open x) ≡ true) e f in
       record { bounded = b; below = ltb-true _ _ (both (ltb (st .counts .iterations) (st .sizes .limit)) _ g .0) }
 
-  pub rows-few : rowNumbers (rowCounts (st .sizes)) ≤ 936
+  pub rows-few : rowNumbers (landedCounts st) ≤ 936
   rows-few =
       let h : st .sizes .m + st .sizes .s ≤ 36 = omega (arith, b .few-constraints, b .few-sums) in
       let k : st .sizes .n + 1 ≤ 13 = omega (arith, b .few-variables) in

@@ -414,18 +414,20 @@ regroup a b c d e f g h i z = simp append-assoc
 
 module _ (z : Sizes) {iterations : ℕ} (l : Limits z iterations) where
   pub rows-fit : (z .m + z .s) * (z .n + 1) ≤ 468
-  rows-fit = let m = l .m in let s = l .s in let n = l .n in mul-le-mul {n₂ = 36} {m₂ = 13} (omega arith) (omega arith)
+  rows-fit =
+      let f = l .few in
+      mul-le-mul {n₂ = 36} {m₂ = 13} (omega (arith, f .few-constraints, f .few-sums)) (omega (arith, f .few-variables))
 
   pub entries-fit : z .n * z .n ≤ 144
-  entries-fit = mul-le-mul {n₂ = 12} {m₂ = 12} (l .n) (l .n)
+  entries-fit = mul-le-mul {n₂ = 12} {m₂ = 12} (l .few .few-variables) (l .few .few-variables)
 
 module _ (st : State) (l : Limits (st .sizes) (st .counts .iterations)) where
   pub used-below : Below (usedIn st) SIZES
   used-below =
-      let point : 2 * st .sizes .n ≤ 24 = omega (arith, l .n) in
+      let point : 2 * st .sizes .n ≤ 24 = omega (arith, l .few .few-variables) in
       let rows : 2 * ((st .sizes .m + st .sizes .s) * (st .sizes .n + 1)) ≤ 936 = omega (arith, rows-fit (st .sizes) l)
       in
-      let multipliers : 2 * st .sizes .m ≤ 24 = omega (arith, l .m) in
+      let multipliers : 2 * st .sizes .m ≤ 24 = omega (arith, l .few .few-constraints) in
       let entries : 2 * (st .sizes .n * st .sizes .n) ≤ 288 = omega (arith, entries-fit (st .sizes) l) in
       let pairs : 4 * st .counts .iterations ≤ 800 = omega (arith, l .iterations-fit) in
       let tried = isTried (st .phase) in

@@ -19,6 +19,7 @@ use Rattle.run.specs.Rows.{rowNumbers, valueAt, constraintsOf, sumOf, ro
 use Rattle.run.specs.Residuals.{linearizedAt, squaredOf, sumSquared, violationOf}
 use Rattle.run.specs.Judgement.{sumChange}
 use Rattle.run.specs.Area.{POINT-LEN, ROWS-LEN, CURVATURE-LEN, FILTER-LEN, ASKED-AT, SIZES, Memory, areaOf}
+use Rattle.run.specs.Area.{landedCounts}
 use Rattle.run.specs.Area.{memoryOf, startOf}
 use Rattle.run.specs.Area.{padded, usedOf, isTried, isCorrected, isOpen}
 use Rattle.run.specs.Limits.{AREA}
@@ -138,7 +139,7 @@ used-part a base size count inUse u h =
 
 module _ (st : State) (w : Memory) (f : Sized w) (small : SizeBounds (st .sizes)) where
   count : ℕ
-  count = rowNumbers (rowCounts (st .sizes))
+  count = rowNumbers (landedCounts st)
 
   read-rows : (a r : List Float) (base : ℕ) (inUse : Bool) (xs : List Float) → inUse ≡ true
       → length xs ≡ count → r ≡ padded ROWS-LEN xs → take count (drop base a) ≡ take count r
@@ -146,7 +147,7 @@ module _ (st : State) (w : Memory) (f : Sized w) (small : SizeBounds (st .sizes)
   read-rows a r base inUse xs u e p q = rw (u, q, p, take-at xs (zeros (ROWS-LEN - length xs)) count e)
 
   pub standing-rows-back : isTried (st .phase) ≡ true → (xs : List Float)
-      → length xs ≡ rowNumbers (rowCounts (st .sizes))
+      → length xs ≡ rowNumbers (landedCounts st)
       → w .standingRows ≡ padded ROWS-LEN xs → memoryOf st (areaOf w) .standingRows ≡ padded ROWS-LEN xs
   unfolding memoryOf count startOf
   standing-rows-back u xs e p =
@@ -154,7 +155,7 @@ module _ (st : State) (w : Memory) (f : Sized w) (small : SizeBounds (st .sizes)
       (slot-part w f 3 count (omega arith) (rows-fit (st .sizes) small))
 
   pub landed-rows-back : isCorrected (st .phase) ≡ true → (xs : List Float)
-      → length xs ≡ rowNumbers (rowCounts (st .sizes))
+      → length xs ≡ rowNumbers (landedCounts st)
       → w .landedRows ≡ padded ROWS-LEN xs → memoryOf st (areaOf w) .landedRows ≡ padded ROWS-LEN xs
   unfolding memoryOf count startOf
   landed-rows-back u xs e p =

@@ -15,10 +15,10 @@ use lib.Ieee.{Float}
 use lib.ListN.{length}
 use Rattle.interval.specs.Scalar.{pick}
 use Rattle.interval.specs.Scaling.{isPositive}
-use Rattle.run.specs.Rows.{rowNumbers, rowCounts}
+use Rattle.run.specs.Rows.{rowNumbers}
 use Rattle.run.specs.Limits.{CORRECTIONS}
 use Rattle.run.specs.Limits.{AREA}
-use Rattle.run.specs.Area.{memoryOf}
+use Rattle.run.specs.Area.{memoryOf, landedCounts}
 use Rattle.run.specs.Answered.{answered, answeredNone}
 use Rattle.run.specs.Checks.{sizesFit, countsFit, phaseFits, valid, allInDomain}
 use Rattle.run.specs.Limits.{TURN-DOWNS, QUESTIONS}
@@ -32,6 +32,7 @@ use Rattle.run.specs.declared.state.Phase.{Phase}
 use Rattle.run.specs.declared.state.Phase.the-variants.{Open, Over}
 use Rattle.run.specs.declared.state.Sizes.{Sizes}
 use Rattle.run.specs.declared.state.State.{State}
+use Rattle.run.specs.program.Rows.{FewRows}
 use Rattle.run.proofs.Booleans.{and-left, and-right}
 use Rattle.run.proofs.state.Kind.{the-type as the-kind}
 
@@ -176,21 +177,23 @@ module _ (st : State) (area : ℕ) (k : Kind) where
       let o = open-accepted (st .phase) (a .1) in
       record { run = a .0; opened = o .0; whole = o .1 }
 
-  pub accepted-small : checkOf st area ≡ Accept k → (st .sizes .n ≤ 12) × ((st .sizes .m ≤ 12) × (st .sizes .s ≤ 24))
-  accepted-small e = let b = bounds st (accepted e .run) .sizes in (b .n, (b .m, b .s))
+  pub accepted-small : checkOf st area ≡ Accept k → FewRows (landedCounts st)
+  accepted-small e =
+      let b = bounds st (accepted e .run) .sizes in
+      record { few-variables = b .n; few-constraints = b .m; few-sums = b .s }
 
 -- a reply with rows
 pub record AcceptedRows (st : State) (area : ℕ) (rows : List Float) (k : Kind) : Type 0 where
   pub reply : Accepted st area k
-  pub full : length rows ≡ rowNumbers (rowCounts (st .sizes))
+  pub full : length rows ≡ rowNumbers (landedCounts st)
   pub inside : allInDomain rows ((st .sizes .m + st .sizes .s) * (st .sizes .n + 1)) ≡ true
 
 module _ (st : State) (area : ℕ) (rows : List Float) (k : Kind) where
-  then-accepted : (d : Checked) → checkOf st area ≡ d → thenRows (st .sizes) rows d ≡ Accept k
+  then-accepted : (d : Checked) → checkOf st area ≡ d → thenRows (landedCounts st) rows d ≡ Accept k
       → AcceptedRows st area rows k
   then-accepted (Refuse j) h x = refuse-accept x
   then-accepted (Accept j) h x =
-      let b = passed (eqb (length rows) (rowNumbers (rowCounts (st .sizes)))) _ 2 x in
+      let b = passed (eqb (length rows) (rowNumbers (landedCounts st))) _ 2 x in
       let d = passed (allInDomain rows ((st .sizes .m + st .sizes .s) * (st .sizes .n + 1))) (Accept j) 3 (b .1) in
       record { reply = accepted st area k (h ∙ d .1); full = eqb-true _ _ (b .0); inside = d .0 }
 
@@ -262,21 +265,23 @@ module _ (st : State) (a rows : List Float) where
       whole k false c d r e = refl
 
       open-is : (k : Kind) (b : Bool)
-          → thenRows (st .sizes) rows (pick b (Accept k) (Refuse 2)) ≡ pick b (rowsCheck (st .sizes) rows k) (Refuse 2)
+          → thenRows (landedCounts st) rows (pick b (Accept k) (Refuse 2))
+          ≡ pick b (rowsCheck (landedCounts st) rows k) (Refuse 2)
       open-is k true = refl
       open-is k false = refl
 
-      opened : (p : Phase) → replyOpen st a rows p ≡ afterRows (thenRows (st .sizes) rows (checkOpen (length a) p))
+      opened : (p : Phase)
+          → replyOpen st a rows p ≡ afterRows (thenRows (landedCounts st) rows (checkOpen (length a) p))
       opened Over = refl
       opened (Open k) =
-          let z = st .sizes in
-          let c = eqb (length rows) (rowNumbers (rowCounts z)) in
-          let d = allInDomain rows ((z .m + z .s) * (z .n + 1)) in
-          whole k (eqb (length a) AREA) c d (rowsCheck z rows k) (sym (full k c d))
+          let counts = landedCounts st in
+          let c = eqb (length rows) (rowNumbers counts) in
+          let d = allInDomain rows ((counts .m + counts .s) * (counts .n + 1)) in
+          whole k (eqb (length a) AREA) c d (rowsCheck counts rows k) (sym (full k c d))
           ∙ ap afterRows (sym (open-is k (eqb (length a) AREA)))
 
       first : (b : Bool) → checks b 4 (unchanged st a) (replyOpen st a rows (st .phase))
-          ≡ afterRows (thenRows (st .sizes) rows (pick b (checkOpen (length a) (st .phase)) (Refuse 4)))
+          ≡ afterRows (thenRows (landedCounts st) rows (pick b (checkOpen (length a) (st .phase)) (Refuse 4)))
       first true = opened (st .phase)
       first false = refl
 

@@ -16,6 +16,7 @@ use Rattle.interval.specs.declared.Scalar.{Scalar}
 use Rattle.interval.specs.Scalar.{zero64}
 use Rattle.run.specs.Rows.{rowNumbers, rowCounts}
 use Rattle.run.specs.Area.{POINT-LEN, ROWS-LEN, CURVATURE-LEN, FILTER-LEN, SPARE-LEN, SIZES, Memory, areaOf}
+use Rattle.run.specs.Area.{landedCounts}
 use Rattle.run.specs.Area.{memoryOf}
 use Rattle.run.specs.Limits.{AREA}
 use Rattle.run.specs.Area.{begunMemory, startOf, usedIn}
@@ -35,6 +36,7 @@ use Rattle.run.proofs.AreaLaws.{Slots, slots-of, slot-read, slots-lengt
 use Rattle.run.proofs.Booleans.{and-left, and-right}
 use Rattle.run.proofs.CheckLaws.{Bounds, bounds, SizeBounds, size-bounds, checked}
 use Rattle.run.specs.program.Area.{ZeroBehind, SlotsZeroBehind}
+use Rattle.run.specs.program.Rows.{FewRows}
 use Rattle.run.proofs.ZeroBehind.{behind-zeros, behind-padded, reads-behind, all-behind}
 use Rattle.run.proofs.AreaRead.{rows-fit}
 use Rattle.run.proofs.ZeroBehindKept.{AtWork, Kept, answered-kept, answered-none-kept}
@@ -106,9 +108,10 @@ behind-cleared st w t =
 read-behind : (st : State) (a : List Float) → Bounds st → AtWork st (memoryOf st a)
 read-behind st a b =
     let s = b .sizes in
+    let few : FewRows (landedCounts st) = record { few-variables = s .n; few-constraints = s .m; few-sums = s .s } in
     let fit : st .counts .iterations ≤ 200 = omega (arith, s .limit, b .iterations) in
     all-behind st (memoryOf st a)
-    (reads-behind st a (record { n = s .n; m = s .m; s = s .s; iterations-fit = fit }))
+    (reads-behind st a (record { few = few; iterations-fit = fit }))
 
 -- ---- the replies
 

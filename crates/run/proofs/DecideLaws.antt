@@ -12,7 +12,7 @@ use Rattle.interval.specs.Result.{Res, ok, refused}
 use Rattle.interval.specs.Scalar.{two64, zeroS, degenerate, pick, addOf, subOf, mulOf, sharpen, upper}
 use Rattle.interval.specs.Scalar.{definitelyGreater, definitelyLess}
 use Rattle.interval.specs.Scaling.{three64, four64, isPositive}
-use Rattle.run.specs.Area.{Memory, startOf, withAsked}
+use Rattle.run.specs.Area.{Memory, startOf, withAsked, landedCounts}
 use Rattle.run.specs.program.Area.{Holds, written}
 use Rattle.run.specs.program.Endings.{Bounded, Underway}
 use Rattle.run.specs.Decide.{held, linearOf}
@@ -59,13 +59,13 @@ module _ {w : Memory} {a : List Float} (h : Holds w a) where
 -- the shift of the landed point, by the rows and the point that are read of their slots
 pub shift-read :
     (st : State) (w : Memory) {xs : List Float} {x : Res (List Float)} → xs ≡ w .landedRows →
-    x ≡ shiftOf (st .moving) (constraintsOf (rowCounts (st .sizes)) xs) →
+    x ≡ shiftOf (st .moving) (constraintsOf (landedCounts st) xs) →
     x ≡ shiftOf (st .moving) (landedAt st w .constraints)
 shift-read st w ex e = rw ex at e
 
 pub shifted-read :
     (st : State) (w : Memory) {xs landed : List Float} {x : Res Shift} → xs ≡ w .landedRows → landed ≡ w .landed →
-    x ≡ shiftFrom (st .moving) (constraintsOf (rowCounts (st .sizes)) xs) landed →
+    x ≡ shiftFrom (st .moving) (constraintsOf (landedCounts st) xs) landed →
     x ≡ shiftFrom (st .moving) (landedAt st w .constraints) (w .landed)
 shifted-read st w ex el e = rw (ex, el) at e
 

@@ -12,13 +12,13 @@ use Rattle.interval.specs.Result.{Res, ok, refused}
 use Rattle.interval.specs.Scalar.{zero64, pick, isFinite, degenerate, divOf, sharpen}
 use Rattle.interval.specs.Scaling.{four64, quadrupled, isPositive}
 use Rattle.linear.specs.Flat.{zeros}
-use Rattle.run.specs.Area.{Memory, startOf}
+use Rattle.run.specs.Area.{Memory, startOf, standingCounts}
 use Rattle.run.specs.program.Area.{Holds}
 use Rattle.run.specs.Curvature.{learnedOf}
 use Rattle.run.specs.Proposal.{Standing}
 use Rattle.run.specs.Vectors.{movedOf}
 use Rattle.run.specs.program.Proposal.{curvatureFor, standingIn, nextIn}
-use Rattle.run.specs.Rows.{constraintsOf, rowCounts}
+use Rattle.run.specs.Rows.{constraintsOf}
 use Rattle.run.specs.Residuals.{violationOf}
 use Rattle.run.specs.program.Endings.{Leaves, Bounded}
 use Rattle.run.specs.State.{searching}
@@ -92,10 +92,10 @@ grown-bounded {t} {u} {st} y b l f e = go (isFinite (quadrupled (st .search .mu)
 
 -- the violation that is read of the slot
 pub standing-violation : (st : State) {w : Memory} {a : List Float} {x : Res Scalar} → Holds w a →
-    x ≡ violationOf (constraintsOf (rowCounts (st .sizes)) (take 936 (drop 72 a))) →
+    x ≡ violationOf (constraintsOf (standingCounts st) (take 936 (drop 72 a))) →
     violationOf (standingAt st w .constraints) ≡ x
 standing-violation st h e =
-    sym (e ∙ ap (λ (xs : List Float). violationOf (constraintsOf (rowCounts (st .sizes)) xs))
+    sym (e ∙ ap (λ (xs : List Float). violationOf (constraintsOf (standingCounts st) xs))
     (standing-rows-read h))
 
 -- the curvature that is read, from its slot or of the last numbers

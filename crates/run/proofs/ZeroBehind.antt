@@ -20,6 +20,7 @@ use Rattle.run.specs.Rows.{rowNumbers, constraintsOf, rowCounts}
 use Rattle.run.specs.Residuals.{violationOf}
 use Rattle.run.specs.Curvature.{curvatureEntries}
 use Rattle.run.specs.Area.{POINT-LEN, ROWS-LEN, CURVATURE-LEN, FILTER-LEN, SIZES, Memory, padded, memoryOf}
+use Rattle.run.specs.Area.{standingCounts, landedCounts}
 use Rattle.run.specs.Area.{startOf}
 use Rattle.run.specs.program.Area.{written}
 use Rattle.run.specs.program.Area.{Holds, slotsOf}
@@ -240,7 +241,7 @@ at-most false n = omega arith
 -- what is in use by the phase is in use while the call works
 pub all-behind :
     (st : State) (w : Memory) → SlotsZeroBehind (usedIn st) w →
-    SlotsZeroBehind (allUsed (st .sizes) (st .counts .iterations)) w
+    SlotsZeroBehind (allUsed (standingCounts st) (landedCounts st) (st .counts .iterations)) w
 all-behind st w t =
     let z = st .sizes in
     let rows = rowNumbers (rowCounts z) in
@@ -292,19 +293,21 @@ started-holds w rows {a = a} t h =
 
 -- ---- how many numbers are in use, as they are worked out
 
-module _ (z : Sizes) {iterations : ℕ} (l : Limits z iterations) {us : List ℕ} (e : us ≡ allUsed z iterations) where
-  all-below : Below (allUsed z iterations) SIZES
+module _ (z : Sizes) {iterations : ℕ} (l : Limits z iterations) {us : List ℕ}
+    (e : us ≡ allUsed (rowCounts z) (rowCounts z) iterations) where
+  all-below : Below (allUsed (rowCounts z) (rowCounts z) iterations) SIZES
   all-below =
-      let point : 2 * z .n ≤ POINT-LEN = omega (arith, l .n) in
+      let point : 2 * z .n ≤ POINT-LEN = omega (arith, l .few .few-variables) in
       let rows : rowNumbers (rowCounts z) ≤ ROWS-LEN = omega (arith, rows-fit z l) in
-      let multipliers : 2 * z .m ≤ POINT-LEN = omega (arith, l .m) in
+      let multipliers : 2 * z .m ≤ POINT-LEN = omega (arith, l .few .few-constraints) in
       let entries : 2 * curvatureEntries (z .n) ≤ CURVATURE-LEN = omega (arith, entries-fit z l) in
       let pairs : 4 * iterations ≤ FILTER-LEN = omega (arith, l .iterations-fit) in
       (point, (point, (point, (rows, (rows, (point, (multipliers, (entries, (pairs, tt)))))))))
 
   pub fits : (k : ℕ) → k < 9 → getD us k 0 ≤ getD SIZES k 0
   fits k h =
-      subst (λ (xs : List ℕ). getD xs k 0 ≤ getD SIZES k 0) (sym e) (below-at (allUsed z iterations) SIZES all-below k
+      subst (λ (xs : List ℕ). getD xs k 0 ≤ getD SIZES k 0) (sym e)
+      (below-at (allUsed (rowCounts z) (rowCounts z) iterations) SIZES all-below k
       h)
 
 -- as many of a slot as are in use of it
@@ -334,12 +337,7 @@ rows-of b = record {
 }
 
 pub limits-of : {t : ℕ} {st : State} → Bounded t st → Limits (st .sizes) (st .counts .iterations)
-limits-of b = record {
-  n = b .few-variables;
-  m = b .few-constraints;
-  s = b .few-sums;
-  iterations-fit = omega (arith, b .within, b .few-iterations);
-}
+limits-of b = record { few = rows-of b; iterations-fit = omega (arith, b .within, b .few-iterations) }
 
 -- what the sizes and the iterations decide, for another state of the run
 module _ {s t : State} (e : t ≡ s) where
@@ -351,24 +349,24 @@ module _ {s t : State} (e : t ≡ s) where
 
   module _ {w : Memory} {a : List Float} where
     pub works-as : Working s w a → Working t w a
-    works-as u = same-run (λ z i. Uses (allUsed z i) w a) u
+    works-as u = same-run (λ z i. Uses (allUsed (rowCounts z) (rowCounts z) i) w a) u
 
     pub seeks-as : {standing : Res Scalar} → StandingKnown s standing w a → StandingKnown t standing w a
-    seeks-as {standing} u = same-run (λ z i. WithStanding z i standing w a) u
+    seeks-as {standing} u = same-run (λ z i. WithStanding (rowCounts z) (rowCounts z) i standing w a) u
 
     pub judges-as : {theta : Scalar} {landed : Res Scalar} → ViolationsKnown s theta landed w a
         → ViolationsKnown t theta landed w a
-    judges-as {theta} {landed} u = same-run (λ z i. WithViolations z i theta landed w a) u
+    judges-as {theta} {landed} u = same-run (λ z i. WithViolations (rowCounts z) (rowCounts z) i theta landed w a) u
 
 -- with the violations that were worked out
 module _ (st : State) {w : Memory} {a : List Float} (u : Working st w a) where
   pub measures : {standing : Res Scalar}
-      → standing ≡ violationOf (constraintsOf (rowCounts (st .sizes)) (w .standingRows))
+      → standing ≡ violationOf (constraintsOf (standingCounts st) (w .standingRows))
       → StandingKnown st standing w a
   measures e = record { uses = u; standing-is = e }
 
   pub compares : {theta : Scalar} {landed : Res Scalar}
-      → ok theta ≡ violationOf (constraintsOf (rowCounts (st .sizes)) (w .standingRows))
-      → landed ≡ violationOf (constraintsOf (rowCounts (st .sizes)) (w .landedRows))
+      → ok theta ≡ violationOf (constraintsOf (standingCounts st) (w .standingRows))
+      → landed ≡ violationOf (constraintsOf (landedCounts st) (w .landedRows))
       → ViolationsKnown st theta landed w a
   compares e f = record { measured = measures e; landed-is = f }

@@ -15,7 +15,7 @@ use Rattle.interval.specs.Result.{Res, ok, refused}
 use Rattle.interval.specs.Scalar.{pick, degenerate, divOf, isFinite, sharpen, definitelyGreater, definitelyLess}
 use Rattle.interval.specs.Scaling.{three64, four64}
 use Rattle.linear.specs.Flat.{zeros}
-use Rattle.run.specs.Rows.{rowNumbers, rowCounts}
+use Rattle.run.specs.Rows.{rowNumbers}
 use Rattle.run.specs.Residuals.{sumSquared, violationOf, movingOf}
 use Rattle.run.specs.Curvature.{curvatureEntries, learnedOf, updateCurvature}
 use Rattle.run.specs.Proposal.{Standing, Trial, Proposal, noDrop, unresolved, noChange, ask, proposalOf}
@@ -24,6 +24,8 @@ use Rattle.run.specs.Judgement.{Judged, judgeOf}
 use Rattle.run.specs.Limits.{CORRECTIONS}
 use Rattle.run.specs.Corrected.{to, stay, shiftOf, shiftFrom, shiftedStep}
 use Rattle.run.specs.Area.{POINT-LEN, ROWS-LEN, CURVATURE-LEN, FILTER-LEN, Memory, usedIn, padded, onlyStanding}
+use Rattle.run.specs.Area.{standingCounts}
+use Rattle.run.specs.Area.{landedCounts}
 use Rattle.run.specs.Area.{withStart}
 use Rattle.run.specs.program.Area.{Holds}
 use Rattle.run.specs.Area.{withLanded, withTaken}
@@ -72,7 +74,7 @@ use Rattle.run.proofs.RefusalLaws as yields
 
 -- the memory while a call works
 abbrev pub AtWork : State → Memory → Type 0
-AtWork st w = SlotsZeroBehind (allUsed (st .sizes) (st .counts .iterations)) w
+AtWork st w = SlotsZeroBehind (allUsed (standingCounts st) (landedCounts st) (st .counts .iterations)) w
 
 -- what a run of these sizes, with the question of that number open, is left as
 pub record Kept (z : Sizes) (question : ℕ) (o : AfterSlots) : Type 0 where
@@ -104,7 +106,8 @@ module _ (st : State) (w : Memory) (t : AtWork st w) where
       record {
         sizes-kept = refl;
         zero-behind =
-            only-standing (usedIn (finish st w s .state)) (allUsed (st .sizes) (st .counts .iterations)) w refl t;
+            only-standing (usedIn (finish st w s .state))
+            (allUsed (standingCounts st) (landedCounts st) (st .counts .iterations)) w refl t;
         past-checks = refl;
         follows = refl;
       }
@@ -114,7 +117,8 @@ module _ (st : State) (w : Memory) (t : AtWork st w) where
       record {
         sizes-kept = refl;
         zero-behind =
-            only-standing (usedIn (refuse st w k .state)) (allUsed (st .sizes) (st .counts .iterations)) w refl t;
+            only-standing (usedIn (refuse st w k .state))
+            (allUsed (standingCounts st) (landedCounts st) (st .counts .iterations)) w refl t;
         past-checks = lt-leb k 4 (above (eqb k 5) (eqb k 6) refl refl h);
         follows = (h, refl);
       }
@@ -258,7 +262,7 @@ module _ (st : State) (w : Memory) (t : AtWork st w) where
   -- with one pair more in the filter
   pub taken-working :
       (b : List Float) (f theta : Scalar) → ZeroBehind CURVATURE-LEN (2 * curvatureEntries (st .sizes .n)) b →
-      SlotsZeroBehind (allUsed (st .sizes) (st .counts .iterations + 1))
+      SlotsZeroBehind (allUsed (standingCounts st) (landedCounts st) (st .counts .iterations + 1))
       (withTaken w b (filterWith (w .filter) (st .counts .iterations) f theta))
   taken-working b f theta behind-b =
       record {
@@ -357,13 +361,13 @@ module _ (st : State) (w : Memory) (t : AtWork st w) where
 
 -- rows as they are answered
 pub record Answered (st : State) (rows : List Float) : Type 0 where
-  pub many : length rows ≡ rowNumbers (rowCounts (st .sizes))
+  pub many : length rows ≡ rowNumbers (landedCounts st)
   pub fit : length rows ≤ ROWS-LEN
 
 module _ (st : State) (w : Memory) (t : AtWork st w) (rows : List Float) (r : Answered st rows) where
-  rows-behind : ZeroBehind ROWS-LEN (rowNumbers (rowCounts (st .sizes))) (padded ROWS-LEN rows)
+  rows-behind : ZeroBehind ROWS-LEN (rowNumbers (landedCounts st)) (padded ROWS-LEN rows)
   rows-behind =
-      behind-padded ROWS-LEN (rowNumbers (rowCounts (st .sizes))) rows (omega (arith, r .many))
+      behind-padded ROWS-LEN (rowNumbers (landedCounts st)) rows (omega (arith, r .many))
       (r .fit)
 
   pub landed-working : (n : ℕ) (step : List Float) → ZeroBehind POINT-LEN (2 * st .sizes .n) step
@@ -458,7 +462,7 @@ answered-none-kept st w t kind.Correction =
 -- ---- the area of a call that works
 
 module _ (st : State) {most : ℕ} (bounded : Bounded most st) (rows : List Float)
-    (many : length rows ≡ rowNumbers (rowCounts (st .sizes))) where
+    (many : length rows ≡ rowNumbers (landedCounts st)) where
   as-answered : Answered st rows
   as-answered = record { many = many; fit = omega (arith, rows-fit (st .sizes) (limits-of bounded), many) }
 

@@ -9,6 +9,7 @@ use Rattle.interval.specs.Scalar.{pick}
 use Rattle.linear.specs.Flat.{zeros}
 use Rattle.run.specs.Curvature.{curvatureEntries}
 use Rattle.run.specs.Rows.{rowNumbers, Evaluation, evaluationOf, rowCounts}
+use Rattle.run.specs.declared.rows.RowCounts.{RowCounts}
 use Rattle.run.specs.declared.state.Kind.the-variants as kind
 use Rattle.run.specs.declared.state.Phase.{Phase}
 use Rattle.run.specs.declared.state.Phase.the-variants.{Open, Over}
@@ -105,21 +106,27 @@ isCorrected (Open kind.Trial) = false
 isCorrected (Open kind.Correction) = true
 isCorrected Over = false
 
+-- the counts of the standing answer, and of the landed one, which a reply brings: both are the run's
+abbrev pub standingCounts : State → RowCounts
+standingCounts st = rowCounts (st .sizes)
+
+abbrev pub landedCounts : State → RowCounts
+landedCounts st = rowCounts (st .sizes)
+
 -- a call reads the used places as they stand
 unfoldable pub memoryOf : State → List Float → Memory
 memoryOf st a =
     let n = st .sizes .n in
-    let rows = rowNumbers (rowCounts (st .sizes)) in
     let tried = isTried (st .phase) in
     let corrected = isCorrected (st .phase) in
     record {
       standing = usedOf a STANDING-AT POINT-LEN true (2 * n);
       landed = usedOf a LANDED-AT POINT-LEN corrected (2 * n);
       asked = usedOf a ASKED-AT POINT-LEN (isOpen (st .phase)) (2 * n);
-      standingRows = usedOf a STANDING-ROWS-AT ROWS-LEN tried rows;
-      landedRows = usedOf a LANDED-ROWS-AT ROWS-LEN corrected rows;
+      standingRows = usedOf a STANDING-ROWS-AT ROWS-LEN tried (rowNumbers (standingCounts st));
+      landedRows = usedOf a LANDED-ROWS-AT ROWS-LEN corrected (rowNumbers (landedCounts st));
       step = usedOf a STEP-AT POINT-LEN tried (2 * n);
-      multipliers = usedOf a MULTIPLIERS-AT POINT-LEN tried (2 * st .sizes .m);
+      multipliers = usedOf a MULTIPLIERS-AT POINT-LEN tried (2 * standingCounts st .m);
       curvature = usedOf a CURVATURE-AT CURVATURE-LEN tried (2 * curvatureEntries n);
       filter = usedOf a FILTER-AT FILTER-LEN tried (4 * st .counts .iterations);
     }
@@ -232,16 +239,15 @@ SIZES =
 abbrev pub usedIn : State → List ℕ
 usedIn st =
     let n = st .sizes .n in
-    let rows = rowNumbers (rowCounts (st .sizes)) in
     let tried = isTried (st .phase) in
     let corrected = isCorrected (st .phase) in
     2 * n
     ∷ pick corrected (2 * n) 0
     ∷ pick (isOpen (st .phase)) (2 * n) 0
-    ∷ pick tried rows 0
-    ∷ pick corrected rows 0
+    ∷ pick tried (rowNumbers (standingCounts st)) 0
+    ∷ pick corrected (rowNumbers (landedCounts st)) 0
     ∷ pick tried (2 * n) 0
-    ∷ pick tried (2 * st .sizes .m) 0
+    ∷ pick tried (2 * standingCounts st .m) 0
     ∷ pick tried (2 * curvatureEntries n) 0
     ∷ pick tried (4 * st .counts .iterations) 0 ∷ []
 
@@ -250,13 +256,13 @@ unfoldable pub startOf : List ℕ → ℕ → ℕ
 startOf sizes zero = 0
 startOf sizes (suc k) = startOf sizes k + getD sizes k 0
 
--- ---- what it reads: the rows of the standing and of the landed point
-
-abbrev pub rowsAt : State → List Float → Evaluation
-rowsAt st rows = evaluationOf (rowCounts (st .sizes)) rows
+-- ---- what it reads: the rows of the standing point, those that a reply brings, and those of the landed point
 
 abbrev pub standingAt : State → Memory → Evaluation
-standingAt st w = rowsAt st (w .standingRows)
+standingAt st w = evaluationOf (standingCounts st) (w .standingRows)
+
+abbrev pub rowsAt : State → List Float → Evaluation
+rowsAt st rows = evaluationOf (landedCounts st) rows
 
 abbrev pub landedAt : State → Memory → Evaluation
 landedAt st w = rowsAt st (w .landedRows)

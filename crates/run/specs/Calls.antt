@@ -10,12 +10,12 @@ use lib.ListN.{length, take, drop}
 use Rattle.interval.specs.Scalar.{pick}
 use Rattle.interval.specs.declared.Scalar.{Scalar}
 use Rattle.run.specs.Answered.{answered, answeredNone}
-use Rattle.run.specs.Area.{areaOf, begunMemory, memoryOf, ASKED-AT}
+use Rattle.run.specs.Area.{areaOf, begunMemory, memoryOf, ASKED-AT, landedCounts}
 use Rattle.run.specs.Checks.{sizesFit, allInDomain, stepFits, valid}
 use Rattle.run.specs.Damping.{firstMu}
 use Rattle.run.specs.Endings.{AfterSlots}
 use Rattle.run.specs.Limits.{AREA}
-use Rattle.run.specs.Rows.{rowNumbers, rowCounts}
+use Rattle.run.specs.Rows.{rowNumbers}
 use Rattle.run.specs.State.{stateWith, noRun}
 use Rattle.run.specs.declared.state.Event.{Event}
 use Rattle.run.specs.declared.state.Event.the-variants as event
@@ -92,10 +92,9 @@ Accepted b = b .event ≡ event.Question 0 kind.Start 0
 abbrev pub replyOpen : State → List Float → List Float → Phase → AfterCall
 replyOpen st a rows Over = unchanged st a 4
 replyOpen st a rows (Open k) =
-    let z = st .sizes in
-    let count = rowNumbers (rowCounts z) in
-    checks (eqb (length a) AREA && eqb (length rows) count) 2 (unchanged st a)
-    (checks (allInDomain rows ((z .m + z .s) * (z .n + 1))) 3 (unchanged st a)
+    let c = landedCounts st in
+    checks (eqb (length a) AREA && eqb (length rows) (rowNumbers c)) 2 (unchanged st a)
+    (checks (allInDomain rows ((c .m + c .s) * (c .n + 1))) 3 (unchanged st a)
     (inArea (answered k st (memoryOf st a) rows)))
 
 unfoldable pub replyOf : State → List Float → List Float → AfterCall

@@ -10,10 +10,10 @@ ghost use Rattle.run.specs.Limits.{AREA, CORRECTIONS};
 ghost use Rattle.run.specs.declared.state.Kind.the-variants as kinds;
 ghost use Rattle.run.specs.declared.state.Phase.the-variants.{Open};
 ghost use Rattle.run.specs.Answered.{started, fromStanding, answered, answeredNone};
-ghost use Rattle.run.specs.Area.{Memory, usedIn};
+ghost use Rattle.run.specs.Area.{Memory, usedIn, landedCounts};
 ghost use Rattle.run.specs.Checks.{phaseFits};
 ghost use Rattle.run.specs.Corrected.{landTrial, landCorrection};
-ghost use Rattle.run.specs.Rows.{rowNumbers, rowCounts};
+ghost use Rattle.run.specs.Rows.{rowNumbers};
 ghost use Rattle.run.specs.program.Area.{Uses, Working};
 ghost use Rattle.run.specs.program.Corrected.{RowsToLand};
 ghost use Rattle.run.specs.program.Endings.{Leaves, Bounded};
@@ -27,7 +27,7 @@ use crate::endings::refuse;
 use crate::iterate::iterate;
 use crate::residuals;
 use crate::residuals::standing_violation;
-use crate::rows::row_counts;
+use crate::rows::landed_counts;
 use crate::state::Kind;
 use crate::state::Rejection;
 use crate::state::Returned;
@@ -40,15 +40,15 @@ use linear::LinearResult;
 // variable that no residual definitely depends on would make the curvature singular, so it keeps its place.
 fn started(st: State, area: &mut [f64], rows: &[f64]) -> Returned
     requires { ⌜ (length (now area) ≡ AREA)
-        × (length (now rows) ≡ rowNumbers (rowCounts (st .sizes)))
+        × (length (now rows) ≡ rowNumbers (landedCounts st))
         × Bounded 1073741824 st
         × (st .phase ≡ Open kinds.Start) ⌝ }
     ensures { λ r. ⌜ ((w : Memory) → Uses (usedIn st) w (now (area .entry)) →
         Leaves (started st w (now (rows .entry))) r (now (area .exit))) ⌝ }
 {
-    let moving = residuals::moving(rows, row_counts(st.sizes));
+    let moving = residuals::moving(rows, landed_counts(st));
     area::write_start(area, rows);
-    let standing = standing_violation(st.sizes, area);
+    let standing = standing_violation(st, area);
     iterate(with_moving(st, moving), area, standing)
 }
 
@@ -59,7 +59,7 @@ fn land(st: State, area: &mut [f64], rows: &[f64], trial: bool) -> Returned
         Leaves (fromStanding st w (λ theta. pick trial (landTrial st w (now (rows .entry)) theta)
         (landCorrection st w (now (rows .entry)) theta))) r (now (area .exit))) ⌝ }
 {
-    match standing_violation(st.sizes, area) {
+    match standing_violation(st, area) {
         LinearResult::Value(theta) => {
             if trial {
                 return land_trial(st, area, rows, theta);
@@ -75,7 +75,7 @@ fn land(st: State, area: &mut [f64], rows: &[f64], trial: bool) -> Returned
 // What follows an accepted answer with rows.
 pub fn answered(kind: Kind, st: State, area: &mut [f64], rows: &[f64]) -> Returned
     requires { ⌜ (length (now area) ≡ AREA) ×
-        ((length (now rows) ≡ rowNumbers (rowCounts (st .sizes))) ×
+        ((length (now rows) ≡ rowNumbers (landedCounts st)) ×
         (Bounded 1073741824 st × ((st .counts .corrections ≤ CORRECTIONS) ×
         ((phaseFits st (Open kind) ≡ true) × (st .phase ≡ Open kind))))) ⌝ }
     ensures { λ r. ⌜ ((w : Memory) → Uses (usedIn st) w (now (area .entry)) →
@@ -105,7 +105,7 @@ pub fn answered_none(kind: Kind, st: State, area: &mut [f64]) -> Returned
             return finish(st, area, Stop::Infeasible);
         }
         Kind::Trial => {
-            let standing = standing_violation(st.sizes, area);
+            let standing = standing_violation(st, area);
             return turn_down(st, area, Rejection::Infeasible, standing);
         }
         Kind::Correction => {

@@ -9,20 +9,20 @@ ghost use Rattle.linear.specs.Flat.{zeros};
 ghost use Rattle.run.specs.Limits.{AREA, ITERATIONS};
 ghost use Rattle.run.specs.Area.{padded, startOf, usedIn, memoryOf, begunMemory, Memory, onlyStanding};
 ghost use Rattle.run.specs.Area.{POINT-LEN, ROWS-LEN, CURVATURE-LEN, FILTER-LEN, STANDING-AT, ASKED-AT};
-ghost use Rattle.run.specs.Area.{withStart, withTrial, withLanded, withTaken};
+ghost use Rattle.run.specs.Area.{withStart, withTrial, withLanded, withTaken, standingCounts, landedCounts};
 ghost use Rattle.run.specs.Filter.{filterWith};
 ghost use Rattle.run.specs.Rows.{rowNumbers};
 ghost use Rattle.run.specs.Vectors.{movedOf};
 ghost use Rattle.run.specs.program.Area.{written, clearedTo, Limits, allUsed, Uses, Holds, pointsUsed};
-ghost use Rattle.run.specs.program.Area.{ZeroBehind, SlotRead};
+ghost use Rattle.run.specs.program.Area.{ZeroBehind, SlotRead, Working};
 ghost use Rattle.run.specs.program.Rows.{FewRows};
 use crate::filter::push;
 use crate::limits::AREA;
 use crate::rows::RowCounts;
-use crate::rows::row_counts;
+use crate::rows::landed_counts;
+use crate::rows::standing_counts;
 use crate::state::Kind;
 use crate::state::Phase;
-use crate::state::Sizes;
 use crate::state::State;
 use crate::vectors::moved;
 use interval::Scalar;
@@ -124,21 +124,23 @@ fn row_numbers(c: RowCounts) -> usize
 }
 
 // How many numbers of each slot may be in use while a call works.
-fn all_used(z: Sizes, iterations: usize) -> [usize; 9]
-    requires { ⌜ Limits z iterations ⌝ }
-    ensures { λ r. ⌜ r ≡ allUsed z iterations ⌝ }
+fn all_used(st: State) -> [usize; 9]
+    requires { ⌜ Limits (st .sizes) (st .counts .iterations) ⌝ }
+    ensures { λ r. ⌜ r ≡ allUsed (standingCounts st) (landedCounts st) (st .counts .iterations) ⌝ }
 {
-    let point = 2 * z.n;
-    let rows = row_numbers(row_counts(z));
-    let multipliers = 2 * z.m;
-    let entries = 2 * (z.n * z.n);
-    let pairs = 4 * iterations;
+    let c = standing_counts(st);
+    let point = 2 * c.n;
+    let standing_rows = row_numbers(c);
+    let landed_rows = row_numbers(landed_counts(st));
+    let multipliers = 2 * c.m;
+    let entries = 2 * (c.n * c.n);
+    let pairs = 4 * st.counts.iterations;
     [
         point,
         point,
         point,
-        rows,
-        rows,
+        standing_rows,
+        landed_rows,
         point,
         multipliers,
         entries,
@@ -152,7 +154,7 @@ fn in_use(st: State) -> [usize; 9]
     ensures { λ r. ⌜ r ≡ usedIn st ⌝ }
 {
     let phase = st.phase;
-    let all = all_used(st.sizes, st.counts.iterations);
+    let all = all_used(st);
     match phase {
         Phase::Open(kind) => match kind {
             Kind::Start => {
@@ -264,12 +266,12 @@ pub fn write_begun(area: &mut [f64], start: &[f64])
 
 // After a finish, or refusal 5 or 6: only the standing point. Behind the numbers in use all is +0 already, and at the
 // smallest drawings clearing is most of a call's time.
-pub fn keep_standing(area: &mut [f64], z: Sizes, iterations: usize)
-    requires { ⌜ (length (now area) ≡ AREA) × Limits z iterations ⌝ }
-    ensures { λ _. ⌜ ((w : Memory) → Uses (allUsed z iterations) w (now (area .entry)) →
+pub fn keep_standing(area: &mut [f64], st: State)
+    requires { ⌜ (length (now area) ≡ AREA) × Limits (st .sizes) (st .counts .iterations) ⌝ }
+    ensures { λ _. ⌜ ((w : Memory) → Working st w (now (area .entry)) →
         Holds (onlyStanding w) (now (area .exit))) ⌝ }
 {
-    let used = all_used(z, iterations);
+    let used = all_used(st);
     clear_from(area, LANDED_AT, POINT_LEN);
     clear_from(area, ASKED_AT, POINT_LEN);
     clear_from(area, STANDING_ROWS_AT, used[3]);

@@ -15,6 +15,7 @@ use crate::limits::QUESTIONS;
 use crate::limits::SUM_ROWS;
 use crate::limits::TURN_DOWNS;
 use crate::limits::VARIABLES;
+use crate::rows::landed_counts;
 use crate::state::Kind;
 use crate::state::Phase;
 use crate::state::Sizes;
@@ -150,7 +151,8 @@ pub fn check_rows(st: State, area: usize, rows: &[f64]) -> Checked
     let Checked::Accept(_) = first else {
         return first;
     };
-    let count = (st.sizes.m + st.sizes.s) * (st.sizes.n + 1);
+    let c = landed_counts(st);
+    let count = (c.m + c.s) * (c.n + 1);
     if rows.len() != 2 * count {
         return Checked::Refuse(2);
     }

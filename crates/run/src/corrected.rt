@@ -34,7 +34,7 @@ use crate::residuals::standing_violation;
 use crate::results::TruthResult;
 use crate::rows::RowCounts;
 use crate::rows::constraints;
-use crate::rows::row_counts;
+use crate::rows::landed_counts;
 use crate::rows::slope_of;
 use crate::state::Kind;
 use crate::state::Returned;
@@ -160,7 +160,7 @@ fn correct(st: State, area: &mut [f64], theta: Scalar, landed: LinearResult) -> 
     let moving = st.moving;
     let mut next = [0.0; 24];
     let shifted = shift_from(
-        row_counts(st.sizes),
+        landed_counts(st),
         area::landed_rows(area),
         &moving,
         area::landed_point(area),
@@ -207,12 +207,7 @@ fn keep(st: State, area: &mut [f64], rows: &[f64], theta: Scalar, landed: Linear
 {
     let moving = st.moving;
     let mut d = [0.0; 24];
-    let shift = shift(
-        row_counts(st.sizes),
-        area::landed_rows(area),
-        &moving,
-        &mut d,
-    );
+    let shift = shift(landed_counts(st), area::landed_rows(area), &moving, &mut d);
     match shift {
         Done::Finished => {}
         Done::Refused(e) => {
@@ -255,8 +250,8 @@ pub fn land_correction(st: State, area: &mut [f64], rows: &[f64], theta: Scalar)
     ensures { λ r. ⌜ ((w : Memory) → StandingKnown st (ok theta) w (now (area .entry)) →
         Leaves (landCorrection st w (now (rows .entry)) theta) r (now (area .exit))) ⌝ }
 {
-    let new = residuals::violation(rows, row_counts(st.sizes));
-    let old = landed_violation(st.sizes, area);
+    let new = residuals::violation(rows, landed_counts(st));
+    let old = landed_violation(st, area);
     match is_nearer(new, old) {
         TruthResult::Value(kept) => {
             if kept {
@@ -278,7 +273,7 @@ pub fn land_trial(st: State, area: &mut [f64], rows: &[f64], theta: Scalar) -> R
 {
     area::write_landed(area, rows);
     let t = with_landed_number(st, 0);
-    let landed = landed_violation(st.sizes, area);
+    let landed = landed_violation(st, area);
     match landed {
         LinearResult::Value(new) => {
             return correct_or_judge(t, area, theta, landed, new.definitely_greater(theta));
@@ -295,9 +290,9 @@ pub fn correction_none(st: State, area: &mut [f64]) -> Returned
     ensures { λ r. ⌜ ((w : Memory) → Working st w (now (area .entry)) →
         Leaves (answeredNone kinds.Correction st w) r (now (area .exit))) ⌝ }
 {
-    match standing_violation(st.sizes, area) {
+    match standing_violation(st, area) {
         LinearResult::Value(theta) => {
-            let landed = landed_violation(st.sizes, area);
+            let landed = landed_violation(st, area);
             return judge_landed(st, area, theta, landed);
         }
         LinearResult::Refused(e) => {

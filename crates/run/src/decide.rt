@@ -40,7 +40,9 @@ use crate::judgement::judge;
 use crate::radius::radius_after;
 use crate::residuals;
 use crate::results::TruthResult;
+use crate::rows::landed_counts;
 use crate::rows::row_counts;
+use crate::rows::standing_counts;
 use crate::state::Last;
 use crate::state::Rejection;
 use crate::state::Returned;
@@ -209,15 +211,8 @@ fn take_with(
             return refuse(st, area, e);
         }
     }
-    let f = residuals::sum_squared(area::standing_rows(area), row_counts(st.sizes));
-    area::write_taken(
-        area,
-        row_counts(st.sizes),
-        &b,
-        st.counts.iterations,
-        f,
-        theta,
-    );
+    let f = residuals::sum_squared(area::standing_rows(area), standing_counts(st));
+    area::write_taken(area, landed_counts(st), &b, st.counts.iterations, f, theta);
     iterate(standing_on(st, span, mu, radius), area, landed)
 }
 

@@ -43,7 +43,7 @@ pub fn finish(st: State, area: &mut [f64], stop: Stop) -> Returned
     ensures { λ r. ⌜ ((w : Memory) → Working st w (now (area .entry)) →
         Leaves (run.finish st w stop) r (now (area .exit))) ⌝ }
 {
-    keep_standing(area, st.sizes, st.counts.iterations);
+    keep_standing(area, st);
     Returned {
         state: with_phase(st, Phase::Over),
         event: Event::Finish(
@@ -61,7 +61,7 @@ pub fn refuse(st: State, area: &mut [f64], e: LinearError) -> Returned
     ensures { λ r. ⌜ ((w : Memory) → Working st w (now (area .entry)) →
         Leaves (run.refuse st w (numberOf e)) r (now (area .exit))) ⌝ }
 {
-    keep_standing(area, st.sizes, st.counts.iterations);
+    keep_standing(area, st);
     Returned {
         state: with_phase(st, Phase::Over),
         event: Event::Refused(number_of(e)),

@@ -3,10 +3,9 @@ ghost use mathlib.Core.Path.{_≡_};
 ghost use lib.ListN.{length};
 ghost use Rattle.linear.specs.LinearResult.{resultOf};
 ghost use Rattle.run.specs.Limits.{AREA};
-ghost use Rattle.run.specs.Area.{Memory};
+ghost use Rattle.run.specs.Area.{Memory, standingCounts};
 ghost use Rattle.run.specs.Iterate.{leftAt};
 ghost use Rattle.run.specs.Iterate as run;
-ghost use Rattle.run.specs.Rows.{rowCounts};
 ghost use Rattle.run.specs.Vectors.{movedOf};
 ghost use Rattle.run.specs.program.Area.{Working, StandingKnown};
 ghost use Rattle.run.specs.program.Endings.{Leaves, Bounded};
@@ -21,7 +20,8 @@ use crate::endings::refuse;
 use crate::proposal::Origin;
 use crate::proposal::StandingPoint;
 use crate::residuals::sum_squared;
-use crate::rows::row_counts;
+use crate::rows::landed_counts;
+use crate::rows::standing_counts;
 use crate::search::Found;
 use crate::search::seek;
 use crate::state::Kind;
@@ -42,7 +42,7 @@ fn left_at(st: State, area: &mut [f64], found: Found, delta: &[f64], lambda: &[f
 {
     match found {
         Found::Ask(x, t) => {
-            area::write_trial(area, row_counts(st.sizes), delta, lambda);
+            area::write_trial(area, landed_counts(st), delta, lambda);
             return ask(with_trial_of(st, x, t), Kind::Trial, 0);
         }
         Found::Stop(x, stop) => {
@@ -56,10 +56,10 @@ fn left_at(st: State, area: &mut [f64], found: Found, delta: &[f64], lambda: &[f
 
 // What the search goes out from: the standing point, with the sum from its rows and their violation theta.
 fn search_origin(st: State, area: &[f64], theta: Scalar) -> Origin
-    requires { ⌜ (length (now area) ≡ AREA) × FewRows (rowCounts (st .sizes)) ⌝ }
+    requires { ⌜ (length (now area) ≡ AREA) × FewRows (standingCounts st) ⌝ }
     ensures { λ r. ⌜ r ≡ searchOrigin st (now (area .entry)) theta ⌝ }
 {
-    let counts = row_counts(st.sizes);
+    let counts = standing_counts(st);
     let rows = &area[area::STANDING_ROWS_AT..area::LANDED_ROWS_AT];
     let f = sum_squared(rows, counts);
     let point = StandingPoint { counts, f, theta };

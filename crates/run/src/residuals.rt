@@ -6,10 +6,10 @@ ghost use mathlib.Core.Path.{_≡_};
 ghost use lib.ListN.{length};
 ghost use Rattle.linear.specs.LinearResult.{resultOf};
 ghost use Rattle.run.specs.Limits.{AREA, CONSTRAINTS};
-ghost use Rattle.run.specs.Area.{Memory};
+ghost use Rattle.run.specs.Area.{Memory, standingCounts, landedCounts, standingAt, landedAt};
 ghost use Rattle.run.specs.Residuals.{linearizedAt, squaredOf, transposedAt, sumSquared, violationOf};
 ghost use Rattle.run.specs.Residuals.{predictedOf, dependsOn, movingOf};
-ghost use Rattle.run.specs.Rows.{rowsIn, sumOf, valueAt, constraintsOf, evaluationOf, rowCounts};
+ghost use Rattle.run.specs.Rows.{rowsIn, sumOf, valueAt, constraintsOf, evaluationOf};
 ghost use Rattle.run.specs.Vectors.{fillTo, chosenOf};
 ghost use Rattle.run.specs.program.Area.{Holds};
 ghost use Rattle.run.specs.program.Rows.{Small, FewRows};
@@ -17,12 +17,13 @@ use crate::area;
 use crate::rows::RowCounts;
 use crate::rows::RowSet;
 use crate::rows::constraints;
-use crate::rows::row_counts;
+use crate::rows::landed_counts;
 use crate::rows::slope_of;
 use crate::rows::slopes_of;
+use crate::rows::standing_counts;
 use crate::rows::sum;
 use crate::rows::value_of;
-use crate::state::Sizes;
+use crate::state::State;
 use crate::vectors::norm_of;
 use interval::Scalar;
 use linear::LinearResult;
@@ -173,19 +174,19 @@ pub fn moving(xs: &[f64], c: RowCounts) -> [bool; 12]
 }
 
 // The violation of the standing point, from its rows in the area.
-pub fn standing_violation(z: Sizes, area: &[f64]) -> LinearResult
-    requires { ⌜ (z .m ≤ CONSTRAINTS) × (length (now area) ≡ AREA) ⌝ }
+pub fn standing_violation(st: State, area: &[f64]) -> LinearResult
+    requires { ⌜ (standingCounts st .m ≤ CONSTRAINTS) × (length (now area) ≡ AREA) ⌝ }
     ensures { λ r. ⌜ ((w : Memory) → Holds w (now (area .entry)) →
-        resultOf r ≡ violationOf (constraintsOf (rowCounts z) (w .standingRows))) ⌝ }
+        resultOf r ≡ violationOf (standingAt st w .constraints)) ⌝ }
 {
-    violation(area::standing_rows(area), row_counts(z))
+    violation(area::standing_rows(area), standing_counts(st))
 }
 
 // The violation of the landed point, from its rows in the area.
-pub fn landed_violation(z: Sizes, area: &[f64]) -> LinearResult
-    requires { ⌜ (z .m ≤ CONSTRAINTS) × (length (now area) ≡ AREA) ⌝ }
+pub fn landed_violation(st: State, area: &[f64]) -> LinearResult
+    requires { ⌜ (landedCounts st .m ≤ CONSTRAINTS) × (length (now area) ≡ AREA) ⌝ }
     ensures { λ r. ⌜ ((w : Memory) → Holds w (now (area .entry)) →
-        resultOf r ≡ violationOf (constraintsOf (rowCounts z) (w .landedRows))) ⌝ }
+        resultOf r ≡ violationOf (landedAt st w .constraints)) ⌝ }
 {
-    violation(area::landed_rows(area), row_counts(z))
+    violation(area::landed_rows(area), landed_counts(st))
 }

@@ -5,9 +5,11 @@ ghost use mathlib.Core.Path.{_≡_};
 ghost use lib.ListN.{drop};
 ghost use Rattle.linear.specs.Flat.{at};
 ghost use Rattle.run.specs.Limits.{VARIABLES};
+ghost use Rattle.run.specs.Area.{standingCounts, landedCounts};
 ghost use Rattle.run.specs.Rows.{rowCounts, constraintSet, sumSet, rowsIn, valueAt, slopeAt};
 ghost use Rattle.run.specs.program.Rows.{Small, FewRows};
 use crate::state::Sizes;
+use crate::state::State;
 use interval::Scalar;
 use linear::along;
 
@@ -26,6 +28,28 @@ pub fn row_counts(z: Sizes) -> RowCounts
         n: z.n,
         m: z.m,
         s: z.s,
+    }
+}
+
+// The counts of the standing answer in this state: the run's.
+pub fn standing_counts(st: State) -> RowCounts
+    ensures { λ r. ⌜ r ≡ standingCounts st ⌝ }
+{
+    RowCounts {
+        n: st.sizes.n,
+        m: st.sizes.m,
+        s: st.sizes.s,
+    }
+}
+
+// The counts of the landed answer, which a reply brings: the run's.
+pub fn landed_counts(st: State) -> RowCounts
+    ensures { λ r. ⌜ r ≡ landedCounts st ⌝ }
+{
+    RowCounts {
+        n: st.sizes.n,
+        m: st.sizes.m,
+        s: st.sizes.s,
     }
 }
 

@@ -9,13 +9,16 @@ use lib.ListN.{length, take, drop, getD}
 use Rattle.interval.specs.Result.{Res, ok}
 use Rattle.interval.specs.Scalar.{zero64}
 use Rattle.interval.specs.declared.Scalar.{Scalar}
-use Rattle.run.specs.Limits.{VARIABLES, CONSTRAINTS, SUM-ROWS, ITERATIONS}
+use Rattle.run.specs.Limits.{ITERATIONS}
 use Rattle.run.specs.Area.{Memory, areaOf, SIZES, padded, startOf, POINT-LEN, ROWS-LEN, CURVATURE-LEN, FILTER-LEN}
+use Rattle.run.specs.Area.{standingCounts, landedCounts}
 use Rattle.run.specs.Curvature.{curvatureEntries}
 use Rattle.run.specs.Residuals.{violationOf}
 use Rattle.run.specs.Rows.{rowNumbers, constraintsOf, rowCounts}
 use Rattle.run.specs.declared.state.Sizes.{Sizes}
 use Rattle.run.specs.declared.state.State.{State}
+use Rattle.run.specs.declared.rows.RowCounts.{RowCounts}
+use Rattle.run.specs.program.Rows.{FewRows}
 
 -- ---- slots in the area
 
@@ -62,13 +65,12 @@ pub record SlotsZeroBehind (used : List ℕ) (w : Memory) : Type 0 where
   pub curvature : ZeroBehind CURVATURE-LEN (getD used 7 0) (w .curvature)
   pub filter : ZeroBehind FILTER-LEN (getD used 8 0) (w .filter)
 
--- every slot in use, as while a correction is open
-abbrev pub allUsed : Sizes → ℕ → List ℕ
-allUsed z iterations =
-    let rows = rowNumbers (rowCounts z) in
-    let point = 2 * z .n in
-    let entries = 2 * curvatureEntries (z .n) in
-    point ∷ point ∷ point ∷ rows ∷ rows ∷ point ∷ 2 * z .m ∷ entries ∷ 4 * iterations ∷ []
+-- every slot in use, as while a correction is open, by the counts of the standing and of the landed answer
+abbrev pub allUsed : RowCounts → RowCounts → ℕ → List ℕ
+allUsed c d iterations =
+    let point = 2 * c .n in
+    let entries = 2 * curvatureEntries (c .n) in
+    point ∷ point ∷ point ∷ rowNumbers c ∷ rowNumbers d ∷ point ∷ 2 * c .m ∷ entries ∷ 4 * iterations ∷ []
 
 -- the standing and the asked point alone in use, as before a start's answer
 abbrev pub pointsUsed : ℕ → List ℕ
@@ -81,30 +83,30 @@ pub record Uses (used : List ℕ) (w : Memory) (a : List Float) : Type 0 where
 
 -- an area while a call works
 abbrev pub Working : State → Memory → List Float → Type 0
-Working st w a = Uses (allUsed (st .sizes) (st .counts .iterations)) w a
+Working st w a = Uses (allUsed (standingCounts st) (landedCounts st) (st .counts .iterations)) w a
 
 -- and the violation of the standing point, or its refusal, worked out already
-pub record WithStanding (z : Sizes) (iterations : ℕ) (standing : Res Scalar) (w : Memory)
+pub record WithStanding (c d : RowCounts) (iterations : ℕ) (standing : Res Scalar) (w : Memory)
     (a : List Float) : Type 0 where
-  pub uses : Uses (allUsed z iterations) w a
-  pub standing-is : standing ≡ violationOf (constraintsOf (rowCounts z) (w .standingRows))
+  pub uses : Uses (allUsed c d iterations) w a
+  pub standing-is : standing ≡ violationOf (constraintsOf c (w .standingRows))
 
 -- and that of the landed point
-pub record WithViolations (z : Sizes) (iterations : ℕ) (theta : Scalar) (landed : Res Scalar) (w : Memory)
+pub record WithViolations (c d : RowCounts) (iterations : ℕ) (theta : Scalar) (landed : Res Scalar) (w : Memory)
     (a : List Float) :
     Type 0 where
-  pub measured : WithStanding z iterations (ok theta) w a
-  pub landed-is : landed ≡ violationOf (constraintsOf (rowCounts z) (w .landedRows))
+  pub measured : WithStanding c d iterations (ok theta) w a
+  pub landed-is : landed ≡ violationOf (constraintsOf d (w .landedRows))
 
 abbrev pub StandingKnown : State → Res Scalar → Memory → List Float → Type 0
-StandingKnown st standing w a = WithStanding (st .sizes) (st .counts .iterations) standing w a
+StandingKnown st standing w a =
+    WithStanding (standingCounts st) (landedCounts st) (st .counts .iterations) standing w a
 
 abbrev pub ViolationsKnown : State → Scalar → Res Scalar → Memory → List Float → Type 0
-ViolationsKnown st theta landed w a = WithViolations (st .sizes) (st .counts .iterations) theta landed w a
+ViolationsKnown st theta landed w a =
+    WithViolations (standingCounts st) (landedCounts st) (st .counts .iterations) theta landed w a
 
 -- sizes and iterations whose numbers in use fit the slots
 pub record Limits (z : Sizes) (iterations : ℕ) : Type 0 where
-  pub n : z .n ≤ VARIABLES
-  pub m : z .m ≤ CONSTRAINTS
-  pub s : z .s ≤ SUM-ROWS
+  pub few : FewRows (rowCounts z)
   pub iterations-fit : iterations ≤ ITERATIONS

@@ -10,7 +10,7 @@ use Rattle.interval.specs.Scalar.{pick}
 use Rattle.interval.specs.declared.Scalar.{Scalar}
 use Rattle.run.specs.Checks.{sizesFit, stepFits, valid, allInDomain}
 use Rattle.run.specs.Limits.{AREA}
-use Rattle.run.specs.Rows.{rowNumbers, rowCounts}
+use Rattle.run.specs.Rows.{rowNumbers}
 use Rattle.run.specs.declared.checks.Checked.{Checked}
 use Rattle.run.specs.declared.checks.Checked.the-variants.{Refuse, Accept}
 use Rattle.run.specs.declared.state.Kind.{Kind}
@@ -18,6 +18,8 @@ use Rattle.run.specs.declared.state.Phase.{Phase}
 use Rattle.run.specs.declared.state.Phase.the-variants.{Open, Over}
 use Rattle.run.specs.declared.state.Sizes.{Sizes}
 use Rattle.run.specs.declared.state.State.{State}
+use Rattle.run.specs.declared.rows.RowCounts.{RowCounts}
+use Rattle.run.specs.Area.{landedCounts}
 
 -- ---- the checks of a begin, with an area of that length: the number that refuses it, or 0
 
@@ -37,15 +39,15 @@ checkOpen area (Open k) = pick (eqb area AREA) (Accept k) (Refuse 2)
 unfoldable pub checkOf : State → ℕ → Checked
 checkOf st area = pick (valid st) (checkOpen area (st .phase)) (Refuse 4)
 
-abbrev pub rowsCheck : Sizes → List Float → Kind → Checked
-rowsCheck z rows k =
-    pick (eqb (length rows) (rowNumbers (rowCounts z)))
-    (pick (allInDomain rows ((z .m + z .s) * (z .n + 1))) (Accept k) (Refuse 3)) (Refuse 2)
+abbrev pub rowsCheck : RowCounts → List Float → Kind → Checked
+rowsCheck c rows k =
+    pick (eqb (length rows) (rowNumbers c))
+    (pick (allInDomain rows ((c .m + c .s) * (c .n + 1))) (Accept k) (Refuse 3)) (Refuse 2)
 
-abbrev pub thenRows : Sizes → List Float → Checked → Checked
-thenRows z rows (Refuse k) = Refuse k
-thenRows z rows (Accept k) = rowsCheck z rows k
+abbrev pub thenRows : RowCounts → List Float → Checked → Checked
+thenRows c rows (Refuse k) = Refuse k
+thenRows c rows (Accept k) = rowsCheck c rows k
 
 -- of a reply with rows
 unfoldable pub checkRowsOf : State → ℕ → List Float → Checked
-checkRowsOf st area rows = thenRows (st .sizes) rows (checkOf st area)
+checkRowsOf st area rows = thenRows (landedCounts st) rows (checkOf st area)

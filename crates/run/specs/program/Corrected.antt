@@ -12,13 +12,14 @@ use Rattle.linear.specs.LinearResult.{numberOf}
 use Rattle.linear.specs.Results.{bind}
 use Rattle.run.specs.Corrected.{Shift, to, stay}
 use Rattle.run.specs.Limits.{AREA, VARIABLES}
-use Rattle.run.specs.Rows.{rowNumbers, rowCounts}
+use Rattle.run.specs.Rows.{rowNumbers}
 use Rattle.run.specs.program.Endings.{Underway}
 use Rattle.run.specs.program.Rows.{FewRows}
 use Rattle.run.specs.declared.corrected.Shifted.{Shifted}
 use Rattle.run.specs.declared.corrected.Shifted.the-variants as shifted
 use Rattle.run.specs.declared.rows.RowCounts.{RowCounts}
 use Rattle.run.specs.declared.state.State.{State}
+use Rattle.run.specs.Area.{landedCounts}
 
 -- ---- counts and lengths
 
@@ -30,7 +31,7 @@ pub record MarkedCounts (c : RowCounts) (moving : ℕ) : Type 0 where
 -- the area and an answer's rows have their lengths, and a trial or a correction is open
 pub record RowsToLand (st : State) (area rows : ℕ) : Type 0 where
   pub whole-area : area ≡ AREA
-  pub whole-rows : rows ≡ rowNumbers (rowCounts (st .sizes))
+  pub whole-rows : rows ≡ rowNumbers (landedCounts st)
   pub underway : Underway st
 
 -- ---- what is answered

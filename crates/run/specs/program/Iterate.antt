@@ -3,10 +3,10 @@ use mathlib.Core.List.{List}
 use lib.Ieee.{Float}
 use Rattle.interval.specs.Result.{Res, ok, refused}
 use Rattle.interval.specs.declared.Scalar.{Scalar}
-use Rattle.run.specs.Area.{Memory, standingAt}
+use Rattle.run.specs.Area.{Memory, standingAt, standingCounts}
 use Rattle.run.specs.Iterate.{standingOf}
 use Rattle.run.specs.Residuals.{sumSquared, violationOf}
-use Rattle.run.specs.Rows.{rowCounts, sumOf}
+use Rattle.run.specs.Rows.{sumOf}
 use Rattle.run.specs.Search.{Found, refuses, searchOf}
 use Rattle.run.specs.program.Proposal.{rowsOf}
 use Rattle.run.specs.declared.proposal.Origin.{Origin}
@@ -23,7 +23,7 @@ soughtOf st w = soughtWith st w (violationOf (standingAt st w .constraints))
 -- what the search goes out from, as it is read of an area
 abbrev pub searchOrigin : State → List Float → Scalar → Origin
 searchOrigin st a theta =
-    let c = rowCounts (st .sizes) in
+    let c = standingCounts st in
     record {
       point = record { counts = c; f = sumSquared (sumOf c (rowsOf a)); theta = theta };
       moving = st .moving;

@@ -12,13 +12,13 @@ use borrow.Author.Needs.{needs}
 use Rattle.run.proofs.answered.started.Statement.{statement}
 use Rattle.run.proofs.answered.started.Tie as tie
 
-row-counts-requires : tie.Need-row-counts-requires
-row-counts-requires c κs = search needs
+landed-counts-requires : tie.Need-landed-counts-requires
+landed-counts-requires c κs = search needs
 
 moving-requires : tie.Need-moving-requires
 moving-requires c κs =
     let b = c .before .before .before .pre .2 in
-    rw (c .row-counts .ensures) (rows-of b)
+    rw (c .landed-counts .ensures) (rows-of b)
 
 write-start-requires : tie.Need-write-start-requires
 write-start-requires c κs =
@@ -58,7 +58,7 @@ returns c w h =
     in
     started-known (a .st) w (a .rows .now) t
     (rw (c .before .before .before .before .before .before .before .before .before .before .before .before
-    .row-counts .ensures) at
+    .landed-counts .ensures) at
     (c .before .before .before .before .before .before .before .before .before .before .before .moving .ensures))
     (c .before .before .iterate .ensures v (seeks-as t hs))
 
@@ -66,7 +66,7 @@ pub started-spec : {M : Type 1} → statement M
 started-spec =
     tie.close
     (tie.spec
-    row-counts-requires
+    landed-counts-requires
     moving-requires
     write-start-requires
     standing-violation-requires

@@ -33,7 +33,7 @@ array-read-clear-from c = omega arith
 clear-from-requires-3 : tie.Need-clear-from-requires-3
 clear-from-requires-3 c κs =
     let s = c .before .before .before .before .before .before .before .before .before .before .before in
-    room 72 936 (fits (s .args .z) (s .pre .1)
+    room 72 936 (fits (s .args .st .sizes) (s .pre .1)
     (c .before .before .before .before .before .before .before .before .before .all-used .ensures) 3 (omega arith))
     (omega arith)
     (omega (
@@ -50,7 +50,7 @@ clear-from-requires-4 : tie.Need-clear-from-requires-4
 clear-from-requires-4 c κs =
     let s = c .before .before .before .before .before .before .before .before .before .before .before .before .before
     .before .before in
-    room 1008 936 (fits (s .args .z) (s .pre .1)
+    room 1008 936 (fits (s .args .st .sizes) (s .pre .1)
     (c .before .before .before .before .before .before .before .before .before .before .before .before .before .all-used
     .ensures) 4 (omega arith)) (omega arith)
     (omega (
@@ -96,7 +96,7 @@ clear-from-requires-7 : tie.Need-clear-from-requires-7
 clear-from-requires-7 c κs =
     let s = c .before .before .before .before .before .before .before .before .before .before .before .before .before
     .before .before .before .before .before .before .before .before .before .before .before .before .before .before in
-    room 1992 288 (fits (s .args .z) (s .pre .1)
+    room 1992 288 (fits (s .args .st .sizes) (s .pre .1)
     (c .before .before .before .before .before .before .before .before .before .before .before .before .before .before
     .before .before .before .before .before .before .before .before .before .before .before .all-used .ensures) 7
     (omega arith)) (omega arith)
@@ -122,7 +122,7 @@ clear-from-requires-8 c κs =
     let s = c .before .before .before .before .before .before .before .before .before .before .before .before .before
     .before .before .before .before .before .before .before .before .before .before .before .before .before .before
     .before .before .before .before in
-    room 2280 800 (fits (s .args .z) (s .pre .1)
+    room 2280 800 (fits (s .args .st .sizes) (s .pre .1)
     (c .before .before .before .before .before .before .before .before .before .before .before .before .before .before
     .before .before .before .before .before .before .before .before .before .before .before .before .before .before
     .before .all-used .ensures) 8 (omega arith)) (omega arith)
@@ -171,7 +171,7 @@ returns c w h =
     let s = c .before .before .before .before .before .before .before .before .before .before .before .before .before
     .before .before .before .before .before .before .before .before .before .before .before .before .before .before
     .before .before .before .before .before .before .before in
-    let z = s .args .z in
+    let z = s .args .st .sizes in
     let us = c .before .before .before .before .before .before .before .before .before .before .before .before .before
     .before .before .before .before .before .before .before .before .before .before .before .before .before .before
     .before .before .before .before .before .all-used .result in

@@ -15,8 +15,8 @@ use Rattle.run.proofs.corrected.correct.Tie as tie
 marks : (s : tie.Start) → length (s .args .st .moving) ≡ 12
 marks s = marks-count (s .args .st .moving) (s .good .0 .1 .1 .1 .1 .1 .1 .1 .1 .1 .0 .1 .0 .1)
 
-row-counts-requires : tie.Need-row-counts-requires
-row-counts-requires c κs = search needs
+landed-counts-requires : tie.Need-landed-counts-requires
+landed-counts-requires c κs = search needs
 
 landed-rows-requires : tie.Need-landed-rows-requires
 landed-rows-requires c κs = search needs
@@ -34,7 +34,10 @@ shift-from-requires : tie.Need-shift-from-requires
 shift-from-requires c κs =
     let s = c .before .before .before .before .before .before .before .before in
     let b = s .pre .1 .bounded in (
-      record { few = rw (c .before .before .before .before .before .row-counts .ensures) (rows-of b); marks = marks s },
+      record {
+        few = rw (c .before .before .before .before .before .landed-counts .ensures) (rows-of b);
+        marks = marks s;
+      },
       refl,
     )
 
@@ -63,7 +66,7 @@ returns c w h =
     .read w k)
     (c .before .before .before .before .before .before .before .before .before .landed-point .ensures .read w k)
     (rw (c .before .before .before .before .before .before .before .before .before .before .before .before .before
-    .row-counts .ensures) at (x .ensures)))
+    .landed-counts .ensures) at (x .ensures)))
     (ap (λ (r : Shifted). shiftedOf r (x .last .1 .1 .1 .1 .0))
     (c .before .before .before .before .enum-told2 .given .1))
     (c .before .before .judge-landed .ensures w h)
@@ -92,7 +95,7 @@ returns-2 c w h =
     .ensures .read w k)
     (c .before .before .before .before .before .before .before .before .before .before .landed-point .ensures .read w k)
     (rw (c .before .before .before .before .before .before .before .before .before .before .before .before .before
-    .before .row-counts .ensures) at (x .ensures)))
+    .before .landed-counts .ensures) at (x .ensures)))
     (ap (λ (r : Shifted). shiftedOf r (x .last .1 .1 .1 .1 .0))
     (c .before .before .before .before .before .shifted .given .1))
     (c .before .before .refuse .ensures w (h .measured .uses))
@@ -130,7 +133,7 @@ returns-3 c w h =
     .landed-rows .ensures .read w k)
     (c .before .before .before .before .before .before .before .before .before .before .before .landed-point .ensures
     .read w k) (rw (c .before .before .before .before .before .before .before .before .before .before .before .before
-    .before .before .before .row-counts .ensures) at (x .ensures)))
+    .before .before .before .landed-counts .ensures) at (x .ensures)))
     (ap (λ (r : Shifted). shiftedOf r (x .last .1 .1 .1 .1 .0))
     (c .before .before .before .before .before .before .enum-told .given .1))
     (c .ask .ensures _ _ (asked-read k next (c .before .before .before .write .ensures) (x .kept .1 .1 .1 .1 .0)))
@@ -139,7 +142,7 @@ pub correct-spec : {M : Type 1} → statement M
 correct-spec =
     tie.close
     (tie.spec
-    row-counts-requires
+    landed-counts-requires
     landed-rows-requires
     slice-aggregate-shift-from
     landed-point-requires

@@ -21,8 +21,8 @@ use Rattle.run.proofs.corrected.keep.Tie as tie
 marks : (s : tie.Start) → length (s .args .st .moving) ≡ 12
 marks s = marks-count (s .args .st .moving) (s .good .0 .1 .1 .1 .1 .1 .1 .1 .1 .1 .0 .1 .0 .1)
 
-row-counts-requires : tie.Need-row-counts-requires
-row-counts-requires c κs = search needs
+landed-counts-requires : tie.Need-landed-counts-requires
+landed-counts-requires c κs = search needs
 
 landed-rows-requires : tie.Need-landed-rows-requires
 landed-rows-requires c κs = search needs
@@ -37,7 +37,7 @@ shift-requires : tie.Need-shift-requires
 shift-requires c κs =
     let s = c .before .before .before .before .before .before .before .before in
     let b = s .pre .0 .underway .bounded in (
-      record { few = rw (c .before .before .before .before .row-counts .ensures) (rows-of b); marks = marks s },
+      record { few = rw (c .before .before .before .before .landed-counts .ensures) (rows-of b); marks = marks s },
       refl,
     )
 
@@ -66,7 +66,7 @@ returns c w h v =
     (c .before .before .before .before .before .before .before .before .before .before .before .landed-rows .ensures
     .read w (h .uses .holds))
     (rw (c .before .before .before .before .before .before .before .before .before .before .before .before .before
-    .row-counts .ensures) at (x .ensures)))
+    .landed-counts .ensures) at (x .ensures)))
     (ap (λ (r : Done). doneOf r (x .last .1 .1 .1 .0)) (c .before .before .before .before .before .shift2 .given .1))
     (c .before .before .refuse .ensures w (h .uses))
 
@@ -149,7 +149,7 @@ returns-2 c w h v =
     (c .before .before .before .before .before .before .before .before .before .before .before .before .before .before
     .before .before .before .before .before .before .before .landed-rows .ensures .read w (h .uses .holds))
     (rw (c .before .before .before .before .before .before .before .before .before .before .before .before .before
-    .before .before .before .before .before .before .before .before .before .before .row-counts .ensures) at
+    .before .before .before .before .before .before .before .before .before .before .landed-counts .ensures) at
     (x .ensures)))
     (ap (λ (r : Done). doneOf r d)
     (c .before .before .before .before .before .before .before .before .before .before .before .before .before .before
@@ -161,7 +161,7 @@ pub keep-spec : {M : Type 1} → statement M
 keep-spec =
     tie.close
     (tie.spec
-    row-counts-requires
+    landed-counts-requires
     landed-rows-requires
     slice-aggregate-shift
     slice-aggregate-shift-2

@@ -22,14 +22,14 @@ next s w kept =
     let a = s .args in
     pick kept (keep (a .st) w (a .rows .now) (a .theta)) (judge (a .st) w (a .theta))
 
-row-counts-requires : tie.Need-row-counts-requires
-row-counts-requires c κs = search needs
+landed-counts-requires : tie.Need-landed-counts-requires
+landed-counts-requires c κs = search needs
 
 violation-requires : tie.Need-violation-requires
 violation-requires c κs =
     let p = c .before .before .before .pre in
     let z = c .before .before .before .args .st .sizes in
-    rw (c .row-counts .ensures)
+    rw (c .landed-counts .ensures)
     (p .0 .underway .bounded .few-constraints, omega (arith, rows-enough (rowCounts z), p .0 .whole-rows))
 
 landed-violation-requires : tie.Need-landed-violation-requires
@@ -56,7 +56,7 @@ returns c w h =
     .before .before .args in
     let k = h .uses .holds in
     let new = rw (c .before .before .before .before .before .before .before .before .before .before .before .before
-    .row-counts .ensures) at
+    .landed-counts .ensures) at
     (c .before .before .before .before .before .before .before .before .before .before .before .violation .ensures) in
     let old = c .before .before .before .before .before .before .before .before .before .landed-violation .ensures w k
     in
@@ -82,7 +82,7 @@ returns-2 c w h =
     .before .before .args in
     let k = h .uses .holds in
     let new = rw (c .before .before .before .before .before .before .before .before .before .before .before .before
-    .row-counts .ensures) at
+    .landed-counts .ensures) at
     (c .before .before .before .before .before .before .before .before .before .before .before .violation .ensures) in
     let old = c .before .before .before .before .before .before .before .before .before .landed-violation .ensures w k
     in
@@ -113,7 +113,7 @@ returns-3 c w h =
     .args in
     let k = h .uses .holds in
     let new = rw (c .before .before .before .before .before .before .before .before .before .before .before
-    .row-counts .ensures) at
+    .landed-counts .ensures) at
     (c .before .before .before .before .before .before .before .before .before .before .violation .ensures) in
     let old = c .before .before .before .before .before .before .before .before .landed-violation .ensures w k in
     let e = nearer-read (c .before .before .before .before .before .before .before .is-nearer .ensures) new old ∙ ap
@@ -127,7 +127,7 @@ pub land-correction-spec : {M : Type 1} → statement M
 land-correction-spec =
     tie.close
     (tie.spec
-    row-counts-requires
+    landed-counts-requires
     violation-requires
     landed-violation-requires
     is-nearer-requires

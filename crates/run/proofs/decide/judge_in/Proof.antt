@@ -1,6 +1,7 @@
 -- `judge_in` meets its contract: each part of the area is its slot.
 use native.Mathlib.Omega.{arith}
 use Rattle.run.proofs.DecideLaws.{judged-is}
+use Rattle.run.proofs.ZeroBehind.{rows-of}
 use borrow.Author.Needs.{needs}
 use Rattle.run.proofs.decide.judge_in.Statement.{statement}
 use Rattle.run.proofs.decide.judge_in.Tie as tie
@@ -26,11 +27,7 @@ judge-requires c κs =
     let b = u .bounded in
     rw (c .before .before .before .before .row-counts .ensures)
     (record {
-      counts = record {
-        few-variables = b .few-variables;
-        few-constraints = b .few-constraints;
-        few-sums = b .few-sums;
-      };
+      counts = rows-of b;
       few-pairs = omega (arith, u .below, b .few-iterations);
       step-is = c .step .ensures .long;
     })

@@ -61,16 +61,16 @@ returns c w h =
 standing-rows-requires : tie.Need-standing-rows-requires
 standing-rows-requires c κs = search needs
 
-row-counts-requires : tie.Need-row-counts-requires
-row-counts-requires c κs = search needs
+standing-counts-requires : tie.Need-standing-counts-requires
+standing-counts-requires c κs = search needs
 
 sum-squared-requires : tie.Need-sum-squared-requires
 sum-squared-requires c κs =
     let b = c .before .before .before .before .before .before .before .before .before .before .pre .1 .bounded in
-    rw (c .row-counts .ensures) (rows-of b)
+    rw (c .standing-counts .ensures) (rows-of b)
 
-row-counts-requires-2 : tie.Need-row-counts-requires-2
-row-counts-requires-2 c κs = search needs
+landed-counts-requires : tie.Need-landed-counts-requires
+landed-counts-requires c κs = search needs
 
 slice-aggregate-with-taken : tie.Need-slice-aggregate-write-taken
 slice-aggregate-with-taken c = search needs
@@ -82,7 +82,7 @@ write-taken-requires c κs =
     s .pre .1 in let b = u .bounded in (
       s .pre .0,
       (
-        rw (c .before .row-counts2 .ensures) (rows-of b),
+        rw (c .before .landed-counts .ensures) (rows-of b),
         (
           c .before .before .before .before .before .before .before .before .before .before .learn .kept .1 .1 .1 .0,
           omega (
@@ -130,7 +130,7 @@ returns-2 c w h =
     let f = c .before .before .before .before .before .before .before .before .before .before .before
     .sum-squared .result in
     let sum = rw (c .before .before .before .before .before .before .before .before .before .before .before .before
-    .row-counts .ensures) at
+    .standing-counts .ensures) at
     (c .before .before .before .before .before .before .before .before .before .before .before .sum-squared .ensures)
     ∙ ap (λ (x : List Float). sumSquared (sumOf (rowCounts z) x))
     (c .before .before .before .before .before .before .before .before .before .before .before .before .before
@@ -140,7 +140,7 @@ returns-2 c w h =
     (withTaken w b (filterWith (w .filter) (a .st .counts .iterations) f (a .theta)))
     (c .before .before .before .before .before .before .before .write-taken .last .0) = record {
       holds =
-          (rw (c .before .before .before .before .before .before .before .before .before .row-counts2 .ensures) at
+          (rw (c .before .before .before .before .before .before .before .before .before .landed-counts .ensures) at
           (c .before .before .before .before .before .before .before .write-taken .ensures)) w (u .holds)
           (t .standing-rows) (t .landed-rows)
           (t .curvature) (learned-behind (a .st) w t e);
@@ -164,9 +164,9 @@ take-with-spec =
     same-length
     returns
     standing-rows-requires
-    row-counts-requires
+    standing-counts-requires
     sum-squared-requires
-    row-counts-requires-2
+    landed-counts-requires
     slice-aggregate-with-taken
     write-taken-requires
     standing-on-requires

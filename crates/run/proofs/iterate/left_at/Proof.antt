@@ -11,15 +11,15 @@ use Rattle.run.proofs.iterate.left_at.Tie as tie
 enum-known-found : tie.Need-enum-known-found
 enum-known-found c = search needs
 
-row-counts-requires : tie.Need-row-counts-requires
-row-counts-requires c κs = search needs
+landed-counts-requires : tie.Need-landed-counts-requires
+landed-counts-requires c κs = search needs
 
 write-trial-requires : tie.Need-write-trial-requires
 write-trial-requires c κs =
     let p = c .before .before .before .before .before .before .before .before .pre in
     let b = p .1 in
     let l = p .2 in
-    (p .0, (rw (c .row-counts .ensures) (rows-of b), (l .delta-length, l .lambda-length)))
+    (p .0, (rw (c .landed-counts .ensures) (rows-of b), (l .delta-length, l .lambda-length)))
 
 with-trial-of-requires : tie.Need-with-trial-of-requires
 with-trial-of-requires c κs = search needs
@@ -42,7 +42,7 @@ returns c w h =
     rw (c .before .before .before .before .before .before .before .before .found .given .1)
     (rw (c .before .with-trial-of .ensures (a .delta .now) (a .lambda .now) next) at (c .ask .ensures (withTrial w next
     (a .delta .now) (a .lambda .now)) _
-    ((rw (c .before .before .before .before .before .row-counts .ensures) at
+    ((rw (c .before .before .before .before .before .landed-counts .ensures) at
     (c .before .before .before .before .write-trial .ensures)) w (h .holds) (h .zero-behind .landed-rows))))
 
 enum-known-found-2 : tie.Need-enum-known-found-2
@@ -96,7 +96,7 @@ left-at-spec =
     tie.close
     (tie.spec
     enum-known-found
-    row-counts-requires
+    landed-counts-requires
     write-trial-requires
     with-trial-of-requires
     ask-requires

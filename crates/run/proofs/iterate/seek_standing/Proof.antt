@@ -3,17 +3,16 @@ use mathlib.Core.Path.{sym, ap, _∙_}
 use Rattle.linear.specs.LinearResult.{resultOf}
 use Rattle.run.specs.program.Iterate.{soughtWith}
 use Rattle.run.specs.program.Rows.{FewRows}
-use Rattle.run.specs.Rows.{rowCounts}
+use Rattle.run.specs.Area.{standingCounts}
 use Rattle.run.proofs.IterateLaws.{sought-by}
+use Rattle.run.proofs.ZeroBehind.{rows-of}
 use borrow.Author.Needs.{needs}
 use Rattle.run.proofs.iterate.seek_standing.Statement.{statement}
 use Rattle.run.proofs.iterate.seek_standing.Tie as tie
 
 -- the counts of its rows are within the limits
-few : (s : tie.Start) → FewRows (rowCounts (s .args .st .sizes))
-few s =
-    let b = s .pre .1 in
-    record { few-variables = b .few-variables; few-constraints = b .few-constraints; few-sums = b .few-sums }
+few : (s : tie.Start) → FewRows (standingCounts (s .args .st))
+few s = rows-of (s .pre .1)
 
 enum-known-standing : tie.Need-enum-known-standing
 enum-known-standing c = search needs
