@@ -60,7 +60,7 @@ withoutGram x = mapR bare x
 -- ---- what they are given
 
 -- few variables and few rows, of which some are independent
-pub record FewRows (s : Shape) : Type 0 where
+pub record ShapeFits (s : Shape) : Type 0 where
   pub variables : s .k ≤ VARIABLES
   pub rows : s .m ≤ CONSTRAINTS
   pub independent : s .r ≤ s .m
@@ -78,13 +78,13 @@ pub record FreshBasis (k m : ℕ) (q coefficients dependent : List Float) (order
   pub clear : basisBy 0 q matrix coefficients dependent order ≡ noRows
 
 pub record ForCorrection (s : Shape) (order delta : ℕ) : Type 0 where
-  pub few : FewRows s
+  pub few : ShapeFits s
   pub places : order ≡ 24
   pub step : delta ≡ 24
 
 -- a basis to copy, and a clear factors to copy it into
 pub record ForPreparing (s : Shape) (q coefficients order : ℕ) (factors : List Float) : Type 0 where
-  pub few : FewRows s
+  pub few : ShapeFits s
   pub vectors : q ≡ 288
   pub by-row : coefficients ≡ 288
   pub places : order ≡ 24
