@@ -196,13 +196,6 @@ pub fn clear_unused(area: &mut [f64], st: State)
 
 // ---- what is read of a slot
 
-pub fn standing_point(area: &[f64]) -> &[f64]
-    requires { ⌜ length (now area) ≡ AREA ⌝ }
-    ensures { λ r. ⌜ SlotRead POINT-LEN (λ w. w .standing) (now (area .entry)) (now r) ⌝ }
-{
-    &area[STANDING_AT..LANDED_AT]
-}
-
 pub fn landed_point(area: &[f64]) -> &[f64]
     requires { ⌜ length (now area) ≡ AREA ⌝ }
     ensures { λ r. ⌜ SlotRead POINT-LEN (λ w. w .landed) (now (area .entry)) (now r) ⌝ }
