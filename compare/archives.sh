@@ -1,5 +1,5 @@
-# archives NAME..: builds target/staticlib/libNAME.a of each, unless ARCHIVES says that they are built from this text, as
-# the test command does once it has them. Sourced at the repository's root.
+# archives NAME..: builds target/staticlib/libNAME.a of each, unless ARCHIVES says that they are built from this text,
+# as the test command does once it has them. Sourced at the repository's root.
 archives() {
     [ "${ARCHIVES:-}" != built ] || return 0
     mkdir -p target

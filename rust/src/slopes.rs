@@ -1,5 +1,5 @@
-//! A check of a host's own slopes, for debugging: each is compared with a difference of values beside the point. A wrong
-//! sign or a forgotten factor shows at once, where a run would only come to rest at a wrong point or be damped.
+//! A check of a host's own slopes, for debugging: each is compared with a difference of values beside the point. A
+//! wrong sign or a forgotten factor shows at once, where a run would only come to rest at a wrong point or be damped.
 
 use crate::scalars::Scalar;
 use crate::solvers::least_squares::{Evaluation, Rows};
