@@ -11,11 +11,10 @@ use lib.Dec.{eqb, ltb}
 use lib.Ieee.{Float}
 use lib.ListN.{length, take, drop}
 use lib.Seq.{take-append-seam, drop-append-seam}
-use Rattle.run.specs.Limits.{AREA}
 use Rattle.run.specs.Calls.{replyOpen, replyOf, noneOpen, replyNoneOf, checks, unchanged}
 use Rattle.run.specs.Checks.{valid}
 use Rattle.run.specs.Demand.{same, other, Floats, Call, rows, none, Allowed, Run, CallResult, callResultBy, callResult}
-use Rattle.run.specs.Area.{landedCounts}
+use Rattle.run.specs.Area.{areaLength, landedCounts}
 use Rattle.run.specs.Rows.{rowNumbers}
 use Rattle.run.specs.declared.state.Phase.{Phase}
 use Rattle.run.specs.declared.state.Phase.the-variants.{Open, Over}
@@ -38,20 +37,20 @@ use Rattle.call_list.specs.CallList.{
 
 module _ (st : State) (a own : List Float) where
   none-refused :
-      length a ≢ AREA →
+      length a ≢ areaLength (st .sizes) →
       (v : Bool) (p : Phase) →
       callResultBy (checks v 4 (unchanged st a) (noneOpen st a p)) own
       ≡ callResultBy (checks v 4 (unchanged st []) (noneOpen st [] p)) own
   none-refused x false p = refl
   none-refused x true Over = refl
-  none-refused x true (Open k) = rw (ne-eqb (length a) AREA x) refl
+  none-refused x true (Open k) = rw (ne-eqb (length a) (areaLength (st .sizes)) x) refl
 
   -- the area or the rows have another length
   lengths :
-      (xs : List Float) (count : ℕ) →
-      (length a ≢ AREA) ⊎ (length xs ≢ count) → (eqb (length a) AREA && eqb (length xs) count) ≡ false
-  lengths xs count (inl x) = rw (ne-eqb (length a) AREA x)
-  lengths xs count (inr x) = rw (ne-eqb (length xs) count x) (and-false (eqb (length a) AREA))
+      (xs : List Float) (whole count : ℕ) →
+      (length a ≢ whole) ⊎ (length xs ≢ count) → (eqb (length a) whole && eqb (length xs) count) ≡ false
+  lengths xs whole count (inl x) = rw (ne-eqb (length a) whole x)
+  lengths xs whole count (inr x) = rw (ne-eqb (length xs) count x) (and-false (eqb (length a) whole))
     where
       and-false : (b : Bool) → (b && false) ≡ false
       and-false true = refl
@@ -59,15 +58,17 @@ module _ (st : State) (a own : List Float) where
 
   rows-refused :
       (xs : List Float) →
-      (length a ≢ AREA) ⊎ (length xs ≢ rowNumbers (landedCounts st)) →
+      (length a ≢ areaLength (st .sizes)) ⊎ (length xs ≢ rowNumbers (landedCounts st)) →
       (v : Bool) (p : Phase) →
       callResultBy (checks v 4 (unchanged st a) (replyOpen st a xs p)) own
       ≡ callResultBy (checks v 4 (unchanged st []) (replyOpen st [] xs p)) own
   rows-refused xs x false p = refl
   rows-refused xs x true Over = refl
-  rows-refused xs x true (Open k) = rw (lengths xs (rowNumbers (landedCounts st)) x) refl
+  rows-refused xs x true (Open k) = rw (lengths xs (areaLength (st .sizes)) (rowNumbers (landedCounts st)) x) refl
 
-none-other : (r : Run) (a : List Float) → length a ≢ AREA → callResult r (none noArea) ≡ callResult r (none (other a))
+none-other :
+    (r : Run) (a : List Float) →
+    Allowed (r .state .sizes) (none (other a)) → callResult r (none noArea) ≡ callResult r (none (other a))
 unfolding replyNoneOf
 none-other r a x = sym (none-refused (r .state) a (r .area) x (valid (r .state)) (r .state .phase))
 
@@ -160,7 +161,9 @@ unfolding playedTo callsOf
 every-list z [] x = record { codes = []; numbers = []; floats = tt; leaves = λ f p e. refl }
 every-list z (none same ∷ cs) x = front z 0 (none same) cs [] tt refl (λ r f e. refl) (every-list z cs (x .1))
 every-list z (none (other a) ∷ cs) x =
-    front z 1 (none (other a)) cs [] tt refl (λ r f e. none-other r a (x .0)) (every-list z cs (x .1))
+    front z 1 (none (other a)) cs [] tt refl
+    (λ r f e. none-other r a (subst (λ (y : Sizes). Allowed y (none (other a))) (sym e) (x .0)))
+    (every-list z cs (x .1))
 every-list z (rows same xs g ∷ cs) x =
     let n = length xs in
     front z (2 * n + 2 + 0) (rows same xs g) cs xs g (count-even n) (λ r f e. rw (is-rows n 0, even n) refl)

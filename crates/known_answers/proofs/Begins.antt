@@ -1,8 +1,8 @@
--- A begin that is accepted leaves the run that `begunOf` gives: its sizes are within the limits, its area has 8,000
--- numbers, and number 4 does not refuse it.
-use Prim.Native.Nat.{ℕ, _+_, _*_, _≤_, zero-le}
+-- A begin that is accepted leaves the run that `begunOf` gives: its sizes are within the limits, its area has room for
+-- it, and number 4 does not refuse it.
+use Prim.Native.Nat.{ℕ, _*_, zero-le}
 use mathlib.Core.Bool.{Bool, true, false, _&&_}
-use mathlib.Core.Path.{_≡_, refl, _∙_}
+use mathlib.Core.Path.{_≡_, refl}
 use mathlib.Core.List.{List}
 use native.Mathlib.Nat.{le-refl}
 use native.Mathlib.Omega.{arith}
@@ -10,11 +10,10 @@ use borrow.Author.Tests.{eq-eqb, eqb-true}
 use lib.Dec.{eqb}
 use lib.IntN.{pos}
 use lib.Ieee.{Float, ofBits, neg, lt, le, eq, ofInt, round}
-use lib.ListN.{length, length-append}
+use lib.ListN.{length}
 use Rattle.interval.specs.declared.Scalar.{Scalar}
 use Rattle.linear.specs.Flat.{zeros}
-use Rattle.run.specs.Limits.{AREA}
-use Rattle.run.specs.Area.{POINT-LEN, SPARE-LEN, Memory, areaOf, begunMemory}
+use Rattle.run.specs.Area.{areaLength, HasRoom, areaOf, begunMemory}
 use Rattle.run.specs.Calls.{AfterCall, Accepted, unchanged, checks}
 use Rattle.run.specs.Checks.{sizesFit, valid, inDomain, allInDomain, stepFits}
 use Rattle.run.specs.State.{stateWith, noRun}
@@ -24,8 +23,11 @@ use Rattle.run.specs.declared.state.Kind.the-variants as kind
 use Rattle.run.specs.declared.state.Phase.the-variants.{Open}
 use Rattle.run.specs.declared.state.Sizes.{Sizes}
 use Rattle.run.specs.declared.state.State.{State}
-use Rattle.run.proofs.AreaLaws.{length-clear, length-padded}
+use Rattle.run.proofs.AreaLaws.{length-clear}
+use Rattle.run.proofs.AreaRead.{area-long}
 use Rattle.run.proofs.Booleans.{and-left}
+use Rattle.run.proofs.CheckLaws.{size-bounds}
+use Rattle.run.proofs.Cleared.{begun-lengths, begun-limits}
 use Rattle.run.proofs.DampingGrowth.{growth-begin, growth-positive}
 use Rattle.run.proofs.demand3.Endings.{sound-valid}
 use Rattle.known_answers.specs.KnownAnswers.{between}
@@ -52,13 +54,14 @@ unfolding beginOf
 begins z start max a =
     checked IfAccepted (sizesFit z) 1 (unchanged noRun a) _ (not-asked 1)
     (λ fit.
-    checked IfAccepted (eqb (length start) (2 * z .n) && eqb (length a) AREA) 2 (unchanged noRun a) _ (not-asked 2)
+    checked IfAccepted (eqb (length start) (2 * z .n) && eqb (length a) (areaLength z)) 2 (unchanged noRun a) _
+    (not-asked 2)
     (λ g.
     checked IfAccepted (allInDomain start (z .n) && stepFits max) 3 (unchanged noRun a) _ (not-asked 3)
     (λ h q. record {
       is = refl;
       fit = fit;
-      size = eqb-true _ _ (and-left (eqb (length start) (2 * z .n)) (eqb (length a) AREA) g);
+      size = eqb-true _ _ (and-left (eqb (length start) (2 * z .n)) (eqb (length a) (areaLength z)) g);
     })))
   where
     IfAccepted : AfterCall → Type 0
@@ -67,18 +70,11 @@ begins z start max a =
     not-asked : (k : ℕ) → IfAccepted (unchanged noRun a k)
     not-asked k q = absurd (let z : _≡_ {A = ℕ} 0 1 = cc in omega arith)
 
--- how many numbers the slots have
-area-length : (w : Memory)
-    → length (areaOf w)
-    ≡ length (w .standing)
-    + (length (w .landed) + (length (w .asked) + (length (w .standingRows) + (length (w .landedRows)
-    + (length (w .step) + (length (w .multipliers) + (length (w .curvature) + (length (w .filter) + SPARE-LEN))))))))
-unfolding areaOf
-area-length w = simp (length-append, length-clear)
-
-pub begun-area : (start : List Float) → length start ≤ POINT-LEN → length (areaOf (begunMemory start)) ≡ AREA
-begun-area start h =
-    area-length (begunMemory start) ∙ rw (length-padded POINT-LEN start h)
+pub begun-area : (z : Sizes) (start : List Float) (max : Scalar) → sizesFit z ≡ true → length start ≡ 2 * z .n
+    → HasRoom z (areaOf z (begunMemory start))
+begun-area z start max fit size =
+    area-long (begunState z max) (begunMemory start) (begun-limits z start max (size-bounds z fit))
+    (begun-lengths z start max size)
 
 pub begun-valid : (z : Sizes) (max : Scalar) → sizesFit z ≡ true → valid (begunState z max) ≡ true
 begun-valid z max fit =
@@ -97,7 +93,7 @@ zeros-domain : (n : ℕ) → allInDomain (zeros (2 * n)) n ≡ true
 unfolding le lt eq neg ofBits
 zeros-domain n = zeros-all inDomain refl (2 * n) n (le-refl (2 * n))
 
-pub begin-accepted : (z : Sizes) (a : List Float) → sizesFit z ≡ true → length a ≡ AREA
+pub begin-accepted : (z : Sizes) (a : List Float) → sizesFit z ≡ true → HasRoom z a
     → Accepted (beginOf z (zeros (2 * z .n)) (between (pos 1) (pos 1)) a)
 unfolding beginOf le lt eq neg ofBits ofInt round
 begin-accepted z a fit l = rw (fit, eq-eqb _ _ (length-clear (2 * z .n)), eq-eqb _ _ l, zeros-domain (z .n))

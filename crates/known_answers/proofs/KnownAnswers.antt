@@ -4,7 +4,6 @@ use Prim.Native.Nat.{_+_, _*_}
 use mathlib.Core.Bool.{true}
 use mathlib.Core.Path.{_≡_, refl, ap, _∙_}
 use mathlib.Core.List.{List, []}
-use native.Mathlib.Omega.{arith}
 use borrow.Author.Tests.{eq-eqb}
 use lib.Ieee.{Float, ofBits, toBits, neg, add, lt, le, eq, div, ofInt, round}
 use lib.ListN.{length}
@@ -15,8 +14,7 @@ use Rattle.interval.specs.Scalar.{sqrtOf, clamped, fromRatio}
 use Rattle.linear.specs.Choose.{chooseOf}
 use Rattle.run.specs.Rows.{rowNumbers, rowCounts}
 use Rattle.run.specs.Vectors.{allTo}
-use Rattle.run.specs.Limits.{AREA}
-use Rattle.run.specs.Area.{Memory, areaOf, begunMemory, memoryOf}
+use Rattle.run.specs.Area.{HasRoom, Memory, areaOf, begunMemory, memoryOf}
 use Rattle.run.specs.Answered.{started}
 use Rattle.run.specs.Iterate.{iterate}
 use Rattle.run.specs.Calls.{AfterCall}
@@ -30,7 +28,7 @@ use Rattle.run.specs.declared.state.Kind.the-variants as kind
 use Rattle.run.specs.declared.state.Phase.the-variants.{Open}
 use Rattle.run.specs.declared.state.Sizes.{Sizes}
 use Rattle.run.specs.declared.state.Stop.the-variants as stop
-use Rattle.run.proofs.CheckLaws.{size-bounds, none-accepted, rows-accepted}
+use Rattle.run.proofs.CheckLaws.{none-accepted, rows-accepted}
 use Rattle.known_answers.specs.KnownAnswers.{OfScalars, OfBegin, OfReply, KnownAnswers, sizes, answerTo}
 use Rattle.known_answers.specs.KnownAnswers.{answerToNone}
 use Rattle.known_answers.proofs.Begins.{Begins, begins, begunState, begun-area, begun-valid, begin-accepted}
@@ -39,32 +37,32 @@ use Rattle.known_answers.proofs.NoVariables.{started-none}
 -- ---- a call to a run that has begun
 
 module _ (z : Sizes) (start : List Float) (max : Scalar) (b : AfterCall) (g : Begins z start max b) where
-  whole : length (areaOf (begunMemory start)) ≡ AREA
-  whole = begun-area start (let n = size-bounds z (g .fit) .n in omega (arith, n, g .size))
+  whole : HasRoom z (areaOf z (begunMemory start))
+  whole = begun-area z start max (g .fit) (g .size)
 
-  accepted : checkOf (begunState z max) (length (areaOf (begunMemory start))) ≡ Accept kind.Start
+  accepted : checkOf (begunState z max) (length (areaOf z (begunMemory start))) ≡ Accept kind.Start
   unfolding checkOf
-  accepted = rw (begun-valid z max (g .fit), whole)
+  accepted = rw (begun-valid z max (g .fit), eq-eqb _ _ whole)
 
   accepted-rows : (rows : List Float) → length rows ≡ rowNumbers (rowCounts z)
       → allInDomain rows ((z .m + z .s) * (z .n + 1)) ≡ true
-      → checkRowsOf (begunState z max) (length (areaOf (begunMemory start))) rows ≡ Accept kind.Start
+      → checkRowsOf (begunState z max) (length (areaOf z (begunMemory start))) rows ≡ Accept kind.Start
   unfolding checkRowsOf
   accepted-rows rows l d = rw (accepted, eq-eqb _ _ l, d)
 
   none-answer : answerToNone b ≡ Finish stop.Infeasible 0 0 0
   none-answer = ap answerToNone (g .is)
       ∙ ap (λ (o : AfterCall). o .event)
-      (none-accepted (begunState z max) (areaOf (begunMemory start)) kind.Start accepted)
+      (none-accepted (begunState z max) (areaOf z (begunMemory start)) kind.Start accepted)
 
   rows-answer : (rows : List Float) → length rows ≡ rowNumbers (rowCounts z)
       → allInDomain rows ((z .m + z .s) * (z .n + 1)) ≡ true
       → answerTo b rows
-      ≡ started (begunState z max) (memoryOf (begunState z max) (areaOf (begunMemory start))) rows .event
+      ≡ started (begunState z max) (memoryOf (begunState z max) (areaOf z (begunMemory start))) rows .event
   rows-answer rows l d =
       ap (λ (o : AfterCall). answerTo o rows) (g .is)
       ∙ ap (λ (o : AfterCall). o .event)
-      (rows-accepted (begunState z max) (areaOf (begunMemory start)) rows kind.Start (accepted-rows rows l d))
+      (rows-accepted (begunState z max) (areaOf z (begunMemory start)) rows kind.Start (accepted-rows rows l d))
 
 -- ---- the table
 

@@ -13,7 +13,7 @@ use Rattle.interval.specs.Result.{ok, refused}
 use Rattle.interval.specs.Scalar.{sqrtOf, couldBeEqual, definitelyLess, definitelyGreater}
 use Rattle.linear.specs.Choose.{chooseOf}
 use Rattle.linear.specs.Flat.{zeros}
-use Rattle.run.specs.Limits.{AREA}
+use Rattle.run.specs.Area.{HasRoom}
 use Rattle.run.specs.Rows.{rowNumbers, rowCounts}
 use Rattle.run.specs.Calls.{AfterCall, Accepted, beginOf, replyOf, replyNoneOf}
 use Rattle.run.specs.Checks.{sizesFit, allInDomain}
@@ -69,10 +69,10 @@ pub record OfScalars : Type 0 where
 
 -- of a begin
 pub record OfBegin : Type 0 where
-  -- runs begin: from zero, with steps up to 1, in any area
+  -- runs begin: from zero, with steps up to 1, in any area that has room for them
   pub accepted :
       (n m s limit : ℕ) (a : List Float) →
-      sizesFit (sizes n m s limit) ≡ true → length a ≡ AREA
+      sizesFit (sizes n m s limit) ≡ true → HasRoom (sizes n m s limit) a
       → Accepted (beginOf (sizes n m s limit) (zeros (2 * n)) (between (pos 1) (pos 1)) a)
   -- P10 first mu: ends 3F50624DD2F1A9FB, 3F50624DD2F1A9FD; it is the mu of every run that begins
   pub p10 :

@@ -2,24 +2,24 @@
 use mathlib.Core.Bool.{Bool, true, false, not, _&&_, _||_}
 use mathlib.Core.Path.{_≡_, refl, sym, ap, ap₂, subst, _∙_}
 use mathlib.Core.List.{List}
-use Prim.Native.Nat.{ℕ, _+_, _*_, _≤_}
-use native.Mathlib.Nat.{mul-le-mul}
+use Prim.Native.Nat.{ℕ, _+_}
 use native.Mathlib.Omega.{arith}
 use borrow.Author.Tests.{ltb-true, ltb-false, le-leb, lt-leb}
 use lib.Dec.{leb, ltb}
 use lib.Ieee.{Float}
+use lib.ListN.{length}
 use Rattle.interval.specs.declared.Scalar.{Scalar}
 use Rattle.interval.specs.Result.{Res, ok, refused}
 use Rattle.interval.specs.Scalar.{degenerate, pick, divOf, definitelyGreater, definitelyLess}
 use Rattle.interval.specs.Scaling.{three64}
 use Rattle.linear.specs.Results.{bind}
-use Rattle.run.specs.Area.{Memory, withStart, withAsked, withLanded, withTaken, landedCounts}
+use Rattle.run.specs.Area.{Memory, withStart, withAsked, withLanded, withTaken, landedCounts, pairsIn, usedIn}
 use Rattle.run.specs.Checks.{phaseFits}
 use Rattle.run.specs.Limits.{CORRECTIONS}
 use Rattle.run.specs.Corrected.{Shift, to, stay, shiftOf, shiftFrom, shiftedStep}
 use Rattle.run.specs.Curvature.{updateCurvature}
 use Rattle.run.specs.Judgement.{Judged, judgeOf}
-use Rattle.run.specs.program.Area.{StandingKnown}
+use Rattle.run.specs.program.Area.{Holds, Uses, Working, StandingKnown}
 use Rattle.run.specs.Rows.{rowNumbers}
 use Rattle.run.specs.Residuals.{movingOf, sumSquared, violationOf}
 use Rattle.run.specs.Endings.{AfterSlots, finish, refuse, question, orRefuse}
@@ -41,9 +41,10 @@ use Rattle.run.specs.declared.state.Returned.{Returned}
 use Rattle.run.specs.declared.state.Phase.the-variants.{Open}
 use Rattle.run.specs.declared.state.State.{State}
 use Rattle.run.specs.declared.state.Stop.the-variants as stop
-use Rattle.run.specs.declared.rows.RowCounts.{RowCounts}
 use Rattle.run.proofs.CheckLaws.{both}
-use Rattle.run.proofs.ZeroBehind.{seeks-as}
+use Rattle.run.proofs.LengthsKept.{start-whole}
+use Rattle.run.proofs.MemoryLaws.{measures, seeks-as}
+use Rattle.run.proofs.PhaseLengths.{standing-length, lengths-at-most}
 use Rattle.run.proofs.EndingLaws.{or-next, or-refused, when, unless}
 
 -- ---- a step taken
@@ -59,7 +60,7 @@ takenAs st w theta length linear =
 abbrev pub stands : State → Memory → Scalar → Scalar → Scalar → Scalar → List Float → AfterSlots
 stands st w theta length mu radius b =
     iterate (standingOn st length mu radius)
-    (withTaken w b (filterWith (w .filter) (st .counts .iterations) (sumSquared (standingAt st w .sum)) theta))
+    (withTaken w b (filterWith (w .filter) (sumSquared (standingAt st w .sum)) theta))
 
 module _ (st : State) (w : Memory) (theta length : Scalar) {o : Returned} {a : List Float} where
   pub take-known :
@@ -112,12 +113,12 @@ module _ (st : State) (w : Memory) (theta length : Scalar) {o : Returned} {a : L
         t ≡ standingOn st length mu radius →
         f ≡ sumSquared (standingAt st w .sum) →
         StandingKnown (standingOn st length mu radius) v
-        (withTaken w b (filterWith (w .filter) (st .counts .iterations) f theta)) c →
+        (withTaken w b (filterWith (w .filter) f theta)) c →
         ((x : Memory) → StandingKnown t v x c → Leaves (iterate t x) o a) →
         Leaves (stands st w theta length mu radius b) o a
     stands-on b {t} {f} {v} {c} e q h l =
         let next = standingOn st length mu radius in
-        let after : Scalar → Memory = λ x. withTaken w b (filterWith (w .filter) (st .counts .iterations) x theta) in
+        let after : Scalar → Memory = λ x. withTaken w b (filterWith (w .filter) x theta) in
         let x = after (sumSquared (standingAt st w .sum)) in
         subst (λ (y : State). Leaves (iterate y x) o a) e
         (l x (seeks-as e (subst (λ (y : Scalar). StandingKnown next v (after y) c) q h)))
@@ -144,16 +145,16 @@ shift-of st w em er = sym (er ∙ ap (λ (x : List Bool). shiftOf x (landedAt st
 module _ (st : State) (w : Memory) (theta : Scalar) {o : Returned} {a : List Float} where
   pub judge-known :
       {j : Judged} →
-      judgeOf (st .sizes .n) (standingAt st w) (landedAt st w) theta (w .filter) (st .counts .iterations) (st .last)
-      (w .step) ≡ ok j →
+      judgeOf (st .sizes .n) (standingAt st w) (landedAt st w) theta (w .filter) (pairsIn st) (st .last) (w .step)
+      ≡ ok j →
       Leaves (decide st w theta j) o a → Leaves (judge st w theta) o a
   unfolding judge
   judge-known e l = or-next st w (λ j. decide st w theta j) e l
 
   pub judge-refused :
       {k : ℕ} →
-      judgeOf (st .sizes .n) (standingAt st w) (landedAt st w) theta (w .filter) (st .counts .iterations) (st .last)
-      (w .step) ≡ refused k →
+      judgeOf (st .sizes .n) (standingAt st w) (landedAt st w) theta (w .filter) (pairsIn st) (st .last) (w .step)
+      ≡ refused k →
       Leaves (refuse st w k) o a → Leaves (judge st w theta) o a
   unfolding judge
   judge-refused e l = or-refused st w (λ j. decide st w theta j) e l
@@ -184,7 +185,7 @@ module _ (st : State) (w : Memory) (theta : Scalar) {o : Returned} {a : List Flo
       (er : r ≡ shiftFrom m (landedAt st w .constraints) (w .landed)) where
     pub correct-asks :
         {next : List Float} → r ≡ ok (to next) →
-        Leaves (question st (withAsked w next) kind.Correction (st .counts .corrections)) o a →
+        Leaves (question st (withAsked st w next) kind.Correction (st .counts .corrections)) o a →
         Leaves (correct st w theta) o a
     unfolding correct
     correct-asks e l = rw (shift-is st w em er ∙ e) l
@@ -296,11 +297,39 @@ kept-known st w rows theta d {t} {o} {a} e l =
 
 pub started-known :
     (st : State) (w : Memory) (rows : List Float) {t : State} {m : List Bool} {o : Returned} {a : List Float} →
-    t ≡ moves st m → m ≡ movingOf (st .sizes .n) (rowsAt st rows) → Leaves (iterate t (withStart w rows)) o a →
+    t ≡ moves st m → m ≡ movingOf (st .sizes .n) (rowsAt st rows) → Leaves (iterate t (withStart st w rows)) o a →
     Leaves (started st w rows) o a
 unfolding started
 started-known st w rows {t} {m} {o} {a} e q l =
-    subst (λ (x : State). Leaves (iterate x (withStart w rows)) o a) (e ∙ ap (λ (x : List Bool). moves st x) q) l
+    subst (λ (x : State). Leaves (iterate x (withStart st w rows)) o a) (e ∙ ap (λ (x : List Bool). moves st x) q) l
+
+-- between two calls, and with a start's answer
+module _ (st : State) {w : Memory} {a : List Float} (u : Uses (st .sizes) (usedIn st) w a) where
+  pub works : Working st w a
+  works = record { holds = u .holds; at-most = lengths-at-most st w (u .lengths) }
+
+  pub starts :
+      {rows b : List Float} {v : Res Scalar} → length rows ≡ rowNumbers (landedCounts st) →
+      Holds (st .sizes) (withStart st w rows) b → v ≡ violationOf (rowsAt st rows .constraints) →
+      StandingKnown st v (withStart st w rows) b
+  starts {rows} many h e =
+      let s = start-whole st w rows (standing-length st w (u .lengths)) many in
+      measures st
+      (record {
+        holds = h;
+        at-most = record {
+          standing = omega (arith, s .standing);
+          landed = omega arith;
+          asked = omega arith;
+          standing-rows = omega (arith, s .standing-rows);
+          landed-rows = omega arith;
+          step = omega arith;
+          multipliers = omega arith;
+          curvature = omega (arith, s .curvature);
+          filter = omega (arith, s .filter);
+        };
+      })
+      s e
 
 pub moved-on : {st : State} (m : List Bool) → Bounded 1073741824 st → Bounded 2147483648 (moves st m)
 moved-on m b = record {
@@ -325,18 +354,6 @@ module _ {st : State} (b : Bounded 1073741824 st) where
   correction-underway e f =
       let g : phaseFits st (Open kind.Correction) ≡ true = subst (λ (x : Kind). phaseFits st (Open x) ≡ true) e f in
       record { bounded = b; below = ltb-true _ _ (both (ltb (st .counts .iterations) (st .sizes .limit)) _ g .0) }
-
-  pub rows-few : rowNumbers (landedCounts st) ≤ 936
-  rows-few =
-      let h : st .sizes .m + st .sizes .s ≤ 36 = omega (arith, b .few-constraints, b .few-sums) in
-      let k : st .sizes .n + 1 ≤ 13 = omega (arith, b .few-variables) in
-      omega (arith, mul-le-mul {n₁ = st .sizes .m + st .sizes .s} {m₁ = st .sizes .n + 1} {n₂ = 36} {m₂ = 13} h k)
-
-pub rows-enough : (c : RowCounts) → 2 * c .m ≤ rowNumbers c
-rows-enough c =
-    let h : c .m + c .s ≤ c .m + c .s = omega arith in
-    let k : 1 ≤ c .n + 1 = omega arith in
-    omega (arith, mul-le-mul {n₁ = c .m + c .s} {m₁ = 1} {n₂ = c .m + c .s} {m₂ = c .n + 1} h k)
 
 module _ (st : State) (w : Memory) {k k′ : Kind} {o : Returned} {a : List Float} (e : k ≡ k′) where
   pub answered-as : (rows : List Float) → Leaves (answered k′ st w rows) o a → Leaves (answered k st w rows) o a

@@ -1,28 +1,25 @@
 -- The area as slots one behind the other: a run of numbers written over a slot takes its place, and reading a slot
--- gives what it holds.
-use mathlib.Core.Bool.{Bool, true, false}
+-- gives what it holds. A slot is asked for by its number in the order, so no law says where one stands.
+use mathlib.Core.Logic.{⊎-elim}
 use mathlib.Core.Path.{_≡_, refl, sym, ap, ap₂, subst, _∙_}
 use mathlib.Core.List.{List, [], _∷_, _++_, map, append-assoc, append-nil}
-use Prim.Native.Nat.{ℕ, zero, suc, _+_, _-_, _*_, _<_, _≤_}
-use native.Mathlib.Nat.{not-suc-le-zero, le-of-suc-le-suc, mul-le-mul, add-assoc, add-zero, zero-add}
+use Prim.Native.Nat.{ℕ, zero, suc, _+_, _-_, _<_, _≤_}
+use native.Mathlib.Nat.{not-suc-le-zero, le-of-suc-le-suc, add-assoc, add-zero, zero-add}
 use native.Mathlib.Numerals.{add-one}
 use native.Mathlib.Omega.{arith}
 use lib.Ieee.{Float, nan}
 use lib.ListN.{length, take, drop, getD, set, length-append, length-drop, length-set, length-replicate, length-map}
-use lib.ListN.{List·getD-map, drop-of-length-le, replicate-append-replicate}
+use lib.ListN.{List·getD-map, drop-of-length-le, replicate-append-replicate, take-append-drop}
 use lib.Seq.{paste, paste-zero, paste-suc, drop-paste, length-take-le, take-length, take-at, drop-at, drop-drop}
-use lib.Seq.{take-append-add, drop-append-add, getD-append-add, getD-drop, getD-take}
-use Rattle.interval.specs.declared.Scalar.{Scalar}
-use Rattle.interval.specs.Scalar.{pick}
-use Rattle.linear.specs.Flat.{put, zeros}
-use Rattle.linear.proofs.FlatLaws.{length-put}
-use Rattle.run.specs.Area.{SIZES, SPARE-LEN, Memory, areaOf, memoryOf, isOpen, isTried, isCorrected, padded}
-use Rattle.run.specs.Area.{startOf, usedIn}
-use Rattle.run.specs.program.Area.{slotsOf, Holds, written, clearedTo}
-use Rattle.run.specs.program.Area.{Limits}
-use Rattle.run.specs.Filter.{filterWith}
+use lib.Seq.{take-append-add, drop-append-add, getD-append-add, getD-drop, getD-take, take-take, drop-append-le}
+use lib.Seq.{take-append-le, take-add}
+use Rattle.interval.specs.Scalar.{zero64}
+use Rattle.linear.specs.Flat.{zeros}
+use Rattle.run.specs.Area.{Slots, inOrder, slotSizes, startOf, startIn, areaLength, spareAt, Memory, partOf}
+use Rattle.run.specs.Area.{padded, joined, paddedSlots, areaOf}
+use Rattle.run.specs.program.Area.{AtMost, lengthsOf, Holds, written, clearedBetween, clearedTo, Apart}
 use Rattle.run.specs.declared.state.Sizes.{Sizes}
-use Rattle.run.specs.declared.state.State.{State}
+use Rattle.run.proofs.PlaceLaws.{slot-before}
 
 -- ---- a run of numbers written
 
@@ -58,19 +55,34 @@ module _ {d : List Float} {at : ℕ} {s : List Float} {i : ℕ} {a : List Float}
       ∙ ap (λ (r : List Float). getD r (j - (at + i)) nan) (drop-paste d at s i (omega arith) u)
       ∙ getD-drop (at + i) d (j - (at + i)) nan)
 
--- numbers written to a place before them
-module _ (d : List Float) (from to count : ℕ) (fit : (to + count ≤ from) × (from + count ≤ length d)) where
+  -- and one before it
+  pub writing-before : Writing d at s i a → at ≤ length d → (j : ℕ) → j < at → getD a j nan ≡ getD d j nan
+  writing-before w h j l =
+      let p : List Float = take at d in
+      let q : List Float = take i s ++ drop (at + i) d in
+      let e : take at a ≡ take at d =
+      ap (take at) (w .is ∙ append-assoc p (take i s) (drop (at + i) d)) ∙ take-at p q at (length-take-le at d h) in
+      sym (getD-take at a j nan l) ∙ ap (λ (r : List Float). getD r j nan) e ∙ getD-take at d j nan l
+
+-- numbers written to a place apart from them
+module _ (d : List Float) (from to count : ℕ)
+    (fit : Apart from to count × (from + count ≤ length d) × (to + count ≤ length d)) where
   pub length-from : length (take count (drop from d)) ≡ count
-  length-from = length-take-le count (drop from d) (simp length-drop (omega arith))
+  length-from = length-take-le count (drop from d) (simp length-drop (omega (arith, fit .1)))
 
   pub copying-more : {i : ℕ} {a : List Float} → Writing d to (take count (drop from d)) i a → i < count
       → Writing d to (take count (drop from d)) (i + 1) (set a (to + i) (getD a (from + i) nan))
   copying-more {i} {a} w h =
       let l = length-from in
+      let inside : to + length (take count (drop from d)) ≤ length d = omega (arith, fit .2) in
+      let as-it-was : getD a (from + i) nan ≡ getD d (from + i) nan =
+      ⊎-elim
+      (λ (k : to + count ≤ from). writing-behind w inside (from + i) (omega arith))
+      (λ (k : from + count ≤ to). writing-before w (omega arith) (from + i) (omega arith))
+      (fit .0) in
       let e : getD (take count (drop from d)) i nan ≡ getD a (from + i) nan =
-      getD-take count (drop from d) i nan h ∙ getD-drop from d i nan
-      ∙ sym (writing-behind w (omega arith) (from + i) (omega arith)) in
-      rw e at (writing-more w (omega arith) (omega arith))
+      getD-take count (drop from d) i nan h ∙ getD-drop from d i nan ∙ sym as-it-was in
+      rw e at (writing-more w inside (omega arith))
 
 -- two runs, one right behind the other, are one run
 pub written-twice : (d s t : List Float) (at to : ℕ) → to ≡ at + length s
@@ -93,14 +105,6 @@ length-clear n = length-replicate _ _
 
 pub length-padded : (size : ℕ) (s : List Float) → length s ≤ size → length (padded size s) ≡ size
 length-padded size s h = simp (length-append, length-replicate) (omega arith)
-
--- a run and +0 behind it are a slot
-pub slot-is : (a s : List Float) (base size : ℕ) {b c : List Float} → length s ≤ size → base + size ≤ length a
-    → b ≡ written a base s → c ≡ written b (base + length s) (zeros (size - length s))
-    → c ≡ written a base (padded size s)
-slot-is a s base size {b} {c} h l e f =
-    let z : length (zeros (size - length s)) ≡ size - length s = length-replicate _ _ in
-    rw (f, e) (written-twice a s (zeros (size - length s)) base (base + length s) refl (omega arith))
 
 -- a part that is lent and comes back
 pub part-back : (a s : List Float) (base count : ℕ) → length s ≡ count
@@ -136,11 +140,66 @@ written-whole d s e = let h : length d ≤ 0 + length s = omega arith in rw (dro
 written-first : (x d s : List Float) → length s ≡ length x → written (x ++ d) 0 s ≡ s ++ d
 written-first x d s h = ap (λ (u : List Float). s ++ u) (drop-at x d (0 + length s) (omega arith))
 
--- ---- parts one behind the other, and an end
+-- ---- lists with +0 behind them
 
-abbrev pub joined : List (List Float) → List Float → List Float
-joined [] e = e
-joined (x ∷ xs) e = x ++ joined xs e
+pub drop-zeros : (k i : ℕ) → drop i (zeros k) ≡ zeros (k - i)
+drop-zeros k zero = let e : k ≡ k - 0 = omega arith in ap zeros e
+drop-zeros zero (suc i) = let e : 0 ≡ 0 - suc i = omega arith in ap zeros e
+drop-zeros (suc k) (suc i) = let e : k - i ≡ suc k - suc i = omega arith in drop-zeros k i ∙ ap zeros e
+
+module _ (size : ℕ) (xs : List Float) where
+  -- behind a place that is behind the list
+  drop-padded : (n : ℕ) → length xs ≤ n → n ≤ size → drop n (padded size xs) ≡ zeros (size - n)
+  drop-padded n h l =
+      let i = n - length xs in
+      let e : n ≡ length xs + i = omega arith in
+      let m : size - length xs - i ≡ size - n = omega arith in
+      ap (λ (j : ℕ). drop j (padded size xs)) e ∙ drop-append-add xs (zeros (size - length xs)) i
+      ∙ drop-zeros (size - length xs) i ∙ ap zeros m
+
+  take-padded : (n : ℕ) → n ≤ length xs → take n (padded size xs) ≡ take n xs
+  take-padded n h = take-append-le n xs (zeros (size - length xs)) h
+
+-- so many +0 are no numbers
+pub padded-zeros : (size n : ℕ) → n ≤ size → padded size (zeros n) ≡ padded size []
+padded-zeros size n h =
+    let e : n + (size - n) ≡ size - 0 = omega arith in
+    ap (λ (k : ℕ). zeros n ++ zeros (size - k)) (length-clear n) ∙ replicate-append-replicate n (size - n) zero64
+    ∙ ap zeros e
+
+-- cleared from a place on, as far as it has numbers
+pub cleared-padded : (size from to : ℕ) (xs : List Float) → from ≤ to → to ≤ size → from ≤ length xs → length xs ≤ to
+    → clearedBetween from to (padded size xs) ≡ padded size (take from xs)
+cleared-padded size from to xs h l b m =
+    let t : List Float = take from (padded size xs) in
+    let k : to - from + (size - to) ≡ size - from = omega arith in
+    ap (λ (r : List Float). t ++ zeros (to - from) ++ r) (drop-padded size xs to m l)
+    ∙ append-assoc t (zeros (to - from)) (zeros (size - to))
+    ∙ ap (λ (r : List Float). t ++ r) (replicate-append-replicate (to - from) (size - to) zero64 ∙ ap zeros k)
+    ∙ ap₂ (λ (u : List Float) (n : ℕ). u ++ zeros (size - n)) (take-padded size xs from b)
+    (sym (length-take-le from xs b))
+
+-- cleared between no places
+pub cleared-none : (n : ℕ) (xs : List Float) → clearedBetween n n xs ≡ xs
+cleared-none n xs =
+    let e : n - n ≡ 0 = omega arith in
+    ap (λ (k : ℕ). take n xs ++ zeros k ++ drop n xs) e
+    ∙ ap (λ (r : List Float). r ++ drop n xs) (append-nil (take n xs))
+    ∙ take-append-drop n xs
+
+-- a part of an area, cleared behind so many numbers
+pub cleared-part-of : (a : List Float) (place size used : ℕ) → used ≤ size → place + size ≤ length a
+    → clearedBetween used size (partOf a place size) ≡ padded size (partOf a place used)
+cleared-part-of a place size used h l =
+    let r : List Float = drop place a in
+    let lr : length (take size r) ≡ size = length-take-le size r (simp length-drop (omega arith)) in
+    let lu : length (take used r) ≡ used = length-take-le used r (simp length-drop (omega arith)) in
+    ap₂ (λ (u v : List Float). u ++ zeros (size - used) ++ v) (take-take used size r h)
+    (drop-of-length-le (take size r) {i = size} (omega arith))
+    ∙ append-nil (take used r ++ zeros (size - used))
+    ∙ ap (λ (n : ℕ). take used r ++ zeros (size - n)) (sym lu)
+
+-- ---- parts one behind the other, and an end
 
 start-cons : (n : ℕ) (ns : List ℕ) (k : ℕ) → startOf (n ∷ ns) (suc k) ≡ n + startOf ns k
 unfolding startOf
@@ -200,52 +259,126 @@ set-same (n ∷ ns) (suc k) = ap (λ (r : List ℕ). n ∷ r) (set-same ns k)
 -- ---- an area by its slots
 
 -- an area whose slots are these lists
-pub record Slots (ls : List (List Float)) (a : List Float) : Type 0 where
-  pub sized : map length ls ≡ SIZES
-  pub is : a ≡ joined ls (zeros SPARE-LEN)
+pub record Laid (z : Sizes) (ls : List (List Float)) (a : List Float) : Type 0 where
+  pub sized : map length ls ≡ inOrder (slotSizes z)
+  pub is : a ≡ joined ls (zeros (areaLength z - spareAt z))
 
-pub slots-of : {w : Memory} {a : List Float} → Holds w a → Slots (slotsOf w) a
-unfolding areaOf
-slots-of h = record { sized = h .sized; is = h .is }
+module _ (z : Sizes) (w : Memory) where
+  pub padded-lengths : AtMost (slotSizes z) w → lengthsOf (paddedSlots z w) ≡ slotSizes z
+  padded-lengths f =
+      rw (
+        length-padded (slotSizes z .standing) (w .standing) (f .standing),
+        length-padded (slotSizes z .landed) (w .landed) (f .landed),
+        length-padded (slotSizes z .asked) (w .asked) (f .asked),
+        length-padded (slotSizes z .standingRows) (w .standingRows) (f .standing-rows),
+        length-padded (slotSizes z .landedRows) (w .landedRows) (f .landed-rows),
+        length-padded (slotSizes z .step) (w .step) (f .step),
+        length-padded (slotSizes z .multipliers) (w .multipliers) (f .multipliers),
+        length-padded (slotSizes z .curvature) (w .curvature) (f .curvature),
+        length-padded (slotSizes z .filter) (w .filter) (f .filter),
+      )
+      refl
 
-pub holds-of : (w : Memory) {a : List Float} → Slots (slotsOf w) a → Holds w a
-unfolding areaOf
-holds-of w h = record { sized = h .sized; is = h .is }
+  pub laid-of : {a : List Float} → Holds z w a → Laid z (inOrder (paddedSlots z w)) a
+  unfolding areaOf
+  laid-of h = record { sized = ap (λ (x : Slots ℕ). inOrder x) (padded-lengths (h .fits)); is = h .is }
 
-module _ {ls : List (List Float)} {a : List Float} (h : Slots ls a) where
+  pub holds-of : {a : List Float} → AtMost (slotSizes z) w → Laid z (inOrder (paddedSlots z w)) a → Holds z w a
+  unfolding areaOf
+  holds-of f h = record { fits = f; is = h .is }
+
+module _ {z : Sizes} {ls : List (List Float)} {a : List Float} (h : Laid z ls a) where
   slot-there : (k : ℕ) → k < 9 → k < length ls
   slot-there k l = omega (arith, length-map ls (length {A = Float}), ap (length {A = ℕ}) (h .sized))
 
-  pub slot-length : (k : ℕ) → length (getD ls k []) ≡ getD SIZES k 0
+  pub slot-length : (k : ℕ) → length (getD ls k []) ≡ getD (inOrder (slotSizes z)) k 0
   slot-length k = sym (List·getD-map (length {A = Float}) ls k []) ∙ ap (λ (ns : List ℕ). getD ns k 0) (h .sized)
 
   -- a run over slot k takes its place
-  pub wrote : (k : ℕ) (s : List Float) {b : List Float} → k < 9 → length s ≡ getD SIZES k 0
-      → b ≡ written a (startOf SIZES k) s → Slots (set ls k s) b
+  pub wrote : (k : ℕ) (s : List Float) {b : List Float} → k < 9 → length s ≡ getD (inOrder (slotSizes z)) k 0
+      → b ≡ written a (startIn z k) s → Laid z (set ls k s) b
   wrote k s {b} l e q = record {
-    sized = lengths-set ls k s ∙ rw (h .sized, e) (set-same SIZES k);
-    is = q ∙ rw (h .is, ← h .sized) (write-part (zeros SPARE-LEN) ls k s (slot-there k l) (e ∙ sym (slot-length k)));
+    sized = lengths-set ls k s ∙ rw (h .sized, e) (set-same (inOrder (slotSizes z)) k);
+    is = q
+        ∙ ap₂ (λ (x : List Float) (ns : List ℕ). written x (startOf ns k) s) (h .is) (sym (h .sized))
+        ∙ write-part (zeros (areaLength z - spareAt z)) ls k s (slot-there k l) (e ∙ sym (slot-length k));
   }
 
   -- what is read of slot k
-  pub slot-read : (k : ℕ) → k < 9 → take (getD SIZES k 0) (drop (startOf SIZES k) a) ≡ getD ls k []
-  slot-read k l = rw (← slot-length k, h .is, ← h .sized) (read-part (zeros SPARE-LEN) ls k (slot-there k l))
+  pub slot-read : (k : ℕ) → k < 9 → partOf a (startIn z k) (getD (inOrder (slotSizes z)) k 0) ≡ getD ls k []
+  slot-read k l =
+      let e : List Float = zeros (areaLength z - spareAt z) in
+      ap₂ (λ (x : List Float) (ns : List ℕ). partOf x (startOf ns k) (getD ns k 0)) (h .is) (sym (h .sized))
+      ∙ ap (partOf (joined ls e) (startOf (map length ls) k)) (List·getD-map (length {A = Float}) ls k [])
+      ∙ read-part e ls k (slot-there k l)
 
-  -- slot j over slot i
-  pub copied : (i j : ℕ) {b : List Float} → i < 9 → j < 9 → getD SIZES j 0 ≡ getD SIZES i 0
-      → b ≡ written a (startOf SIZES i) (take (getD SIZES j 0) (drop (startOf SIZES j) a))
-      → Slots (set ls i (getD ls j [])) b
-  copied i j {b} li lj e q =
-      wrote i (getD ls j []) li (slot-length j ∙ e)
-      (q ∙ ap (λ (s : List Float). written a (startOf SIZES i) s) (slot-read j lj))
+  module _ (k : ℕ) (l : k < 9) (xs : List Float) (is : getD ls k [] ≡ padded (getD (inOrder (slotSizes z)) k 0) xs)
+    where
+      -- the numbers that it holds
+      pub numbers-read : length xs ≤ getD (inOrder (slotSizes z)) k 0 → partOf a (startIn z k) (length xs) ≡ xs
+      numbers-read f =
+          let size = getD (inOrder (slotSizes z)) k 0 in
+          sym (take-take (length xs) size (drop (startIn z k) a) f)
+          ∙ ap (take (length xs)) (slot-read k l ∙ is)
+          ∙ take-at xs (zeros (size - length xs)) (length xs) refl
 
-pub length-filter : (filter : List Float) (count : ℕ) (f theta : Scalar)
-    → length (filterWith filter count f theta) ≡ length filter
-unfolding filterWith
-length-filter filter count f theta =
-    length-put (put filter (2 * count) f) (2 * count + 1) theta ∙ length-put filter (2 * count) f
+      slot-behind :
+          (n : ℕ) → length xs ≤ n → n ≤ getD (inOrder (slotSizes z)) k 0 →
+          drop (startIn z k + n) a
+          ≡ zeros (getD (inOrder (slotSizes z)) k 0 - n) ++ drop (startIn z k + getD (inOrder (slotSizes z)) k 0) a
+      slot-behind n g f =
+          let base = startIn z k in
+          let size = getD (inOrder (slotSizes z)) k 0 in
+          let p : List Float = padded size xs in
+          let r : List Float = drop size (drop base a) in
+          let long : length p ≡ size = length-padded size xs (omega arith) in
+          let whole : drop base a ≡ p ++ r =
+          sym (take-append-drop size (drop base a)) ∙ ap (λ (u : List Float). u ++ r) (slot-read k l ∙ is) in
+          sym (drop-drop n base a)
+          ∙ ap (drop n) whole
+          ∙ drop-append-le n p r (omega arith)
+          ∙ ap (λ (u : List Float). u ++ r) (drop-padded size xs n g f)
+          ∙ ap (λ (u : List Float). zeros (size - n) ++ u) (drop-drop size base a)
 
--- ---- slots that are clear
+      -- a run over them, as long or longer, takes their place
+      pub wrote-over :
+          (s : List Float) {b : List Float} → length xs ≤ length s → length s ≤ getD (inOrder (slotSizes z)) k 0 →
+          b ≡ written a (startIn z k) s → Laid z (set ls k (padded (getD (inOrder (slotSizes z)) k 0) s)) b
+      wrote-over s {b} g f q =
+          let base = startIn z k in
+          let size = getD (inOrder (slotSizes z)) k 0 in
+          let n : length (padded size s) ≡ size = length-padded size s f in
+          let e : b ≡ take base a ++ s ++ (zeros (size - length s) ++ drop (base + length (padded size s)) a) =
+          q
+          ∙ ap (λ (u : List Float). take base a ++ s ++ u) (slot-behind (length s) g f)
+          ∙ ap (λ (m : ℕ). take base a ++ s ++ (zeros (size - length s) ++ drop (base + m) a)) (sym n) in
+          wrote k (padded size s) l n (e ∙ simp append-assoc)
+
+      -- so many +0 over them clear the slot
+      pub cleared-over :
+          (n : ℕ) {b : List Float} → length xs ≤ n → n ≤ getD (inOrder (slotSizes z)) k 0 →
+          b ≡ written a (startIn z k) (zeros n) → Laid z (set ls k (padded (getD (inOrder (slotSizes z)) k 0) [])) b
+      cleared-over n {b} g f q =
+          let m : length (zeros n) ≡ n = length-clear n in
+          subst (λ (s : List Float). Laid z (set ls k s) b) (padded-zeros (getD (inOrder (slotSizes z)) k 0) n f)
+          (wrote-over (zeros n) (omega arith) (omega arith) q)
+
+      -- a run right behind them is held with them
+      pub wrote-behind :
+          (s : List Float) {b : List Float} → length xs + length s ≤ getD (inOrder (slotSizes z)) k 0 →
+          b ≡ written a (startIn z k + length xs) s →
+          Laid z (set ls k (padded (getD (inOrder (slotSizes z)) k 0) (xs ++ s))) b
+      wrote-behind s {b} f q =
+          let base = startIn z k in
+          let n = length xs in
+          let m : base + n + length s ≡ base + length (xs ++ s) = simp length-append (omega arith) in
+          let front : take (base + n) a ≡ take base a ++ xs =
+          take-add base n a ∙ ap (λ (u : List Float). take base a ++ u) (numbers-read (omega arith)) in
+          wrote-over (xs ++ s) (simp length-append (omega arith)) (simp length-append (omega arith))
+          (q ∙ ap₂ (λ (u : List Float) (i : ℕ). u ++ s ++ drop i a) front m
+          ∙ ap (λ (u : List Float). u ++ drop (base + length (xs ++ s)) a) (append-assoc (take base a) xs s))
+
+-- ---- an area that is clear
 
 abbrev total : List ℕ → ℕ
 total [] = 0
@@ -259,8 +392,26 @@ clear-lengths : (ns : List ℕ) → map (length {A = Float}) (map zeros ns) ≡ 
 clear-lengths [] = refl
 clear-lengths (n ∷ ns) = rw (length-replicate, clear-lengths ns)
 
-pub all-clear : {a : List Float} → a ≡ zeros 8000 → Slots (map zeros SIZES) a
-all-clear e = record { sized = clear-lengths SIZES; is = e ∙ sym (clear-joined SIZES SPARE-LEN) }
+-- no numbers in any slot
+abbrev pub noNumbers : Memory
+noNumbers = record {
+  standing = [];
+  landed = [];
+  asked = [];
+  standingRows = [];
+  landedRows = [];
+  step = [];
+  multipliers = [];
+  curvature = [];
+  filter = [];
+}
+
+pub all-clear : (z : Sizes) {a : List Float} → a ≡ zeros (areaLength z) → Laid z (inOrder (paddedSlots z noNumbers)) a
+unfolding startOf
+all-clear z e = record {
+  sized = clear-lengths (inOrder (slotSizes z));
+  is = e ∙ sym (clear-joined (inOrder (slotSizes z)) (areaLength z - spareAt z));
+}
 
 length-joined : (ls : List (List Float)) (e : List Float) → length (joined ls e) ≡ total (map length ls) + length e
 length-joined [] e = omega arith
@@ -268,219 +419,135 @@ length-joined (x ∷ ls) e =
     length-append x (joined ls e)
     ∙ rw (length-joined ls e) (sym (add-assoc (length x) (total (map length ls)) (length e)))
 
-module _ {ls : List (List Float)} {a : List Float} (h : Slots ls a) where
-  pub slots-length : length a ≡ 8000
-  slots-length =
-      ap length (h .is) ∙ length-joined ls (zeros SPARE-LEN) ∙ ap₂ (λ (ns : List ℕ) (n : ℕ). total ns + n) (h .sized)
-      (length-clear SPARE-LEN)
+module _ {z : Sizes} {ls : List (List Float)} {a : List Float} (h : Laid z ls a) where
+  nine : length ls ≡ 9
+  nine = sym (length-map ls (length {A = Float})) ∙ ap (length {A = ℕ}) (h .sized)
 
-  pub spare-drop : drop (startOf SIZES 9) a ≡ zeros SPARE-LEN
+  pub laid-length : length a ≡ areaLength z
+  unfolding startOf
+  laid-length =
+      ap length (h .is) ∙ length-joined ls (zeros (areaLength z - spareAt z))
+      ∙ ap₂ (λ (ns : List ℕ) (n : ℕ). total ns + n) (h .sized) (length-clear (areaLength z - spareAt z))
+
+  pub spare-drop : drop (spareAt z) a ≡ zeros (areaLength z - spareAt z)
   spare-drop =
-      let m : length ls ≡ 9 = sym (length-map ls (length {A = Float})) ∙ ap (length {A = ℕ}) (h .sized) in
-      rw (h .is, ← h .sized, ← m) (drop-end ls (zeros SPARE-LEN))
-
-  pub spare-read : (j : ℕ) → getD a (startOf SIZES 9 + j) nan ≡ getD (zeros SPARE-LEN) j nan
-  spare-read j =
-      let m : length ls ≡ 9 = sym (length-map ls (length {A = Float})) ∙ ap (length {A = ℕ}) (h .sized) in
-      rw (h .is, ← h .sized, ← m) (read-end ls (zeros SPARE-LEN) j nan)
-
--- as much of a slot as is in use lies within the area
-pub room : (base size : ℕ) {n long : ℕ} → n ≤ size → base + size ≤ 8000 → long ≡ 8000 → base + n ≤ long
-room base size h l e = omega arith
+      let e : List Float = zeros (areaLength z - spareAt z) in
+      ap₂ (λ (x : List Float) (ns : List ℕ). drop (startOf ns 9) x) (h .is) (sym (h .sized))
+      ∙ ap (λ (i : ℕ). drop (startOf (map length ls) i) (joined ls e)) (sym nine)
+      ∙ drop-end ls e
 
 -- ---- an area with its unused numbers cleared
 
-pub start-more : (ns : List ℕ) (k : ℕ) → startOf ns (k + 1) ≡ startOf ns k + getD ns k 0
-unfolding startOf
-start-more ns k = rw add-one
-
-start-later : (ns : List ℕ) (k d : ℕ) → startOf ns k ≤ startOf ns (d + k)
-unfolding startOf
-start-later ns k zero = let e : 0 + k ≡ k = omega arith in rw e (omega arith)
-start-later ns k (suc d) = let e : suc d + k ≡ suc (d + k) = omega arith in rw e (omega (arith, start-later ns k d))
-
-pub start-upto : (ns : List ℕ) (k n : ℕ) → k < n → startOf ns k + getD ns k 0 ≤ startOf ns n
-start-upto ns k n l =
-    let e : (n - (k + 1)) + (k + 1) ≡ n = omega arith in
-    omega (arith, start-more ns k, rw e at (start-later ns (k + 1) (n - (k + 1))))
-
-length-kept : (a : List Float) (base size u : ℕ) → u ≤ size → base + size ≤ length a
-    → length (padded size (take u (drop base a))) ≡ size
-length-kept a base size u h l =
-    let k : length (take u (drop base a)) ≡ u = length-take-le u (drop base a) (simp length-drop (omega arith)) in
-    length-append (take u (drop base a)) _ ∙ rw (k, length-replicate) (omega arith)
-
--- so many numbers in use of each slot, within an area
-pub record Fitting (sizes used : List ℕ) (d : List Float) : Type 0 where
-  pub below : (k : ℕ) → k < length sizes → getD used k 0 ≤ getD sizes k 0
+-- the numbers between two places of each slot, within an area
+pub record Fitting (sizes from to : List ℕ) (d : List Float) : Type 0 where
+  pub below : (k : ℕ) → k < length sizes → (getD from k 0 ≤ getD to k 0) × (getD to k 0 ≤ getD sizes k 0)
   pub inside : startOf sizes (length sizes) ≤ length d
 
--- what a loop that clears the rest of each slot has left after k turns
-pub record Clearing (sizes used : List ℕ) (d : List Float) (k base : ℕ) (a : List Float) : Type 0 where
+-- what a loop that clears them has left after k turns
+pub record Clearing (sizes from to : List ℕ) (d : List Float) (k base : ℕ) (a : List Float) : Type 0 where
   pub long : length a ≡ length d
   pub begins : base ≡ startOf sizes k
-  pub is : a ≡ clearedTo sizes used d k ++ drop base d
+  pub is : a ≡ clearedTo sizes from to d k ++ drop base d
 
-pub clearing : (sizes used : List ℕ) (d : List Float) → Clearing sizes used d 0 0 d
+pub clearing : (sizes from to : List ℕ) (d : List Float) → Clearing sizes from to d 0 0 d
 unfolding clearedTo startOf
-clearing sizes used d = record { long = refl; begins = refl; is = refl }
+clearing sizes from to d = record { long = refl; begins = refl; is = refl }
 
-module _ (sizes used : List ℕ) (d : List Float) (fit : Fitting sizes used d) where
-  length-tidied : (k : ℕ) → k ≤ length sizes → length (clearedTo sizes used d k) ≡ startOf sizes k
+length-between : (from to size : ℕ) (s : List Float) → from ≤ to → to ≤ size → length s ≡ size
+    → length (clearedBetween from to s) ≡ size
+length-between from to size s h l e =
+    length-append (take from s ++ zeros (to - from)) (drop to s)
+    ∙ ap (λ (n : ℕ). n + length (drop to s)) (length-append (take from s) (zeros (to - from)))
+    ∙ rw (length-take-le from s (omega arith), length-clear (to - from), length-drop to s) (omega arith)
+
+module _ (sizes from to : List ℕ) (d : List Float) (fit : Fitting sizes from to d) where
+  length-part : (k : ℕ) → k < length sizes
+      → length (partOf d (startOf sizes k) (getD sizes k 0)) ≡ getD sizes k 0
+  length-part k h =
+      length-take-le (getD sizes k 0) (drop (startOf sizes k) d)
+      (simp length-drop (omega (arith, slot-before sizes k (length sizes) h, fit .inside)))
+
+  length-cleared : (k : ℕ) → k ≤ length sizes → length (clearedTo sizes from to d k) ≡ startOf sizes k
   unfolding clearedTo startOf
-  length-tidied zero h = refl
-  length-tidied (suc k) h =
-      let u = start-upto sizes k (length sizes) h in
-      let i = fit .inside in
-      length-append (clearedTo sizes used d k) _
+  length-cleared zero h = refl
+  length-cleared (suc k) h =
+      length-append (clearedTo sizes from to d k) _
       ∙ rw (
-        length-tidied k (omega arith),
-        length-kept d (startOf sizes k) (getD sizes k 0) (getD used k 0) (fit .below k h) (omega arith),
+        length-cleared k (omega arith),
+        length-between (getD from k 0) (getD to k 0) (getD sizes k 0) (partOf d (startOf sizes k) (getD sizes k 0))
+            (fit .below k h .0) (fit .below k h .1) (length-part k h),
       )
 
-  pub cleared-more : {k base : ℕ} {a b : List Float} → Clearing sizes used d k base a → k < length sizes
-      → b ≡ written a (base + getD used k 0) (zeros (getD sizes k 0 - getD used k 0))
-      → Clearing sizes used d (k + 1) (base + getD sizes k 0) b
+  pub cleared-more : {k base : ℕ} {a b : List Float} → Clearing sizes from to d k base a → k < length sizes
+      → b ≡ written a (base + getD from k 0) (zeros (getD to k 0 - getD from k 0))
+      → Clearing sizes from to d (k + 1) (base + getD sizes k 0) b
   unfolding clearedTo startOf
   cleared-more {k} {base} {a} {b} t h q =
       let n = getD sizes k 0 in
-      let u = getD used k 0 in
-      let below : u ≤ n = fit .below k h in
+      let u = getD from k 0 in
+      let v = getD to k 0 in
+      let uv : u ≤ v = fit .below k h .0 in
+      let vn : v ≤ n = fit .below k h .1 in
       let m : startOf sizes k ≡ base = sym (t .begins) in
-      let l : base + n ≤ length d = omega (arith, m, start-upto sizes k (length sizes) h, fit .inside) in
-      let f : List Float = clearedTo sizes used d k in
+      let l : base + n ≤ length d = omega (arith, m, slot-before sizes k (length sizes) h, fit .inside) in
+      let f : List Float = clearedTo sizes from to d k in
       let r : List Float = drop base d in
-      let z : List Float = zeros (n - u) in
-      let p : List Float = padded n (take u r) in
-      let lz : length z ≡ n - u = length-replicate _ _ in
-      let lf : length f ≡ base = length-tidied k (omega arith) ∙ m in
-      let lu : length (take u r) ≡ u = length-take-le u r (simp length-drop (omega arith)) in
-      let e : base + (u + length z) ≡ base + n = omega arith in
-      let g : drop (u + length z) r ≡ drop (base + n) d =
-      drop-drop (u + length z) base d ∙ ap (λ (i : ℕ). drop i d) e in
+      let s : List Float = take n r in
+      let c : List Float = zeros (v - u) in
+      let p : List Float = clearedBetween u v s in
+      let lc : length c ≡ v - u = length-clear (v - u) in
+      let lf : length f ≡ base = length-cleared k (omega arith) ∙ m in
+      let ls : length s ≡ n = length-take-le n r (simp length-drop (omega arith)) in
+      let e : u + length c ≡ v = omega arith in
+      let rest : drop (u + length c) r ≡ drop v s ++ drop (base + n) d =
+      ap (λ (i : ℕ). drop i r) e
+      ∙ ap (drop v) (sym (take-append-drop n r))
+      ∙ drop-append-le v s (drop n r) (omega arith)
+      ∙ ap (λ (x : List Float). drop v s ++ x) (drop-drop n base d) in
       let i : b ≡ f ++ p ++ drop (base + n) d =
-      q ∙ ap (λ (x : List Float). written x (base + u) z) (t .is) ∙ written-past f r base u z lf
-      ∙ ap (λ (x : List Float). f ++ (take u r ++ z ++ x)) g
-      ∙ ap (λ (j : ℕ). f ++ (take u r ++ zeros (n - j) ++ drop (base + n) d)) (sym lu)
-      ∙ sym (append-assoc f p (drop (base + n) d)) in
-      let lp : length (f ++ p) ≡ base + n = length-append f p ∙ rw (lf, length-kept d base n u below l) in
+      q ∙ ap (λ (x : List Float). written x (base + u) c) (t .is) ∙ written-past f r base u c lf
+      ∙ ap₂ (λ (x y : List Float). f ++ (x ++ c ++ y)) (sym (take-take u n r (omega arith))) rest
+      ∙ simp append-assoc in
+      let lp : length (f ++ p) ≡ base + n = length-append f p ∙ rw (lf, length-between u v n s uv vn ls) in
       record {
         long = rw i (length-append (f ++ p) (drop (base + n) d) ∙ rw (lp, length-drop) (omega arith));
         begins = rw (add-one, m);
         is = rw (add-one, m) i;
       }
 
-  pub cleared-whole : {k base : ℕ} {a : List Float} → Clearing sizes used d k base a → k ≡ length sizes
-      → a ≡ clearedTo sizes used d (length sizes) ++ drop (startOf sizes (length sizes)) d
-  cleared-whole {k} t e = rw (← e) (t .is ∙ ap (λ (b : ℕ). clearedTo sizes used d k ++ drop b d) (t .begins))
+  pub cleared-whole : {k base : ℕ} {a : List Float} → Clearing sizes from to d k base a → k ≡ length sizes
+      → a ≡ clearedTo sizes from to d (length sizes) ++ drop (startOf sizes (length sizes)) d
+  cleared-whole {k} t e = rw (← e) (t .is ∙ ap (λ (b : ℕ). clearedTo sizes from to d k ++ drop b d) (t .begins))
 
   -- and the end behind all slots
-  pub tidied-end : (n : ℕ) {a b : List Float} → startOf sizes (length sizes) + n ≡ length d
-      → a ≡ clearedTo sizes used d (length sizes) ++ drop (startOf sizes (length sizes)) d
-      → b ≡ written a (startOf sizes (length sizes)) (zeros n) → b ≡ clearedTo sizes used d (length sizes) ++ zeros n
-  tidied-end n {a} {b} e ea q =
+  pub cleared-end : (n : ℕ) {a b : List Float} → startOf sizes (length sizes) + n ≡ length d
+      → a ≡ clearedTo sizes from to d (length sizes) ++ drop (startOf sizes (length sizes)) d
+      → b ≡ written a (startOf sizes (length sizes)) (zeros n)
+      → b ≡ clearedTo sizes from to d (length sizes) ++ zeros n
+  cleared-end n {a} {b} e ea q =
       let s = startOf sizes (length sizes) in
-      let f : List Float = clearedTo sizes used d (length sizes) in
+      let f : List Float = clearedTo sizes from to d (length sizes) in
       let l : length (zeros n) ≡ length (drop s d) = simp (length-replicate, length-drop) (omega arith) in
       q ∙ ap (λ (x : List Float). written x s (zeros n)) ea
-      ∙ (rw (add-zero s) at (written-past f (drop s d) s 0 (zeros n) (length-tidied (length sizes) (omega arith))))
+      ∙ (rw (add-zero s) at (written-past f (drop s d) s 0 (zeros n) (length-cleared (length sizes) (omega arith))))
       ∙ ap (λ (x : List Float). f ++ x) (written-whole (drop s d) (zeros n) l)
 
--- each of the first is at most the one beside it
-abbrev pub Below : List ℕ → List ℕ → Type 0
-Below [] ns = Unit
-Below (u ∷ us) [] = Unit
-Below (u ∷ us) (n ∷ ns) = (u ≤ n) × Below us ns
-
-pub below-at : (us ns : List ℕ) → Below us ns → (k : ℕ) → k < length ns → getD us k 0 ≤ getD ns k 0
-below-at us [] b k h = absurd (not-suc-le-zero h)
-below-at [] (n ∷ ns) b k h = omega arith
-below-at (u ∷ us) (n ∷ ns) b zero h = b .0
-below-at (u ∷ us) (n ∷ ns) b (suc k) h = below-at us ns (b .1) k (le-of-suc-le-suc h)
-
--- ---- the slots in use
-
-pick-below : (b : Bool) {count size : ℕ} → count ≤ size → pick b count 0 ≤ size
-pick-below true h = h
-pick-below false h = omega arith
-
-pub cons-eq : {n m : ℕ} {ns ms : List ℕ} → n ≡ m → ns ≡ ms → n ∷ ns ≡ m ∷ ms
-cons-eq p q = rw (p, q)
-
+-- the slots of an area, each cleared between its places
 regroup : (a b c d e f g h i z : List Float)
     → [] ++ a ++ b ++ c ++ d ++ e ++ f ++ g ++ h ++ i ++ z
     ≡ a ++ (b ++ (c ++ (d ++ (e ++ (f ++ (g ++ (h ++ (i ++ z))))))))
 regroup a b c d e f g h i z = simp append-assoc
 
-module _ (z : Sizes) {iterations : ℕ} (l : Limits z iterations) where
-  pub rows-fit : (z .m + z .s) * (z .n + 1) ≤ 468
-  rows-fit =
-      let f = l .few in
-      mul-le-mul {n₂ = 36} {m₂ = 13} (omega (arith, f .few-constraints, f .few-sums)) (omega (arith, f .few-variables))
+module _ (z : Sizes) (from to : List ℕ) (a : List Float) where
+  abbrev pub clearedAt : ℕ → List Float
+  clearedAt k =
+      clearedBetween (getD from k 0) (getD to k 0) (partOf a (startIn z k) (getD (inOrder (slotSizes z)) k 0))
 
-  pub entries-fit : z .n * z .n ≤ 144
-  entries-fit = mul-le-mul {n₂ = 12} {m₂ = 12} (l .few .few-variables) (l .few .few-variables)
-
-module _ (st : State) (l : Limits (st .sizes) (st .counts .iterations)) where
-  pub used-below : Below (usedIn st) SIZES
-  used-below =
-      let point : 2 * st .sizes .n ≤ 24 = omega (arith, l .few .few-variables) in
-      let rows : 2 * ((st .sizes .m + st .sizes .s) * (st .sizes .n + 1)) ≤ 936 = omega (arith, rows-fit (st .sizes) l)
-      in
-      let multipliers : 2 * st .sizes .m ≤ 24 = omega (arith, l .few .few-constraints) in
-      let entries : 2 * (st .sizes .n * st .sizes .n) ≤ 288 = omega (arith, entries-fit (st .sizes) l) in
-      let pairs : 4 * st .counts .iterations ≤ 800 = omega (arith, l .iterations-fit) in
-      let tried = isTried (st .phase) in
-      let corrected = isCorrected (st .phase) in (
-        point,
-        (
-          pick-below corrected point,
-          (
-            pick-below (isOpen (st .phase)) point,
-            (
-              pick-below tried rows,
-              (
-                pick-below corrected rows,
-                (
-                  pick-below tried point,
-                  (pick-below tried multipliers, (pick-below tried entries, (pick-below tried pairs, tt))),
-                ),
-              ),
-            ),
-          ),
-        ),
-      )
-
-  module _ (a : List Float) (long : length a ≡ 8000) where
-    pub used-fit : Fitting SIZES (usedIn st) a
-    unfolding startOf
-    used-fit = record { below = below-at (usedIn st) SIZES used-below; inside = omega arith }
-
-    memory-sized : map length (slotsOf (memoryOf st a)) ≡ SIZES
-    unfolding memoryOf
-    memory-sized =
-        let u = used-below in
-        let k : (base size count : ℕ) → count ≤ size → base + size ≤ 8000
-        → length (padded size (take count (drop base a)))
-        ≡ size = λ base size count h i. length-kept a base size count h (omega arith) in
-        cons-eq (k 0 24 _ (u .0) (omega arith))
-        (cons-eq (k 24 24 _ (u .1 .0) (omega arith))
-        (cons-eq (k 48 24 _ (u .1 .1 .0) (omega arith))
-        (cons-eq (k 72 936 _ (u .1 .1 .1 .0) (omega arith))
-        (cons-eq (k 1008 936 _ (u .1 .1 .1 .1 .0) (omega arith))
-        (cons-eq (k 1944 24 _ (u .1 .1 .1 .1 .1 .0) (omega arith))
-        (cons-eq (k 1968 24 _ (u .1 .1 .1 .1 .1 .1 .0) (omega arith))
-        (cons-eq (k 1992 288 _ (u .1 .1 .1 .1 .1 .1 .1 .0) (omega arith))
-        (cons-eq (k 2280 800 _ (u .1 .1 .1 .1 .1 .1 .1 .1 .0) (omega arith)) refl))))))))
-
-    pub memory-holds : {b : List Float} → b ≡ clearedTo SIZES (usedIn st) a 9 ++ zeros SPARE-LEN
-        → Holds (memoryOf st a) b
-    unfolding clearedTo startOf memoryOf areaOf
-    memory-holds e =
-        let w = memoryOf st a in
-        record {
-          sized = memory-sized;
-          is = e
-              ∙ regroup (w .standing) (w .landed) (w .asked) (w .standingRows) (w .landedRows) (w .step)
-              (w .multipliers) (w .curvature) (w .filter) (zeros SPARE-LEN);
-        }
+  pub cleared-slots : (e : List Float) → clearedTo (inOrder (slotSizes z)) from to a 9 ++ e
+      ≡ joined
+      (clearedAt 0 ∷ clearedAt 1 ∷ clearedAt 2 ∷ clearedAt 3 ∷ clearedAt 4 ∷ clearedAt 5 ∷ clearedAt 6 ∷ clearedAt 7
+      ∷ clearedAt 8 ∷ []) e
+  unfolding clearedTo
+  cleared-slots e =
+      regroup (clearedAt 0) (clearedAt 1) (clearedAt 2) (clearedAt 3) (clearedAt 4) (clearedAt 5) (clearedAt 6)
+      (clearedAt 7) (clearedAt 8) e

@@ -3,11 +3,11 @@
 use Prim.Native.Nat.{ℕ, _+_, _*_, _<_, _≤_}
 use mathlib.Core.Bool.{Bool, true, false, _&&_}
 use mathlib.Core.List.{List, [], _∷_}
-use mathlib.Core.Logic.{⊎-elim}
+use mathlib.Core.Logic.{⊎-elim, _≢_}
 use mathlib.Core.Path.{_≡_, refl, sym, ap, _∙_}
 use native.Mathlib.Nat.{mul-le-mul}
 use native.Mathlib.Omega.{arith}
-use borrow.Author.Tests.{leb-true, ltb-true, eqb-true}
+use borrow.Author.Tests.{leb-true, ltb-true, eqb-true, eq-eqb, ne-eqb}
 use denote.Enum.Declared.{tagOf}
 use types.Run.{OneOf}
 use lib.Dec.{leb, ltb, eqb}
@@ -17,11 +17,9 @@ use Rattle.interval.specs.Scalar.{pick}
 use Rattle.interval.specs.Scaling.{isPositive}
 use Rattle.run.specs.Rows.{rowNumbers}
 use Rattle.run.specs.Limits.{CORRECTIONS}
-use Rattle.run.specs.Limits.{AREA}
-use Rattle.run.specs.Area.{memoryOf, landedCounts}
+use Rattle.run.specs.Area.{memoryOf, landedCounts, areaLength}
 use Rattle.run.specs.Answered.{answered, answeredNone}
-use Rattle.run.specs.Checks.{sizesFit, countsFit, phaseFits, valid, allInDomain}
-use Rattle.run.specs.Limits.{TURN-DOWNS, QUESTIONS}
+use Rattle.run.specs.Checks.{sizesFit, countsFit, phaseFits, valid, allInDomain, mostTurnDowns, mostQuestions}
 use Rattle.run.specs.Calls.{AfterCall, unchanged, inArea, checks, replyOpen, replyOf, noneOpen, replyNoneOf}
 use Rattle.run.specs.program.Checks.{checkOpen, checkOf, rowsCheck, thenRows, checkRowsOf}
 use Rattle.run.specs.declared.checks.Checked.{Checked}
@@ -47,6 +45,13 @@ and-false false e = refl
 and-true : (a : Bool) {b : Bool} → b ≡ true → (a && b) ≡ a
 and-true true e = e
 and-true false e = refl
+
+-- a comparison with what a call answers, as one with what it is
+pub compared-same : {x r k : ℕ} → r ≡ k → x ≡ r → eqb x k ≡ true
+compared-same e h = eq-eqb _ _ (h ∙ e)
+
+pub compared-other : {x r k : ℕ} → r ≡ k → x ≢ r → eqb x k ≡ false
+compared-other e n = ne-eqb _ _ (λ h. n (h ∙ sym e))
 
 -- ---- the bounds of a run
 
@@ -86,8 +91,8 @@ module _ (st : State) where
 pub record Bounds (st : State) : Type 0 where
   pub sizes : SizeBounds (st .sizes)
   pub iterations : st .counts .iterations ≤ st .sizes .limit
-  pub turnedDown : st .search .«turned_down» ≤ TURN-DOWNS * (st .counts .iterations + 1)
-  pub question : st .counts .question ≤ QUESTIONS * st .sizes .limit
+  pub turnedDown : st .search .«turned_down» ≤ mostTurnDowns st
+  pub question : st .counts .question ≤ mostQuestions (st .sizes)
   pub corrections : st .counts .corrections ≤ CORRECTIONS
   pub phase : phaseFits st (st .phase) ≡ true
 
@@ -97,8 +102,8 @@ bounds st e =
     let a = both (sizesFit (st .sizes)) _ e in
     let b = both (countsFit st) _ (a .1) in
     let i = both (leb (st .counts .iterations) (st .sizes .limit)) _ (b .0) in
-    let t = both (leb (st .search .«turned_down») (TURN-DOWNS * (st .counts .iterations + 1))) _ (i .1) in
-    let q = both (leb (st .counts .question) (QUESTIONS * st .sizes .limit)) _ (t .1) in
+    let t = both (leb (st .search .«turned_down») (mostTurnDowns st)) _ (i .1) in
+    let q = both (leb (st .counts .question) (mostQuestions (st .sizes))) _ (t .1) in
     record {
       sizes = size-bounds (st .sizes) (a .0);
       iterations = leb-true _ _ (i .0);
@@ -162,18 +167,20 @@ kindIn (Accept k) = k
 pub record Accepted (st : State) (area : ℕ) (k : Kind) : Type 0 where
   pub run : valid st ≡ true
   pub opened : st .phase ≡ Open k
-  pub whole : area ≡ AREA
+  pub whole : area ≡ areaLength (st .sizes)
 
 module _ (st : State) (area : ℕ) (k : Kind) where
-  open-accepted : (p : Phase) → checkOpen area p ≡ Accept k → (p ≡ Open k) × (area ≡ AREA)
+  open-accepted : (p : Phase) → checkOpen (st .sizes) area p ≡ Accept k
+      → (p ≡ Open k) × (area ≡ areaLength (st .sizes))
   open-accepted Over x = refuse-accept x
   open-accepted (Open j) x =
-      let b = passed (eqb area AREA) (Accept j) 2 x in (ap Open (ap kindIn (b .1)), eqb-true _ _ (b .0))
+      let b = passed (eqb area (areaLength (st .sizes))) (Accept j) 2 x in
+      (ap Open (ap kindIn (b .1)), eqb-true _ _ (b .0))
 
   pub accepted : checkOf st area ≡ Accept k → Accepted st area k
   unfolding checkOf
   accepted e =
-      let a = passed (valid st) (checkOpen area (st .phase)) 4 e in
+      let a = passed (valid st) (checkOpen (st .sizes) area (st .phase)) 4 e in
       let o = open-accepted (st .phase) (a .1) in
       record { run = a .0; opened = o .0; whole = o .1 }
 
@@ -218,12 +225,12 @@ module _ (st : State) (a : List Float) where
       area-checked k true = refl
       area-checked k false = refl
 
-      opened : (p : Phase) → noneOpen st a p ≡ afterNone (checkOpen (length a) p)
+      opened : (p : Phase) → noneOpen st a p ≡ afterNone (checkOpen (st .sizes) (length a) p)
       opened Over = refl
-      opened (Open k) = area-checked k (eqb (length a) AREA)
+      opened (Open k) = area-checked k (eqb (length a) (areaLength (st .sizes)))
 
       first : (b : Bool) → checks b 4 (unchanged st a) (noneOpen st a (st .phase))
-          ≡ afterNone (pick b (checkOpen (length a) (st .phase)) (Refuse 4))
+          ≡ afterNone (pick b (checkOpen (st .sizes) (length a) (st .phase)) (Refuse 4))
       first true = opened (st .phase)
       first false = refl
 
@@ -271,17 +278,18 @@ module _ (st : State) (a rows : List Float) where
       open-is k false = refl
 
       opened : (p : Phase)
-          → replyOpen st a rows p ≡ afterRows (thenRows (landedCounts st) rows (checkOpen (length a) p))
+          → replyOpen st a rows p ≡ afterRows (thenRows (landedCounts st) rows (checkOpen (st .sizes) (length a) p))
       opened Over = refl
       opened (Open k) =
           let counts = landedCounts st in
           let c = eqb (length rows) (rowNumbers counts) in
           let d = allInDomain rows ((counts .m + counts .s) * (counts .n + 1)) in
-          whole k (eqb (length a) AREA) c d (rowsCheck counts rows k) (sym (full k c d))
-          ∙ ap afterRows (sym (open-is k (eqb (length a) AREA)))
+          whole k (eqb (length a) (areaLength (st .sizes))) c d (rowsCheck counts rows k) (sym (full k c d))
+          ∙ ap afterRows (sym (open-is k (eqb (length a) (areaLength (st .sizes)))))
 
       first : (b : Bool) → checks b 4 (unchanged st a) (replyOpen st a rows (st .phase))
-          ≡ afterRows (thenRows (landedCounts st) rows (pick b (checkOpen (length a) (st .phase)) (Refuse 4)))
+          ≡ afterRows
+          (thenRows (landedCounts st) rows (pick b (checkOpen (st .sizes) (length a) (st .phase)) (Refuse 4)))
       first true = opened (st .phase)
       first false = refl
 

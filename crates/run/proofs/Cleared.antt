@@ -1,8 +1,8 @@
--- After a call the area is +0 wherever no number is in use, whatever the contents of the run: what a call reads of the
--- area has +0 behind the numbers in use, and all that follows keeps that. A refusal by 1 to 4 leaves state and area as
--- they were.
+-- After a call the area is +0 wherever no number is in use, whatever the contents of the run: the lists of the memory
+-- that the call leaves have just the numbers in use, and the area has +0 behind each of them. A refusal by 1 to 4
+-- leaves state and area as they were.
 use Prim.Native.Nat.{ℕ, zero, suc, _+_, _-_, _*_, _<_, _≤_}
-use mathlib.Core.Bool.{true, false, true≢false, _&&_}
+use mathlib.Core.Bool.{true, true≢false, _&&_}
 use mathlib.Core.Path.{_≡_, refl, sym, ap, _∙_}
 use mathlib.Core.List.{List, [], _∷_}
 use native.Mathlib.Nat.{not-suc-le-zero, le-of-suc-le-suc}
@@ -10,108 +10,119 @@ use native.Mathlib.Omega.{arith}
 use borrow.Author.Tests.{le-leb, eqb-true}
 use lib.Dec.{eqb}
 use lib.Ieee.{Float, nan}
-use lib.ListN.{length, drop, getD, getD-replicate}
-use lib.Seq.{getD-drop, getD-take}
+use lib.ListN.{length, drop, getD, getD-replicate, List·getD-map}
+use lib.Seq.{getD-drop, getD-take, getD-append-add}
 use Rattle.interval.specs.declared.Scalar.{Scalar}
 use Rattle.interval.specs.Scalar.{zero64}
-use Rattle.run.specs.Rows.{rowNumbers, rowCounts}
-use Rattle.run.specs.Area.{POINT-LEN, ROWS-LEN, CURVATURE-LEN, FILTER-LEN, SPARE-LEN, SIZES, Memory, areaOf}
-use Rattle.run.specs.Area.{landedCounts}
-use Rattle.run.specs.Area.{memoryOf}
-use Rattle.run.specs.Limits.{AREA}
-use Rattle.run.specs.Area.{begunMemory, startOf, usedIn}
-use Rattle.run.specs.program.Area.{slotsOf}
-use Rattle.run.specs.Endings.{AfterSlots}
+use Rattle.linear.specs.Flat.{zeros}
 use Rattle.run.specs.Answered.{answered, answeredNone}
-use Rattle.run.specs.Calls.{AfterCall, unchanged, inArea}
+use Rattle.run.specs.Area.{Slots, inOrder, slotSizes, startIn, areaLength, spareAt, HasRoom, pairsIn}
+use Rattle.run.specs.Area.{usedIn, Memory, memoryOf, padded, paddedSlots, areaOf, begunMemory}
+use Rattle.run.specs.Calls.{AfterCall, unchanged, inArea, refusedByCheck, begunOf, beginOf, Accepted, replyOpen}
+use Rattle.run.specs.Calls.{replyOf, noneOpen, replyNoneOf}
 use Rattle.run.specs.Checks.{sizesFit, allInDomain, stepFits, valid}
-use Rattle.run.specs.State.{noRun}
-use Rattle.run.specs.Calls.{refusedByCheck, begunOf, beginOf, Accepted, replyOpen, replyOf, noneOpen, replyNoneOf}
 use Rattle.run.specs.Cleared.{Cleared, Replied, Demand1}
+use Rattle.run.specs.Endings.{AfterSlots}
+use Rattle.run.specs.Rows.{rowNumbers, rowCounts}
+use Rattle.run.specs.State.{noRun}
+use Rattle.run.specs.declared.state.Kind.{Kind}
+use Rattle.run.specs.declared.state.Kind.the-variants as kind
 use Rattle.run.specs.declared.state.Phase.{Phase}
 use Rattle.run.specs.declared.state.Phase.the-variants.{Open, Over}
 use Rattle.run.specs.declared.state.Sizes.{Sizes}
 use Rattle.run.specs.declared.state.State.{State}
-use Rattle.run.proofs.AreaLaws.{Slots, slots-of, slot-read, slots-length, spare-read, cons-eq}
+use Rattle.run.specs.program.Area.{Limits, lengthsOf}
+use Rattle.run.proofs.AreaLaws.{Laid, laid-of, slot-read, spare-drop}
+use Rattle.run.proofs.AreaRead.{limits-from, area-holds, area-long}
 use Rattle.run.proofs.Booleans.{and-left, and-right}
-use Rattle.run.proofs.CheckLaws.{Bounds, bounds, SizeBounds, size-bounds, checked}
-use Rattle.run.specs.program.Area.{ZeroBehind, SlotsZeroBehind}
-use Rattle.run.specs.program.Rows.{FewRows}
-use Rattle.run.proofs.ZeroBehind.{behind-zeros, behind-padded, reads-behind, all-behind}
-use Rattle.run.proofs.AreaRead.{rows-fit}
-use Rattle.run.proofs.ZeroBehindKept.{AtWork, Kept, answered-kept, answered-none-kept}
+use Rattle.run.proofs.CheckLaws.{SizeBounds, size-bounds, bounds, trial-below, correction-below, checked}
+use Rattle.run.proofs.LengthsKept.{Kept, Room, answered-kept, answered-none-kept}
+use Rattle.run.proofs.MemoryLaws.{read-lengths}
+use Rattle.run.proofs.PlaceLaws.{all-same}
+use Rattle.run.proofs.PhaseLengths.{whole-read}
 
--- ---- the area of a memory that is +0 behind its numbers in use
+-- ---- the area of a memory whose lists have the numbers in use
 
--- a place inside a list reads the same whatever is read beyond it
-read-inside : (xs : List Float) (j : ℕ) (d e : Float) → j < length xs → getD xs j d ≡ getD xs j e
-read-inside [] j d e h = absurd (not-suc-le-zero h)
-read-inside (x ∷ xs) zero d e h = refl
-read-inside (x ∷ xs) (suc j) d e h = read-inside xs j d e (le-of-suc-le-suc h)
+-- behind the numbers of a list
+behind : (size : ℕ) (xs : List Float) (j : ℕ) → length xs ≤ j → j < size → getD (padded size xs) j nan ≡ zero64
+behind size xs j h l =
+    let i = j - length xs in
+    let e : j ≡ length xs + i = omega arith in
+    ap (λ (p : ℕ). getD (padded size xs) p nan) e ∙ getD-append-add xs (zeros (size - length xs)) i nan
+    ∙ getD-replicate (size - length xs) i zero64 nan (omega arith)
 
-module _ (used : List ℕ) (w : Memory) (t : SlotsZeroBehind used w) where
-  slot-behind : (k : ℕ) → k < 9 → ZeroBehind (getD SIZES k 0) (getD used k 0) (getD (slotsOf w) k [])
-  slot-behind zero h = t .standing
-  slot-behind (suc zero) h = t .landed
-  slot-behind (suc (suc zero)) h = t .asked
-  slot-behind (suc (suc (suc zero))) h = t .standing-rows
-  slot-behind (suc (suc (suc (suc zero)))) h = t .landed-rows
-  slot-behind (suc (suc (suc (suc (suc zero))))) h = t .step
-  slot-behind (suc (suc (suc (suc (suc (suc zero)))))) h = t .multipliers
-  slot-behind (suc (suc (suc (suc (suc (suc (suc zero))))))) h = t .curvature
-  slot-behind (suc (suc (suc (suc (suc (suc (suc (suc zero)))))))) h = t .filter
-  slot-behind (suc (suc (suc (suc (suc (suc (suc (suc (suc k))))))))) h = absurd (omega arith)
+-- each list with +0 behind it, up to its size
+abbrev paddedEach : List ℕ → List (List Float) → List (List Float)
+paddedEach [] xs = []
+paddedEach (n ∷ ns) [] = []
+paddedEach (n ∷ ns) (x ∷ xs) = padded n x ∷ paddedEach ns xs
 
-  area-slots : Slots (slotsOf w) (areaOf w)
-  area-slots =
-      slots-of
-      (record {
-        sized = cons-eq (t .standing .long)
-            (cons-eq (t .landed .long)
-            (cons-eq (t .asked .long)
-            (cons-eq (t .standing-rows .long)
-            (cons-eq (t .landed-rows .long)
-            (cons-eq (t .step .long)
-            (cons-eq (t .multipliers .long) (cons-eq (t .curvature .long) (cons-eq (t .filter .long) refl))))))));
-        is = refl;
-      })
+padded-at : (ns : List ℕ) (xs : List (List Float)) (k : ℕ) → k < length ns → length ns ≤ length xs
+    → getD (paddedEach ns xs) k [] ≡ padded (getD ns k 0) (getD xs k [])
+padded-at [] xs k h l = absurd (not-suc-le-zero h)
+padded-at (n ∷ ns) [] k h l = absurd (not-suc-le-zero l)
+padded-at (n ∷ ns) (x ∷ xs) zero h l = refl
+padded-at (n ∷ ns) (x ∷ xs) (suc k) h l = padded-at ns xs k (le-of-suc-le-suc h) (le-of-suc-le-suc l)
 
-  slot-cleared : (k j : ℕ) → k < 9 → getD used k 0 ≤ j → j < getD SIZES k 0
-      → getD (areaOf w) (startOf SIZES k + j) nan ≡ zero64
-  slot-cleared k j h u l =
-      let s = startOf SIZES k in
-      let n = getD SIZES k 0 in
-      let x = slot-behind k h in
-      sym (getD-drop s (areaOf w) j nan) ∙ sym (getD-take n (drop s (areaOf w)) j nan l)
-      ∙ ap (λ (xs : List Float). getD xs j nan) (slot-read area-slots k h)
-      ∙ read-inside (getD (slotsOf w) k []) j nan zero64 (omega (arith, x .long))
-      ∙ x .rest j u
+module _ (st : State) (w : Memory) (l : Limits (st .sizes) (pairsIn st)) (e : lengthsOf w ≡ usedIn st) where
+  laid : Laid (st .sizes) (inOrder (paddedSlots (st .sizes) w)) (areaOf (st .sizes) w)
+  laid = laid-of (st .sizes) w (area-holds st w l e)
 
-  spare-cleared : (i : ℕ) → AREA - SPARE-LEN ≤ i → i < AREA → getD (areaOf w) i nan ≡ zero64
-  unfolding startOf
-  spare-cleared i h l =
-      let j = i - 3080 in
-      let e : i ≡ 3080 + j = omega arith in
-      ap (λ (p : ℕ). getD (areaOf w) p nan) e ∙ spare-read area-slots j
-      ∙ getD-replicate SPARE-LEN j zero64 nan (omega arith)
+  slot-cleared :
+      let sizes = inOrder (slotSizes (st .sizes)) in
+      (k j : ℕ) → k < length sizes → getD (inOrder (usedIn st)) k 0 ≤ j → j < getD sizes k 0 →
+      getD (areaOf (st .sizes) w) (startIn (st .sizes) k + j) nan ≡ zero64
+  slot-cleared k j h u b =
+      let z = st .sizes in
+      let a = areaOf z w in
+      let sizes : List ℕ = inOrder (slotSizes z) in
+      let xs : List Float = getD (inOrder w) k [] in
+      let long : length xs ≡ getD (inOrder (usedIn st)) k 0 =
+      sym (List·getD-map (length {A = Float}) (inOrder w) k [])
+      ∙ ap (λ (x : Slots ℕ). getD (inOrder x) k 0) e in
+      sym (getD-drop (startIn z k) a j nan) ∙ sym (getD-take (getD sizes k 0) (drop (startIn z k) a) j nan b)
+      ∙ ap (λ (r : List Float). getD r j nan) (slot-read laid k h ∙ padded-at sizes (inOrder w) k h (omega arith))
+      ∙ behind (getD sizes k 0) xs j (omega (arith, long, u)) b
 
-behind-cleared : (st : State) (w : Memory) → SlotsZeroBehind (usedIn st) w → Cleared st (areaOf w)
-behind-cleared st w t =
-    record {
-      whole = slots-length (area-slots (usedIn st) w t);
-      remainders = slot-cleared (usedIn st) w t;
-      spare = spare-cleared (usedIn st) w t;
-    }
+  spare-cleared : (i : ℕ) → spareAt (st .sizes) ≤ i → i < areaLength (st .sizes)
+      → getD (areaOf (st .sizes) w) i nan ≡ zero64
+  spare-cleared i h b =
+      let z = st .sizes in
+      let a = areaOf z w in
+      let j = i - spareAt z in
+      let p : i ≡ spareAt z + j = omega arith in
+      ap (λ (q : ℕ). getD a q nan) p ∙ sym (getD-drop (spareAt z) a j nan)
+      ∙ ap (λ (r : List Float). getD r j nan) (spare-drop laid)
+      ∙ getD-replicate (areaLength z - spareAt z) j zero64 nan (omega arith)
 
--- ---- what a call reads
+  area-cleared : Cleared st (areaOf (st .sizes) w)
+  area-cleared =
+      record { whole = area-long st w l e; remainders = slot-cleared; spare = spare-cleared }
 
-read-behind : (st : State) (a : List Float) → Bounds st → AtWork st (memoryOf st a)
-read-behind st a b =
-    let s = b .sizes in
-    let few : FewRows (landedCounts st) = record { few-variables = s .n; few-constraints = s .m; few-sums = s .s } in
-    let fit : st .counts .iterations ≤ 200 = omega (arith, s .limit, b .iterations) in
-    all-behind st (memoryOf st a)
-    (reads-behind st a (record { few = few; iterations-fit = fit }))
+-- ---- what a call leaves the memory with
+
+module _ (st : State) (a : List Float) (v : valid st ≡ true) (long : HasRoom (st .sizes) a) where
+  own-limits : Limits (st .sizes) (pairsIn st)
+  own-limits = let b = bounds st v in limits-from st (b .sizes) (b .iterations)
+
+  has-room : (k : Kind) → st .phase ≡ Open k → Room k st
+  has-room kind.Start o = bounds st v .iterations
+  has-room kind.Trial o = trial-below st v o
+  has-room kind.Correction o = correction-below st v o
+
+  pub reply-kept : (rows : List Float) → length rows ≡ rowNumbers (rowCounts (st .sizes)) → (k : Kind)
+      → st .phase ≡ Open k → Kept (st .sizes) (st .counts .question) (answered k st (memoryOf st a) rows)
+  reply-kept rows many k o =
+      let w = memoryOf st a in
+      answered-kept st w (own-limits .few) rows many k (has-room k o)
+      (whole-read st w (read-lengths st own-limits a long) k o)
+
+  pub reply-none-kept : (k : Kind) → st .phase ≡ Open k
+      → Kept (st .sizes) (st .counts .question) (answeredNone k st (memoryOf st a))
+  reply-none-kept k o =
+      let w = memoryOf st a in
+      answered-none-kept st w (own-limits .few) k (has-room k o)
+      (whole-read st w (read-lengths st own-limits a long) k o)
 
 -- ---- the replies
 
@@ -125,11 +136,14 @@ module _ (st : State) (a : List Float) where
         follows = λ e. absurd (true≢false (sym (le-leb k 4 h) ∙ e));
       }
 
-  kept-replied : (o : AfterSlots) → Kept (st .sizes) (st .counts .question) o → Replied st a (inArea o)
-  kept-replied o k =
+  kept-replied : SizeBounds (st .sizes) → (o : AfterSlots) → Kept (st .sizes) (st .counts .question) o
+      → Replied st a (inArea o)
+  kept-replied b o k =
+      let own : SizeBounds (o .state .sizes) = rw (k .sizes-kept) b in
+      let within : o .state .counts .iterations ≤ o .state .sizes .limit = rw (k .sizes-kept) (k .within) in
       record {
         sizes-kept = k .sizes-kept;
-        cleared = λ e. behind-cleared (o .state) (o .memory) (k .zero-behind);
+        cleared = λ e. area-cleared (o .state) (o .memory) (limits-from (o .state) own within) (k .lengths);
         unchanged = λ e. absurd (true≢false (sym e ∙ k .past-checks));
         follows = λ e. k .follows;
       }
@@ -138,54 +152,57 @@ pub reply-leaves : (st : State) (a rows : List Float) → Replied st a (replyOf 
 unfolding replyOf
 reply-leaves st a rows =
     checked (Replied st a) (valid st) 4 (unchanged st a) _ (refused-replied st a 4 (omega arith))
-    (λ v. opened (bounds st v) (st .phase))
+    (λ v. opened v (st .phase) refl)
   where
-    opened : Bounds st → (p : Phase) → Replied st a (replyOpen st a rows p)
-    opened b Over = refused-replied st a 4 (omega arith)
-    opened b (Open k) =
+    opened : valid st ≡ true → (p : Phase) → st .phase ≡ p → Replied st a (replyOpen st a rows p)
+    opened v Over o = refused-replied st a 4 (omega arith)
+    opened v (Open k) o =
         let z = st .sizes in
+        let fits = eqb (length a) (areaLength z) in
         let many = eqb (length rows) (rowNumbers (rowCounts z)) in
-        checked (Replied st a) (eqb (length a) AREA && many) 2 (unchanged st a) _ (refused-replied st a 2 (omega arith))
+        checked (Replied st a) (fits && many) 2 (unchanged st a) _ (refused-replied st a 2 (omega arith))
         (λ e.
         checked (Replied st a) (allInDomain rows ((z .m + z .s) * (z .n + 1))) 3 (unchanged st a) _
         (refused-replied st a 3 (omega arith))
         (λ d.
-        let l = eqb-true _ _ (and-right (eqb (length a) AREA) many e) in
-        kept-replied st a (answered k st (memoryOf st a) rows)
-        (answered-kept st (memoryOf st a) (read-behind st a b) rows
-        (record { many = l; fit = omega (arith, l, rows-fit z (b .sizes)) }) k)))
+        kept-replied st a (bounds st v .sizes) (answered k st (memoryOf st a) rows)
+        (reply-kept st a v (eqb-true _ _ (and-left fits many e)) rows (eqb-true _ _ (and-right fits many e)) k o)))
 
 pub reply-none-leaves : (st : State) (a : List Float) → Replied st a (replyNoneOf st a)
 unfolding replyNoneOf
 reply-none-leaves st a =
     checked (Replied st a) (valid st) 4 (unchanged st a) _ (refused-replied st a 4 (omega arith))
-    (λ v. opened (bounds st v) (st .phase))
+    (λ v. opened v (st .phase) refl)
   where
-    opened : Bounds st → (p : Phase) → Replied st a (noneOpen st a p)
-    opened b Over = refused-replied st a 4 (omega arith)
-    opened b (Open k) =
-        checked (Replied st a) (eqb (length a) AREA) 2 (unchanged st a) _ (refused-replied st a 2 (omega arith))
+    opened : valid st ≡ true → (p : Phase) → st .phase ≡ p → Replied st a (noneOpen st a p)
+    opened v Over o = refused-replied st a 4 (omega arith)
+    opened v (Open k) o =
+        checked (Replied st a) (eqb (length a) (areaLength (st .sizes))) 2 (unchanged st a) _
+        (refused-replied st a 2 (omega arith))
         (λ e.
-        kept-replied st a (answeredNone k st (memoryOf st a))
-        (answered-none-kept st (memoryOf st a) (read-behind st a b) k))
+        kept-replied st a (bounds st v .sizes) (answeredNone k st (memoryOf st a))
+        (reply-none-kept st a v (eqb-true _ _ e) k o))
 
 -- ---- begin
 
-begun-behind : (z : Sizes) (start : List Float) (max : Scalar) → SizeBounds z → length start ≡ 2 * z .n
-    → SlotsZeroBehind (usedIn (begunOf z start max .state)) (begunMemory start)
-begun-behind z start max b e =
-    let point = behind-padded POINT-LEN (2 * z .n) start (omega arith) (omega (arith, b .n)) in
-    record {
-      standing = point;
-      landed = behind-zeros POINT-LEN 0;
-      asked = point;
-      standing-rows = behind-zeros ROWS-LEN 0;
-      landed-rows = behind-zeros ROWS-LEN 0;
-      step = behind-zeros POINT-LEN 0;
-      multipliers = behind-zeros POINT-LEN 0;
-      curvature = behind-zeros CURVATURE-LEN 0;
-      filter = behind-zeros FILTER-LEN 0;
-    }
+pub begun-lengths : (z : Sizes) (start : List Float) (max : Scalar) → length start ≡ 2 * z .n
+    → lengthsOf (begunMemory start) ≡ usedIn (begunOf z start max .state)
+begun-lengths z start max e =
+    all-same {x = lengthsOf (begunMemory start)} {y = usedIn (begunOf z start max .state)}
+    (record {
+      standing = e;
+      landed = refl;
+      asked = e;
+      standing-rows = refl;
+      landed-rows = refl;
+      step = refl;
+      multipliers = refl;
+      curvature = refl;
+      filter = refl;
+    })
+
+pub begun-limits : (z : Sizes) (start : List Float) (max : Scalar) → SizeBounds z → Limits z 0
+begun-limits z start max b = limits-from (begunOf z start max .state) b (omega arith)
 
 abbrev Begun : AfterCall → Type 0
 Begun l = Accepted l → Cleared (l .state) (l .area)
@@ -200,12 +217,12 @@ begin-cleared z start max a =
     let full = eqb (length start) (2 * z .n) in
     checked Begun (sizesFit z) 1 (unchanged noRun a) _ (not-accepted a 1)
     (λ p.
-    checked Begun (full && eqb (length a) AREA) 2 (unchanged noRun a) _ (not-accepted a 2)
+    checked Begun (full && eqb (length a) (areaLength z)) 2 (unchanged noRun a) _ (not-accepted a 2)
     (λ q.
     checked Begun (allInDomain start (z .n) && stepFits max) 3 (unchanged noRun a) _ (not-accepted a 3)
     (λ r e.
-    behind-cleared (begunOf z start max .state) (begunMemory start)
-    (begun-behind z start max (size-bounds z p) (eqb-true _ _ (and-left full (eqb (length a) AREA) q))))))
+    area-cleared (begunOf z start max .state) (begunMemory start) (begun-limits z start max (size-bounds z p))
+    (begun-lengths z start max (eqb-true _ _ (and-left full (eqb (length a) (areaLength z)) q))))))
 
 -- a refused begin leaves the area; an accepted one is no refusal
 begin-unchanged :
@@ -216,7 +233,7 @@ unfolding beginOf
 begin-unchanged z start max a =
     checked Same (sizesFit z) 1 (unchanged noRun a) _ (λ e. refl)
     (λ p.
-    checked Same (eqb (length start) (2 * z .n) && eqb (length a) AREA) 2 (unchanged noRun a) _ (λ e. refl)
+    checked Same (eqb (length start) (2 * z .n) && eqb (length a) (areaLength z)) 2 (unchanged noRun a) _ (λ e. refl)
     (λ q.
     checked Same (allInDomain start (z .n) && stepFits max) 3 (unchanged noRun a) _ (λ e. refl)
     (λ r e. absurd (true≢false (sym e)))))

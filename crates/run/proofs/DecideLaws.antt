@@ -1,80 +1,90 @@
--- The parts of a step taken and of its judgement, from the slots of an area, and the numbers of a run, which stay
--- small.
+-- The parts of a step taken and of its judgement, from the slots of an area; what a call that lands a point or takes a
+-- step hands on; and the numbers of a run, which stay small.
 use mathlib.Core.Bool.{Bool, true, false, _||_}
-use mathlib.Core.Path.{_≡_, sym, ap, _∙_}
+use mathlib.Core.Path.{_≡_, refl, sym, ap, _∙_}
 use mathlib.Core.List.{List, _++_, map}
-use Prim.Native.Nat.{ℕ, _+_, _-_, _≤_}
+use Prim.Native.Nat.{ℕ, _+_, _-_, _*_, _≤_}
 use native.Mathlib.Omega.{arith}
+use lib.Dec.{lit<}
 use lib.Ieee.{Float}
 use lib.ListN.{length, take, drop, length-map}
 use Rattle.interval.specs.declared.Scalar.{Scalar}
 use Rattle.interval.specs.Result.{Res, ok, refused}
-use Rattle.interval.specs.Scalar.{two64, zeroS, degenerate, pick, addOf, subOf, mulOf, sharpen, upper}
+use Rattle.interval.specs.Scalar.{two64, zeroS, degenerate, pick, subOf, mulOf, upper}
 use Rattle.interval.specs.Scalar.{definitelyGreater, definitelyLess}
 use Rattle.interval.specs.Scaling.{three64, four64, isPositive}
-use Rattle.run.specs.Area.{Memory, startOf, withAsked, landedCounts}
-use Rattle.run.specs.program.Area.{Holds, written}
-use Rattle.run.specs.program.Endings.{Bounded, Underway}
-use Rattle.run.specs.Decide.{held, linearOf}
-use Rattle.run.specs.Radius.{radiusAfter}
-use Rattle.run.specs.State.{landing, standingOn}
-use Rattle.run.specs.Area.{landedAt}
-use Rattle.linear.specs.Flat.{at}
+use Rattle.run.specs.Area.{Memory, HasRoom, indices, placesOf, partOf, numbersIn, pairsIn}
+use Rattle.run.specs.Area.{withLanded, withTaken, landedCounts, standingAt, landedAt, curvatureOf}
 use Rattle.run.specs.Corrected.{Shift, shiftOf, shiftFrom, shiftedStep}
 use Rattle.run.specs.Curvature.{updateCurvature}
+use Rattle.run.specs.Decide.{held, linearOf}
+use Rattle.run.specs.Filter.{filterWith}
 use Rattle.run.specs.Judgement.{Judged, judgeOf}
-use Rattle.run.specs.Rows.{rowCounts, constraintsOf, evaluationOf}
-use Rattle.run.specs.Residuals.{violationOf}
+use Rattle.run.specs.Limits.{VARIABLES}
+use Rattle.run.specs.Radius.{radiusAfter}
+use Rattle.run.specs.Residuals.{sumSquared, violationOf}
+use Rattle.run.specs.Rows.{rowCounts, rowNumbers, constraintsOf, sumOf, evaluationOf}
+use Rattle.run.specs.State.{landing, standingOn}
 use Rattle.run.specs.declared.rows.RowCounts.{RowCounts}
-use Rattle.run.specs.declared.state.Last.{Last}
 use Rattle.run.specs.declared.state.Sizes.{Sizes}
 use Rattle.run.specs.declared.state.State.{State}
-use Rattle.run.proofs.AreaLaws.{slots-of, holds-of, wrote, slot-read, slot-length, part-back}
-use Rattle.run.proofs.EndingLaws.{pick-yes, pick-no}
-use Rattle.run.proofs.VectorLaws.{length-fillTo}
+use Rattle.run.specs.program.Area.{Holds, Working, ReadAll, StandingKnown, ViolationsKnown, TrialWhole}
+use Rattle.run.specs.program.Area.{LandedWhole, written}
+use Rattle.run.specs.program.Endings.{Bounded, Underway}
+use Rattle.run.specs.program.Proposal.{rowsOf, curvatureFor}
+use Rattle.run.proofs.AreaLaws.{laid-of, holds-of, wrote-over, part-back}
+use Rattle.run.proofs.EndingLaws.{cut-length, pick-yes, pick-no}
+use Rattle.run.proofs.IterateLaws.{curvature-for-read}
+use Rattle.run.proofs.LengthsKept.{length-shifted, landed-read, taken-whole}
+use Rattle.run.proofs.MemoryLaws.{read-landed, read-standing-rows, read-landed-rows, read-step, read-multipliers}
+use Rattle.run.proofs.MemoryLaws.{read-filter, measures, compares}
+use Rattle.run.proofs.PhaseLengths.{AllRead}
+use Rattle.run.proofs.PlaceLaws.{lent, part-inside, curvature-inside}
 
--- ---- the slots of an area
+-- ---- what is read of an area
 
-module _ {w : Memory} {a : List Float} (h : Holds w a) where
-  pub landed-read : take 24 (drop 24 a) ≡ w .landed
-  unfolding startOf
-  landed-read = slot-read (slots-of h) 1 (omega arith)
+-- as many numbers as are read
+pub step-part : (z : Sizes) (a : List Float) → z .n ≤ VARIABLES → HasRoom z a →
+    length (partOf a (placesOf z .step) (2 * z .n)) ≡ 2 * z .n
+step-part z a few room =
+    cut-length (2 * z .n) (placesOf z .step) a
+    (part-inside z a room (2 * z .n) (indices .step) (lit< tt) (omega (arith, few)))
 
-  pub landed-rows-read : take 936 (drop 1008 a) ≡ w .landedRows
-  unfolding startOf
-  landed-rows-read = slot-read (slots-of h) 4 (omega arith)
+pub curvature-length : (st : State) (a : List Float) → st .sizes .n ≤ VARIABLES → HasRoom (st .sizes) a →
+    length (curvatureFor (st .sizes) (st .search .plain) a) ≡ numbersIn st .curvature
+curvature-length st a few room =
+    cut-length (numbersIn st .curvature) _ a
+    (curvature-inside (st .sizes) (st .search .plain) a (st .sizes .n) room few)
 
-  pub step-read : take 24 (drop 1944 a) ≡ w .step
-  unfolding startOf
-  step-read = slot-read (slots-of h) 5 (omega arith)
-
-  pub multipliers-read : take 24 (drop 1968 a) ≡ w .multipliers
-  unfolding startOf
-  multipliers-read = slot-read (slots-of h) 6 (omega arith)
-
-  pub filter-read : take 800 (drop 2280 a) ≡ w .filter
-  unfolding startOf
-  filter-read = slot-read (slots-of h) 8 (omega arith)
+-- the sum of the standing point's rows
+pub sum-read :
+    (st : State) {w : Memory} {a : List Float} {c : RowCounts} {xs : List Float} {f : Scalar} → Holds (st .sizes) w a →
+    length (w .standingRows) ≡ numbersIn st .standingRows → c ≡ rowCounts (st .sizes) → xs ≡ rowsOf (st .sizes) c a →
+    f ≡ sumSquared (sumOf c xs) → f ≡ sumSquared (standingAt st w .sum)
+sum-read st h long ec ex e = rw (ex ∙ read-standing-rows h (long ∙ ap rowNumbers (sym ec)), ec) at e
 
 -- the shift of the landed point, by the rows and the point that are read of their slots
 pub shift-read :
-    (st : State) (w : Memory) {xs : List Float} {x : Res (List Float)} → xs ≡ w .landedRows →
-    x ≡ shiftOf (st .moving) (constraintsOf (landedCounts st) xs) →
+    (st : State) {w : Memory} {a : List Float} {c : RowCounts} {xs : List Float} {x : Res (List Float)} →
+    Holds (st .sizes) w a → LandedWhole (numbersIn st) w → c ≡ landedCounts st →
+    xs ≡ partOf a (placesOf (st .sizes) .landedRows) (rowNumbers c) → x ≡ shiftOf (st .moving) (constraintsOf c xs) →
     x ≡ shiftOf (st .moving) (landedAt st w .constraints)
-shift-read st w ex e = rw ex at e
+shift-read st h t ec ex e = rw (ex ∙ read-landed-rows h (t .landed-rows ∙ ap rowNumbers (sym ec)), ec) at e
 
 pub shifted-read :
-    (st : State) (w : Memory) {xs landed : List Float} {x : Res Shift} → xs ≡ w .landedRows → landed ≡ w .landed →
-    x ≡ shiftFrom (st .moving) (constraintsOf (landedCounts st) xs) landed →
+    (st : State) {w : Memory} {a : List Float} {theta : Scalar} {v : Res Scalar} {c d : RowCounts}
+    {xs landed : List Float} {x : Res Shift} → ViolationsKnown st theta v w a →
+    c ≡ landedCounts st → d ≡ landedCounts st → xs ≡ partOf a (placesOf (st .sizes) .landedRows) (rowNumbers d) →
+    landed ≡ partOf a (placesOf (st .sizes) .landed) (2 * st .sizes .n) →
+    x ≡ shiftFrom (st .moving) (constraintsOf c xs) landed →
     x ≡ shiftFrom (st .moving) (landedAt st w .constraints) (w .landed)
-shifted-read st w ex el e = rw (ex, el) at e
-
--- a point asked, in its slot
-pub asked-read :
-    {w : Memory} {a b : List Float} → Holds w a → (next : List Float) → b ≡ written a 48 next → length next ≡ 24 →
-    Holds (withAsked w next) b
-unfolding startOf
-asked-read {w} h next e l = holds-of (withAsked w next) (wrote (slots-of h) 2 next (omega arith) l e)
+shifted-read st t ec ed ex el e =
+    let h = t .from-standing .within .holds in
+    rw (
+      ex ∙ read-landed-rows h (t .landed-whole .landed-rows ∙ ap rowNumbers (sym ed)),
+      el ∙ read-landed h (t .landed-whole .landed),
+      ec,
+    ) at e
 
 -- marks that are read as they stand
 pub marks-count : (m : List Bool) {n : ℕ} → length (map (λ (v : Bool). v) m) ≡ n → length m ≡ n
@@ -160,26 +170,120 @@ module _ (length radius max : Scalar) {reach : Scalar} (e : reach ≡ mulOf (deg
 
 -- the curvature after a step, from the slots
 pub learned-is :
-    (z : Sizes) (w : Memory) {c : RowCounts} {b b′ d x y l : List Float} {r : Res (List Float)} →
-    c ≡ rowCounts z → b ≡ b′ → d ≡ w .step → x ≡ w .standingRows → y ≡ w .landedRows → l ≡ w .multipliers →
+    (st : State) {w : Memory} {a : List Float} {c : RowCounts} {b d x y l : List Float} {r : Res (List Float)} →
+    st .sizes .n ≤ VARIABLES → ReadAll st w a → c ≡ rowCounts (st .sizes) →
+    b ≡ curvatureFor (st .sizes) (st .search .plain) a → d ≡ partOf a (placesOf (st .sizes) .step) (2 * st .sizes .n) →
+    x ≡ rowsOf (st .sizes) c a → y ≡ partOf a (placesOf (st .sizes) .landedRows) (rowNumbers c) →
+    l ≡ partOf a (placesOf (st .sizes) .multipliers) (2 * c .m) →
     r ≡ updateCurvature (c .n) b d (evaluationOf c x) (evaluationOf c y) l →
-    r
-    ≡ updateCurvature (z .n) b′ (w .step) (evaluationOf (rowCounts z) (w .standingRows))
-    (evaluationOf (rowCounts z) (w .landedRows)) (w .multipliers)
-learned-is z w ec eb ed ex ey el e = rw (ec, eb, ed, ex, ey, el) at e
+    r ≡ updateCurvature (st .sizes .n) (curvatureOf st w) (w .step) (standingAt st w) (landedAt st w) (w .multipliers)
+learned-is st few t ec eb ed ex ey el e =
+    let h = t .holds in
+    rw (
+      eb ∙ curvature-for-read st h few (t .standing-whole .curvature),
+      ed ∙ read-step h (t .trial-whole .step),
+      ex ∙ read-standing-rows h (t .standing-whole .standing-rows ∙ ap rowNumbers (sym ec)),
+      ey ∙ read-landed-rows h (t .landed-whole .landed-rows ∙ ap rowNumbers (sym ec)),
+      el ∙ read-multipliers h (t .trial-whole .multipliers ∙ ap (λ (k : RowCounts). 2 * k .m) (sym ec)),
+      ec,
+    ) at e
 
 -- how a step fares, from the slots
 pub judged-is :
-    (z : Sizes) (w : Memory) (theta : Scalar) (count : ℕ) (last : Last)
-    {c : RowCounts} {x y f d : List Float} {v : Res Scalar} {r : Res Judged} →
-    c ≡ rowCounts z → x ≡ w .standingRows → y ≡ w .landedRows → f ≡ w .filter → d ≡ w .step →
-    v ≡ violationOf (constraintsOf (rowCounts z) (w .landedRows)) →
+    (st : State) {w : Memory} {a : List Float} {theta : Scalar} {v : Res Scalar} {c : RowCounts} {pairs : ℕ}
+    {x y f d : List Float} {r : Res Judged} → ViolationsKnown st theta v w a →
+    c ≡ rowCounts (st .sizes) → pairs ≡ pairsIn st → x ≡ rowsOf (st .sizes) c a →
+    y ≡ partOf a (placesOf (st .sizes) .landedRows) (rowNumbers c) →
+    f ≡ partOf a (placesOf (st .sizes) .filter) (4 * pairs) →
+    d ≡ partOf a (placesOf (st .sizes) .step) (2 * st .sizes .n) →
     (v ≡ violationOf (constraintsOf c y) →
-    r ≡ judgeOf (c .n) (evaluationOf c x) (evaluationOf c y) theta f count last d) →
+    r ≡ judgeOf (c .n) (evaluationOf c x) (evaluationOf c y) theta f pairs (st .last) d) →
     r
-    ≡ judgeOf (z .n) (evaluationOf (rowCounts z) (w .standingRows)) (evaluationOf (rowCounts z) (w .landedRows)) theta
-    (w .filter) count last (w .step)
-judged-is z w theta count last ec ex ey ef ed ev k = (rw (ec, ex, ey, ef, ed) at k) ev
+    ≡ judgeOf (st .sizes .n) (standingAt st w) (landedAt st w) theta (w .filter) (pairsIn st) (st .last) (w .step)
+judged-is st t ec ep ex ey ef ed k =
+    let s = t .from-standing in
+    let h = s .within .holds in
+    (rw (
+      ex ∙ read-standing-rows h (s .standing-whole .standing-rows ∙ ap rowNumbers (sym ec)),
+      ey ∙ read-landed-rows h (t .landed-whole .landed-rows ∙ ap rowNumbers (sym ec)),
+      ef ∙ read-filter h (s .standing-whole .filter ∙ ap (λ (n : ℕ). 4 * n) (sym ep)),
+      ed ∙ read-step h (t .trial-whole .step),
+      ec,
+      ep,
+    ) at k) (t .landed-is)
+
+-- ---- what a call hands on
+
+-- all that is read, with the violations
+module _ (st : State) {w : Memory} {a : List Float} {theta : Scalar} {v : Res Scalar}
+    (t : ViolationsKnown st theta v w a) where
+  pub all-read : AllRead (numbersIn st) w
+  all-read = record {
+    standing-whole = t .from-standing .standing-whole;
+    trial-whole = t .trial-whole;
+    landed-whole = t .landed-whole;
+  }
+
+  pub read-all : ReadAll st w a
+  read-all = record {
+    holds = t .from-standing .within .holds;
+    standing-whole = t .from-standing .standing-whole;
+    trial-whole = t .trial-whole;
+    landed-whole = t .landed-whole;
+  }
+
+  -- once the landed point stands
+  pub taken-known :
+      (span mu radius f : Scalar) {b d : List Float} → length b ≡ numbersIn st .curvature →
+      Holds (st .sizes) (withTaken w b (filterWith (w .filter) f theta)) d →
+      StandingKnown (standingOn st span mu radius) v (withTaken w b (filterWith (w .filter) f theta)) d
+  taken-known span mu radius f {b} long h =
+      let m = t .from-standing .within .at-most in
+      let whole = taken-whole st w span mu radius f theta all-read long in
+      measures (standingOn st span mu radius)
+      (record {
+        holds = h;
+        at-most = record {
+          standing = m .landed;
+          landed = m .landed;
+          asked = m .asked;
+          standing-rows = m .landed-rows;
+          landed-rows = m .landed-rows;
+          step = m .step;
+          multipliers = m .multipliers;
+          curvature = omega (arith, long);
+          filter = omega (arith, whole .filter);
+        };
+      })
+      whole (t .landed-is)
+
+-- where the asked point landed, with rows of their whole length and a step
+module _ (st : State) (rows step : List Float) (many : length rows ≡ numbersIn st .landedRows)
+    (long : length step ≡ numbersIn st .step) {w : Memory} {a b : List Float} where
+  pub lands : Working st w a → Holds (st .sizes) (withLanded w rows step) b → Working st (withLanded w rows step) b
+  lands u h =
+      let m = u .at-most in
+      record {
+        holds = h;
+        at-most = record {
+          standing = m .standing;
+          landed = m .asked;
+          asked = m .asked;
+          standing-rows = m .standing-rows;
+          landed-rows = omega (arith, many);
+          step = omega (arith, long);
+          multipliers = m .multipliers;
+          curvature = m .curvature;
+          filter = m .filter;
+        };
+      }
+
+  pub landed-known : {theta : Scalar} {v : Res Scalar} → StandingKnown st (ok theta) w a → TrialWhole (numbersIn st) w →
+      Holds (st .sizes) (withLanded w rows step) b → v ≡ violationOf (constraintsOf (landedCounts st) rows) →
+      ViolationsKnown st theta v (withLanded w rows step) b
+  landed-known s t h e =
+      let r = landed-read st w 0 rows step (record { standing-whole = s .standing-whole; trial-whole = t }) many long in
+      compares st (lands (s .within) h) (r .standing-whole) (r .trial-whole) (r .landed-whole) (s .standing-is) e
 
 -- the step with a shift added, in its slot
 abbrev pub withStep : Memory → List Float → Memory
@@ -195,14 +299,57 @@ withStep w step = record {
   filter = w .filter;
 }
 
-pub stepped :
-    (n : ℕ) (d : List Float) {w : Memory} {a s : List Float} → Holds w a → s ≡ shiftedStep n (take 24 (drop 1944 a)) d →
-    Holds (withStep w (shiftedStep n (w .step) d)) (take 1944 a ++ (s ++ drop 24 (drop 1944 a)))
-unfolding startOf shiftedStep
-stepped n d {w} {a} {s} h e =
-    let q : s ≡ shiftedStep n (w .step) d = e ∙ ap (λ (x : List Float). shiftedStep n x d) (step-read h) in
-    let l : length (shiftedStep n (w .step) d)
-    ≡ 24 = length-fillTo (w .step) 0 (λ i. sharpen (addOf (at (w .step) i) (at d i))) n ∙ slot-length (slots-of h) 5 in
-    holds-of (withStep w (shiftedStep n (w .step) d)) (wrote (slots-of h) 5 (shiftedStep n (w .step) d) (omega arith) l
-    (ap (λ (x : List Float). take 1944 a ++ (x ++ drop 24 (drop 1944 a))) q ∙ part-back a (shiftedStep n (w .step) d)
-    1944 24 l))
+module _ (st : State) (d : List Float) {w : Memory} (t : TrialWhole (numbersIn st) w) where
+  pub step-length : length (shiftedStep (st .sizes .n) (w .step) d) ≡ numbersIn st .step
+  step-length = length-shifted (st .sizes .n) (w .step) d ∙ t .step
+
+  pub step-whole : TrialWhole (numbersIn st) (withStep w (shiftedStep (st .sizes .n) (w .step) d))
+  step-whole = record { asked = t .asked; step = step-length; multipliers = t .multipliers }
+
+  pub stepped : {a s : List Float} {at : ℕ} → st .sizes .n ≤ VARIABLES → Working st w a →
+      at ≡ placesOf (st .sizes) .step →
+      s ≡ shiftedStep (st .sizes .n) (take (at + 2 * st .sizes .n - at) (drop at a)) d →
+      Working st (withStep w (shiftedStep (st .sizes .n) (w .step) d))
+      (take at a ++ (s ++ drop (at + 2 * st .sizes .n - at) (drop at a)))
+  stepped {a} {s} {at} few u ea e =
+      let z = st .sizes in
+      let n = at + 2 * z .n - at in
+      let en : n ≡ 2 * z .n = omega arith in
+      let m = u .at-most in
+      let f = u .holds .fits in
+      let x : List Float = shiftedStep (z .n) (w .step) d in
+      let long = step-length in
+      let q : s ≡ x =
+      e ∙ ap (λ (y : List Float). shiftedStep (z .n) y d) (lent a ea refl ∙ read-step (u .holds) (t .step)) in
+      let b : take at a ++ (s ++ drop n (drop at a)) ≡ written a (placesOf z .step) x =
+      ap (λ (y : List Float). take at a ++ (y ++ drop n (drop at a))) q
+      ∙ part-back a x at n (long ∙ sym en)
+      ∙ ap (λ (place : ℕ). written a place x) ea in
+      record {
+        holds =
+            holds-of z (withStep w x)
+            (record {
+              standing = f .standing;
+              landed = f .landed;
+              asked = f .asked;
+              standing-rows = f .standing-rows;
+              landed-rows = f .landed-rows;
+              step = omega (arith, long, few);
+              multipliers = f .multipliers;
+              curvature = f .curvature;
+              filter = f .filter;
+            })
+            (wrote-over (laid-of z w (u .holds)) (indices .step) (lit< tt) (w .step) refl x
+            (omega (arith, long, t .step)) (omega (arith, long, few)) b);
+        at-most = record {
+          standing = m .standing;
+          landed = m .landed;
+          asked = m .asked;
+          standing-rows = m .standing-rows;
+          landed-rows = m .landed-rows;
+          step = omega (arith, long);
+          multipliers = m .multipliers;
+          curvature = m .curvature;
+          filter = m .filter;
+        };
+      }

@@ -1,4 +1,4 @@
--- What is read of the slots of an area, and what a call leaves: a result that may be refused decides what follows it.
+-- Parts of a list, and what a call leaves: a result that may be refused decides what follows it.
 use mathlib.Core.Bool.{Bool, true, false}
 use mathlib.Core.Path.{_≡_, sym, ap, subst, _∙_}
 use mathlib.Core.List.{List, _++_, append-nil}
@@ -9,13 +9,12 @@ use lib.ListN.{length, take, drop, length-drop, drop-of-length-le}
 use lib.Seq.{length-take-le}
 use Rattle.interval.specs.Result.{Res, ok, refused}
 use Rattle.interval.specs.Scalar.{pick}
-use Rattle.run.specs.Area.{Memory, startOf}
-use Rattle.run.specs.program.Area.{Holds, written}
+use Rattle.run.specs.Area.{Memory}
+use Rattle.run.specs.program.Area.{written}
 use Rattle.run.specs.Endings.{AfterSlots, orRefuse, refuse}
 use Rattle.run.specs.program.Endings.{Leaves}
 use Rattle.run.specs.declared.state.Returned.{Returned}
 use Rattle.run.specs.declared.state.State.{State}
-use Rattle.run.proofs.AreaLaws.{slots-of, slot-read}
 
 -- ---- a test that is known
 
@@ -24,21 +23,6 @@ pick-yes x y e = ap (λ (b : Bool). pick b x y) e
 
 pub pick-no : {A : Type 0} {b : Bool} (x y : A) → b ≡ false → pick b x y ≡ y
 pick-no x y e = ap (λ (b : Bool). pick b x y) e
-
--- ---- the slots of an area
-
-module _ {w : Memory} {a : List Float} (h : Holds w a) where
-  pub standing-read : take 24 (drop 0 a) ≡ w .standing
-  unfolding startOf
-  standing-read = slot-read (slots-of h) 0 (omega arith)
-
-  pub standing-rows-read : take 936 (drop 72 a) ≡ w .standingRows
-  unfolding startOf
-  standing-rows-read = slot-read (slots-of h) 3 (omega arith)
-
-  pub curvature-read : take 288 (drop 1992 a) ≡ w .curvature
-  unfolding startOf
-  curvature-read = slot-read (slots-of h) 7 (omega arith)
 
 -- what is cut out of an area
 pub cut-length : (n base : ℕ) (a : List Float) → base + n ≤ length a → length (take n (drop base a)) ≡ n

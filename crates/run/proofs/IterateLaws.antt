@@ -1,28 +1,28 @@
--- A run whose search changes: its numbers stay small, and what follows more damping is the definition's.
+-- A run whose search changes: its numbers stay small, what it reads of the area is the memory's, and what follows more
+-- damping is the definition's.
 use mathlib.Core.Bool.{Bool, true, false, not, _&&_}
 use mathlib.Core.Path.{_≡_, refl, sym, ap, subst, _∙_}
 use mathlib.Core.List.{List}
-use Prim.Native.Nat.{ℕ, _+_, _<_}
+use Prim.Native.Nat.{ℕ, _+_, _<_, _≤_}
 use native.Mathlib.Omega.{arith}
 use lib.Ieee.{Float}
-use lib.ListN.{take, drop}
+use lib.ListN.{length}
 use Rattle.interval.specs.declared.Scalar.{Scalar}
 use Rattle.interval.specs.Enclosure.{Fits}
 use Rattle.interval.specs.Result.{Res, ok, refused}
-use Rattle.interval.specs.Scalar.{zero64, pick, isFinite, degenerate, divOf, sharpen}
+use Rattle.interval.specs.Scalar.{pick, isFinite, degenerate, divOf, sharpen}
 use Rattle.interval.specs.Scaling.{four64, quadrupled, isPositive}
 use Rattle.linear.specs.Flat.{zeros}
-use Rattle.run.specs.Area.{Memory, startOf, standingCounts}
-use Rattle.run.specs.program.Area.{Holds}
+use Rattle.run.specs.Area.{Memory, placesOf, spareAt, partOf, numbersIn, standingAt, curvatureOf}
+use Rattle.run.specs.Limits.{VARIABLES}
+use Rattle.run.specs.program.Area.{Holds, StandingKnown}
 use Rattle.run.specs.Curvature.{learnedOf}
 use Rattle.run.specs.Proposal.{Standing}
 use Rattle.run.specs.Vectors.{movedOf}
 use Rattle.run.specs.program.Proposal.{curvatureFor, standingIn, nextIn}
-use Rattle.run.specs.Rows.{constraintsOf}
 use Rattle.run.specs.Residuals.{violationOf}
 use Rattle.run.specs.program.Endings.{Leaves, Bounded}
 use Rattle.run.specs.State.{searching}
-use Rattle.run.specs.Area.{standingAt}
 use Rattle.run.specs.Iterate.{standingOf, leftAt, search}
 use Rattle.run.specs.Endings.{finish, refuse, orRefuse}
 use Rattle.run.specs.program.Iterate.{soughtWith, soughtOf, searchOrigin}
@@ -40,14 +40,14 @@ use Rattle.run.specs.declared.state.Returned.{Returned}
 use Rattle.run.specs.declared.state.Rejection.{Rejection}
 use Rattle.run.specs.declared.state.Rejection.the-variants as why
 use Rattle.run.specs.declared.state.Search.{Search}
+use Rattle.run.specs.declared.state.Sizes.{Sizes}
 use Rattle.run.specs.declared.state.State.{State}
 use Rattle.run.specs.declared.state.Stop.{Stop}
 use Rattle.run.specs.declared.state.Stop.the-variants as stop
-use Rattle.run.proofs.AreaLaws.{slots-of, spare-drop}
-use Rattle.run.proofs.BasisLaws.{take-replicate}
 use Rattle.run.proofs.DampingBounds.{quadrupled-sound}
-use Rattle.run.proofs.EndingLaws.{standing-read, standing-rows-read, curvature-read, or-next, or-refused, when}
-use Rattle.run.proofs.EndingLaws.{unless}
+use Rattle.run.proofs.EndingLaws.{or-next, or-refused, when, unless}
+use Rattle.run.proofs.MemoryLaws.{read-standing, read-standing-rows, read-curvature, read-spare}
+use Rattle.run.proofs.PlaceLaws.{spare-inside, curvature-fits}
 use Rattle.run.proofs.SearchLaws.{damped-ap}
 
 -- another search, with a positive damping
@@ -90,36 +90,39 @@ grown-bounded {t} {u} {st} y b l f e = go (isFinite (quadrupled (st .search .mu)
         (quadrupled-sound (x .mu) f (b .damping) h))
     go false h q = let z : _≡_ {A = ℕ} 0 1 = cc in absurd (omega arith)
 
--- the violation that is read of the slot
-pub standing-violation : (st : State) {w : Memory} {a : List Float} {x : Res Scalar} → Holds w a →
-    x ≡ violationOf (constraintsOf (standingCounts st) (take 936 (drop 72 a))) →
-    violationOf (standingAt st w .constraints) ≡ x
-standing-violation st h e =
-    sym (e ∙ ap (λ (xs : List Float). violationOf (constraintsOf (standingCounts st) xs))
-    (standing-rows-read h))
-
 -- the curvature that is read, from its slot or of the last numbers
-curvature-for-read : (plain : Bool) {w : Memory} {a : List Float} → Holds w a →
-    curvatureFor plain a ≡ pick plain (zeros 288) (w .curvature)
-unfolding startOf
-curvature-for-read true h = ap (take 288) (spare-drop (slots-of h)) ∙ take-replicate 288 4920 zero64 (omega arith)
-curvature-for-read false h = curvature-read h
+pub curvature-for-read : (st : State) {w : Memory} {a : List Float} → Holds (st .sizes) w a → st .sizes .n ≤ VARIABLES
+    → length (w .curvature) ≡ numbersIn st .curvature
+    → curvatureFor (st .sizes) (st .search .plain) a ≡ curvatureOf st w
+curvature-for-read st {w} {a} h few e = by (st .search .plain)
+  where
+    z : Sizes
+    z = st .sizes
+
+    by : (plain : Bool) → partOf a (pick plain (spareAt z) (placesOf z .curvature)) (numbersIn st .curvature)
+        ≡ pick plain (zeros (numbersIn st .curvature)) (w .curvature)
+    by true = read-spare h (numbersIn st .curvature) (omega (arith, spare-inside z, curvature-fits z (z .n) few))
+    by false = read-curvature h e
 
 -- where a search from what is read of the slots is left
-module _ (st : State) {theta : Scalar} {w : Memory} {a : List Float} {z : Origin} (d lambda : List Float)
-    (r : declared.Found) where
-  pub sought-by : Holds w a → z ≡ searchOrigin st a theta → violationOf (standingAt st w .constraints) ≡ ok theta →
-      foundResult r d lambda (nextIn z a d) ≡ searchOf (standingIn z a) (z .«max_step») (st .search) →
-      foundResult r d lambda (movedOf (st .sizes .n) (w .standing) d) ≡ soughtOf st w
-  sought-by h ez ev e =
+module _ (st : State) {standing : Res Scalar} {theta : Scalar} {w : Memory} {a : List Float} {z : Origin}
+    (delta lambda : List Float) (r : declared.Found) where
+  pub sought-by : StandingKnown st standing w a → standing ≡ ok theta → st .sizes .n ≤ VARIABLES →
+      z ≡ searchOrigin st a theta →
+      foundResult r delta lambda (nextIn z a delta) ≡ searchOf (standingIn z a) (z .«max_step») (st .search) →
+      foundResult r delta lambda (movedOf (st .sizes .n) (w .standing) delta) ≡ soughtOf st w
+  sought-by u ev few ez e =
+      let h = u .within .holds in
+      let t = u .standing-whole in
+      let x = read-standing h (t .standing) in
       let s : Origin = searchOrigin st a theta in
       let S : standingIn s a ≡ standingOf st w theta =
-      rw (standing-read h, standing-rows-read h, curvature-for-read (st .search .plain) h) in
-      let x : nextIn s a d ≡ movedOf (st .sizes .n) (w .standing) d = rw (standing-read h) in
-      sym (ap (λ (y : List Float). foundResult r d lambda y) x)
+      rw (x, read-standing-rows h (t .standing-rows), curvature-for-read st h few (t .curvature)) in
+      let m : nextIn s a delta ≡ movedOf (st .sizes .n) (w .standing) delta = rw x in
+      sym (ap (λ (y : List Float). foundResult r delta lambda y) m)
       ∙ rw ez at e
       ∙ ap (λ (y : Standing). searchOf y (st .«max_step») (st .search)) S
-      ∙ sym (ap (soughtWith st w) ev)
+      ∙ sym (ap (soughtWith st w) (sym (u .standing-is) ∙ ev))
 
 -- ---- what a call leaves
 

@@ -1,5 +1,6 @@
 pub mod VectorLaws
 pub mod Prefixes
+pub mod PlaceLaws
 pub mod RowLaws
 pub mod FilterLaws
 pub mod DampingBounds
@@ -9,7 +10,7 @@ pub mod FactorLaws
 pub mod CorrectedLaws
 pub mod Booleans
 pub mod AreaRead
-pub mod ZeroBehind
+pub mod MemoryLaws
 pub mod RefusalLaws
 pub mod DampingGrowth
 pub mod Domains
@@ -34,6 +35,8 @@ pub mod AnsweredLaws
 pub mod EndingLaws
 pub mod IterateLaws
 pub mod ReplyLaws
-pub mod ZeroBehindKept
+pub mod LengthsKept
+pub mod WriterLaws
+pub mod PhaseLengths
 pub mod Cleared
 pub mod demand3

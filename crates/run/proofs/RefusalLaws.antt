@@ -1,15 +1,12 @@
--- What may be refused is refused with 5 or 6, down to the root and the division; and the lists that a step, a
--- correction and an update of the curvature give have their slots' sizes, with +0 behind the numbers in use.
-use Prim.Native.Nat.{ℕ, zero, suc, _+_, _-_, _*_, _<_, min}
+-- What may be refused is refused with 5 or 6, down to the root and the division; and the lists that a step and a
+-- correction give are vectors, and an update of the curvature keeps its length.
+use Prim.Native.Nat.{ℕ, zero, suc, _+_, _-_, _*_, min}
 use mathlib.Core.Bool.{Bool, true, false, not, _&&_, _||_}
-use mathlib.Core.Logic.{_≢_}
 use mathlib.Core.Path.{_≡_, refl, subst, _∙_}
-use mathlib.Core.List.{List, [], _∷_}
-use native.Mathlib.Nat.{lt-suc-self, not-suc-le-zero}
-use native.Mathlib.Omega.{arith}
+use mathlib.Core.List.{List}
 use lib.Dec.{T, eqb}
 use lib.Ieee.{Float, lt}
-use lib.ListN.{length, getD, set, replicate}
+use lib.ListN.{length, getD, replicate, length-replicate}
 use Rattle.interval.specs.declared.Scalar.{Scalar}
 use Rattle.interval.specs.Result.{Res, ok, refused}
 use Rattle.interval.specs.Scalar.{zero64, zeroS, pick, subOf, divOf, sqrtOf, holdsZero, definitelyGreater}
@@ -27,7 +24,7 @@ use Rattle.linear.specs.Householder.{valueStep, leastSquaresOf, chosen}
 use Rattle.linear.specs.Solved as solved
 use Rattle.linear.specs.Solved.{minusSolvedOf}
 use Rattle.linear.proofs.FlatLaws.{length-put}
-use Rattle.run.specs.Vectors.{vector, fillTo, allFinite, anyTo, chosenOf}
+use Rattle.run.specs.Vectors.{vector, fillTo, allFinite, anyTo, chosenOf, spreadTo}
 use Rattle.run.specs.Rows.{Rows, Evaluation, valueAt}
 use Rattle.run.specs.Residuals.{violationOf, predictedOf, linearizedAt, squaredOf}
 use Rattle.run.specs.Problem.{Problem, problemOf, Kept, keptTo}
@@ -50,8 +47,8 @@ use Rattle.run.specs.Area.{landedAt}
 use Rattle.run.specs.Decide.{linearOf}
 use Rattle.run.specs.declared.state.Last.{Last}
 use Rattle.run.specs.declared.state.State.{State}
-use Rattle.run.specs.program.Area.{ZeroBehind}
-use Rattle.run.proofs.ZeroBehind.{behind-zeros, behind-put, behind-fill, behind-spread}
+use Rattle.run.proofs.PointLaws.{length-moved}
+use Rattle.run.proofs.VectorLaws.{length-fillTo}
 
 -- a value with P, or refusal 5 or 6
 pub data Yields {A : Type 0} (P : A → Type 0) : Res A → Type 0 where
@@ -85,23 +82,11 @@ pub yields-pick : {A : Type 0} {P : A → Type 0} {x y : Res A} (b : Bool) → Y
 yields-pick true p q = p
 yields-pick false p q = q
 
-pub yields-fold-below : {A : Type 0} {P : A → Type 0} (f : A → ℕ → Res A) (z : A) (n : ℕ) → P z
-    → ((s : A) (i : ℕ) → i < n → P s → Yields P (f s i)) → Yields P (foldR f z n)
-unfolding foldR
-yields-fold-below f z zero p h = gives p
-yields-fold-below f z (suc n) p h =
-    yields-bind (yields-fold-below f z n p (λ s i l q. h s i (omega arith) q)) (λ s q. h s n (lt-suc-self n) q)
-
 pub yields-fold : {A : Type 0} {P : A → Type 0} (f : A → ℕ → Res A) (z : A) (n : ℕ) → P z
     → ((s : A) (i : ℕ) → P s → Yields P (f s i)) → Yields P (foldR f z n)
-yields-fold f z n p h = yields-fold-below f z n p (λ s i l q. h s i q)
-
-pub yields-map : {A : Type 0} {P Q : A → Type 0} {x : Res A} → ((a : A) → P a → Q a) → Yields P x → Yields Q x
-yields-map h (gives {x = a} p) = gives (h a p)
-yields-map h (refuses p) = refuses p
-
-pub yields-any : {A : Type 0} {P : A → Type 0} {x : Res A} → Yields P x → Yields Any x
-yields-any p = yields-map (λ a q. tt) p
+unfolding foldR
+yields-fold f z zero p h = gives p
+yields-fold f z (suc n) p h = yields-bind (yields-fold f z n p h) (λ s q. h s n q)
 
 -- ---- linear
 
@@ -226,52 +211,44 @@ gram-yields k r q gram =
     yields-bind (yields-fold {P = Any} (gramStep k r q) gram r tt (λ g j p. stored g (12 * r + j) (div-yields _ _)))
     (λ g p. stored g (12 * r + r) (sqrt-yields _))
 
--- the rows that came into the basis are among the first m
-abbrev Placed : ℕ → Basis → Type 0
-Placed m b = (t : ℕ) → t < b .rank → getD (b .order) t 0 < m
-
-set-below : (xs : List ℕ) (r i m : ℕ) → i < m → (t : ℕ) → (t ≢ r → getD xs t 0 < m) → getD (set xs r i) t 0 < m
-set-below [] r i m l t h = omega arith
-set-below (x ∷ xs) zero i m l zero h = l
-set-below (x ∷ xs) zero i m l (suc t) h = h (λ e. omega arith)
-set-below (x ∷ xs) (suc r) i m l zero h = h (λ e. omega arith)
-set-below (x ∷ xs) (suc r) i m l (suc t) h = set-below xs r i m l t (λ n. h (λ e. n (omega arith)))
-
-extended-yields : (P : Problem) (b : Basis) (i m : ℕ) → i < m → Placed m b → Yields (Placed m) (extended P b i)
+extended-yields : (P : Problem) (b : Basis) (i : ℕ) → Yields Any (extended P b i)
 unfolding extended
-extended-yields P b i m l h =
-    yields-bind (norm-yields _ (P .k))
-    (λ n p.
-    yields-bind (gram-yields (P .k) (b .rank) _ (b .gram))
-    (λ g q. gives (λ t k. set-below (b .order) (b .rank) i m l t (λ e. h t (omega arith)))))
+extended-yields P b i =
+    yields-bind (norm-yields _ (P .k)) (λ n p. yields-bind (gram-yields (P .k) (b .rank) _ (b .gram)) (λ g q. gives tt))
 
-row-yields : (P : Problem) (b : Basis) (i m : ℕ) → i < m → Placed m b → Yields (Placed m) (rowStep P b i)
+row-yields : (P : Problem) (b : Basis) (i : ℕ) → Yields Any (rowStep P b i)
 unfolding rowStep
-row-yields P b i m l h =
+row-yields P b i =
     yields-bind (coefficients-yields P b i)
     (λ a p.
     yields-bind (norm-yields _ (P .k))
-    (λ n q.
-    yields-pick (definitelyGreater n zeroS) (extended-yields P b i m l h)
-    (gives (λ t k. set-below (b .order) (12 + (i - b .rank)) i m l t (λ e. h t k)))))
+    (λ n q. yields-pick (definitelyGreater n zeroS) (extended-yields P b i) (gives tt)))
 
-basis-yields : (P : Problem) → Yields (Placed (P .m)) (basisOf P)
+basis-yields : (P : Problem) → Yields Any (basisOf P)
 unfolding basisOf
-basis-yields P =
-    yields-fold-below (rowStep P) _ (P .m) (λ t k. absurd (not-suc-le-zero k)) (λ b i l p. row-yields P b i (P .m) l p)
+basis-yields P = yields-fold {P = Any} (rowStep P) _ (P .m) tt (λ b i p. row-yields P b i)
 
 correction-yields : (P : Problem) (b : Basis) → Yields Any (correctionOf P b)
 unfolding correctionOf
 correction-yields P b = yields-bind (least-squares-yields (P .m) (b .rank) _ _) (λ y p. gives tt)
 
-multipliers-yields : (k : ℕ) (b : Basis) (pull : List Float) (m : ℕ) → Placed m b
-    → Yields (ZeroBehind 24 (2 * m)) (multipliersOf k b pull)
+length-vector : Long 24 vector
+length-vector = length-replicate 24 zero64
+
+-- stores in any order
+length-spread : (places : List ℕ) (from : List Float) (k : ℕ) → Long 24 (spreadTo places from k)
+unfolding spreadTo
+length-spread places from zero = length-vector
+length-spread places from (suc k) =
+    length-put (spreadTo places from k) (getD places k 0) (at from k) ∙ length-spread places from k
+
+multipliers-yields : (k : ℕ) (b : Basis) (pull : List Float) → Yields (Long 24) (multipliersOf k b pull)
 unfolding multipliersOf multiplierStep
-multipliers-yields k b pull m h =
+multipliers-yields k b pull =
     yields-bind
     (yields-fold {P = Any} (multiplierStep k b pull) vector (b .rank) tt
     (λ y u p. yields-bind (div-yields _ _) (λ v q. gives tt)))
-    (λ y p. gives (behind-spread m (b .order) y (b .rank) h))
+    (λ y p. gives (length-spread (b .order) y (b .rank)))
 
 longest-yields : (k : ℕ) (d : Directions) → Yields Any (takeLongest k d)
 unfolding takeLongest
@@ -287,17 +264,16 @@ directions-yields k (suc t) d = yields-bind (longest-yields k d) (λ m p. on (λ
     on h (more d′) = h d′
     on h enough = gives tt
 
--- the multipliers of m rows in their slot
-abbrev SteppedBehind : ℕ → Stepped → Type 0
-SteppedBehind m (found s) = ZeroBehind 24 (2 * m) (s .lambda)
-SteppedBehind m notPositive = Unit
+-- the multipliers are a vector
+abbrev SteppedSized : Stepped → Type 0
+SteppedSized (found s) = Long 24 (s .lambda)
+SteppedSized notPositive = Unit
 
-stepped-yields : (P : Problem) (b : Basis) (kept : List Float) (m : ℕ) → Placed m b
-    → Yields (SteppedBehind m) (steppedBy P b kept)
+stepped-yields : (P : Problem) (b : Basis) (kept : List Float) → Yields SteppedSized (steppedBy P b kept)
 unfolding steppedBy
-stepped-yields P b kept m h =
+stepped-yields P b kept =
     yields-pick (allFinite kept 12 && allFinite (pullOf P kept) 12)
-    (yields-bind (multipliers-yields (P .k) b _ m h) (λ l p. gives p)) (gives tt)
+    (yields-bind (multipliers-yields (P .k) b _) (λ l p. gives p)) (gives tt)
 
 weights-yields : (t : ℕ) (f : Factor) (rhs : List Float) → Yields Any (weightsOf t f rhs)
 unfolding weightsOf
@@ -305,105 +281,39 @@ weights-yields t f rhs =
     yields-pick (anyTo (λ i. getD (f .left-out) i false) t) (gives tt)
     (yields-bind (solve-yields t (f .l) (f .left-out) rhs) (λ w p. gives tt))
 
-free-yields : (P : Problem) (b : Basis) (delta : List Float) (d : Directions) (m : ℕ) → Placed m b
-    → Yields (SteppedBehind m) (freeStep P b delta d)
+free-yields : (P : Problem) (b : Basis) (delta : List Float) (d : Directions)
+    → Yields SteppedSized (freeStep P b delta d)
 unfolding freeStep
-free-yields P b delta d m h =
+free-yields P b delta d =
     yields-bind (cholesky-yields (d .count) _) (λ f p. yields-bind (weights-yields (d .count) f _) (λ w q. along-z w))
   where
-    along-z : (w : Weights) → Yields (SteppedBehind m) (alongZ P b delta d w)
-    along-z (weights w) = stepped-yields P b _ m h
+    along-z : (w : Weights) → Yields SteppedSized (alongZ P b delta d w)
+    along-z (weights w) = stepped-yields P b _
     along-z none = gives tt
 
-kept-yields : (P : Problem) → Yields (SteppedBehind (P .m)) (keptStep P)
+kept-yields : (P : Problem) → Yields SteppedSized (keptStep P)
 unfolding keptStep directionsOf
 kept-yields P =
     yields-bind (basis-yields P)
     (λ b p.
     yields-bind (correction-yields P b)
-    (λ delta q. yields-bind (directions-yields (P .k) (P .k - b .rank) _) (λ d r. free-yields P b delta d (P .m) p)))
+    (λ delta q. yields-bind (directions-yields (P .k) (P .k - b .rank) _) (λ d r. free-yields P b delta d)))
 
 step-yields : (n : ℕ) (e : Evaluation) (b : List Float) (moving : List Bool) (mu : Scalar)
-    → Yields (SteppedBehind (e .constraints .count)) (stepOf n e b moving mu)
+    → Yields SteppedSized (stepOf n e b moving mu)
 unfolding stepOf problemOf
 step-yields n e b moving mu =
     let k = keptTo moving n in
     let P = problemOf n k e b mu in
     yields-pick (allFinite (P .h) 144) (yields-bind (kept-yields P) (λ x p. gives (spread k x p))) (gives tt)
   where
-    spread : (k : Kept) (x : Stepped) → SteppedBehind (e .constraints .count) x
-        → SteppedBehind (e .constraints .count) (spreadStep k x)
+    spread : (k : Kept) (x : Stepped) → SteppedSized x → SteppedSized (spreadStep k x)
     spread k (found s) p = p
     spread k notPositive p = tt
 
 -- ---- a proposal
 
--- the trial's lists in their slots, with n variables and m constraints
-pub record TrialBehind (n m : ℕ) (t : Trial) : Type 0 where
-  pub delta : ZeroBehind 24 (2 * n) (t .delta)
-  pub lambda : ZeroBehind 24 (2 * m) (t .lambda)
-  pub next : ZeroBehind 24 (2 * n) (t .next)
-
-abbrev pub ProposalBehind : ℕ → ℕ → Proposal → Type 0
-ProposalBehind n m proposal.notPositive = Unit
-ProposalBehind n m (noDrop r) = Unit
-ProposalBehind n m unresolved = Unit
-ProposalBehind n m noChange = Unit
-ProposalBehind n m (ask t) = TrialBehind n m t
-
-moved-behind : (n : ℕ) (x d : List Float) → ZeroBehind 24 (2 * n) (movedOf n x d)
-unfolding movedOf
-moved-behind n x d = behind-fill (behind-zeros 24 (2 * n)) 0 _ n (omega arith)
-
-expects-yields : (S : Standing) (delta : List Float) → Yields Any (expectsOf S delta)
-unfolding expectsOf
-expects-yields S delta =
-    let drop = subOf (subOf (S .f) (squaredOf (S .e .sum) delta (S .n))) (curvatureAlong (S .n) (S .b) delta) in
-    yields-pick (definitelyGreater drop zeroS) (gives tt)
-    (yields-bind (predicted-yields (S .e .constraints) delta) (λ v p. gives tt))
-
-trial-yields : (S : Standing) (step lambda : List Float) (m : ℕ) → ZeroBehind 24 (2 * m) lambda
-    → Yields (ProposalBehind (S .n) m) (trialOf S step lambda)
-unfolding trialOf
-trial-yields S step lambda m e =
-    let delta = chosenOf vector step 0 (S .n) in
-    let next = movedOf (S .n) (S .x) delta in
-    yields-bind (predicted-yields (S .e .constraints) delta)
-    (λ v p.
-    yields-pick (sameOf (S .n) next (S .x)) (gives tt)
-    (yields-bind (norm-yields (at delta) (S .n))
-    (λ t q.
-    gives {x = ask (record { delta = delta; lambda = lambda; next = next; predicted = v; tried = t })}
-    (record {
-      delta = behind-fill (behind-zeros 24 (2 * S .n)) 0 _ (S .n) (omega arith);
-      lambda = e;
-      next = moved-behind (S .n) (S .x) delta;
-    }))))
-
-within-yields : (S : Standing) (radius : Scalar) (delta lambda : List Float) (m : ℕ) → ZeroBehind 24 (2 * m) lambda
-    → Yields (ProposalBehind (S .n) m) (withinOf S radius delta lambda)
-unfolding withinOf shortenedOf
-within-yields S radius delta lambda m e =
-    yields-bind (norm-yields (at delta) (S .n))
-    (λ l p.
-    yields-pick (definitelyGreater l radius)
-    (yields-bind (div-yields radius l)
-    (λ s q. yields-bind (expects-yields S _) (λ d r. yields-pick d (trial-yields S _ lambda m e) (gives tt))))
-    (trial-yields S delta lambda m e))
-
-pub proposal-behind : (S : Standing) (mu radius : Scalar)
-    → Yields (ProposalBehind (S .n) (S .e .constraints .count)) (proposalOf S mu radius)
-unfolding proposalOf
-proposal-behind S mu radius = yields-bind (step-yields (S .n) (S .e) (S .b) (S .moving) mu) (λ s p. proposed s p)
-  where
-    proposed : (s : Stepped) → SteppedBehind (S .e .constraints .count) s
-        → Yields (ProposalBehind (S .n) (S .e .constraints .count)) (proposedBy S radius s)
-    proposed (found s) p =
-        yields-bind (expects-yields S (s .delta))
-        (λ d q. yields-pick d (within-yields S radius (s .delta) (s .lambda) (S .e .constraints .count) p) (gives tt))
-    proposed notPositive p = gives tt
-
--- of these the sizes alone: the trial's lists fill their slots
+-- the trial's lists are vectors
 pub record TrialSized (t : Trial) : Type 0 where
   pub delta-size : Long 24 (t .delta)
   pub lambda-size : Long 24 (t .lambda)
@@ -416,15 +326,51 @@ ProposalSized unresolved = Unit
 ProposalSized noChange = Unit
 ProposalSized (ask t) = TrialSized t
 
+expects-yields : (S : Standing) (delta : List Float) → Yields Any (expectsOf S delta)
+unfolding expectsOf
+expects-yields S delta =
+    let drop = subOf (subOf (S .f) (squaredOf (S .e .sum) delta (S .n))) (curvatureAlong (S .n) (S .b) delta) in
+    yields-pick (definitelyGreater drop zeroS) (gives tt)
+    (yields-bind (predicted-yields (S .e .constraints) delta) (λ v p. gives tt))
+
+trial-yields : (S : Standing) (step lambda : List Float) → Long 24 lambda
+    → Yields ProposalSized (trialOf S step lambda)
+unfolding trialOf
+trial-yields S step lambda e =
+    let delta = chosenOf vector step 0 (S .n) in
+    let next = movedOf (S .n) (S .x) delta in
+    yields-bind (predicted-yields (S .e .constraints) delta)
+    (λ v p.
+    yields-pick (sameOf (S .n) next (S .x)) (gives tt)
+    (yields-bind (norm-yields (at delta) (S .n))
+    (λ t q.
+    gives {x = ask (record { delta = delta; lambda = lambda; next = next; predicted = v; tried = t })}
+    (record {
+      delta-size = length-fillTo vector 0 _ (S .n) ∙ length-vector;
+      lambda-size = e;
+      next-size = length-moved (S .n) (S .x) delta;
+    }))))
+
+within-yields : (S : Standing) (radius : Scalar) (delta lambda : List Float) → Long 24 lambda
+    → Yields ProposalSized (withinOf S radius delta lambda)
+unfolding withinOf shortenedOf
+within-yields S radius delta lambda e =
+    yields-bind (norm-yields (at delta) (S .n))
+    (λ l p.
+    yields-pick (definitelyGreater l radius)
+    (yields-bind (div-yields radius l)
+    (λ s q. yields-bind (expects-yields S _) (λ d r. yields-pick d (trial-yields S _ lambda e) (gives tt))))
+    (trial-yields S delta lambda e))
+
 pub proposal-yields : (S : Standing) (mu radius : Scalar) → Yields ProposalSized (proposalOf S mu radius)
-proposal-yields S mu radius = yields-map sized (proposal-behind S mu radius)
+unfolding proposalOf
+proposal-yields S mu radius = yields-bind (step-yields (S .n) (S .e) (S .b) (S .moving) mu) (λ s p. proposed s p)
   where
-    sized : (p : Proposal) → ProposalBehind (S .n) (S .e .constraints .count) p → ProposalSized p
-    sized proposal.notPositive t = tt
-    sized (noDrop r) t = tt
-    sized unresolved t = tt
-    sized noChange t = tt
-    sized (ask x) t = record { delta-size = t .delta .long; lambda-size = t .lambda .long; next-size = t .next .long }
+    proposed : (s : Stepped) → SteppedSized s → Yields ProposalSized (proposedBy S radius s)
+    proposed (found s) p =
+        yields-bind (expects-yields S (s .delta))
+        (λ d q. yields-pick d (within-yields S radius (s .delta) (s .lambda) p) (gives tt))
+    proposed notPositive p = gives tt
 
 -- ---- what follows an answer
 
@@ -448,39 +394,25 @@ pub shift-yields : (moving : List Bool) (c : Rows) → Yields Any (shiftOf movin
 unfolding shiftOf
 shift-yields moving c = yields-bind (minus-solved-yields (c .count) (c .n) _ _ _) (λ d p. gives tt)
 
--- the point that a shift leads to, with n variables
-abbrev pub ShiftBehind : ℕ → Shift → Type 0
-ShiftBehind n (to next) = ZeroBehind 24 (2 * n) next
-ShiftBehind n stay = Unit
-
-pub shifted-behind : (moving : List Bool) (c : Rows) (landed : List Float)
-    → Yields (ShiftBehind (c .n)) (shiftFrom moving c landed)
-unfolding shiftFrom
-shifted-behind moving c landed =
-    yields-bind (shift-yields moving c)
-    (λ d p.
-    gives
-    (either (allFinite d 12) (sameOf (c .n) (movedOf (c .n) landed d) landed) (movedOf (c .n) landed d)
-    (moved-behind (c .n) landed d)))
-  where
-    either : (a b : Bool) (next : List Float) → ZeroBehind 24 (2 * c .n) next
-        → ShiftBehind (c .n) (pick a (pick b stay (to next)) stay)
-    either true true next e = tt
-    either true false next e = e
-    either false b next e = tt
-
--- of it the size alone
+-- the point that a shift leads to is a vector
 abbrev pub ShiftSized : Shift → Type 0
 ShiftSized (to next) = Long 24 next
 ShiftSized stay = Unit
 
 pub shifted-yields : (moving : List Bool) (c : Rows) (landed : List Float)
     → Yields ShiftSized (shiftFrom moving c landed)
-shifted-yields moving c landed = yields-map sized (shifted-behind moving c landed)
+unfolding shiftFrom
+shifted-yields moving c landed =
+    yields-bind (shift-yields moving c)
+    (λ d p.
+    gives
+    (either (allFinite d 12) (sameOf (c .n) (movedOf (c .n) landed d) landed) (movedOf (c .n) landed d)
+    (length-moved (c .n) landed d)))
   where
-    sized : (s : Shift) → ShiftBehind (c .n) s → ShiftSized s
-    sized (to next) t = t .long
-    sized stay t = tt
+    either : (a b : Bool) (next : List Float) → Long 24 next → ShiftSized (pick a (pick b stay (to next)) stay)
+    either true true next e = tt
+    either true false next e = e
+    either false b next e = tt
 
 along-yields : (c : Rows) (v : List Float) → Yields Any (alongOf c v)
 unfolding alongOf
@@ -490,41 +422,27 @@ summed : (a : Scalar) {x : Res Scalar} → Yields Any x → Yields Any (chosenSu
 summed a (gives p) = gives tt
 summed a (refuses p) = refuses p
 
--- what every store among its entries keeps, the update of the curvature keeps
-module _ (P : List Float → Type 0) (n : ℕ)
-    (keeps : (c : List Float) (p : ℕ) (v : Scalar) → p < n * n → P c → P (put c p v)) where
-  corrected-keeps : (b y bs s : List Float) → P b → Yields P (correctedBy n b y bs s)
+-- the update of the curvature keeps its length
+module _ (k n : ℕ) where
+  corrected-yields : (b y bs s : List Float) → Long k b → Yields (Long k) (correctedBy n b y bs s)
   unfolding correctedBy rankOneOf rankOneStep
-  corrected-keeps b y bs s e =
+  corrected-yields b y bs s e =
       let v = fillTo vector 0 (λ i. chooseOf (subOf (at y i) (at bs i))) n in
       let vs = chooseOf (dotTo (at v) (at s) n) in
       yields-pick (definitelyNotEqual vs zeroS)
-      (yields-fold-below (rankOneStep n v vs) b (curvatureEntries n) e
-      (λ c p l q. store-yields c p (λ a. keeps c p a l q) (summed (at c p) (div-yields _ _))))
+      (yields-fold (rankOneStep n v vs) b (curvatureEntries n) e
+      (λ c p q. store-yields c p (λ a. length-put c p a ∙ q) (summed (at c p) (div-yields _ _))))
       (gives e)
 
-  curvature-keeps : (b step : List Float) (e e′ : Evaluation) (lambda : List Float) → P b
-      → Yields P (updateCurvature n b step e e′ lambda)
+  pub curvature-yields : (b step : List Float) (e e′ : Evaluation) (lambda : List Float) → Long k b
+      → Yields (Long k) (updateCurvature n b step e e′ lambda)
   unfolding updateCurvature updatedBy
-  curvature-keeps b step e e′ lambda h =
+  curvature-yields b step e e′ lambda h =
       yields-bind (along-yields (e .constraints) step) (λ s p. updated (lagrangianChange n e e′ lambda) s)
     where
-      updated : (y s : List Float) → Yields P (updatedBy n (e .constraints) b y s)
+      updated : (y s : List Float) → Yields (Long k) (updatedBy n (e .constraints) b y s)
       updated y s =
           yields-pick (definitelyNotEqual
           (subOf (dotTo (at y) (at s) n) (dotTo (at (curvatureTimes n b s)) (at s) n)) zeroS)
-          (yields-bind (along-yields (e .constraints) y) (λ y′ q. corrected-keeps b y′ (curvatureTimes n b s) s h))
+          (yields-bind (along-yields (e .constraints) y) (λ y′ q. corrected-yields b y′ (curvatureTimes n b s) s h))
           (gives h)
-
--- the curvature keeps its length
-pub curvature-yields : (k n : ℕ) (b step : List Float) (e e′ : Evaluation) (lambda : List Float) → Long k b
-    → Yields (Long k) (updateCurvature n b step e e′ lambda)
-curvature-yields k n b step e e′ lambda h =
-    curvature-keeps (Long k) n (λ c p v l q. length-put c p v ∙ q) b step e e′ lambda h
-
--- and the +0 behind its entries
-pub curvature-behind : (k n : ℕ) (b step : List Float) (e e′ : Evaluation) (lambda : List Float)
-    → ZeroBehind k (2 * (n * n)) b
-    → Yields (ZeroBehind k (2 * (n * n))) (updateCurvature n b step e e′ lambda)
-curvature-behind k n b step e e′ lambda h =
-    curvature-keeps (ZeroBehind k (2 * (n * n))) n (λ c p v l q. behind-put q p v (omega arith)) b step e e′ lambda h

@@ -16,7 +16,7 @@ use Rattle.linear.specs.Cholesky.{marksTo}
 use Rattle.linear.specs.Flat.{at, along}
 use Rattle.linear.proofs.Marks.{is-marksTo}
 use Rattle.linear.proofs.Sums.{along-row}
-use Rattle.run.specs.Rows.{Rows, constraintSet, sumSet, slopeAt, slopesOf, slopesBy}
+use Rattle.run.specs.Rows.{Rows, rowNumbers, constraintSet, sumSet, slopeAt, slopesOf, slopesBy}
 use Rattle.run.specs.program.Rows.{Small, FewRows}
 use Rattle.run.specs.declared.rows.RowCounts.{RowCounts}
 
@@ -26,6 +26,13 @@ few h k = mul-le-mul h k
 
 pub few-rows : {m n : ℕ} → m ≤ 12 → n ≤ 12 → m * (n + 1) ≤ 156
 few-rows {m} {n} h k = mul-le-mul {n₁ = m} {m₁ = n + 1} {n₂ = 12} {m₂ = 13} h (omega arith)
+
+-- the values of the constraints are among the numbers of an answer
+pub rows-enough : (c : RowCounts) → 2 * c .m ≤ rowNumbers c
+rows-enough c =
+    let h : c .m + c .s ≤ c .m + c .s = omega arith in
+    let k : 1 ≤ c .n + 1 = omega arith in
+    omega (arith, mul-le-mul {n₁ = c .m + c .s} {m₁ = 1} {n₂ = c .m + c .s} {m₂ = c .n + 1} h k)
 
 pub constraints-small : {c : RowCounts} → FewRows c → Small (constraintSet c)
 constraints-small f =

@@ -23,7 +23,7 @@ abbrev pub fromStanding : State → Memory → (Scalar → AfterSlots) → After
 fromStanding st w next = orRefuse st w (violationOf (standingAt st w .constraints)) next
 
 unfoldable pub started : State → Memory → List Float → AfterSlots
-started st w rows = iterate (moves st (movingOf (st .sizes .n) (rowsAt st rows))) (withStart w rows)
+started st w rows = iterate (moves st (movingOf (st .sizes .n) (rowsAt st rows))) (withStart st w rows)
 
 abbrev pub answered : Kind → State → Memory → List Float → AfterSlots
 answered kind.Start st w rows = started st w rows

@@ -1,21 +1,73 @@
 -- The work area (PROTOCOL, Area): 8,000 numbers in slots. A slot's used places are from its start; all else is +0
--- after a call.
+-- after a call. How many numbers each slot has and in which order they stand is said here, once.
 use Prim.Native.Nat.{ℕ, _+_, _-_, _*_, zero, suc}
 use mathlib.Core.Bool.{Bool, true, false}
 use mathlib.Core.List.{List, _++_, [], _∷_}
+use mathlib.Core.Path.{_≡_}
 use lib.Ieee.{Float}
 use lib.ListN.{length, take, drop, getD}
 use Rattle.interval.specs.Scalar.{pick}
 use Rattle.linear.specs.Flat.{zeros}
 use Rattle.run.specs.Curvature.{curvatureEntries}
+use Rattle.run.specs.Limits.{AREA}
 use Rattle.run.specs.Rows.{rowNumbers, Evaluation, evaluationOf, rowCounts}
 use Rattle.run.specs.declared.rows.RowCounts.{RowCounts}
 use Rattle.run.specs.declared.state.Kind.the-variants as kind
 use Rattle.run.specs.declared.state.Phase.{Phase}
 use Rattle.run.specs.declared.state.Phase.the-variants.{Open, Over}
+use Rattle.run.specs.declared.state.Sizes.{Sizes}
 use Rattle.run.specs.declared.state.State.{State}
 
--- how many numbers each slot has
+-- ---- the slots
+
+-- something for each slot: its size, its place, the numbers it holds
+pub record Slots (A : Type 0) : Type 0 where
+  pub standing : A
+  pub landed : A
+  pub asked : A
+  pub standingRows : A
+  pub landedRows : A
+  pub step : A
+  pub multipliers : A
+  pub curvature : A
+  pub filter : A
+
+-- the order in which they stand in the area, and the number of each in it
+abbrev pub inOrder : {A : Type 0} → Slots A → List A
+inOrder x =
+    x .standing ∷ x .landed ∷ x .asked ∷ x .standingRows ∷ x .landedRows ∷ x .step ∷ x .multipliers ∷ x .curvature
+    ∷ x .filter ∷ []
+
+abbrev pub indices : Slots ℕ
+indices = record {
+  standing = 0;
+  landed = 1;
+  asked = 2;
+  standingRows = 3;
+  landedRows = 4;
+  step = 5;
+  multipliers = 6;
+  curvature = 7;
+  filter = 8;
+}
+
+-- from what two have for a slot
+abbrev pub eachSlot : {A B C : Type 0} → (A → B → C) → Slots A → Slots B → Slots C
+eachSlot f x y = record {
+  standing = f (x .standing) (y .standing);
+  landed = f (x .landed) (y .landed);
+  asked = f (x .asked) (y .asked);
+  standingRows = f (x .standingRows) (y .standingRows);
+  landedRows = f (x .landedRows) (y .landedRows);
+  step = f (x .step) (y .step);
+  multipliers = f (x .multipliers) (y .multipliers);
+  curvature = f (x .curvature) (y .curvature);
+  filter = f (x .filter) (y .filter);
+}
+
+-- ---- the layout, by the sizes of the run
+
+-- how many numbers a point, an answer's rows, the curvature and the filter have at most
 abbrev pub POINT-LEN : ℕ
 POINT-LEN = 24
 
@@ -28,65 +80,87 @@ CURVATURE-LEN = 288
 abbrev pub FILTER-LEN : ℕ
 FILTER-LEN = 800
 
-abbrev pub SPARE-LEN : ℕ
-SPARE-LEN = 4920
+-- how many numbers each slot has
+abbrev pub slotSizes : Sizes → Slots ℕ
+slotSizes z = record {
+  standing = POINT-LEN;
+  landed = POINT-LEN;
+  asked = POINT-LEN;
+  standingRows = ROWS-LEN;
+  landedRows = ROWS-LEN;
+  step = POINT-LEN;
+  multipliers = POINT-LEN;
+  curvature = CURVATURE-LEN;
+  filter = FILTER-LEN;
+}
 
--- where each slot begins, the standing point's at 0, and what is behind them
-abbrev pub STANDING-AT : ℕ
-STANDING-AT = 0
+-- where slot k of so many numbers each begins: they stand one behind the other
+unfoldable pub startOf : List ℕ → ℕ → ℕ
+startOf sizes zero = 0
+startOf sizes (suc k) = startOf sizes k + getD sizes k 0
 
-abbrev pub LANDED-AT : ℕ
-LANDED-AT = 24
+abbrev pub startIn : Sizes → ℕ → ℕ
+startIn z k = startOf (inOrder (slotSizes z)) k
 
-abbrev pub ASKED-AT : ℕ
-ASKED-AT = 48
+-- where each begins
+abbrev pub placesOf : Sizes → Slots ℕ
+placesOf z = record {
+  standing = startIn z (indices .standing);
+  landed = startIn z (indices .landed);
+  asked = startIn z (indices .asked);
+  standingRows = startIn z (indices .standingRows);
+  landedRows = startIn z (indices .landedRows);
+  step = startIn z (indices .step);
+  multipliers = startIn z (indices .multipliers);
+  curvature = startIn z (indices .curvature);
+  filter = startIn z (indices .filter);
+}
 
-abbrev pub STANDING-ROWS-AT : ℕ
-STANDING-ROWS-AT = 72
+-- how many numbers the area has, and where the last ones begin, which are in no slot
+abbrev pub areaLength : Sizes → ℕ
+areaLength z = AREA
 
-abbrev pub LANDED-ROWS-AT : ℕ
-LANDED-ROWS-AT = 1008
+abbrev pub spareAt : Sizes → ℕ
+spareAt z = startIn z 9
 
-abbrev pub STEP-AT : ℕ
-STEP-AT = 1944
+-- where the point begins that a caller reads: the asked one, or with no question open the standing one
+abbrev pub pointAt : Sizes → Phase → ℕ
+pointAt z (Open k) = placesOf z .asked
+pointAt z Over = placesOf z .standing
 
-abbrev pub MULTIPLIERS-AT : ℕ
-MULTIPLIERS-AT = 1968
+-- an area with room for a run of these sizes
+abbrev pub HasRoom : Sizes → List Float → Type 0
+HasRoom z a = length a ≡ areaLength z
 
-abbrev pub CURVATURE-AT : ℕ
-CURVATURE-AT = 1992
+-- ---- what is in use
 
-abbrev pub FILTER-AT : ℕ
-FILTER-AT = 2280
+-- the counts of the standing answer, and of the landed one, which a reply brings: both are the run's
+abbrev pub standingCounts : State → RowCounts
+standingCounts st = rowCounts (st .sizes)
 
-abbrev pub SPARE-AT : ℕ
-SPARE-AT = 3080
+abbrev pub landedCounts : State → RowCounts
+landedCounts st = rowCounts (st .sizes)
 
--- what the area holds, slot by slot; each list has its slot's length
-pub record Memory : Type 0 where
-  pub standing : List Float
-  pub landed : List Float
-  pub asked : List Float
-  pub standingRows : List Float
-  pub landedRows : List Float
-  pub step : List Float
-  pub multipliers : List Float
-  pub curvature : List Float
-  pub filter : List Float
+-- how many pairs the filter has: one for each point that stood before
+abbrev pub pairsIn : State → ℕ
+pairsIn st = st .counts .iterations
 
--- the area, number by number
-unfoldable pub areaOf : Memory → List Float
-areaOf w =
-    w .standing ++ (w .landed ++ (w .asked ++ (w .standingRows ++ (w .landedRows ++ (w .step
-    ++ (w .multipliers ++ (w .curvature ++ (w .filter ++ zeros SPARE-LEN))))))))
+-- how many numbers of each slot its contents have
+abbrev pub usedNumbers : ℕ → RowCounts → RowCounts → ℕ → Slots ℕ
+usedNumbers n standing landed pairs = record {
+  standing = 2 * n;
+  landed = 2 * n;
+  asked = 2 * n;
+  standingRows = rowNumbers standing;
+  landedRows = rowNumbers landed;
+  step = 2 * n;
+  multipliers = 2 * standing .m;
+  curvature = 2 * curvatureEntries n;
+  filter = 4 * pairs;
+}
 
--- xs, and +0 behind it
-abbrev pub padded : ℕ → List Float → List Float
-padded size xs = xs ++ zeros (size - length xs)
-
--- what is used of a slot: so many numbers from its start, or none where it is not in use
-abbrev pub usedOf : List Float → ℕ → ℕ → Bool → ℕ → List Float
-usedOf a base size inUse count = padded size (take (pick inUse count 0) (drop base a))
+abbrev pub numbersIn : State → Slots ℕ
+numbersIn st = usedNumbers (st .sizes .n) (standingCounts st) (landedCounts st) (pairsIn st)
 
 -- which slots are in use: the asked point while a question is open; standing rows, curvature and filter, step and
 -- multipliers while a trial or correction is; the landed point and rows while a correction is
@@ -106,95 +180,116 @@ isCorrected (Open kind.Trial) = false
 isCorrected (Open kind.Correction) = true
 isCorrected Over = false
 
--- the counts of the standing answer, and of the landed one, which a reply brings: both are the run's
-abbrev pub standingCounts : State → RowCounts
-standingCounts st = rowCounts (st .sizes)
+abbrev pub inUse : Phase → Slots Bool
+inUse p = record {
+  standing = true;
+  landed = isCorrected p;
+  asked = isOpen p;
+  standingRows = isTried p;
+  landedRows = isCorrected p;
+  step = isTried p;
+  multipliers = isTried p;
+  curvature = isTried p;
+  filter = isTried p;
+}
 
-abbrev pub landedCounts : State → RowCounts
-landedCounts st = rowCounts (st .sizes)
+-- how many numbers of each slot are in use between two calls
+abbrev pub usedIn : State → Slots ℕ
+usedIn st = eachSlot (λ (used : Bool) (count : ℕ). pick used count 0) (inUse (st .phase)) (numbersIn st)
+
+-- ---- the memory of a run: the numbers in use, slot by slot
+
+abbrev pub Memory : Type 0
+Memory = Slots (List Float)
+
+-- so many numbers of an area from a place on
+abbrev pub partOf : List Float → ℕ → ℕ → List Float
+partOf a place count = take count (drop place a)
 
 -- a call reads the used places as they stand
 unfoldable pub memoryOf : State → List Float → Memory
-memoryOf st a =
-    let n = st .sizes .n in
-    let tried = isTried (st .phase) in
-    let corrected = isCorrected (st .phase) in
-    record {
-      standing = usedOf a STANDING-AT POINT-LEN true (2 * n);
-      landed = usedOf a LANDED-AT POINT-LEN corrected (2 * n);
-      asked = usedOf a ASKED-AT POINT-LEN (isOpen (st .phase)) (2 * n);
-      standingRows = usedOf a STANDING-ROWS-AT ROWS-LEN tried (rowNumbers (standingCounts st));
-      landedRows = usedOf a LANDED-ROWS-AT ROWS-LEN corrected (rowNumbers (landedCounts st));
-      step = usedOf a STEP-AT POINT-LEN tried (2 * n);
-      multipliers = usedOf a MULTIPLIERS-AT POINT-LEN tried (2 * standingCounts st .m);
-      curvature = usedOf a CURVATURE-AT CURVATURE-LEN tried (2 * curvatureEntries n);
-      filter = usedOf a FILTER-AT FILTER-LEN tried (4 * st .counts .iterations);
-    }
+memoryOf st a = eachSlot (partOf a) (placesOf (st .sizes)) (usedIn st)
+
+-- xs, and +0 behind it
+abbrev pub padded : ℕ → List Float → List Float
+padded size xs = xs ++ zeros (size - length xs)
+
+-- lists one behind the other, and an end
+abbrev pub joined : List (List Float) → List Float → List Float
+joined [] end = end
+joined (x ∷ xs) end = x ++ joined xs end
+
+-- the area, number by number: each slot's numbers with +0 behind them, and +0 in the last numbers
+abbrev pub paddedSlots : Sizes → Memory → Memory
+paddedSlots z w = eachSlot padded (slotSizes z) w
+
+unfoldable pub areaOf : Sizes → Memory → List Float
+areaOf z w = joined (inOrder (paddedSlots z w)) (zeros (areaLength z - spareAt z))
 
 -- ---- how a call changes it
 
 -- after a begin: the start point stands and is asked
 abbrev pub begunMemory : List Float → Memory
 begunMemory start = record {
-  standing = padded POINT-LEN start;
-  landed = zeros POINT-LEN;
-  asked = padded POINT-LEN start;
-  standingRows = zeros ROWS-LEN;
-  landedRows = zeros ROWS-LEN;
-  step = zeros POINT-LEN;
-  multipliers = zeros POINT-LEN;
-  curvature = zeros CURVATURE-LEN;
-  filter = zeros FILTER-LEN;
+  standing = start;
+  landed = [];
+  asked = start;
+  standingRows = [];
+  landedRows = [];
+  step = [];
+  multipliers = [];
+  curvature = [];
+  filter = [];
 }
 
 -- after a finish, or refusal 5 or 6: only the standing point
 abbrev pub onlyStanding : Memory → Memory
 onlyStanding w = record {
   standing = w .standing;
-  landed = zeros POINT-LEN;
-  asked = zeros POINT-LEN;
-  standingRows = zeros ROWS-LEN;
-  landedRows = zeros ROWS-LEN;
-  step = zeros POINT-LEN;
-  multipliers = zeros POINT-LEN;
-  curvature = zeros CURVATURE-LEN;
-  filter = zeros FILTER-LEN;
+  landed = [];
+  asked = [];
+  standingRows = [];
+  landedRows = [];
+  step = [];
+  multipliers = [];
+  curvature = [];
+  filter = [];
 }
 
--- a start's answer
-abbrev pub withStart : Memory → List Float → Memory
-withStart w rows = record {
+-- a start's answer: its rows, and +0 for all numbers of the curvature and of the filter, which has none in a new run
+abbrev pub withStart : State → Memory → List Float → Memory
+withStart st w rows = record {
   standing = w .standing;
-  landed = zeros POINT-LEN;
-  asked = zeros POINT-LEN;
-  standingRows = padded ROWS-LEN rows;
-  landedRows = zeros ROWS-LEN;
-  step = zeros POINT-LEN;
-  multipliers = zeros POINT-LEN;
-  curvature = zeros CURVATURE-LEN;
-  filter = zeros FILTER-LEN;
+  landed = [];
+  asked = [];
+  standingRows = rows;
+  landedRows = [];
+  step = [];
+  multipliers = [];
+  curvature = zeros (numbersIn st .curvature);
+  filter = zeros (numbersIn st .filter);
 }
 
--- a trial asked: nothing has landed
-abbrev pub withTrial : Memory → List Float → List Float → List Float → Memory
-withTrial w next delta lambda = record {
+-- a trial asked, with the point it leads to, its step and its multipliers: nothing has landed
+abbrev pub withTrial : State → Memory → List Float → List Float → List Float → Memory
+withTrial st w next delta lambda = record {
   standing = w .standing;
-  landed = zeros POINT-LEN;
-  asked = next;
+  landed = [];
+  asked = take (numbersIn st .asked) next;
   standingRows = w .standingRows;
-  landedRows = zeros ROWS-LEN;
-  step = delta;
-  multipliers = lambda;
+  landedRows = [];
+  step = take (numbersIn st .step) delta;
+  multipliers = take (numbersIn st .multipliers) lambda;
   curvature = w .curvature;
   filter = w .filter;
 }
 
 -- a correction asked
-abbrev pub withAsked : Memory → List Float → Memory
-withAsked w next = record {
+abbrev pub withAsked : State → Memory → List Float → Memory
+withAsked st w next = record {
   standing = w .standing;
   landed = w .landed;
-  asked = next;
+  asked = take (numbersIn st .asked) next;
   standingRows = w .standingRows;
   landedRows = w .landedRows;
   step = w .step;
@@ -210,7 +305,7 @@ withLanded w rows step = record {
   landed = w .asked;
   asked = w .asked;
   standingRows = w .standingRows;
-  landedRows = padded ROWS-LEN rows;
+  landedRows = rows;
   step = step;
   multipliers = w .multipliers;
   curvature = w .curvature;
@@ -231,31 +326,6 @@ withTaken w curvature filter = record {
   filter = filter;
 }
 
-abbrev pub SIZES : List ℕ
-SIZES =
-    POINT-LEN ∷ POINT-LEN ∷ POINT-LEN ∷ ROWS-LEN ∷ ROWS-LEN ∷ POINT-LEN ∷ POINT-LEN ∷ CURVATURE-LEN ∷ FILTER-LEN ∷ []
-
--- how many numbers of each slot are in use
-abbrev pub usedIn : State → List ℕ
-usedIn st =
-    let n = st .sizes .n in
-    let tried = isTried (st .phase) in
-    let corrected = isCorrected (st .phase) in
-    2 * n
-    ∷ pick corrected (2 * n) 0
-    ∷ pick (isOpen (st .phase)) (2 * n) 0
-    ∷ pick tried (rowNumbers (standingCounts st)) 0
-    ∷ pick corrected (rowNumbers (landedCounts st)) 0
-    ∷ pick tried (2 * n) 0
-    ∷ pick tried (2 * standingCounts st .m) 0
-    ∷ pick tried (2 * curvatureEntries n) 0
-    ∷ pick tried (4 * st .counts .iterations) 0 ∷ []
-
--- where slot k begins
-unfoldable pub startOf : List ℕ → ℕ → ℕ
-startOf sizes zero = 0
-startOf sizes (suc k) = startOf sizes k + getD sizes k 0
-
 -- ---- what it reads: the rows of the standing point, those that a reply brings, and those of the landed point
 
 abbrev pub standingAt : State → Memory → Evaluation
@@ -269,4 +339,4 @@ landedAt st w = rowsAt st (w .landedRows)
 
 -- the curvature that a proposal goes by: none in plain
 abbrev pub curvatureOf : State → Memory → List Float
-curvatureOf st w = pick (st .search .plain) (zeros CURVATURE-LEN) (w .curvature)
+curvatureOf st w = pick (st .search .plain) (zeros (numbersIn st .curvature)) (w .curvature)

@@ -6,15 +6,15 @@ use mathlib.Core.List.{List, []}
 use mathlib.Core.Path.{_≡_}
 use lib.Dec.{T, leb, eqb}
 use lib.Ieee.{Float}
-use lib.ListN.{length, take, drop}
+use lib.ListN.{length}
 use Rattle.interval.specs.Scalar.{pick}
 use Rattle.interval.specs.declared.Scalar.{Scalar}
 use Rattle.run.specs.Answered.{answered, answeredNone}
-use Rattle.run.specs.Area.{areaOf, begunMemory, memoryOf, ASKED-AT, landedCounts}
+use Rattle.run.specs.Area.{areaOf, begunMemory, memoryOf, areaLength, pointAt, landedCounts}
+use Rattle.run.specs.Area.{numbersIn, partOf}
 use Rattle.run.specs.Checks.{sizesFit, allInDomain, stepFits, valid}
 use Rattle.run.specs.Damping.{firstMu}
 use Rattle.run.specs.Endings.{AfterSlots}
-use Rattle.run.specs.Limits.{AREA}
 use Rattle.run.specs.Rows.{rowNumbers}
 use Rattle.run.specs.State.{stateWith, noRun}
 use Rattle.run.specs.declared.state.Event.{Event}
@@ -42,7 +42,7 @@ abbrev pub unchanged : State → List Float → ℕ → AfterCall
 unchanged st a k = record { state = st; event = event.Refused k; area = a }
 
 abbrev pub inArea : AfterSlots → AfterCall
-inArea o = record { state = o .state; event = o .event; area = areaOf (o .memory) }
+inArea o = record { state = o .state; event = o .event; area = areaOf (o .state .sizes) (o .memory) }
 
 -- a refusal by 1 to 4: by a check, before anything is worked out
 abbrev pub refusedByCheck : Event → Bool
@@ -66,12 +66,12 @@ unfoldable pub beginOf : Sizes → List Float → Scalar → List Float → Afte
 beginOf z start max a =
     let back = unchanged noRun a in
     checks (sizesFit z) 1 back
-    (checks (eqb (length start) (2 * z .n) && eqb (length a) AREA) 2 back
+    (checks (eqb (length start) (2 * z .n) && eqb (length a) (areaLength z)) 2 back
     (checks (allInDomain start (z .n) && stepFits max) 3 back
     (record {
       state = stateWith z firstMu max (Open kind.Start);
       event = event.Question 0 kind.Start 0;
-      area = areaOf (begunMemory start);
+      area = areaOf z (begunMemory start);
     })))
 
 -- begun: the first question
@@ -80,7 +80,7 @@ begunOf z start max =
     record {
       state = stateWith z firstMu max (Open kind.Start);
       event = event.Question 0 kind.Start 0;
-      area = areaOf (begunMemory start);
+      area = areaOf z (begunMemory start);
     }
 
 -- a begin that is accepted asks question 0, which is the start's
@@ -93,7 +93,7 @@ abbrev pub replyOpen : State → List Float → List Float → Phase → AfterCa
 replyOpen st a rows Over = unchanged st a 4
 replyOpen st a rows (Open k) =
     let c = landedCounts st in
-    checks (eqb (length a) AREA && eqb (length rows) (rowNumbers c)) 2 (unchanged st a)
+    checks (eqb (length a) (areaLength (st .sizes)) && eqb (length rows) (rowNumbers c)) 2 (unchanged st a)
     (checks (allInDomain rows ((c .m + c .s) * (c .n + 1))) 3 (unchanged st a)
     (inArea (answered k st (memoryOf st a) rows)))
 
@@ -102,16 +102,15 @@ replyOf st a rows = checks (valid st) 4 (unchanged st a) (replyOpen st a rows (s
 
 abbrev pub noneOpen : State → List Float → Phase → AfterCall
 noneOpen st a Over = unchanged st a 4
-noneOpen st a (Open k) = checks (eqb (length a) AREA) 2 (unchanged st a) (inArea (answeredNone k st (memoryOf st a)))
+noneOpen st a (Open k) =
+    checks (eqb (length a) (areaLength (st .sizes))) 2 (unchanged st a) (inArea (answeredNone k st (memoryOf st a)))
 
 unfoldable pub replyNoneOf : State → List Float → AfterCall
 replyNoneOf st a = checks (valid st) 4 (unchanged st a) (noneOpen st a (st .phase))
 
 -- ---- the point: the asked one, or with no question open the standing one
 
-abbrev pub pointAt : Phase → ℕ
-pointAt (Open k) = ASKED-AT
-pointAt Over = 0
-
 unfoldable pub pointOf : State → List Float → List Float
-pointOf st a = pick (valid st && eqb (length a) AREA) (take (2 * st .sizes .n) (drop (pointAt (st .phase)) a)) []
+pointOf st a =
+    pick (valid st && eqb (length a) (areaLength (st .sizes)))
+    (partOf a (pointAt (st .sizes) (st .phase)) (numbersIn st .standing)) []

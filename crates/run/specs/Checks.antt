@@ -33,11 +33,18 @@ allInDomain xs count = allTo (λ i. inDomain (at xs i)) count
 
 -- ---- number 4: a run that no call leaves
 
+-- the most turn-downs that a run may have, and the most questions
+abbrev pub mostTurnDowns : State → ℕ
+mostTurnDowns st = TURN-DOWNS * (st .counts .iterations + 1)
+
+abbrev pub mostQuestions : Sizes → ℕ
+mostQuestions z = QUESTIONS * z .limit
+
 abbrev pub countsFit : State → Bool
 countsFit st =
     leb (st .counts .iterations) (st .sizes .limit)
-    && (leb (st .search .«turned_down») (TURN-DOWNS * (st .counts .iterations + 1))
-    && (leb (st .counts .question) (QUESTIONS * st .sizes .limit)
+    && (leb (st .search .«turned_down») (mostTurnDowns st)
+    && (leb (st .counts .question) (mostQuestions (st .sizes))
     && leb (st .counts .corrections) CORRECTIONS))
 
 -- with a trial or correction open, iterations are below the limit; with a question open, mu is finite with 0 < lo ≤ hi

@@ -1,6 +1,6 @@
 -- What a call leaves of the run besides its answer (PROTOCOL, Area and Refusals): an area that is +0
 -- wherever no number is in use or, on a refusal by 1 to 4, the state and the area that were handed in.
-use Prim.Native.Nat.{ℕ, _+_, _-_, _<_, _≤_}
+use Prim.Native.Nat.{ℕ, _+_, _<_, _≤_}
 use mathlib.Core.Bool.{true, false}
 use mathlib.Core.List.{List}
 use mathlib.Core.Path.{_≡_}
@@ -8,19 +8,20 @@ use lib.Ieee.{Float, nan}
 use lib.ListN.{length, getD}
 use Rattle.interval.specs.Scalar.{zero64}
 use Rattle.interval.specs.declared.Scalar.{Scalar}
-use Rattle.run.specs.Area.{SPARE-LEN, SIZES, usedIn, startOf}
+use Rattle.run.specs.Area.{HasRoom, areaLength, slotSizes, usedIn, inOrder, startIn, spareAt}
 use Rattle.run.specs.Calls.{AfterCall, refusedByCheck, Follows, Accepted, beginOf, replyOf, replyNoneOf}
-use Rattle.run.specs.Limits.{AREA}
 use Rattle.run.specs.declared.state.Sizes.{Sizes}
 use Rattle.run.specs.declared.state.State.{State}
 
 -- the area of a run in this state: +0 in slot k behind its numbers in use, which is all of a slot not in use, and +0 in
 -- the last numbers
 pub record Cleared (st : State) (a : List Float) : Type 0 where
-  pub whole : length a ≡ AREA
-  pub remainders : (k j : ℕ) → k < length SIZES → getD (usedIn st) k 0 ≤ j → j < getD SIZES k 0
-      → getD a (startOf SIZES k + j) nan ≡ zero64
-  pub spare : (i : ℕ) → AREA - SPARE-LEN ≤ i → i < AREA → getD a i nan ≡ zero64
+  pub whole : HasRoom (st .sizes) a
+  pub remainders :
+      let sizes = inOrder (slotSizes (st .sizes)) in
+      (k j : ℕ) → k < length sizes → getD (inOrder (usedIn st)) k 0 ≤ j → j < getD sizes k 0 →
+      getD a (startIn (st .sizes) k + j) nan ≡ zero64
+  pub spare : (i : ℕ) → spareAt (st .sizes) ≤ i → i < areaLength (st .sizes) → getD a i nan ≡ zero64
 
 -- what a reply to a run leaves, where the run is the state st and the area a
 pub record Replied (st : State) (a : List Float) (l : AfterCall) : Type 0 where

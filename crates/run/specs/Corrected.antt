@@ -62,7 +62,7 @@ unfoldable pub correct : State → Memory → Scalar → AfterSlots
 correct st w theta = orRefuse st w (shiftFrom (st .moving) (landedAt st w .constraints) (w .landed)) (λ s. shifted s)
   where
     shifted : Shift → AfterSlots
-    shifted (to next) = question st (withAsked w next) kind.Correction (st .counts .corrections)
+    shifted (to next) = question st (withAsked st w next) kind.Correction (st .counts .corrections)
     shifted stay = judge st w theta
 
 -- a trial's rows: corrections only where the violation definitely rose

@@ -6,7 +6,7 @@ use Rattle.interval.specs.Result.{Res, ok, refused}
 use Rattle.interval.specs.Scalar.{degenerate, divOf, sharpen, pick, subOf, mulOf, definitelyGreater, zeroS}
 use Rattle.interval.specs.Scaling.{four64, three64}
 use Rattle.interval.specs.declared.Scalar.{Scalar}
-use Rattle.run.specs.Area.{Memory, landedAt, withTaken, standingAt, curvatureOf}
+use Rattle.run.specs.Area.{Memory, landedAt, withTaken, standingAt, curvatureOf, pairsIn}
 use Rattle.run.specs.Curvature.{learnedOf, updateCurvature}
 use Rattle.run.specs.Damping.{damped, shrunk}
 use Rattle.run.specs.Endings.{AfterSlots, finish, orRefuse}
@@ -71,7 +71,7 @@ take st w theta length =
     orRefuse st w learned
     (λ b.
     iterate (standingOn st length (shrunk (st .search .mu) third) radius)
-    (withTaken w b (filterWith (w .filter) (st .counts .iterations) (sumSquared (standingAt st w .sum)) theta)))))
+    (withTaken w b (filterWith (w .filter) (sumSquared (standingAt st w .sum)) theta)))))
 
 -- ---- the judgement of the landed point
 
@@ -88,6 +88,6 @@ decide st w theta j =
 unfoldable pub judge : State → Memory → Scalar → AfterSlots
 judge st w theta =
     orRefuse st w
-    (judgeOf (st .sizes .n) (standingAt st w) (landedAt st w) theta (w .filter) (st .counts .iterations) (st .last)
+    (judgeOf (st .sizes .n) (standingAt st w) (landedAt st w) theta (w .filter) (pairsIn st) (st .last)
     (w .step))
     (λ j. decide st w theta j)

@@ -10,7 +10,7 @@ use mathlib.Core.Path.{_≡_}
 use lib.Dec.{T, eqb}
 use lib.Ieee.{Float, binary64, fits}
 use lib.IntN.{ℤ}
-use lib.ListN.{length, take}
+use lib.ListN.{length}
 use lib.Signed.{ltZ}
 use Rattle.interval.specs.Result.{ok}
 use Rattle.interval.specs.Scalar.{zeroS, pick, definitelyGreater, subOf}
@@ -18,10 +18,11 @@ use Rattle.interval.specs.Scaling.{third}
 use Rattle.interval.specs.declared.Scalar.{Scalar}
 use Rattle.linear.specs.Squares.{squaresTo, ChosenEach, rescaledAll}
 use Rattle.run.specs.Calls.{AfterCall, replyOf, replyNoneOf, pointOf, Accepted, beginOf}
-use Rattle.run.specs.Checks.{allInDomain, valid}
+use Rattle.run.specs.Checks.{allInDomain, valid, mostQuestions}
+use Rattle.run.specs.Area.{areaLength, placesOf, partOf}
 use Rattle.run.specs.Damping.{firstMu}
 use Rattle.run.specs.Judgement.{sumChange, indefinite, contracts}
-use Rattle.run.specs.Limits.{AREA, TURN-DOWNS, QUESTIONS}
+use Rattle.run.specs.Limits.{TURN-DOWNS}
 use Rattle.run.specs.Residuals.{violationOf}
 use Rattle.run.specs.Rows.{rowNumbers, Rows, valueAt, constraintsOf, sumOf, rowCounts}
 use Rattle.run.specs.declared.state.Event.{Event}
@@ -52,9 +53,9 @@ pub data Call : Type 0 where
 -- another area is lent only to a call that is refused for its length, that of the area or that of the rows
 abbrev pub Allowed : Sizes → Call → Type 0
 Allowed z (rows same xs f) = Unit
-Allowed z (rows (other a) xs f) = (length a ≢ AREA) ⊎ (length xs ≢ rowNumbers (rowCounts z))
+Allowed z (rows (other a) xs f) = (length a ≢ areaLength z) ⊎ (length xs ≢ rowNumbers (rowCounts z))
 Allowed z (none same) = Unit
-Allowed z (none (other a)) = length a ≢ AREA
+Allowed z (none (other a)) = length a ≢ areaLength z
 
 -- state and area, as the caller holds them
 pub record Run : Type 0 where
@@ -248,11 +249,11 @@ pub record Between (z : Sizes) (h : History) (r : Run) : Type 0 where
   pub limited : h .changes ≤ z .limit
   -- at most 1,100 (iterations + 1) turn-downs, and question numbers within 5,500 times the limit
   pub few-turn-downs : r .state .search .«turned_down» ≤ TURN-DOWNS * (h .changes + 1)
-  pub few-questions : r .state .counts .question ≤ QUESTIONS * z .limit
+  pub few-questions : r .state .counts .question ≤ mostQuestions z
   -- number 4 does not refuse the run as altered
   pub sound : valid (r .state) ≡ true
   -- the standing slot holds the point that was asked under the standing number
-  pub standing-point : take (2 * z .n) (r .area) ≡ h .points (h .standing)
+  pub standing-point : partOf (r .area) (placesOf z .standing) (2 * z .n) ≡ h .points (h .standing)
 
 -- of one call in the list: h and r before it, h′ after it, p what it left
 pub record Claim (z : Sizes) (h h′ : History) (r : Run) (p : CallResult) : Type 0 where

@@ -1,11 +1,11 @@
 -- The filter (PROTOCOL, An iteration): f and the violation of every point that stood before.
 use Prim.Native.Nat.{ℕ, _*_, _+_}
 use mathlib.Core.Bool.{Bool, _||_}
-use mathlib.Core.List.{List}
+use mathlib.Core.List.{List, _∷_, [], _++_}
 use lib.Ieee.{Float}
 use Rattle.interval.specs.Scalar.{definitelyLess}
 use Rattle.interval.specs.declared.Scalar.{Scalar}
-use Rattle.linear.specs.Flat.{at, put}
+use Rattle.linear.specs.Flat.{at}
 use Rattle.run.specs.Vectors.{allTo}
 
 -- the filter: pair i is f and then the violation of the i-th point that stood before the present one
@@ -21,5 +21,8 @@ beatsTo filter f theta count =
     allTo (λ i. definitelyLess f (filterSum filter i) || definitelyLess theta (filterViolation filter i)) count
 
 -- the filter with the pair of the point that stood, behind those before it
-unfoldable pub filterWith : List Float → ℕ → Scalar → Scalar → List Float
-filterWith filter count f theta = put (put filter (2 * count) f) (2 * count + 1) theta
+abbrev pub pairNumbers : Scalar → Scalar → List Float
+pairNumbers f theta = f .lo ∷ f .hi ∷ theta .lo ∷ theta .hi ∷ []
+
+unfoldable pub filterWith : List Float → Scalar → Scalar → List Float
+filterWith filter f theta = filter ++ pairNumbers f theta

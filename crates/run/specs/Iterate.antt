@@ -27,7 +27,7 @@ standingOf st w theta = record {
 
 -- the event where a search is left
 unfoldable pub leftAt : State → Memory → Found → AfterSlots
-leftAt st w (asks x t) = question (trying st x t) (withTrial w (t .next) (t .delta) (t .lambda)) kind.Trial 0
+leftAt st w (asks x t) = question (trying st x t) (withTrial st w (t .next) (t .delta) (t .lambda)) kind.Trial 0
 leftAt st w (stops x s) = finish (searching st x) w s
 leftAt st w (refuses x k) = refuse (searching st x) w k
 

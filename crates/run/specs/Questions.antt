@@ -2,15 +2,15 @@
 -- next number or ends the run, and question numbers are within 5,500 times the limit. So a caller that answers until
 -- the
 -- run is over needs no bound of its own.
-use Prim.Native.Nat.{ℕ, _+_, _*_, _≤_}
+use Prim.Native.Nat.{ℕ, _+_, _≤_}
 use mathlib.Core.Bool.{Bool, true, false, cond}
 use mathlib.Core.List.{List, [], _∷_}
 use mathlib.Core.Path.{_≡_}
 use lib.Ieee.{Float}
 use Rattle.interval.specs.declared.Scalar.{Scalar}
 use Rattle.run.specs.Calls.{Accepted, beginOf, refusedByCheck, Follows}
+use Rattle.run.specs.Checks.{mostQuestions}
 use Rattle.run.specs.Demand.{Call, Allowed, Run, runOf, callResult}
-use Rattle.run.specs.Limits.{QUESTIONS}
 use Rattle.run.specs.declared.state.Event.{Event}
 use Rattle.run.specs.declared.state.Event.the-variants.{Question, Finish, Refused}
 use Rattle.run.specs.declared.state.Sizes.{Sizes}
@@ -45,8 +45,8 @@ pub record QuestionBounds : Type 0 where
   pub few-questions :
       (z : Sizes) (start : List Float) (max : Scalar) (a : List Float) →
       let b = beginOf z start max a in
-      Accepted b → (cs : List Call) → AllAllowed z cs → 1 + questionsIn (runOf b) cs ≤ 1 + QUESTIONS * z .limit
+      Accepted b → (cs : List Call) → AllAllowed z cs → 1 + questionsIn (runOf b) cs ≤ 1 + mostQuestions z
   pub few-accepted :
       (z : Sizes) (start : List Float) (max : Scalar) (a : List Float) →
       let b = beginOf z start max a in
-      Accepted b → (cs : List Call) → AllAllowed z cs → acceptedIn (runOf b) cs ≤ 1 + QUESTIONS * z .limit
+      Accepted b → (cs : List Call) → AllAllowed z cs → acceptedIn (runOf b) cs ≤ 1 + mostQuestions z

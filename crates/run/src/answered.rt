@@ -2,19 +2,19 @@
 // start there is nothing to go on from, a trial went too far and is turned down, and a correction is left out, so that
 // the trial is judged as it landed.
 ghost use Prim.Native.Nat.{_≤_};
-ghost use mathlib.Core.Bool.{true};
+ghost use mathlib.Core.Bool.{true, false};
 ghost use mathlib.Core.Path.{_≡_};
 ghost use lib.ListN.{length};
 ghost use Rattle.interval.specs.Scalar.{pick};
-ghost use Rattle.run.specs.Limits.{AREA, CORRECTIONS};
+ghost use Rattle.run.specs.Limits.{CORRECTIONS};
 ghost use Rattle.run.specs.declared.state.Kind.the-variants as kinds;
 ghost use Rattle.run.specs.declared.state.Phase.the-variants.{Open};
 ghost use Rattle.run.specs.Answered.{started, fromStanding, answered, answeredNone};
-ghost use Rattle.run.specs.Area.{Memory, usedIn, landedCounts};
+ghost use Rattle.run.specs.Area.{Memory, usedIn, numbersIn, landedCounts, HasRoom};
 ghost use Rattle.run.specs.Checks.{phaseFits};
 ghost use Rattle.run.specs.Corrected.{landTrial, landCorrection};
 ghost use Rattle.run.specs.Rows.{rowNumbers};
-ghost use Rattle.run.specs.program.Area.{Uses, Working};
+ghost use Rattle.run.specs.program.Area.{Uses, Working, StandingWhole, TrialWhole, LandedWhole};
 ghost use Rattle.run.specs.program.Corrected.{RowsToLand};
 ghost use Rattle.run.specs.program.Endings.{Leaves, Bounded};
 use crate::area;
@@ -39,23 +39,24 @@ use linear::LinearResult;
 // A start's rows: which variables they depend on is fixed for the whole run, and the first iteration follows. A
 // variable that no residual definitely depends on would make the curvature singular, so it keeps its place.
 fn started(st: State, area: &mut [f64], rows: &[f64]) -> Returned
-    requires { ⌜ (length (now area) ≡ AREA)
+    requires { ⌜ HasRoom (st .sizes) (now area)
         × (length (now rows) ≡ rowNumbers (landedCounts st))
         × Bounded 1073741824 st
         × (st .phase ≡ Open kinds.Start) ⌝ }
-    ensures { λ r. ⌜ ((w : Memory) → Uses (usedIn st) w (now (area .entry)) →
+    ensures { λ r. ⌜ ((w : Memory) → Uses (st .sizes) (usedIn st) w (now (area .entry)) →
         Leaves (started st w (now (rows .entry))) r (now (area .exit))) ⌝ }
 {
     let moving = residuals::moving(rows, landed_counts(st));
-    area::write_start(area, rows);
+    area::write_start(area, st, rows);
     let standing = standing_violation(st, area);
     iterate(with_moving(st, moving), area, standing)
 }
 
 // A trial's or a correction's rows land, once the violation of the standing point is known.
 fn land(st: State, area: &mut [f64], rows: &[f64], trial: bool) -> Returned
-    requires { ⌜ RowsToLand st (length (now area)) (length (now rows)) × (st .counts .corrections ≤ CORRECTIONS) ⌝ }
-    ensures { λ r. ⌜ ((w : Memory) → Working st w (now (area .entry)) →
+    requires { ⌜ RowsToLand st (now area) (length (now rows)) × (st .counts .corrections ≤ CORRECTIONS) ⌝ }
+    ensures { λ r. ⌜ ((w : Memory) → Working st w (now (area .entry)) → StandingWhole (numbersIn st) w →
+        TrialWhole (numbersIn st) w → (trial ≡ false → LandedWhole (numbersIn st) w) →
         Leaves (fromStanding st w (λ theta. pick trial (landTrial st w (now (rows .entry)) theta)
         (landCorrection st w (now (rows .entry)) theta))) r (now (area .exit))) ⌝ }
 {
@@ -74,11 +75,11 @@ fn land(st: State, area: &mut [f64], rows: &[f64], trial: bool) -> Returned
 
 // What follows an accepted answer with rows.
 pub fn answered(kind: Kind, st: State, area: &mut [f64], rows: &[f64]) -> Returned
-    requires { ⌜ (length (now area) ≡ AREA) ×
+    requires { ⌜ HasRoom (st .sizes) (now area) ×
         ((length (now rows) ≡ rowNumbers (landedCounts st)) ×
         (Bounded 1073741824 st × ((st .counts .corrections ≤ CORRECTIONS) ×
         ((phaseFits st (Open kind) ≡ true) × (st .phase ≡ Open kind))))) ⌝ }
-    ensures { λ r. ⌜ ((w : Memory) → Uses (usedIn st) w (now (area .entry)) →
+    ensures { λ r. ⌜ ((w : Memory) → Uses (st .sizes) (usedIn st) w (now (area .entry)) →
         Leaves (answered kind st w (now (rows .entry))) r (now (area .exit))) ⌝ }
 {
     match kind {
@@ -96,8 +97,9 @@ pub fn answered(kind: Kind, st: State, area: &mut [f64], rows: &[f64]) -> Return
 
 // What follows an accepted answer with none.
 pub fn answered_none(kind: Kind, st: State, area: &mut [f64]) -> Returned
-    requires { ⌜ (length (now area) ≡ AREA) × (Bounded 1073741824 st × (phaseFits st (Open kind) ≡ true)) ⌝ }
-    ensures { λ r. ⌜ ((w : Memory) → Working st w (now (area .entry)) →
+    requires { ⌜ HasRoom (st .sizes) (now area) × (Bounded 1073741824 st ×
+        ((phaseFits st (Open kind) ≡ true) × (st .phase ≡ Open kind))) ⌝ }
+    ensures { λ r. ⌜ ((w : Memory) → Uses (st .sizes) (usedIn st) w (now (area .entry)) →
         Leaves (answeredNone kind st w) r (now (area .exit))) ⌝ }
 {
     match kind {

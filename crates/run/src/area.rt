@@ -1,53 +1,51 @@
 // The slots of the work area: their places, and what a call writes into them. All that a run knows beyond its state is
 // here, in memory that the caller lends, so a run needs no allocation and a call leaves nothing behind that a reader
-// could take for a number in use: behind the numbers in use all is +0.
+// could take for a number in use: behind the numbers in use all is +0. Where a slot stands is known here alone.
 ghost use Prim.Native.Nat.{_+_, _≤_, ℕ, _<_, _*_};
 ghost use mathlib.Core.List.{_++_};
 ghost use mathlib.Core.Path.{_≡_};
 ghost use lib.ListN.{length, take, drop, getD};
 ghost use Rattle.linear.specs.Flat.{zeros};
-ghost use Rattle.run.specs.Limits.{AREA, ITERATIONS};
-ghost use Rattle.run.specs.Area.{padded, startOf, usedIn, memoryOf, begunMemory, Memory, onlyStanding};
-ghost use Rattle.run.specs.Area.{POINT-LEN, ROWS-LEN, CURVATURE-LEN, FILTER-LEN, STANDING-AT, ASKED-AT};
-ghost use Rattle.run.specs.Area.{withStart, withTrial, withLanded, withTaken, standingCounts, landedCounts};
+ghost use Rattle.run.specs.declared.state.Kind.the-variants as kinds;
+ghost use Rattle.run.specs.declared.state.Phase.the-variants.{Open};
+ghost use Rattle.run.specs.Limits.{VARIABLES, CONSTRAINTS, ITERATIONS};
+ghost use Rattle.run.specs.Area.{slotSizes, placesOf, areaLength, inOrder, numbersIn, usedIn, HasRoom, partOf};
+ghost use Rattle.run.specs.Area.{pairsIn, landedCounts, pointAt};
+ghost use Rattle.run.specs.Area.{startOf, spareAt, POINT-LEN, Memory, memoryOf, begunMemory, onlyStanding};
+ghost use Rattle.run.specs.Area.{withStart, withTrial, withLanded, withTaken};
 ghost use Rattle.run.specs.Filter.{filterWith};
 ghost use Rattle.run.specs.Rows.{rowNumbers};
 ghost use Rattle.run.specs.Vectors.{movedOf};
-ghost use Rattle.run.specs.program.Area.{written, clearedTo, Limits, allUsed, Uses, Holds, pointsUsed};
-ghost use Rattle.run.specs.program.Area.{ZeroBehind, SlotRead, Working};
+ghost use Rattle.run.specs.program.Area.{numbersOf, written, clearedTo, Limits, Uses, Holds, Working};
+ghost use Rattle.run.specs.program.Area.{StandingWhole, TrialWhole, LandedWhole, standingAlone, Apart};
+ghost use Rattle.run.specs.program.Proposal.{standingPart, rowsOf, curvatureFor};
 ghost use Rattle.run.specs.program.Rows.{FewRows};
-use crate::filter::push;
+ghost use Rattle.run.specs.program.Step.{StepLengths};
+use crate::filter::pair_numbers;
 use crate::limits::AREA;
 use crate::rows::RowCounts;
 use crate::rows::landed_counts;
 use crate::rows::standing_counts;
 use crate::state::Kind;
 use crate::state::Phase;
+use crate::state::Sizes;
 use crate::state::State;
 use crate::vectors::moved;
 use interval::Scalar;
 use linear::clear;
 
-// Where each slot begins.
-pub const STANDING_AT: usize = 0;
-
-pub const LANDED_AT: usize = 24;
-
-pub const ASKED_AT: usize = 48;
-
-pub const STANDING_ROWS_AT: usize = 72;
-
-pub const LANDED_ROWS_AT: usize = 1008;
-
-pub const STEP_AT: usize = 1944;
-
-pub const MULTIPLIERS_AT: usize = 1968;
-
-pub const CURVATURE_AT: usize = 1992;
-
-pub const FILTER_AT: usize = 2280;
-
-pub const SPARE_AT: usize = 3080;
+// A number for each slot: its size, its place, or how many of its numbers are in use.
+pub struct SlotNumbers {
+    pub standing: usize,
+    pub landed: usize,
+    pub asked: usize,
+    pub standing_rows: usize,
+    pub landed_rows: usize,
+    pub step: usize,
+    pub multipliers: usize,
+    pub curvature: usize,
+    pub filter: usize,
+}
 
 // How many numbers a point, an answer's rows, the curvature and the filter have at most.
 pub const POINT_LEN: usize = 24;
@@ -57,6 +55,100 @@ pub const ROWS_LEN: usize = 936;
 pub const CURVATURE_LEN: usize = 288;
 
 pub const FILTER_LEN: usize = 800;
+
+// ---- the layout
+
+// How many numbers each slot has in the area of a run of these sizes.
+fn slot_sizes(z: Sizes) -> SlotNumbers
+    ensures { λ r. ⌜ numbersOf r ≡ slotSizes z ⌝ }
+{
+    SlotNumbers {
+        standing: POINT_LEN,
+        landed: POINT_LEN,
+        asked: POINT_LEN,
+        standing_rows: ROWS_LEN,
+        landed_rows: ROWS_LEN,
+        step: POINT_LEN,
+        multipliers: POINT_LEN,
+        curvature: CURVATURE_LEN,
+        filter: FILTER_LEN,
+    }
+}
+
+// The slots in the order in which they stand.
+fn in_order(x: SlotNumbers) -> [usize; 9]
+    ensures { λ r. ⌜ r ≡ inOrder (numbersOf x) ⌝ }
+{
+    [
+        x.standing,
+        x.landed,
+        x.asked,
+        x.standing_rows,
+        x.landed_rows,
+        x.step,
+        x.multipliers,
+        x.curvature,
+        x.filter,
+    ]
+}
+
+// Where each slot begins: one behind the other, in that order.
+pub fn places(z: Sizes) -> SlotNumbers
+    ensures { λ r. ⌜ numbersOf r ≡ placesOf z ⌝ }
+{
+    let size = in_order(slot_sizes(z));
+    let second = size[0];
+    let third = second + size[1];
+    let fourth = third + size[2];
+    let fifth = fourth + size[3];
+    let sixth = fifth + size[4];
+    let seventh = sixth + size[5];
+    let eighth = seventh + size[6];
+    let ninth = eighth + size[7];
+    SlotNumbers {
+        standing: 0,
+        landed: second,
+        asked: third,
+        standing_rows: fourth,
+        landed_rows: fifth,
+        step: sixth,
+        multipliers: seventh,
+        curvature: eighth,
+        filter: ninth,
+    }
+}
+
+// How many numbers the area has.
+pub fn area_length(z: Sizes) -> usize
+    ensures { λ r. ⌜ r ≡ areaLength z ⌝ }
+{
+    AREA
+}
+
+// Where the last numbers begin, which are in no slot.
+fn spare_at(z: Sizes) -> usize
+    ensures { λ r. ⌜ r ≡ spareAt z ⌝ }
+{
+    let size = slot_sizes(z);
+    let points = size.standing + size.landed + size.asked;
+    let rows = size.standing_rows + size.landed_rows;
+    let trial = size.step + size.multipliers;
+    points + rows + trial + size.curvature + size.filter
+}
+
+// Where the point begins that a caller reads: the asked one, or the standing one where no question is open.
+pub fn point_place(st: State) -> usize
+    ensures { λ r. ⌜ r ≡ pointAt (st .sizes) (st .phase) ⌝ }
+{
+    let at = places(st.sizes);
+    let phase = st.phase;
+    match phase {
+        Phase::Open(_) => at.asked,
+        Phase::Over => at.standing,
+    }
+}
+
+// ---- runs of numbers
 
 // Writes src from the place base on.
 pub fn write(area: &mut [f64], base: usize, src: &[f64])
@@ -77,19 +169,9 @@ fn clear_from(area: &mut [f64], base: usize, count: usize)
     clear(&mut area[base..e]);
 }
 
-// Writes a slot: src from its start on, and +0 behind.
-pub fn slot(area: &mut [f64], base: usize, size: usize, src: &[f64])
-    requires { ⌜ (length (now src) ≤ size) × (base + size ≤ length (now area)) ⌝ }
-    ensures { λ _. ⌜ now (area .exit) ≡ written (now (area .entry)) base (padded size (now (src .entry))) ⌝ }
-{
-    let n = src.len();
-    write(area, base, src);
-    clear_from(area, base + n, size - n);
-}
-
-// Copies so many numbers to a place before them.
+// Copies so many numbers to a place apart from them.
 fn copy(area: &mut [f64], from: usize, to: usize, count: usize)
-    requires { ⌜ (to + count ≤ from) × (from + count ≤ length (now area)) ⌝ }
+    requires { ⌜ Apart from to count × (from + count ≤ length (now area)) × (to + count ≤ length (now area)) ⌝ }
     ensures { λ _. ⌜ now (area .exit) ≡ written (now (area .entry)) to (take count (drop from (now (area .entry)))) ⌝ }
 {
     for i in 0..count {
@@ -97,23 +179,26 @@ fn copy(area: &mut [f64], from: usize, to: usize, count: usize)
     }
 }
 
-// Clears all but so many numbers of each slot.
-fn clear_unused_slots(area: &mut [f64], sizes: &[usize], used: &[usize])
-    requires { ⌜ (length (now used) ≡ length (now sizes)) ×
-        ((startOf (now sizes) (length (now sizes)) ≤ length (now area)) ×
-        ((k : ℕ) → k < length (now sizes) → getD (now used) k 0 ≤ getD (now sizes) k 0)) ⌝ }
+// Clears in each slot the numbers between two places.
+fn clear_slots(area: &mut [f64], sizes: &[usize], from: &[usize], to: &[usize])
+    requires { ⌜ (length (now from) ≡ length (now sizes)) × (length (now to) ≡ length (now sizes)) ×
+        (startOf (now sizes) (length (now sizes)) ≤ length (now area)) ×
+        ((k : ℕ) → k < length (now sizes) →
+        (getD (now from) k 0 ≤ getD (now to) k 0) × (getD (now to) k 0 ≤ getD (now sizes) k 0)) ⌝ }
     ensures { λ _. ⌜ now (area .exit)
-        ≡ clearedTo (now (sizes .entry)) (now (used .entry)) (now (area .entry)) (length (now (sizes .entry)))
+        ≡ clearedTo (now (sizes .entry)) (now (from .entry)) (now (to .entry)) (now (area .entry))
+        (length (now (sizes .entry)))
         ++ drop (startOf (now (sizes .entry)) (length (now (sizes .entry)))) (now (area .entry)) ⌝ }
 {
     let mut base = 0;
     for k in 0..sizes.len() {
-        let size = sizes[k];
-        let kept = used[k];
-        clear_from(area, base + kept, size - kept);
-        base = base + size;
+        let first = from[k];
+        clear_from(area, base + first, to[k] - first);
+        base = base + sizes[k];
     }
 }
+
+// ---- what is in use
 
 // How many numbers an answer's rows have.
 fn row_numbers(c: RowCounts) -> usize
@@ -123,229 +208,271 @@ fn row_numbers(c: RowCounts) -> usize
     2 * ((c.m + c.s) * (c.n + 1))
 }
 
-// How many numbers of each slot may be in use while a call works.
-fn all_used(st: State) -> [usize; 9]
-    requires { ⌜ Limits (st .sizes) (st .counts .iterations) ⌝ }
-    ensures { λ r. ⌜ r ≡ allUsed (standingCounts st) (landedCounts st) (st .counts .iterations) ⌝ }
+// How many pairs the filter has: one for each point that stood before.
+pub fn pairs_in(st: State) -> usize
+    ensures { λ r. ⌜ r ≡ pairsIn st ⌝ }
+{
+    st.counts.iterations
+}
+
+// How many numbers of each slot its contents have.
+fn numbers_in(st: State) -> SlotNumbers
+    requires { ⌜ Limits (st .sizes) (pairsIn st) ⌝ }
+    ensures { λ r. ⌜ numbersOf r ≡ numbersIn st ⌝ }
 {
     let c = standing_counts(st);
     let point = 2 * c.n;
-    let standing_rows = row_numbers(c);
-    let landed_rows = row_numbers(landed_counts(st));
-    let multipliers = 2 * c.m;
-    let entries = 2 * (c.n * c.n);
-    let pairs = 4 * st.counts.iterations;
-    [
-        point,
-        point,
-        point,
-        standing_rows,
-        landed_rows,
-        point,
-        multipliers,
-        entries,
-        pairs,
-    ]
+    SlotNumbers {
+        standing: point,
+        landed: point,
+        asked: point,
+        standing_rows: row_numbers(c),
+        landed_rows: row_numbers(landed_counts(st)),
+        step: point,
+        multipliers: 2 * c.m,
+        curvature: 2 * (c.n * c.n),
+        filter: 4 * pairs_in(st),
+    }
 }
 
-// How many numbers of each slot are in use.
-fn in_use(st: State) -> [usize; 9]
-    requires { ⌜ Limits (st .sizes) (st .counts .iterations) ⌝ }
-    ensures { λ r. ⌜ r ≡ usedIn st ⌝ }
+// Of all slots the standing point's alone.
+fn standing_alone(x: SlotNumbers) -> SlotNumbers
+    ensures { λ r. ⌜ numbersOf r ≡ standingAlone (numbersOf x) ⌝ }
+{
+    SlotNumbers {
+        landed: 0,
+        asked: 0,
+        standing_rows: 0,
+        landed_rows: 0,
+        step: 0,
+        multipliers: 0,
+        curvature: 0,
+        filter: 0,
+        ..x
+    }
+}
+
+// How many numbers of each slot are in use between two calls.
+fn used_in(st: State) -> SlotNumbers
+    requires { ⌜ Limits (st .sizes) (pairsIn st) ⌝ }
+    ensures { λ r. ⌜ numbersOf r ≡ usedIn st ⌝ }
 {
     let phase = st.phase;
-    let all = all_used(st);
+    let all = numbers_in(st);
+    let alone = standing_alone(all);
     match phase {
         Phase::Open(kind) => match kind {
             Kind::Start => {
-                return [all[0], 0, all[2], 0, 0, 0, 0, 0, 0];
+                return SlotNumbers {
+                    asked: all.asked,
+                    ..alone
+                };
             }
             Kind::Trial => {
-                return [all[0], 0, all[2], all[3], 0, all[5], all[6], all[7], all[8]];
+                return SlotNumbers {
+                    landed: 0,
+                    landed_rows: 0,
+                    ..all
+                };
             }
             Kind::Correction => {
                 return all;
             }
         },
         Phase::Over => {
-            return [all[0], 0, 0, 0, 0, 0, 0, 0, 0];
+            return alone;
         }
     }
 }
 
 // Clears every place that is not in use. A caller may have written anything there, and the definitions read +0.
 pub fn clear_unused(area: &mut [f64], st: State)
-    requires { ⌜ (length (now area) ≡ AREA) × Limits (st .sizes) (st .counts .iterations) ⌝ }
-    ensures { λ _. ⌜ Uses (usedIn st) (memoryOf st (now (area .entry))) (now (area .exit)) ⌝ }
+    requires { ⌜ HasRoom (st .sizes) (now area) × Limits (st .sizes) (pairsIn st) ⌝ }
+    ensures { λ _. ⌜ Uses (st .sizes) (usedIn st) (memoryOf st (now (area .entry))) (now (area .exit)) ⌝ }
 {
-    let sizes = [
-        POINT_LEN,
-        POINT_LEN,
-        POINT_LEN,
-        ROWS_LEN,
-        ROWS_LEN,
-        POINT_LEN,
-        POINT_LEN,
-        CURVATURE_LEN,
-        FILTER_LEN,
-    ];
-    let used = in_use(st);
-    clear_unused_slots(area, &sizes, &used);
-    clear_from(area, SPARE_AT, AREA - SPARE_AT);
+    let z = st.sizes;
+    let sizes = in_order(slot_sizes(z));
+    let used = in_order(used_in(st));
+    clear_slots(area, &sizes, &used, &sizes);
+    let spare = spare_at(z);
+    clear_from(area, spare, area_length(z) - spare);
 }
 
-// ---- what is read of a slot
+// ---- what is read of a slot: the numbers in use
 
-pub fn landed_point(area: &[f64]) -> &[f64]
-    requires { ⌜ length (now area) ≡ AREA ⌝ }
-    ensures { λ r. ⌜ SlotRead POINT-LEN (λ w. w .landed) (now (area .entry)) (now r) ⌝ }
+pub fn standing_point(area: &[f64], z: Sizes) -> &[f64]
+    requires { ⌜ HasRoom z (now area) × (z .n ≤ VARIABLES) ⌝ }
+    ensures { λ r. ⌜ now r ≡ standingPart z (now (area .entry)) ⌝ }
 {
-    &area[LANDED_AT..ASKED_AT]
+    let at = places(z).standing;
+    &area[at..at + 2 * z.n]
 }
 
-pub fn standing_rows(area: &[f64]) -> &[f64]
-    requires { ⌜ length (now area) ≡ AREA ⌝ }
-    ensures { λ r. ⌜ SlotRead ROWS-LEN (λ w. w .standingRows) (now (area .entry)) (now r) ⌝ }
+pub fn landed_point(area: &[f64], z: Sizes) -> &[f64]
+    requires { ⌜ HasRoom z (now area) × (z .n ≤ VARIABLES) ⌝ }
+    ensures { λ r. ⌜ now r ≡ partOf (now (area .entry)) (placesOf z .landed) (2 * z .n) ⌝ }
 {
-    &area[STANDING_ROWS_AT..LANDED_ROWS_AT]
+    let at = places(z).landed;
+    &area[at..at + 2 * z.n]
 }
 
-pub fn landed_rows(area: &[f64]) -> &[f64]
-    requires { ⌜ length (now area) ≡ AREA ⌝ }
-    ensures { λ r. ⌜ SlotRead ROWS-LEN (λ w. w .landedRows) (now (area .entry)) (now r) ⌝ }
+pub fn standing_rows(area: &[f64], z: Sizes, c: RowCounts) -> &[f64]
+    requires { ⌜ HasRoom z (now area) × FewRows c ⌝ }
+    ensures { λ r. ⌜ now r ≡ rowsOf z c (now (area .entry)) ⌝ }
 {
-    &area[LANDED_ROWS_AT..STEP_AT]
+    let at = places(z).standing_rows;
+    &area[at..at + row_numbers(c)]
 }
 
-pub fn step(area: &[f64]) -> &[f64]
-    requires { ⌜ length (now area) ≡ AREA ⌝ }
-    ensures { λ r. ⌜ SlotRead POINT-LEN (λ w. w .step) (now (area .entry)) (now r) ⌝ }
+pub fn landed_rows(area: &[f64], z: Sizes, c: RowCounts) -> &[f64]
+    requires { ⌜ HasRoom z (now area) × FewRows c ⌝ }
+    ensures { λ r. ⌜ now r ≡ partOf (now (area .entry)) (placesOf z .landedRows) (rowNumbers c) ⌝ }
 {
-    &area[STEP_AT..MULTIPLIERS_AT]
+    let at = places(z).landed_rows;
+    &area[at..at + row_numbers(c)]
 }
 
-pub fn multipliers(area: &[f64]) -> &[f64]
-    requires { ⌜ length (now area) ≡ AREA ⌝ }
-    ensures { λ r. ⌜ SlotRead POINT-LEN (λ w. w .multipliers) (now (area .entry)) (now r) ⌝ }
+pub fn step(area: &[f64], z: Sizes) -> &[f64]
+    requires { ⌜ HasRoom z (now area) × (z .n ≤ VARIABLES) ⌝ }
+    ensures { λ r. ⌜ now r ≡ partOf (now (area .entry)) (placesOf z .step) (2 * z .n) ⌝ }
 {
-    &area[MULTIPLIERS_AT..CURVATURE_AT]
+    let at = places(z).step;
+    &area[at..at + 2 * z.n]
 }
 
-pub fn curvature(area: &[f64]) -> &[f64]
-    requires { ⌜ length (now area) ≡ AREA ⌝ }
-    ensures { λ r. ⌜ SlotRead CURVATURE-LEN (λ w. w .curvature) (now (area .entry)) (now r) ⌝ }
+pub fn multipliers(area: &[f64], z: Sizes, c: RowCounts) -> &[f64]
+    requires { ⌜ HasRoom z (now area) × (c .m ≤ CONSTRAINTS) ⌝ }
+    ensures { λ r. ⌜ now r ≡ partOf (now (area .entry)) (placesOf z .multipliers) (2 * c .m) ⌝ }
 {
-    &area[CURVATURE_AT..FILTER_AT]
+    let at = places(z).multipliers;
+    &area[at..at + 2 * c.m]
 }
 
-pub fn filter(area: &[f64]) -> &[f64]
-    requires { ⌜ length (now area) ≡ AREA ⌝ }
-    ensures { λ r. ⌜ SlotRead FILTER-LEN (λ w. w .filter) (now (area .entry)) (now r) ⌝ }
+// The curvature that a search goes by. In plain there is none: the last numbers of the area are +0.
+pub fn curvature_for(plain: bool, area: &[f64], z: Sizes) -> &[f64]
+    requires { ⌜ HasRoom z (now area) × (z .n ≤ VARIABLES) ⌝ }
+    ensures { λ r. ⌜ now r ≡ curvatureFor z plain (now (area .entry)) ⌝ }
 {
-    &area[FILTER_AT..SPARE_AT]
+    let entries = 2 * (z.n * z.n);
+    let mut at = places(z).curvature;
+    if plain {
+        at = spare_at(z);
+    }
+    &area[at..at + entries]
+}
+
+pub fn filter(area: &[f64], z: Sizes, pairs: usize) -> &[f64]
+    requires { ⌜ HasRoom z (now area) × (pairs ≤ ITERATIONS) ⌝ }
+    ensures { λ r. ⌜ now r ≡ partOf (now (area .entry)) (placesOf z .filter) (4 * pairs) ⌝ }
+{
+    let at = places(z).filter;
+    &area[at..at + 4 * pairs]
 }
 
 // ---- what a call writes
 
 // After a begin: the start point stands and is asked.
-pub fn write_begun(area: &mut [f64], start: &[f64])
-    requires { ⌜ (length (now area) ≡ AREA) × (length (now start) ≤ POINT-LEN) ⌝ }
-    ensures { λ _. ⌜ Holds (begunMemory (now (start .entry))) (now (area .exit)) ⌝ }
+pub fn write_begun(area: &mut [f64], z: Sizes, start: &[f64])
+    requires { ⌜ HasRoom z (now area) × (length (now start) ≤ POINT-LEN) ⌝ }
+    ensures { λ _. ⌜ Holds z (begunMemory (now (start .entry))) (now (area .exit)) ⌝ }
 {
+    let at = places(z);
     clear(area);
-    slot(area, STANDING_AT, POINT_LEN, start);
-    slot(area, ASKED_AT, POINT_LEN, start);
+    write(area, at.standing, start);
+    write(area, at.asked, start);
 }
 
 // After a finish, or refusal 5 or 6: only the standing point. Behind the numbers in use all is +0 already, and at the
 // smallest drawings clearing is most of a call's time.
 pub fn keep_standing(area: &mut [f64], st: State)
-    requires { ⌜ (length (now area) ≡ AREA) × Limits (st .sizes) (st .counts .iterations) ⌝ }
+    requires { ⌜ HasRoom (st .sizes) (now area) × Limits (st .sizes) (pairsIn st) ⌝ }
     ensures { λ _. ⌜ ((w : Memory) → Working st w (now (area .entry)) →
-        Holds (onlyStanding w) (now (area .exit))) ⌝ }
+        Holds (st .sizes) (onlyStanding w) (now (area .exit))) ⌝ }
 {
-    let used = all_used(st);
-    clear_from(area, LANDED_AT, POINT_LEN);
-    clear_from(area, ASKED_AT, POINT_LEN);
-    clear_from(area, STANDING_ROWS_AT, used[3]);
-    clear_from(area, LANDED_ROWS_AT, used[4]);
-    clear_from(area, STEP_AT, POINT_LEN);
-    clear_from(area, MULTIPLIERS_AT, POINT_LEN);
-    clear_from(area, CURVATURE_AT, used[7]);
-    clear_from(area, FILTER_AT, used[8]);
+    let all = numbers_in(st);
+    let sizes = in_order(slot_sizes(st.sizes));
+    let from = in_order(standing_alone(all));
+    let to = in_order(all);
+    clear_slots(area, &sizes, &from, &to);
 }
 
 // A start's answer. Before it only the two points are in use, so all else is +0 already.
-pub fn write_start(area: &mut [f64], rows: &[f64])
-    requires { ⌜ (length (now area) ≡ AREA) × (length (now rows) ≤ ROWS-LEN) ⌝ }
-    ensures { λ _. ⌜ ((w : Memory) (point : ℕ) → Uses (pointsUsed point) w (now (area .entry)) →
-        Holds (withStart w (now (rows .entry))) (now (area .exit))) ⌝ }
+pub fn write_start(area: &mut [f64], st: State, rows: &[f64])
+    requires { ⌜ HasRoom (st .sizes) (now area) × Limits (st .sizes) (pairsIn st) ×
+        (length (now rows) ≡ rowNumbers (landedCounts st)) × (st .phase ≡ Open kinds.Start) ⌝ }
+    ensures { λ _. ⌜ ((w : Memory) → Uses (st .sizes) (usedIn st) w (now (area .entry)) →
+        Holds (st .sizes) (withStart st w (now (rows .entry))) (now (area .exit))) ⌝ }
 {
-    clear_from(area, ASKED_AT, POINT_LEN);
-    write(area, STANDING_ROWS_AT, rows);
+    let at = places(st.sizes);
+    clear_from(area, at.asked, 2 * st.sizes.n);
+    write(area, at.standing_rows, rows);
+}
+
+// Writes the asked point.
+pub fn write_asked(area: &mut [f64], z: Sizes, next: &[f64])
+    requires { ⌜ HasRoom z (now area) × (z .n ≤ VARIABLES) × (length (now next) ≡ POINT-LEN) ⌝ }
+    ensures { λ _. ⌜ now (area .exit)
+        ≡ written (now (area .entry)) (placesOf z .asked) (take (2 * z .n) (now (next .entry))) ⌝ }
+{
+    write(area, places(z).asked, &next[..2 * z.n]);
 }
 
 // The point that a step leads to from the standing one is asked.
-fn write_next(area: &mut [f64], n: usize, delta: &[f64])
-    requires { ⌜ length (now area) ≡ AREA ⌝ }
+fn write_next(area: &mut [f64], z: Sizes, delta: &[f64])
+    requires { ⌜ HasRoom z (now area) × (z .n ≤ VARIABLES) ⌝ }
     ensures { λ _. ⌜ now (area .exit)
-        ≡ written (now (area .entry)) ASKED-AT
-        (movedOf n (take POINT-LEN (drop STANDING-AT (now (area .entry)))) (now (delta .entry))) ⌝ }
+        ≡ written (now (area .entry)) (placesOf z .asked)
+        (take (2 * z .n) (movedOf (z .n) (standingPart z (now (area .entry))) (now (delta .entry)))) ⌝ }
 {
     let mut next = [0.0; 24];
-    moved(n, &area[STANDING_AT..LANDED_AT], delta, &mut next);
-    write(area, ASKED_AT, &next);
+    moved(z.n, standing_point(area, z), delta, &mut next);
+    write_asked(area, z, &next);
 }
 
-// A trial asked, where the step leads: nothing has landed. Of the landed rows those in use are cleared.
-pub fn write_trial(area: &mut [f64], c: RowCounts, delta: &[f64], lambda: &[f64])
-    requires { ⌜ (length (now area) ≡ AREA) ×
-        (FewRows c × ((length (now delta) ≡ POINT-LEN) × (length (now lambda) ≡ POINT-LEN))) ⌝ }
-    ensures { λ _. ⌜ ((w : Memory) → Holds w (now (area .entry)) →
-        ZeroBehind ROWS-LEN (rowNumbers c) (w .landedRows) →
-        Holds (withTrial w (movedOf (c .n) (w .standing) (now (delta .entry))) (now (delta .entry))
+// A trial asked, where the step leads: nothing has landed. Of what landed before the numbers in use are cleared.
+pub fn write_trial(area: &mut [f64], st: State, delta: &[f64], lambda: &[f64])
+    requires { ⌜ HasRoom (st .sizes) (now area) × Limits (st .sizes) (pairsIn st) ×
+        StepLengths (now delta) (now lambda) ⌝ }
+    ensures { λ _. ⌜ ((w : Memory) → Working st w (now (area .entry)) → StandingWhole (numbersIn st) w →
+        Holds (st .sizes)
+        (withTrial st w (movedOf (st .sizes .n) (w .standing) (now (delta .entry))) (now (delta .entry))
         (now (lambda .entry))) (now (area .exit))) ⌝ }
 {
-    write_next(area, c.n, delta);
-    clear_from(area, LANDED_AT, POINT_LEN);
-    clear_from(area, LANDED_ROWS_AT, row_numbers(c));
-    write(area, STEP_AT, delta);
-    write(area, MULTIPLIERS_AT, lambda);
+    let at = places(st.sizes);
+    let count = numbers_in(st);
+    write_next(area, st.sizes, delta);
+    clear_from(area, at.landed, count.landed);
+    clear_from(area, at.landed_rows, count.landed_rows);
+    write(area, at.step, &delta[..count.step]);
+    write(area, at.multipliers, &lambda[..count.multipliers]);
 }
 
-// The asked point landed, with its rows, in a slot that is +0 behind as many.
-pub fn write_landed(area: &mut [f64], rows: &[f64])
-    requires { ⌜ (length (now area) ≡ AREA) × (length (now rows) ≤ ROWS-LEN) ⌝ }
-    ensures { λ _. ⌜ ((w : Memory) → Holds w (now (area .entry)) →
-        ZeroBehind ROWS-LEN (length (now (rows .entry))) (w .landedRows) →
-        Holds (withLanded w (now (rows .entry)) (w .step)) (now (area .exit))) ⌝ }
+// The asked point landed, with its rows.
+pub fn write_landed(area: &mut [f64], st: State, rows: &[f64])
+    requires { ⌜ HasRoom (st .sizes) (now area) × Limits (st .sizes) (pairsIn st) ×
+        (length (now rows) ≡ rowNumbers (landedCounts st)) ⌝ }
+    ensures { λ _. ⌜ ((w : Memory) → Working st w (now (area .entry)) → TrialWhole (numbersIn st) w →
+        Holds (st .sizes) (withLanded w (now (rows .entry)) (w .step)) (now (area .exit))) ⌝ }
 {
-    copy(area, ASKED_AT, LANDED_AT, POINT_LEN);
-    write(area, LANDED_ROWS_AT, rows);
+    let at = places(st.sizes);
+    copy(area, at.asked, at.landed, 2 * st.sizes.n);
+    write(area, at.landed_rows, rows);
 }
 
-// The landed point stands, with the curvature after it; the filter has the pair of the point that stood. Of the rows
-// and of the curvature the numbers in use are copied.
-pub fn write_taken(
-    area: &mut [f64],
-    c: RowCounts,
-    curvature: &[f64],
-    count: usize,
-    f: Scalar,
-    theta: Scalar,
-)
-    requires { ⌜ (length (now area) ≡ AREA) ×
-        (FewRows c × ((length (now curvature) ≡ CURVATURE-LEN) × (count < ITERATIONS))) ⌝ }
-    ensures { λ _. ⌜ ((w : Memory) → Holds w (now (area .entry)) →
-        ZeroBehind ROWS-LEN (rowNumbers c) (w .standingRows) →
-        ZeroBehind ROWS-LEN (rowNumbers c) (w .landedRows) →
-        ZeroBehind CURVATURE-LEN (2 * (c .n * c .n)) (w .curvature) →
-        ZeroBehind CURVATURE-LEN (2 * (c .n * c .n)) (now (curvature .entry)) →
-        Holds (withTaken w (now (curvature .entry)) (filterWith (w .filter) count f theta)) (now (area .exit))) ⌝ }
+// The landed point stands, with the curvature after it; the filter has the pair of the point that stood.
+pub fn write_taken(area: &mut [f64], st: State, curvature: &[f64], f: Scalar, theta: Scalar)
+    requires { ⌜ HasRoom (st .sizes) (now area) × Limits (st .sizes) (pairsIn st) × (pairsIn st < ITERATIONS) ×
+        (length (now curvature) ≡ numbersIn st .curvature) ⌝ }
+    ensures { λ _. ⌜ ((w : Memory) → Working st w (now (area .entry)) → StandingWhole (numbersIn st) w →
+        LandedWhole (numbersIn st) w →
+        Holds (st .sizes) (withTaken w (now (curvature .entry)) (filterWith (w .filter) f theta))
+        (now (area .exit))) ⌝ }
 {
-    copy(area, LANDED_AT, STANDING_AT, POINT_LEN);
-    copy(area, LANDED_ROWS_AT, STANDING_ROWS_AT, row_numbers(c));
-    let entries = 2 * (c.n * c.n);
-    write(area, CURVATURE_AT, &curvature[0..entries]);
-    push(&mut area[FILTER_AT..SPARE_AT], count, f, theta);
+    let at = places(st.sizes);
+    let count = numbers_in(st);
+    copy(area, at.landed, at.standing, count.landed);
+    copy(area, at.landed_rows, at.standing_rows, count.landed_rows);
+    write(area, at.curvature, curvature);
+    let pair = pair_numbers(f, theta);
+    write(area, at.filter + count.filter, &pair);
 }

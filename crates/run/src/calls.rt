@@ -4,14 +4,14 @@ ghost use Rattle.run.specs.Calls.{pointOf, afterCall, beginOf, replyOf, 
 ghost use Rattle.run.specs.program.Calls.{notBegun};
 use crate::answered::answered;
 use crate::answered::answered_none;
-use crate::area;
+use crate::area::area_length;
 use crate::area::clear_unused;
+use crate::area::point_place;
 use crate::area::write_begun;
 use crate::checks;
 use crate::checks::Checked;
 use crate::checks::refusal;
 use crate::damping::first_damping;
-use crate::limits::AREA;
 use crate::state;
 use crate::state::Event;
 use crate::state::Kind;
@@ -29,15 +29,11 @@ pub fn point(st: State, area: &[f64]) -> &[f64]
     if !checks::valid(st) {
         return &area[..0];
     }
-    if area.len() != AREA {
+    if area.len() != area_length(st.sizes) {
         return &area[..0];
     }
-    let q = 2 * st.sizes.n;
-    let phase = st.phase;
-    let Phase::Open(_) = phase else {
-        return &area[..q];
-    };
-    &area[area::ASKED_AT..area::ASKED_AT + q]
+    let at = point_place(st);
+    &area[at..at + 2 * st.sizes.n]
 }
 
 // Beside a refusal: no run, so any reply to it gets 4.
@@ -77,7 +73,7 @@ pub fn begin(
     if number != 0 {
         return not_begun(number);
     }
-    write_begun(area, start);
+    write_begun(area, z, start);
     let mu = first_damping();
     let state = state::state_with(z, mu, max_step, Phase::Open(Kind::Start));
     Returned {

@@ -3,10 +3,11 @@
 ghost use Prim.Native.Nat.{_≤_};
 ghost use mathlib.Core.Path.{_≡_};
 ghost use Rattle.interval.specs.Scaling.{isPositive};
-ghost use Rattle.run.specs.Checks.{inDomain, allInDomain, sizesFit, countsFit, valid};
+ghost use Rattle.run.specs.Checks.{inDomain, allInDomain, sizesFit, countsFit, valid, mostTurnDowns};
+ghost use Rattle.run.specs.Checks.{mostQuestions};
 ghost use Rattle.run.specs.Limits.{ITERATIONS};
 ghost use Rattle.run.specs.program.Checks.{checkOf, checkRowsOf, refusalOf};
-use crate::limits::AREA;
+use crate::area::area_length;
 use crate::limits::CONSTRAINTS;
 use crate::limits::CORRECTIONS;
 use crate::limits::DOMAIN_BITS;
@@ -71,20 +72,33 @@ pub fn sizes_fit(z: Sizes) -> bool
     z.limit <= ITERATIONS
 }
 
+// The most turn-downs that a run may have, and the most questions.
+fn most_turn_downs(st: State) -> usize
+    requires { ⌜ st .counts .iterations ≤ ITERATIONS ⌝ }
+    ensures { λ r. ⌜ r ≡ mostTurnDowns st ⌝ }
+{
+    TURN_DOWNS * (st.counts.iterations + 1)
+}
+
+fn most_questions(z: Sizes) -> usize
+    requires { ⌜ z .limit ≤ ITERATIONS ⌝ }
+    ensures { λ r. ⌜ r ≡ mostQuestions z ⌝ }
+{
+    QUESTIONS * z.limit
+}
+
 // Whether the counts of a run are such as its calls leave.
 fn counts_fit(st: State) -> bool
     requires { ⌜ st .sizes .limit ≤ ITERATIONS ⌝ }
     ensures { λ r. ⌜ r ≡ countsFit st ⌝ }
 {
-    let limit = st.sizes.limit;
-    let iterations = st.counts.iterations;
-    if iterations > limit {
+    if st.counts.iterations > st.sizes.limit {
         return false;
     }
-    if st.search.turned_down > TURN_DOWNS * (iterations + 1) {
+    if st.search.turned_down > most_turn_downs(st) {
         return false;
     }
-    if st.counts.question > QUESTIONS * limit {
+    if st.counts.question > most_questions(st.sizes) {
         return false;
     }
     st.counts.corrections <= CORRECTIONS
@@ -137,7 +151,7 @@ pub fn check(st: State, area: usize) -> Checked
     let Phase::Open(kind) = phase else {
         return Checked::Refuse(4);
     };
-    if area != AREA {
+    if area != area_length(st.sizes) {
         return Checked::Refuse(2);
     }
     Checked::Accept(kind)
@@ -172,7 +186,7 @@ pub fn refusal(z: Sizes, start: &[f64], max_step: Scalar, area: usize) -> usize
     if start.len() != 2 * z.n {
         return 2;
     }
-    if area != AREA {
+    if area != area_length(z) {
         return 2;
     }
     if !all_in_domain(start, z.n) {

@@ -8,10 +8,10 @@ ghost use Rattle.interval.specs.Result.{ok};
 ghost use Rattle.interval.specs.Scalar.{pick, sharpen};
 ghost use Rattle.linear.specs.LinearResult.{doneOf, resultOf};
 ghost use Rattle.linear.specs.Flat.{listTo, at};
-ghost use Rattle.run.specs.Limits.{AREA, CORRECTIONS};
+ghost use Rattle.run.specs.Limits.{CORRECTIONS};
 ghost use Rattle.run.specs.declared.state.Kind.the-variants as kinds;
 ghost use Rattle.run.specs.Answered.{answeredNone};
-ghost use Rattle.run.specs.Area.{POINT-LEN, Memory, rowsAt};
+ghost use Rattle.run.specs.Area.{POINT-LEN, Memory, rowsAt, HasRoom, numbersIn};
 ghost use Rattle.run.specs.Corrected.{movingSlope, to, shiftOf, shiftFrom, shiftedStep, correct, keep};
 ghost use Rattle.run.specs.Corrected.{landCorrection, landTrial};
 ghost use Rattle.run.specs.Decide.{judge};
@@ -19,7 +19,8 @@ ghost use Rattle.run.specs.Residuals.{violationOf};
 ghost use Rattle.run.specs.Results.{truthOf};
 ghost use Rattle.run.specs.Rows.{constraintsOf};
 ghost use Rattle.run.specs.Vectors.{vector, fillTo};
-ghost use Rattle.run.specs.program.Area.{ViolationsKnown, StandingKnown, Working};
+ghost use Rattle.run.specs.program.Area.{ViolationsKnown, StandingKnown, Working, StandingWhole};
+ghost use Rattle.run.specs.program.Area.{TrialWhole, LandedWhole};
 ghost use Rattle.run.specs.program.Corrected.{MarkedCounts, RowsToLand, shiftedOf, nearerOf};
 ghost use Rattle.run.specs.program.Endings.{Leaves, Underway};
 use crate::area;
@@ -153,7 +154,7 @@ pub fn shifted_step(n: usize, step: &mut [f64], d: &[f64])
 
 // The landed point is shifted back onto the constraints, and that point asked, or it is judged.
 fn correct(st: State, area: &mut [f64], theta: Scalar, landed: LinearResult) -> Returned
-    requires { ⌜ (length (now area) ≡ AREA) × Underway st ⌝ }
+    requires { ⌜ HasRoom (st .sizes) (now area) × Underway st ⌝ }
     ensures { λ r. ⌜ ((w : Memory) → ViolationsKnown st theta (resultOf landed) w (now (area .entry)) →
         Leaves (correct st w theta) r (now (area .exit))) ⌝ }
 {
@@ -161,9 +162,9 @@ fn correct(st: State, area: &mut [f64], theta: Scalar, landed: LinearResult) -> 
     let mut next = [0.0; 24];
     let shifted = shift_from(
         landed_counts(st),
-        area::landed_rows(area),
+        area::landed_rows(area, st.sizes, landed_counts(st)),
         &moving,
-        area::landed_point(area),
+        area::landed_point(area, st.sizes),
         &mut next,
     );
     match shifted {
@@ -175,7 +176,7 @@ fn correct(st: State, area: &mut [f64], theta: Scalar, landed: LinearResult) -> 
             return refuse(st, area, e);
         }
     }
-    area::write(area, area::ASKED_AT, &next);
+    area::write_asked(area, st.sizes, &next);
     ask(st, Kind::Correction, st.counts.corrections)
 }
 
@@ -187,7 +188,7 @@ fn correct_or_judge(
     landed: LinearResult,
     corrects: bool,
 ) -> Returned
-    requires { ⌜ (length (now area) ≡ AREA) × Underway st ⌝ }
+    requires { ⌜ HasRoom (st .sizes) (now area) × Underway st ⌝ }
     ensures { λ r. ⌜ ((w : Memory) → ViolationsKnown st theta (resultOf landed) w (now (area .entry)) →
         Leaves (pick corrects (correct st w theta) (judge st w theta)) r (now (area .exit))) ⌝ }
 {
@@ -200,26 +201,26 @@ fn correct_or_judge(
 // A correction's rows that are nearer the constraints are kept, and the step is shifted as well, since its length and
 // the curvature are taken from where it led.
 fn keep(st: State, area: &mut [f64], rows: &[f64], theta: Scalar, landed: LinearResult) -> Returned
-    requires { ⌜ RowsToLand st (length (now area)) (length (now rows)) × (st .counts .corrections ≤ CORRECTIONS) ⌝ }
+    requires { ⌜ RowsToLand st (now area) (length (now rows)) × (st .counts .corrections ≤ CORRECTIONS) ⌝ }
     ensures { λ r. ⌜ ((w : Memory) → StandingKnown st (ok theta) w (now (area .entry)) →
+        TrialWhole (numbersIn st) w → LandedWhole (numbersIn st) w →
         resultOf landed ≡ violationOf (rowsAt st (now (rows .entry)) .constraints) →
         Leaves (keep st w (now (rows .entry)) theta) r (now (area .exit))) ⌝ }
 {
     let moving = st.moving;
     let mut d = [0.0; 24];
-    let shift = shift(landed_counts(st), area::landed_rows(area), &moving, &mut d);
+    let c = landed_counts(st);
+    let shift = shift(c, area::landed_rows(area, st.sizes, c), &moving, &mut d);
     match shift {
         Done::Finished => {}
         Done::Refused(e) => {
             return refuse(st, area, e);
         }
     }
-    shifted_step(
-        st.sizes.n,
-        &mut area[area::STEP_AT..area::MULTIPLIERS_AT],
-        &d,
-    );
-    area::write_landed(area, rows);
+    let at = area::places(st.sizes).step;
+    let n = st.sizes.n;
+    shifted_step(n, &mut area[at..at + 2 * n], &d);
+    area::write_landed(area, st, rows);
     let corrections = st.counts.corrections + 1;
     let t = with_landed_number(st, corrections);
     correct_or_judge(t, area, theta, landed, corrections < CORRECTIONS)
@@ -246,8 +247,9 @@ fn is_nearer(new: LinearResult, old: LinearResult) -> TruthResult
 
 // A correction's rows, from a standing point with violation theta: kept where they are nearer than the landed ones.
 pub fn land_correction(st: State, area: &mut [f64], rows: &[f64], theta: Scalar) -> Returned
-    requires { ⌜ RowsToLand st (length (now area)) (length (now rows)) × (st .counts .corrections ≤ CORRECTIONS) ⌝ }
+    requires { ⌜ RowsToLand st (now area) (length (now rows)) × (st .counts .corrections ≤ CORRECTIONS) ⌝ }
     ensures { λ r. ⌜ ((w : Memory) → StandingKnown st (ok theta) w (now (area .entry)) →
+        TrialWhole (numbersIn st) w → LandedWhole (numbersIn st) w →
         Leaves (landCorrection st w (now (rows .entry)) theta) r (now (area .exit))) ⌝ }
 {
     let new = residuals::violation(rows, landed_counts(st));
@@ -267,11 +269,11 @@ pub fn land_correction(st: State, area: &mut [f64], rows: &[f64], theta: Scalar)
 
 // A trial's rows, from a standing point with violation theta: corrected where the violation rose.
 pub fn land_trial(st: State, area: &mut [f64], rows: &[f64], theta: Scalar) -> Returned
-    requires { ⌜ RowsToLand st (length (now area)) (length (now rows)) ⌝ }
+    requires { ⌜ RowsToLand st (now area) (length (now rows)) ⌝ }
     ensures { λ r. ⌜ ((w : Memory) → StandingKnown st (ok theta) w (now (area .entry)) →
-        Leaves (landTrial st w (now (rows .entry)) theta) r (now (area .exit))) ⌝ }
+        TrialWhole (numbersIn st) w → Leaves (landTrial st w (now (rows .entry)) theta) r (now (area .exit))) ⌝ }
 {
-    area::write_landed(area, rows);
+    area::write_landed(area, st, rows);
     let t = with_landed_number(st, 0);
     let landed = landed_violation(st, area);
     match landed {
@@ -286,8 +288,9 @@ pub fn land_trial(st: State, area: &mut [f64], rows: &[f64], theta: Scalar) -> R
 
 // A correction that cannot be evaluated: the point that landed before it is judged.
 pub fn correction_none(st: State, area: &mut [f64]) -> Returned
-    requires { ⌜ (length (now area) ≡ AREA) × Underway st ⌝ }
-    ensures { λ r. ⌜ ((w : Memory) → Working st w (now (area .entry)) →
+    requires { ⌜ HasRoom (st .sizes) (now area) × Underway st ⌝ }
+    ensures { λ r. ⌜ ((w : Memory) → Working st w (now (area .entry)) → StandingWhole (numbersIn st) w →
+        TrialWhole (numbersIn st) w → LandedWhole (numbersIn st) w →
         Leaves (answeredNone kinds.Correction st w) r (now (area .exit))) ⌝ }
 {
     match standing_violation(st, area) {

@@ -306,7 +306,7 @@ pub fn update_curvature(
     lambda: &[f64],
     b: &mut [f64],
 ) -> Done
-    requires { ⌜ FewRows c × (length (now step) ≡ POINT-LEN) ⌝ }
+    requires { ⌜ FewRows c × (2 * c .n ≤ length (now step)) ⌝ }
     ensures { λ r. ⌜ doneOf r (now (b .exit))
         ≡ updateCurvature (c .n) (now (b .entry)) (now (step .entry)) (evaluationOf c (now (xs .entry)))
         (evaluationOf c (now (next .entry))) (now (lambda .entry)) ⌝ }

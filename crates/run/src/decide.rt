@@ -1,29 +1,29 @@
 // What a judgement decides: the run stops, takes the step, tries again without the curvature, or turns the step down.
 ghost use Prim.Native.Nat.{_≤_, _*_};
-ghost use mathlib.Core.Bool.{not, _&&_, true, _||_};
+ghost use mathlib.Core.Bool.{not, _&&_, true, false, _||_};
 ghost use mathlib.Core.Path.{_≡_};
 ghost use lib.ListN.{length};
-ghost use Rattle.interval.specs.Scalar.{pick};
 ghost use Rattle.interval.specs.Scaling.{isPositive};
 ghost use Rattle.linear.specs.LinearResult.{resultOf, doneOf};
-ghost use Rattle.linear.specs.Flat.{zeros};
-ghost use Rattle.run.specs.Limits.{AREA, VARIABLES};
-ghost use Rattle.run.specs.Area.{CURVATURE-LEN, Memory, landedAt, standingAt};
+ghost use Rattle.run.specs.Limits.{VARIABLES};
+ghost use Rattle.run.specs.Area.{Memory, landedAt, standingAt, curvatureOf, numbersIn, pairsIn, HasRoom};
 ghost use Rattle.run.specs.Curvature.{learnedOf, updateCurvature};
 ghost use Rattle.run.specs.Decide.{held, linearOf, take, wasTaken, decide, judge};
 ghost use Rattle.run.specs.Decide as run;
 ghost use Rattle.run.specs.Judgement.{judgeOf};
 ghost use Rattle.run.specs.Residuals.{violationOf};
 ghost use Rattle.run.specs.Results.{truthOf};
-ghost use Rattle.run.specs.Rows.{rowCounts, evaluationOf};
+ghost use Rattle.run.specs.Rows.{rowCounts};
 ghost use Rattle.run.specs.State.{searching, rejectedFor, withRadius};
-ghost use Rattle.run.specs.program.Area.{StandingKnown, Holds, ZeroBehind, ViolationsKnown};
+ghost use Rattle.run.specs.program.Area.{StandingKnown, ReadAll, ViolationsKnown};
 ghost use Rattle.run.specs.program.Decide.{takenWith};
 ghost use Rattle.run.specs.program.Endings.{Leaves, Bounded, Underway};
 ghost use Rattle.run.specs.program.Judgement.{judgementOf};
+ghost use Rattle.run.specs.program.Proposal.{curvatureFor};
 ghost use Rattle.run.specs.program.Rows.{FewRows};
 use crate::area;
 use crate::area::CURVATURE_LEN;
+use crate::area::pairs_in;
 use crate::curvature::learned;
 use crate::curvature::update_curvature;
 use crate::damping::Damped;
@@ -40,7 +40,6 @@ use crate::judgement::judge;
 use crate::radius::radius_after;
 use crate::residuals;
 use crate::results::TruthResult;
-use crate::rows::landed_counts;
 use crate::rows::row_counts;
 use crate::rows::standing_counts;
 use crate::state::Last;
@@ -66,7 +65,7 @@ fn grow(
     why: Rejection,
     standing: LinearResult,
 ) -> Returned
-    requires { ⌜ (length (now area) ≡ AREA) × Bounded 1073741824 st ⌝ }
+    requires { ⌜ HasRoom (st .sizes) (now area) × Bounded 1073741824 st ⌝ }
     ensures { λ r. ⌜ ((w : Memory) → StandingKnown st (resultOf standing) w (now (area .entry)) →
         Leaves (run.grow (searching st (withRadius (rejectedFor (st .search) why) radius)) w) r (now (area .exit))) ⌝ }
 {
@@ -83,7 +82,7 @@ fn grow(
 // A step is turned down: the model was trusted too far, so a quarter of the length tried is the radius, with more
 // damping.
 pub fn turn_down(st: State, area: &mut [f64], why: Rejection, standing: LinearResult) -> Returned
-    requires { ⌜ (length (now area) ≡ AREA) × Bounded 1073741824 st ⌝ }
+    requires { ⌜ HasRoom (st .sizes) (now area) × Bounded 1073741824 st ⌝ }
     ensures { λ r. ⌜ ((w : Memory) → StandingKnown st (resultOf standing) w (now (area .entry)) →
         Leaves (run.turnDown st w why) r (now (area .exit))) ⌝ }
 {
@@ -99,25 +98,25 @@ pub fn turn_down(st: State, area: &mut [f64], why: Rejection, standing: LinearRe
 }
 
 // Whether a step that is not lower may be tried again: only where there is curvature to leave out.
-fn may_retry(plain: bool, n: usize, area: &[f64]) -> bool
-    requires { ⌜ (n ≤ VARIABLES) × (length (now area) ≡ AREA) ⌝ }
-    ensures { λ r. ⌜ ((w : Memory) → Holds w (now (area .entry)) → r ≡ (not plain && learnedOf n (w .curvature))) ⌝ }
+fn may_retry(plain: bool, z: Sizes, area: &[f64]) -> bool
+    requires { ⌜ (z .n ≤ VARIABLES) × HasRoom z (now area) ⌝ }
+    ensures { λ r. ⌜ r ≡ (not plain && learnedOf (z .n) (curvatureFor z false (now (area .entry)))) ⌝ }
 {
     if plain {
         return false;
     }
-    learned(n, area::curvature(area))
+    learned(z.n, area::curvature_for(false, area, z))
 }
 
 // A step that is not lower is tried again without the curvature learned, once in an iteration, or turned down.
 // Curvature learned from earlier steps may no longer hold here, as on the far side of a singular point, and without it
 // the step is one of descent; so this comes before more damping.
 pub fn not_lower(st: State, area: &mut [f64], standing: LinearResult) -> Returned
-    requires { ⌜ (length (now area) ≡ AREA) × Bounded 1073741824 st ⌝ }
+    requires { ⌜ HasRoom (st .sizes) (now area) × Bounded 1073741824 st ⌝ }
     ensures { λ r. ⌜ ((w : Memory) → StandingKnown st (resultOf standing) w (now (area .entry)) →
         Leaves (run.notLower st w) r (now (area .exit))) ⌝ }
 {
-    if may_retry(st.search.plain, st.sizes.n, area) {
+    if may_retry(st.search.plain, st.sizes, area) {
         let mut y = reject(st.search, Rejection::NotLower);
         let turned_down = st.search.turned_down + 1;
         y.turned_down = turned_down;
@@ -155,37 +154,25 @@ fn linear_of(st: State, theta: Scalar, landed: LinearResult) -> TruthResult
     TruthResult::Value(false)
 }
 
-// The curvature before the step, over +0 into b: none in plain. Of its slot the entries in use are copied.
-fn curvature_in_use(plain: bool, n: usize, area: &[f64], b: &mut [f64])
-    requires { ⌜ (n ≤ VARIABLES) × (length (now area) ≡ AREA) × (now b ≡ zeros CURVATURE-LEN) ⌝ }
-    ensures { λ _. ⌜ ((w : Memory) → Holds w (now (area .entry)) →
-        ZeroBehind CURVATURE-LEN (2 * (n * n)) (w .curvature) →
-        now (b .exit) ≡ pick plain (zeros CURVATURE-LEN) (w .curvature)) ⌝ }
-{
-    if !plain {
-        let e = 2 * (n * n);
-        let entries = area::curvature(area);
-        area::write(b, 0, &entries[..e]);
-    }
-}
-
-// The curvature after the step, over +0 into b.
-fn learn(z: Sizes, plain: bool, area: &[f64], b: &mut [f64]) -> Done
-    requires { ⌜ FewRows (rowCounts z) × (length (now area) ≡ AREA) × (now b ≡ zeros CURVATURE-LEN) ⌝ }
-    ensures { λ r. ⌜ ((w : Memory) → Holds w (now (area .entry)) →
-        ZeroBehind CURVATURE-LEN (2 * (z .n * z .n)) (w .curvature) →
+// The curvature after the step into b, which holds as many numbers as it has: from that before the step, or from none
+// in plain.
+fn learn(st: State, area: &[f64], b: &mut [f64]) -> Done
+    requires { ⌜ HasRoom (st .sizes) (now area) × FewRows (rowCounts (st .sizes)) ×
+        (length (now b) ≡ numbersIn st .curvature) ⌝ }
+    ensures { λ r. ⌜ ((w : Memory) → ReadAll st w (now (area .entry)) →
         doneOf r (now (b .exit))
-        ≡ updateCurvature (z .n) (pick plain (zeros CURVATURE-LEN) (w .curvature)) (w .step)
-        (evaluationOf (rowCounts z) (w .standingRows)) (evaluationOf (rowCounts z) (w .landedRows))
+        ≡ updateCurvature (st .sizes .n) (curvatureOf st w) (w .step) (standingAt st w) (landedAt st w)
         (w .multipliers)) ⌝ }
 {
-    curvature_in_use(plain, z.n, area, b);
+    let z = st.sizes;
+    let c = row_counts(z);
+    area::write(b, 0, area::curvature_for(st.search.plain, area, z));
     update_curvature(
-        row_counts(z),
-        area::step(area),
-        area::standing_rows(area),
-        area::landed_rows(area),
-        area::multipliers(area),
+        c,
+        area::step(area, z),
+        area::standing_rows(area, z, c),
+        area::landed_rows(area, z, c),
+        area::multipliers(area, z, c),
         b,
     )
 }
@@ -200,19 +187,22 @@ fn take_with(
     mu: Scalar,
     radius: Scalar,
 ) -> Returned
-    requires { ⌜ (length (now area) ≡ AREA) × Underway st × (isPositive mu ≡ true) ⌝ }
+    requires { ⌜ HasRoom (st .sizes) (now area) × Underway st × (isPositive mu ≡ true) ⌝ }
     ensures { λ r. ⌜ ((w : Memory) → ViolationsKnown st theta (resultOf landed) w (now (area .entry)) →
         Leaves (takenWith st w theta span mu radius) r (now (area .exit))) ⌝ }
 {
-    let mut b = [0.0; CURVATURE_LEN];
-    match learn(st.sizes, st.search.plain, area, &mut b) {
+    let mut entries = [0.0; CURVATURE_LEN];
+    let n = st.sizes.n;
+    let count = 2 * (n * n);
+    match learn(st, area, &mut entries[..count]) {
         Done::Finished => {}
         Done::Refused(e) => {
             return refuse(st, area, e);
         }
     }
-    let f = residuals::sum_squared(area::standing_rows(area), standing_counts(st));
-    area::write_taken(area, landed_counts(st), &b, st.counts.iterations, f, theta);
+    let c = standing_counts(st);
+    let f = residuals::sum_squared(area::standing_rows(area, st.sizes, c), c);
+    area::write_taken(area, st, &entries[..count], f, theta);
     iterate(standing_on(st, span, mu, radius), area, landed)
 }
 
@@ -224,7 +214,7 @@ pub fn take(
     landed: LinearResult,
     span: Scalar,
 ) -> Returned
-    requires { ⌜ (length (now area) ≡ AREA) × Underway st ⌝ }
+    requires { ⌜ HasRoom (st .sizes) (now area) × Underway st ⌝ }
     ensures { λ r. ⌜ ((w : Memory) → ViolationsKnown st theta (resultOf landed) w (now (area .entry)) →
         Leaves (take st w theta span) r (now (area .exit))) ⌝ }
 {
@@ -291,7 +281,7 @@ fn is_better(first: bool, j: Judged) -> bool
 
 // What follows a judgement, from a standing point with violation theta to the landed one.
 fn decide(st: State, area: &mut [f64], theta: Scalar, landed: LinearResult, j: Judged) -> Returned
-    requires { ⌜ (length (now area) ≡ AREA) × Underway st ⌝ }
+    requires { ⌜ HasRoom (st .sizes) (now area) × Underway st ⌝ }
     ensures { λ r. ⌜ ((w : Memory) → ViolationsKnown st theta (resultOf landed) w (now (area .entry)) →
         Leaves (decide st w theta j) r (now (area .exit))) ⌝ }
 {
@@ -307,31 +297,30 @@ fn decide(st: State, area: &mut [f64], theta: Scalar, landed: LinearResult, j: J
 
 // The judgement of the landed point, from a standing point with violation theta.
 fn judge_in(st: State, area: &[f64], theta: Scalar, landed: LinearResult) -> Judgement
-    requires { ⌜ (length (now area) ≡ AREA) × Underway st ⌝ }
+    requires { ⌜ HasRoom (st .sizes) (now area) × Underway st ⌝ }
     ensures { λ r. ⌜ ((w : Memory) → ViolationsKnown st theta (resultOf landed) w (now (area .entry)) →
         judgementOf r ≡ judgeOf (st .sizes .n) (standingAt st w) (landedAt st w) theta (w .filter)
-        (st .counts .iterations) (st .last) (w .step)) ⌝ }
+        (pairsIn st) (st .last) (w .step)) ⌝ }
 {
     let last = st.last;
-    let base = Baseline {
-        theta,
-        pairs: st.counts.iterations,
-        last,
-    };
+    let z = st.sizes;
+    let pairs = pairs_in(st);
+    let base = Baseline { theta, pairs, last };
+    let c = row_counts(z);
     judge(
-        row_counts(st.sizes),
-        area::standing_rows(area),
-        area::landed_rows(area),
+        c,
+        area::standing_rows(area, z, c),
+        area::landed_rows(area, z, c),
         landed,
         base,
-        area::filter(area),
-        area::step(area),
+        area::filter(area, z, pairs),
+        area::step(area, z),
     )
 }
 
 // The landed point is judged, from a standing point with violation theta.
 pub fn judge_landed(st: State, area: &mut [f64], theta: Scalar, landed: LinearResult) -> Returned
-    requires { ⌜ (length (now area) ≡ AREA) × Underway st ⌝ }
+    requires { ⌜ HasRoom (st .sizes) (now area) × Underway st ⌝ }
     ensures { λ r. ⌜ ((w : Memory) → ViolationsKnown st theta (resultOf landed) w (now (area .entry)) →
         Leaves (judge st w theta) r (now (area .exit))) ⌝ }
 {

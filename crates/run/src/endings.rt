@@ -4,10 +4,8 @@ ghost use Prim.Native.Nat.{_<_, _^_};
 ghost use mathlib.Core.List.{List};
 ghost use mathlib.Core.Path.{_≡_};
 ghost use lib.Ieee.{Float};
-ghost use lib.ListN.{length};
 ghost use Rattle.linear.specs.LinearResult.{numberOf};
-ghost use Rattle.run.specs.Limits.{AREA};
-ghost use Rattle.run.specs.Area.{Memory};
+ghost use Rattle.run.specs.Area.{Memory, HasRoom, pairsIn};
 ghost use Rattle.run.specs.Endings as run;
 ghost use Rattle.run.specs.program.Area.{Limits, Working, Holds};
 ghost use Rattle.run.specs.program.Endings.{Leaves};
@@ -39,7 +37,7 @@ fn number_of(e: LinearError) -> usize
 
 // The run is over with its counts; the area keeps the standing point alone.
 pub fn finish(st: State, area: &mut [f64], stop: Stop) -> Returned
-    requires { ⌜ (length (now area) ≡ AREA) × Limits (st .sizes) (st .counts .iterations) ⌝ }
+    requires { ⌜ HasRoom (st .sizes) (now area) × Limits (st .sizes) (pairsIn st) ⌝ }
     ensures { λ r. ⌜ ((w : Memory) → Working st w (now (area .entry)) →
         Leaves (run.finish st w stop) r (now (area .exit))) ⌝ }
 {
@@ -57,7 +55,7 @@ pub fn finish(st: State, area: &mut [f64], stop: Stop) -> Returned
 
 // The run is over with the number of a refusal; the area keeps the standing point alone.
 pub fn refuse(st: State, area: &mut [f64], e: LinearError) -> Returned
-    requires { ⌜ (length (now area) ≡ AREA) × Limits (st .sizes) (st .counts .iterations) ⌝ }
+    requires { ⌜ HasRoom (st .sizes) (now area) × Limits (st .sizes) (pairsIn st) ⌝ }
     ensures { λ r. ⌜ ((w : Memory) → Working st w (now (area .entry)) →
         Leaves (run.refuse st w (numberOf e)) r (now (area .exit))) ⌝ }
 {
@@ -71,7 +69,8 @@ pub fn refuse(st: State, area: &mut [f64], e: LinearError) -> Returned
 // The next question, over an area that has its point.
 pub fn ask(st: State, kind: Kind, corrections: usize) -> Returned
     requires { ⌜ st .counts .question < 2 ^ 32 ⌝ }
-    ensures { λ r. ⌜ ((w : Memory) (a : List Float) → Holds w a → Leaves (run.question st w kind corrections) r a) ⌝ }
+    ensures { λ r. ⌜ ((w : Memory) (a : List Float) → Holds (st .sizes) w a →
+        Leaves (run.question st w kind corrections) r a) ⌝ }
 {
     Returned {
         state: with_question(st, kind, corrections),

@@ -6,13 +6,12 @@ ghost use mathlib.Core.Bool.{_||_, _&&_};
 ghost use mathlib.Core.Path.{_≡_};
 ghost use lib.ListN.{take};
 ghost use Rattle.interval.specs.Scalar.{definitelyLess};
-ghost use Rattle.run.specs.Filter.{filterSum, filterViolation, beatsTo, filterWith};
+ghost use Rattle.run.specs.Filter.{filterSum, filterViolation, beatsTo, pairNumbers};
 ghost use Rattle.run.specs.Limits.{ITERATIONS};
 ghost use Rattle.run.specs.program.Filter.{beatsPair, beatsPairs, pairAt, pairsTo};
 use crate::limits::ITERATIONS;
 use interval::Scalar;
 use linear::at;
-use linear::put;
 
 // Whether f or theta is definitely less than in pair i.
 fn beats_pair(filter: &[f64], f: Scalar, theta: Scalar, i: usize) -> bool
@@ -118,11 +117,9 @@ pub fn beats_as_pairs(filter: &[f64], f: Scalar, theta: Scalar, count: usize) ->
     beats_first(pairs_of(filter, count), count, f, theta)
 }
 
-// The filter with one pair more.
-pub fn push(filter: &mut [f64], count: usize, f: Scalar, theta: Scalar)
-    requires { ⌜ count < ITERATIONS ⌝ }
-    ensures { λ _. ⌜ now (filter .exit) ≡ filterWith (now (filter .entry)) count f theta ⌝ }
+// The numbers of a pair, as the filter keeps them.
+pub fn pair_numbers(f: Scalar, theta: Scalar) -> [f64; 4]
+    ensures { λ r. ⌜ r ≡ pairNumbers f theta ⌝ }
 {
-    put(filter, 2 * count, f);
-    put(filter, 2 * count + 1, theta);
+    [f.lo, f.hi, theta.lo, theta.hi]
 }

@@ -1,13 +1,11 @@
 // The next iteration: the search from the standing point, until a question, the finish or a refusal.
 ghost use mathlib.Core.Path.{_≡_};
-ghost use lib.ListN.{length};
 ghost use Rattle.linear.specs.LinearResult.{resultOf};
-ghost use Rattle.run.specs.Limits.{AREA};
-ghost use Rattle.run.specs.Area.{Memory, standingCounts};
+ghost use Rattle.run.specs.Area.{Memory, standingCounts, numbersIn, HasRoom};
 ghost use Rattle.run.specs.Iterate.{leftAt};
 ghost use Rattle.run.specs.Iterate as run;
 ghost use Rattle.run.specs.Vectors.{movedOf};
-ghost use Rattle.run.specs.program.Area.{Working, StandingKnown};
+ghost use Rattle.run.specs.program.Area.{Working, StandingKnown, StandingWhole};
 ghost use Rattle.run.specs.program.Endings.{Leaves, Bounded};
 ghost use Rattle.run.specs.program.Iterate.{soughtOf, searchOrigin};
 ghost use Rattle.run.specs.program.Rows.{FewRows};
@@ -20,7 +18,6 @@ use crate::endings::refuse;
 use crate::proposal::Origin;
 use crate::proposal::StandingPoint;
 use crate::residuals::sum_squared;
-use crate::rows::landed_counts;
 use crate::rows::standing_counts;
 use crate::search::Found;
 use crate::search::seek;
@@ -35,14 +32,14 @@ use linear::LinearResult;
 
 // The event that follows where a search was left, with the step and its multipliers.
 fn left_at(st: State, area: &mut [f64], found: Found, delta: &[f64], lambda: &[f64]) -> Returned
-    requires { ⌜ (length (now area) ≡ AREA) × Bounded 2147483648 st × StepLengths (now delta) (now lambda) ⌝ }
-    ensures { λ r. ⌜ ((w : Memory) → Working st w (now (area .entry)) →
+    requires { ⌜ HasRoom (st .sizes) (now area) × Bounded 2147483648 st × StepLengths (now delta) (now lambda) ⌝ }
+    ensures { λ r. ⌜ ((w : Memory) → Working st w (now (area .entry)) → StandingWhole (numbersIn st) w →
         Leaves (leftAt st w (foundResult found (now (delta .entry)) (now (lambda .entry))
         (movedOf (st .sizes .n) (w .standing) (now (delta .entry))))) r (now (area .exit))) ⌝ }
 {
     match found {
         Found::Ask(x, t) => {
-            area::write_trial(area, landed_counts(st), delta, lambda);
+            area::write_trial(area, st, delta, lambda);
             return ask(with_trial_of(st, x, t), Kind::Trial, 0);
         }
         Found::Stop(x, stop) => {
@@ -56,16 +53,17 @@ fn left_at(st: State, area: &mut [f64], found: Found, delta: &[f64], lambda: &[f
 
 // What the search goes out from: the standing point, with the sum from its rows and their violation theta.
 fn search_origin(st: State, area: &[f64], theta: Scalar) -> Origin
-    requires { ⌜ (length (now area) ≡ AREA) × FewRows (standingCounts st) ⌝ }
+    requires { ⌜ HasRoom (st .sizes) (now area) × FewRows (standingCounts st) ⌝ }
     ensures { λ r. ⌜ r ≡ searchOrigin st (now (area .entry)) theta ⌝ }
 {
     let counts = standing_counts(st);
-    let rows = &area[area::STANDING_ROWS_AT..area::LANDED_ROWS_AT];
-    let f = sum_squared(rows, counts);
+    let sizes = st.sizes;
+    let f = sum_squared(area::standing_rows(area, sizes, counts), counts);
     let point = StandingPoint { counts, f, theta };
     let moving = st.moving;
     let max_step = st.max_step;
     Origin {
+        sizes,
         point,
         moving,
         plain: st.search.plain,
@@ -81,7 +79,7 @@ fn seek_standing(
     delta: &mut [f64],
     lambda: &mut [f64],
 ) -> Found
-    requires { ⌜ (length (now area) ≡ AREA) × Bounded 2147483648 st × StepLengths (now delta) (now lambda) ⌝ }
+    requires { ⌜ HasRoom (st .sizes) (now area) × Bounded 2147483648 st × StepLengths (now delta) (now lambda) ⌝ }
     ensures { λ r. ⌜ ((w : Memory) → StandingKnown st (resultOf standing) w (now (area .entry)) →
         foundResult r (now (delta .exit)) (now (lambda .exit))
         (movedOf (st .sizes .n) (w .standing) (now (delta .exit))) ≡ soughtOf st w) ⌝ }
@@ -99,7 +97,7 @@ fn seek_standing(
 
 // The search for a proposal from the standing point with its violation, until a question, the finish or a refusal.
 pub fn search(st: State, area: &mut [f64], standing: LinearResult) -> Returned
-    requires { ⌜ (length (now area) ≡ AREA) × Bounded 2147483648 st ⌝ }
+    requires { ⌜ HasRoom (st .sizes) (now area) × Bounded 2147483648 st ⌝ }
     ensures { λ r. ⌜ ((w : Memory) → StandingKnown st (resultOf standing) w (now (area .entry)) →
         Leaves (run.search st w) r (now (area .exit))) ⌝ }
 {
@@ -111,7 +109,7 @@ pub fn search(st: State, area: &mut [f64], standing: LinearResult) -> Returned
 
 // A new iteration, or the finish where the limit is reached.
 pub fn iterate(st: State, area: &mut [f64], standing: LinearResult) -> Returned
-    requires { ⌜ (length (now area) ≡ AREA) × Bounded 2147483648 st ⌝ }
+    requires { ⌜ HasRoom (st .sizes) (now area) × Bounded 2147483648 st ⌝ }
     ensures { λ r. ⌜ ((w : Memory) → StandingKnown st (resultOf standing) w (now (area .entry)) →
         Leaves (run.iterate st w) r (now (area .exit))) ⌝ }
 {

@@ -27,6 +27,8 @@ mod state;
 mod step;
 mod vectors;
 
+pub use area::area_length;
+pub use area::point_place;
 pub use calls::begin;
 pub use calls::point;
 pub use calls::reply;

@@ -9,7 +9,8 @@ ghost use Rattle.interval.specs.Result.{ok};
 ghost use Rattle.interval.specs.Scalar.{zeroS, subOf, definitelyGreater};
 ghost use Rattle.linear.specs.LinearResult.{resultOf};
 ghost use Rattle.linear.specs.Results.{bind};
-ghost use Rattle.run.specs.Limits.{AREA, VARIABLES};
+ghost use Rattle.run.specs.Limits.{VARIABLES};
+ghost use Rattle.run.specs.Area.{HasRoom};
 ghost use Rattle.run.specs.Proposal.{curvatureAlong, expectsOf, ask, trialOf, shortenedOf, withinOf, proposalOf};
 ghost use Rattle.run.specs.Proposal.{triedOf};
 ghost use Rattle.run.specs.Radius.{cutOf};
@@ -17,7 +18,7 @@ ghost use Rattle.run.specs.Results.{truthOf};
 ghost use Rattle.run.specs.Rows.{constraintsOf};
 ghost use Rattle.run.specs.Vectors.{movedOf};
 ghost use Rattle.run.specs.program.Proposal.{modelFor, proposalResult, pointOf, stillFor, standingIn};
-ghost use Rattle.run.specs.program.Proposal.{nextIn, curvatureFor, PreparedAt};
+ghost use Rattle.run.specs.program.Proposal.{nextIn, PreparedAt};
 ghost use Rattle.run.specs.program.Rows.{FewRows};
 ghost use Rattle.run.specs.program.Step.{StepLengths};
 use crate::area;
@@ -29,6 +30,7 @@ use crate::results::TruthResult;
 use crate::rows::RowCounts;
 use crate::rows::sum;
 use crate::state::Search;
+use crate::state::Sizes;
 use crate::state::Trial;
 use crate::step::Prepared;
 use crate::step::StepEnd;
@@ -52,9 +54,10 @@ pub struct StandingPoint {
     pub theta: Scalar,
 }
 
-// What every damping of a search goes out from: the standing point, the variables that move, whether the curvature
-// learned is left aside, and the longest step.
+// What every damping of a search goes out from: the sizes of the run, the standing point, the variables that move,
+// whether the curvature learned is left aside, and the longest step.
 pub struct Origin {
+    pub sizes: Sizes,
     pub point: StandingPoint,
     pub moving: [bool; 12],
     pub plain: bool,
@@ -69,17 +72,6 @@ pub enum Proposal {
     NoChange,
     Ask(Trial),
     Refused(LinearError),
-}
-
-// The curvature that a search goes by. In plain there is none: the last numbers of the area are +0.
-pub fn curvature_for(plain: bool, area: &[f64]) -> &[f64]
-    requires { ⌜ length (now area) ≡ AREA ⌝ }
-    ensures { λ r. ⌜ now r ≡ curvatureFor plain (now (area .entry)) ⌝ }
-{
-    if plain {
-        return &area[area::SPARE_AT..area::SPARE_AT + area::CURVATURE_LEN];
-    }
-    &area[area::CURVATURE_AT..area::FILTER_AT]
 }
 
 // The curvature along a step, deltaᵀ B delta.
@@ -253,7 +245,8 @@ pub fn propose(
     delta: &mut [f64],
     lambda: &mut [f64],
 ) -> Proposal
-    requires { ⌜ FewRows (origin .point .counts) × (length (now area) ≡ AREA) × StepLengths (now delta) (now lambda) ⌝ }
+    requires { ⌜ FewRows (origin .point .counts) × HasRoom (origin .sizes) (now area) ×
+        (origin .sizes .n ≤ VARIABLES) × StepLengths (now delta) (now lambda) ⌝ }
     requires { ⌜ PreparedAt origin (now area) prepared (now order) (now fixed) ⌝ }
     ensures { λ r. ⌜ proposalResult r (now (delta .exit)) (now (lambda .exit))
         (nextIn origin (now (area .entry)) (now (delta .exit)))
@@ -272,12 +265,13 @@ pub fn propose(
         lambda,
     ) {
         StepEnd::Found(r) => {
-            let rows = &area[area::STANDING_ROWS_AT..area::LANDED_ROWS_AT];
-            let b = curvature_for(origin.plain, area);
+            let sizes = origin.sizes;
+            let rows = area::standing_rows(area, sizes, point.counts);
+            let b = area::curvature_for(origin.plain, area, sizes);
             match expects(point, rows, b, delta) {
                 TruthResult::Value(drop) => {
                     if drop {
-                        let x = &area[area::STANDING_AT..area::LANDED_AT];
+                        let x = area::standing_point(area, sizes);
                         return within(point, rows, x, b, state.radius, delta);
                     }
                     return Proposal::NoDrop(r);

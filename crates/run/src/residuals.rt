@@ -5,8 +5,9 @@ ghost use mathlib.Core.Bool.{_||_};
 ghost use mathlib.Core.Path.{_≡_};
 ghost use lib.ListN.{length};
 ghost use Rattle.linear.specs.LinearResult.{resultOf};
-ghost use Rattle.run.specs.Limits.{AREA, CONSTRAINTS};
-ghost use Rattle.run.specs.Area.{Memory, standingCounts, landedCounts, standingAt, landedAt};
+ghost use Rattle.run.specs.Limits.{CONSTRAINTS};
+ghost use Rattle.run.specs.Area.{Memory, standingCounts, landedCounts, standingAt, landedAt, HasRoom};
+ghost use Rattle.run.specs.Area.{numbersIn};
 ghost use Rattle.run.specs.Residuals.{linearizedAt, squaredOf, transposedAt, sumSquared, violationOf};
 ghost use Rattle.run.specs.Residuals.{predictedOf, dependsOn, movingOf};
 ghost use Rattle.run.specs.Rows.{rowsIn, sumOf, valueAt, constraintsOf, evaluationOf};
@@ -175,18 +176,22 @@ pub fn moving(xs: &[f64], c: RowCounts) -> [bool; 12]
 
 // The violation of the standing point, from its rows in the area.
 pub fn standing_violation(st: State, area: &[f64]) -> LinearResult
-    requires { ⌜ (standingCounts st .m ≤ CONSTRAINTS) × (length (now area) ≡ AREA) ⌝ }
-    ensures { λ r. ⌜ ((w : Memory) → Holds w (now (area .entry)) →
+    requires { ⌜ HasRoom (st .sizes) (now area) × FewRows (standingCounts st) ⌝ }
+    ensures { λ r. ⌜ ((w : Memory) → Holds (st .sizes) w (now (area .entry)) →
+        length (w .standingRows) ≡ numbersIn st .standingRows →
         resultOf r ≡ violationOf (standingAt st w .constraints)) ⌝ }
 {
-    violation(area::standing_rows(area), standing_counts(st))
+    let c = standing_counts(st);
+    violation(area::standing_rows(area, st.sizes, c), c)
 }
 
 // The violation of the landed point, from its rows in the area.
 pub fn landed_violation(st: State, area: &[f64]) -> LinearResult
-    requires { ⌜ (landedCounts st .m ≤ CONSTRAINTS) × (length (now area) ≡ AREA) ⌝ }
-    ensures { λ r. ⌜ ((w : Memory) → Holds w (now (area .entry)) →
+    requires { ⌜ HasRoom (st .sizes) (now area) × FewRows (landedCounts st) ⌝ }
+    ensures { λ r. ⌜ ((w : Memory) → Holds (st .sizes) w (now (area .entry)) →
+        length (w .landedRows) ≡ numbersIn st .landedRows →
         resultOf r ≡ violationOf (landedAt st w .constraints)) ⌝ }
 {
-    violation(area::landed_rows(area), landed_counts(st))
+    let c = landed_counts(st);
+    violation(area::landed_rows(area, st.sizes, c), c)
 }

@@ -1,14 +1,14 @@
 // The search for a proposal, over dampings: left at the first question or stop. What no damping changes is worked out
 // once, before the loop, so that another damping costs only what it changes.
-ghost use Prim.Native.Nat.{_^_, _<_};
+ghost use Prim.Native.Nat.{_^_, _<_, _≤_};
 ghost use mathlib.Core.Bool.{true};
 ghost use mathlib.Core.List.{List};
 ghost use mathlib.Core.Path.{_≡_};
 ghost use lib.Ieee.{Float};
-ghost use lib.ListN.{length};
 ghost use Rattle.interval.specs.Scaling.{isPositive};
+ghost use Rattle.run.specs.Area.{HasRoom};
 ghost use Rattle.run.specs.Damping.{damped};
-ghost use Rattle.run.specs.Limits.{AREA};
+ghost use Rattle.run.specs.Limits.{VARIABLES};
 ghost use Rattle.run.specs.Search.{flatOr, follow, searchOf};
 ghost use Rattle.run.specs.Search as defined;
 ghost use Rattle.run.specs.State.{rejectedFor, withRadius};
@@ -22,7 +22,6 @@ use crate::damping::Damped;
 use crate::damping::damp;
 use crate::proposal::Origin;
 use crate::proposal::Proposal;
-use crate::proposal::curvature_for;
 use crate::proposal::propose;
 use crate::state::Rejection;
 use crate::state::Search;
@@ -114,7 +113,8 @@ fn seek_from(
     delta: &mut [f64],
     lambda: &mut [f64],
 ) -> Found
-    requires { ⌜ FewRows (origin .point .counts) × (length (now area) ≡ AREA) × StepLengths (now delta) (now lambda) ⌝ }
+    requires { ⌜ FewRows (origin .point .counts) × HasRoom (origin .sizes) (now area) ×
+        (origin .sizes .n ≤ VARIABLES) × StepLengths (now delta) (now lambda) ⌝ }
     requires { ⌜ PreparedAt origin (now area) prepared (now order) (now fixed) ⌝ }
     requires { ⌜ (from .«turned_down» < 2 ^ 31) × (isPositive (from .mu) ≡ true) ⌝ }
     ensures { λ r. ⌜ foundResult r (now (delta .exit)) (now (lambda .exit))
@@ -144,7 +144,8 @@ pub fn seek(
     delta: &mut [f64],
     lambda: &mut [f64],
 ) -> Found
-    requires { ⌜ FewRows (origin .point .counts) × (length (now area) ≡ AREA) × StepLengths (now delta) (now lambda) ⌝ }
+    requires { ⌜ FewRows (origin .point .counts) × HasRoom (origin .sizes) (now area) ×
+        (origin .sizes .n ≤ VARIABLES) × StepLengths (now delta) (now lambda) ⌝ }
     requires { ⌜ (from .«turned_down» < 2 ^ 31) × (isPositive (from .mu) ≡ true) ⌝ }
     ensures { λ r. ⌜ foundResult r (now (delta .exit)) (now (lambda .exit))
         (nextIn origin (now (area .entry)) (now (delta .exit)))
@@ -154,10 +155,11 @@ pub fn seek(
     let mut fixed = [0.0; FIXED_LEN];
     let counts = origin.point.counts;
     let moving = origin.moving;
+    let sizes = origin.sizes;
     let prepared = prepare(
         counts,
-        &area[area::STANDING_ROWS_AT..area::LANDED_ROWS_AT],
-        curvature_for(origin.plain, area),
+        area::standing_rows(area, sizes, counts),
+        area::curvature_for(origin.plain, area, sizes),
         &moving,
         &mut order,
         &mut fixed,

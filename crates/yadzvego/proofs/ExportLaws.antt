@@ -9,7 +9,7 @@ use lib.Dec.{eqb}
 use lib.Ieee.{Float}
 use lib.ListN.{length, take, drop}
 use Rattle.interval.specs.Result.{Res, ok, refused}
-use Rattle.run.specs.Limits.{AREA}
+use Rattle.run.specs.Area.{areaLength}
 use Rattle.run.specs.Calls.{AfterCall, refusedByCheck, replyOf, replyNoneOf, pointOf}
 use Rattle.run.specs.Checks.{valid}
 use Rattle.run.specs.declared.state.Event.{Event}
@@ -46,7 +46,7 @@ few-variables r area e = bounds (stateAt r) (both (valid (stateAt r)) _ (both (n
 
 -- the part of the area at that place and of that length is the one that `point` gives
 module _ (r : Run) (a : List Float) where
-  part : (f g : Bool) → numbersFit r ≡ f → (valid (stateAt r) && eqb (length a) AREA) ≡ g
+  part : (f g : Bool) → numbersFit r ≡ f → (valid (stateAt r) && eqb (length a) (areaLength (stateAt r .sizes))) ≡ g
       → take (pointLength r (length a)) (drop (pointPlace r (length a)) a) ≡ pointPart r a
   unfolding pointPlace pointLength hasPoint stateOf stateAt pointOf
   part false g e h = rw e

@@ -10,8 +10,8 @@ use lib.Ieee.{Float}
 use Rattle.interval.specs.declared.Scalar.{Scalar}
 use Rattle.interval.specs.Result.{Res, ok, refused}
 use Rattle.interval.specs.Scalar.{pick}
-use Rattle.run.specs.Limits.{AREA}
-use Rattle.run.specs.Calls.{AfterCall, refusedByCheck, beginOf, replyOf, replyNoneOf, pointAt, pointOf}
+use Rattle.run.specs.Area.{areaLength, pointAt}
+use Rattle.run.specs.Calls.{AfterCall, refusedByCheck, beginOf, replyOf, replyNoneOf, pointOf}
 use Rattle.run.specs.Checks.{valid}
 use Rattle.run.specs.declared.state.Event.{Event}
 use Rattle.run.specs.declared.state.Returned.{Returned}
@@ -76,10 +76,10 @@ replyNoneExport r a = calledWith r a (λ st. replyNoneOf st a) (stateOf r)
 -- ---- the point, as a place in an area of that length, and a count of numbers
 
 unfoldable pub hasPoint : Run → ℕ → Bool
-hasPoint r area = numbersFit r && (valid (stateAt r) && eqb area AREA)
+hasPoint r area = numbersFit r && (valid (stateAt r) && eqb area (areaLength (stateAt r .sizes)))
 
 unfoldable pub pointPlace : Run → ℕ → ℕ
-pointPlace r area = pick (hasPoint r area) (pointAt (stateAt r .phase)) 0
+pointPlace r area = pick (hasPoint r area) (pointAt (stateAt r .sizes) (stateAt r .phase)) 0
 
 unfoldable pub pointLength : Run → ℕ → ℕ
 pointLength r area = pick (hasPoint r area) (2 * r .n) 0

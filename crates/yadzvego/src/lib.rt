@@ -1,7 +1,6 @@
 // The calls of a run for C and Rust, each by name. A slice is passed as its pointer and count. Every function takes
 // every number and every length, and equals the definition of the call beneath it.
 ghost use mathlib.Core.Path.{_≡_};
-ghost use Rattle.run.specs.Calls.{pointAt};
 ghost use Rattle.yadzvego.specs.Exports.{afterExport, beginExport, replyExport, replyNoneExport, hasPoint};
 ghost use Rattle.yadzvego.specs.Exports.{pointPlace, pointLength};
 
@@ -19,7 +18,6 @@ pub use c_state::Run;
 pub use events::CReturned;
 pub use events::EventNumbers;
 use interval::Scalar;
-use run::Phase;
 
 // Begins a run: its first question asks for the rows of `start`.
 #[no_mangle]
@@ -60,22 +58,17 @@ pub extern "C" fn yadzvego_reply_none(run: Run, area: &mut [f64]) -> CReturned
     returned_after(run, run::reply_none(state_at(run), area))
 }
 
-fn phase_place(p: Phase) -> usize
-    ensures { λ r. ⌜ r ≡ pointAt p ⌝ }
-{
-    match p {
-        Phase::Open(_) => 48,
-        Phase::Over => 0,
-    }
-}
-
 fn has_point(run: Run, area: usize) -> bool
     ensures { λ r. ⌜ r ≡ hasPoint run area ⌝ }
 {
     if !numbers_fit(run) {
         return false;
     }
-    run::valid(state_at(run)) && area == 8000
+    let st = state_at(run);
+    if !run::valid(st) {
+        return false;
+    }
+    area == run::area_length(st.sizes)
 }
 
 // Where in the area the point begins: the asked one, or the standing one where no question is open.
@@ -86,9 +79,7 @@ pub extern "C" fn yadzvego_point_place(run: Run, area_len: usize) -> usize
     if !has_point(run, area_len) {
         return 0;
     }
-    let st = state_at(run);
-    let phase = st.phase;
-    phase_place(phase)
+    run::point_place(state_at(run))
 }
 
 // How many numbers the point has: 0 where there is none.

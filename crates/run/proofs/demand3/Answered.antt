@@ -1,7 +1,7 @@
 -- An open question and its answer: what the invariant says of a start, a trial or a correction is what the run between
 -- two questions begins with.
 use Prim.Native.Nat.{ℕ, _+_, _*_, _≤_, _<_, zero-le}
-use mathlib.Core.Bool.{true, false, cond}
+use mathlib.Core.Bool.{false, cond}
 use mathlib.Core.Logic.{inl, inr}
 use mathlib.Core.Path.{_≡_, refl, sym, ap, _∙_, subst}
 use mathlib.Core.List.{List, [], _∷_}
@@ -9,12 +9,10 @@ use native.Mathlib.Omega.{arith}
 use borrow.Author.Tests.{eq-eqb, ne-eqb}
 use lib.Dec.{eqb}
 use lib.Ieee.{Float}
-use lib.ListN.{length, take, length-replicate}
+use lib.ListN.{length, length-replicate}
 use Rattle.interval.specs.Scalar.{zero64}
 use Rattle.run.specs.Residuals.{violationOf, movingOf}
-use Rattle.run.specs.Area.{POINT-LEN, ROWS-LEN, CURVATURE-LEN, FILTER-LEN, Memory, memoryOf, withLanded}
-use Rattle.run.specs.Area.{withStart}
-use Rattle.run.specs.Limits.{AREA}
+use Rattle.run.specs.Area.{numbersIn, usedIn, Memory, memoryOf, withLanded, withStart}
 use Rattle.run.specs.Endings.{AfterSlots}
 use Rattle.run.specs.Area.{rowsAt, standingAt}
 use Rattle.run.specs.State.{landing, moves}
@@ -46,14 +44,11 @@ use Rattle.run.specs.declared.state.Rejection.the-variants as why
 use Rattle.run.specs.declared.state.Sizes.{Sizes}
 use Rattle.run.specs.declared.state.State.{State}
 use Rattle.run.specs.declared.state.Stop.the-variants as stop
-use Rattle.run.proofs.AreaRead.{rows-fit, read-sized, used-part}
-use Rattle.run.proofs.AreaLaws.{length-padded}
-use Rattle.run.proofs.CheckLaws.{size-bounds}
+use Rattle.run.specs.program.Area.{lengthsOf}
 use Rattle.run.proofs.RefusalLaws.{violation-yields}
 use Rattle.run.proofs.demand3.ExactLaws.{Good, ExactLaws}
 use Rattle.run.proofs.demand3.Invariant.{
   FittingRows,
-  Slot,
   Stands,
   Sound,
   Tried,
@@ -79,8 +74,8 @@ pub record CheckedRows (z : Sizes) (xs : List Float) : Type 0 where
   pub fitting : Fitting z xs
   pub good : Good z xs
 
-abbrev rowed : {z : Sizes} {x : AnsweredRows} (xs : List Float) → CheckedRows z xs → x ≡ hasRows xs → FittingRows z x
-rowed xs p e = record { rows = xs; given-is = e; fitting = p .fitting; good = p .good }
+rowed : {z : Sizes} {x : AnsweredRows} {xs : List Float} → CheckedRows z xs → x ≡ hasRows xs → FittingRows z x xs
+rowed p e = record { given-is = e; fitting = p .fitting; good = p .good }
 
 -- the rows entered for the open question
 abbrev with-rows : History → List Float → ℕ → AnsweredRows
@@ -127,22 +122,12 @@ asked-rows h xs k e = rw (eq-eqb k (h .asked) e)
 other-rows : (h : History) (xs : List Float) (k : ℕ) → k < h .asked → h .rows k ≡ with-rows h xs k
 other-rows h xs k l = let d : eqb k (h .asked) ≡ false = ne-eqb k (h .asked) (λ e. omega arith) in rw d
 
--- the standing point as the memory has it
-standing-read :
-    (st : State) (a : List Float) →
-    Sound st →
-    length a ≡ AREA → take (2 * st .sizes .n) (memoryOf st a .standing) ≡ take (2 * st .sizes .n) a
-unfolding memoryOf
-standing-read st a sound long =
-    let small = size-bounds (st .sizes) (sound .sizes-fit) in
-    used-part a 0 POINT-LEN (2 * st .sizes .n) true refl (omega (arith, small .n, long))
-
 -- ---- a trial or correction is open
 
 module _ (S : CallContext) (since top : ℕ) (sound : Sound (S .run .state)) (T : Tried (S .history) (S .run) since top)
     (same-before : T .before ≡ S .before) (agree : (e : ℕ) → e < top → S .history .rows e ≡ S .rows e)
-    (asked : top ≤ S .run .state .counts .question) (long : length (S .run .area) ≡ AREA)
-    (point : take (2 * S .run .state .sizes .n) (S .run .area) ≡ S .history .points (S .history .standing)) where
+    (asked : top ≤ S .run .state .counts .question)
+    (point : memoryOf (S .run .state) (S .run .area) .standing ≡ S .history .points (S .history .standing)) where
   st : State
   st = S .run .state
 
@@ -155,19 +140,20 @@ module _ (S : CallContext) (since top : ℕ) (sound : Sound (S .run .state)) (T 
       T .below e
       (subst (In e) (sym (T .stood-is)) (subst (λ (s : ℕ). In e (s ∷ T .before)) (sym (T .standing-is)) i))
 
-  tried-stands : Stands (st .sizes) (S .rows) (st .counts .standing) (T .before) w
+  tried-stands : Stands (st .sizes) (S .rows) (st .counts .standing) (T .before) (w .standingRows) (w .filter)
   unfolding st w In
   tried-stands =
       let s = T .stands in
       let k = S .history .standing in
-      let slot : Slot (st .sizes) (S .rows k) (w .standingRows) =
-      subst (λ (x : AnsweredRows). Slot (st .sizes) x (w .standingRows))
-      (agree k (T .below k (subst (In k) (sym (T .stood-is)) (inl refl)))) (s .slot) in
+      let rowed : FittingRows (st .sizes) (S .rows k) (w .standingRows) =
+      subst (λ (x : AnsweredRows). FittingRows (st .sizes) x (w .standingRows))
+      (agree k (T .below k (subst (In k) (sym (T .stood-is)) (inl refl)))) (s .rowed) in
       record {
-        slot = subst (λ (n : ℕ). Slot (st .sizes) (S .rows n) (w .standingRows)) (T .standing-is) slot;
+        rowed = subst (λ (n : ℕ). FittingRows (st .sizes) (S .rows n) (w .standingRows)) (T .standing-is) rowed;
         pairs =
             pairs-rows (st .sizes) (S .history .rows) (S .rows) (w .filter) (T .before)
             (λ e i. agree e (T .below e (subst (In e) (sym (T .stood-is)) (inr i)))) (s .pairs);
+        long = s .long;
       }
 
   tried-consistent : Consistent S (st .sizes) (st .counts) (st .last) (S .history .mu) w
@@ -179,10 +165,7 @@ module _ (S : CallContext) (since top : ℕ) (sound : Sound (S .run .state)) (T 
         before-many = T .before-many;
         below = λ e i. let h = stood-below e i in omega arith;
         stands = tried-stands;
-        point =
-            standing-read st (S .run .area) sound long
-            ∙ subst (λ (k : ℕ). take (2 * st .sizes .n) (S .run .area) ≡ S .history .points k) (T .standing-is) point;
-        sized = read-sized st (S .run .area) (size-bounds (st .sizes) (sound .sizes-fit)) (sound .within);
+        point = point ∙ ap (S .history .points) (T .standing-is);
         sizes-fit = sound .sizes-fit;
         within = sound .within;
         few-asked = sound .few-asked;
@@ -196,9 +179,9 @@ module _ (S : CallContext) (since top : ℕ) (sound : Sound (S .run .state)) (T 
       (xs : List Float) →
       CheckedRows (st .sizes) xs →
       S .rows (st .counts .question) ≡ hasRows xs →
-      (step : List Float) → length step ≡ POINT-LEN → Landing S (landing st n) (withLanded w xs step) since
+      (step : List Float) → Landing S (landing st n) (withLanded w xs step) since
   unfolding st w tried-consistent
-  landed-landing n few xs passed is step size =
+  landed-landing n few xs passed is step =
       let v = tried-consistent in
       record {
         consistent = record {
@@ -206,23 +189,8 @@ module _ (S : CallContext) (since top : ℕ) (sound : Sound (S .run .state)) (T 
           way = v .way;
           before-many = v .before-many;
           below = v .below;
-          stands = record { slot = v .stands .slot; pairs = v .stands .pairs };
+          stands = v .stands;
           point = v .point;
-          sized = record {
-            standing-size = v .sized .standing-size;
-            landed-size = v .sized .asked-size;
-            asked-size = v .sized .asked-size;
-            standing-rows-size = v .sized .standing-rows-size;
-            landed-rows-size =
-                length-padded ROWS-LEN xs
-                (let f = rows-fit (st .sizes) (size-bounds (st .sizes) (sound .sizes-fit)) in
-                let e = passed .good .size in
-                omega arith);
-            step-size = size;
-            multipliers-size = v .sized .multipliers-size;
-            curvature-size = v .sized .curvature-size;
-            filter-size = v .sized .filter-size;
-          };
           sizes-fit = v .sizes-fit;
           within = v .within;
           few-asked = v .few-asked;
@@ -232,7 +200,7 @@ module _ (S : CallContext) (since top : ℕ) (sound : Sound (S .run .state)) (T 
         still-before = same-before;
         newer = λ e i. let h = T .below e i in omega arith;
         landed-asked = omega arith;
-        landed-slot = record { rowed = rowed xs passed is; in-slot = refl };
+        landed-rows = rowed passed is;
         landed-point = T .asked-point;
         count-bounds = record {
           growths = T .count-bounds .growths;
@@ -249,17 +217,17 @@ module _ (S : CallContext) (since top : ℕ) (sound : Sound (S .run .state)) (T 
   -- the point that landed before stays
   stayed-landing :
       st .counts .landed ≡ top →
-      Slot (st .sizes) (S .rows (st .counts .landed)) (w .landedRows) →
-      take (2 * st .sizes .n) (w .landed) ≡ S .history .points (st .counts .landed) → Landing S st w since
+      FittingRows (st .sizes) (S .rows (st .counts .landed)) (w .landedRows) →
+      w .landed ≡ S .history .points (st .counts .landed) → Landing S st w since
   unfolding st w tried-consistent
-  stayed-landing e slot landed =
+  stayed-landing e rows landed =
       record {
         consistent = tried-consistent;
         still = sym (T .standing-is);
         still-before = same-before;
         newer = λ d i. let h = T .below d i in omega arith;
         landed-asked = omega arith;
-        landed-slot = slot;
+        landed-rows = rows;
         landed-point = landed;
         count-bounds = T .count-bounds;
         below-limit = T .below-limit;
@@ -273,16 +241,17 @@ module _ (S : CallContext) (since top : ℕ) (sound : Sound (S .run .state)) (T 
 none-turned-down : (st : State) (w : Memory) → answeredNone kind.Trial st w ≡ turnDown st w why.Infeasible
 none-turned-down st w = refl
 
--- what a call from the run r leaves, unless its answer is 5 or 6
+-- what a call from the run r leaves, unless its answer is 5 or 6, where the lists of its memory have the numbers in use
 abbrev pub Keeps : History → Run → Call → AfterSlots → Type 0
 Keeps h r c o =
     let p = playedTo o in
     let h′ = entered h r c p in
-    isArithmetic (o .event) ≡ false → Inv (r .state .sizes) h′ (p .run) × Claim (r .state .sizes) h h′ r p
+    isArithmetic (o .event) ≡ false → lengthsOf (o .memory) ≡ usedIn (o .state) →
+    Inv (r .state .sizes) h′ (p .run) × Claim (r .state .sizes) h h′ r p
 
 module _ (law : ExactLaws) (h : History) (r : Run) (sound : Sound (r .state))
-    (counted : r .state .counts .iterations ≡ h .changes) (long : length (r .area) ≡ AREA)
-    (point : take (2 * r .state .sizes .n) (r .area) ≡ h .points (h .standing)) where
+    (counted : r .state .counts .iterations ≡ h .changes)
+    (point : memoryOf (r .state) (r .area) .standing ≡ h .points (h .standing)) where
   many : (before : List ℕ) → length before ≡ r .state .counts .iterations → h .changes ≡ length before
   many before e = sym (e ∙ counted)
 
@@ -306,11 +275,9 @@ module _ (law : ExactLaws) (h : History) (r : Run) (sound : Sound (r .state))
       let q = r .state .counts .question in
       let asked = T .asked-is in
       let agree : (e : ℕ) → e < q → h .rows e ≡ with-rows h xs e = λ e l. other-rows h xs e (omega arith) in
-      let size =
-      read-sized (r .state) (r .area) (size-bounds (r .state .sizes) (sound .sizes-fit)) (sound .within) .step-size in
       let L : Landing S (landing (r .state) 0) (withLanded own xs (own .step)) 1 =
-      landed-landing S 1 q sound T refl agree (omega arith) long point 0 zero-le xs passed
-      (asked-rows h xs q (sym asked)) (own .step) size in
+      landed-landing S 1 q sound T refl agree (omega arith) point 0 zero-le xs passed
+      (asked-rows h xs q (sym asked)) (own .step) in
       or-refuse-after S (r .state .sizes) (r .state) own (violationOf (standingAt (r .state) own .constraints)) _
       (violation-yields (standingAt (r .state) own .constraints))
       (λ theta e u. land-trial-after law S (r .state) own xs L theta e)
@@ -331,16 +298,16 @@ module _ (law : ExactLaws) (h : History) (r : Run) (sound : Sound (r .state))
       let few = C .few in
       let agree : (e : ℕ) → e < k → h .rows e ≡ with-rows h xs e = λ e l. other-rows h xs e (omega arith) in
       let two : 2 + n ≡ 1 + (n + 1) = omega arith in
-      let slot : Slot (r .state .sizes) (with-rows h xs k) (own .landedRows) =
-      subst (λ (x : AnsweredRows). Slot (r .state .sizes) x (own .landedRows)) (other-rows h xs k (omega arith))
-      (C .landed-slot) in
+      let rows : FittingRows (r .state .sizes) (with-rows h xs k) (own .landedRows) =
+      subst (λ (x : AnsweredRows). FittingRows (r .state .sizes) x (own .landedRows)) (other-rows h xs k (omega arith))
+      (C .landed-rows) in
       let L : Landing S (r .state) own (2 + n) =
-      stayed-landing S (2 + n) k sound T refl agree (omega arith) long point refl slot (C .landed-point) in
-      let land : (step : List Float) → length step ≡ POINT-LEN
-      → Landing S (landing (r .state) (n + 1)) (withLanded own xs step) (1 + (n + 1)) = λ step size.
+      stayed-landing S (2 + n) k sound T refl agree (omega arith) point refl rows (C .landed-point) in
+      let land : (step : List Float)
+      → Landing S (landing (r .state) (n + 1)) (withLanded own xs step) (1 + (n + 1)) = λ step.
       subst (Landing S (landing (r .state) (n + 1)) (withLanded own xs step)) two
-      (landed-landing S (2 + n) k sound T refl agree (omega arith) long point (n + 1) (omega arith) xs passed
-      (asked-rows h xs q (sym asked)) step size) in
+      (landed-landing S (2 + n) k sound T refl agree (omega arith) point (n + 1) (omega arith) xs passed
+      (asked-rows h xs q (sym asked)) step) in
       or-refuse-after S (r .state .sizes) (r .state) own (violationOf (standingAt (r .state) own .constraints)) _
       (violation-yields (standingAt (r .state) own .constraints))
       (λ theta e u. land-correction-after law S (r .state) own xs L land few theta e)
@@ -352,7 +319,7 @@ module _ (law : ExactLaws) (h : History) (r : Run) (sound : Sound (r .state))
   trial-none T =
       let S = none-tried T in
       let v : Consistent S (r .state .sizes) (r .state .counts) (r .state .last) (h .mu) own =
-      tried-consistent S 1 (r .state .counts .question) sound T refl (λ e h. refl) (omega arith) long point in
+      tried-consistent S 1 (r .state .counts .question) sound T refl (λ e h. refl) (omega arith) point in
       let f = T .count-bounds .few in
       subst (After S (r .state .sizes)) (sym (none-turned-down (r .state) own))
       (turn-down-after S (r .state) own why.Infeasible (h .mu) v
@@ -377,7 +344,7 @@ module _ (law : ExactLaws) (h : History) (r : Run) (sound : Sound (r .state))
       let under = C .landed-below in
       let few = C .few in
       let L : Landing S (r .state) own (2 + n) =
-      stayed-landing S (2 + n) k sound T refl (λ e h. refl) (omega arith) long point refl (C .landed-slot)
+      stayed-landing S (2 + n) k sound T refl (λ e h. refl) (omega arith) point refl (C .landed-rows)
       (C .landed-point) in
       or-refuse-after S (r .state .sizes) (r .state) own (violationOf (standingAt (r .state) own .constraints)) _
       (violation-yields (standingAt (r .state) own .constraints))
@@ -389,9 +356,8 @@ module _ (law : ExactLaws) (h : History) (r : Run) (sound : Sound (r .state))
   start-same : (s : Started h r) → r .state .counts .standing ≡ h .standing
   start-same s = s .own-standing ∙ sym (s .standing-is)
 
-  start-point :
-      Started h r → take (2 * r .state .sizes .n) (own .standing) ≡ h .points (r .state .counts .standing)
-  start-point s = standing-read (r .state) (r .area) sound long ∙ point ∙ ap (h .points) (sym (start-same s))
+  start-point : Started h r → own .standing ≡ h .points (r .state .counts .standing)
+  start-point s = point ∙ ap (h .points) (sym (start-same s))
 
   -- the start point stands, with its rows
   start-rows :
@@ -403,30 +369,21 @@ module _ (law : ExactLaws) (h : History) (r : Run) (sound : Sound (r .state))
   start-rows s xs f passed =
       let S = rows-context h r xs f [] (start-stood s) (s .changes-are) in
       let z = r .state .sizes in
-      let v = read-sized (r .state) (r .area) (size-bounds z (sound .sizes-fit)) (sound .within) in
+      let none : 4 * r .state .counts .iterations ≡ 0 = omega (arith, counted, s .changes-are) in
       let is : with-rows h xs (r .state .counts .standing) ≡ hasRows xs =
       asked-rows h xs (r .state .counts .standing) (s .own-standing ∙ sym (s .asked-is)) in
-      iterate-after S (moves (r .state) (movingOf (z .n) (rowsAt (r .state) xs))) (withStart own xs) (h .mu)
+      iterate-after S (moves (r .state) (movingOf (z .n) (rowsAt (r .state) xs))) (withStart (r .state) own xs) (h .mu)
       (record {
         before = [];
         way = unmoved (start-same s) refl refl;
         before-many = sym (counted ∙ s .changes-are);
         below = λ e i. only e i;
-        stands = record { slot = record { rowed = rowed xs passed is; in-slot = refl }; pairs = tt };
-        point = start-point s;
-        sized = record {
-          standing-size = v .standing-size;
-          landed-size = length-replicate POINT-LEN zero64;
-          asked-size = length-replicate POINT-LEN zero64;
-          standing-rows-size =
-              length-padded ROWS-LEN xs
-              (let g = rows-fit z (size-bounds z (sound .sizes-fit)) in let e = passed .good .size in omega arith);
-          landed-rows-size = length-replicate ROWS-LEN zero64;
-          step-size = length-replicate POINT-LEN zero64;
-          multipliers-size = length-replicate POINT-LEN zero64;
-          curvature-size = length-replicate CURVATURE-LEN zero64;
-          filter-size = length-replicate FILTER-LEN zero64;
+        stands = record {
+          rowed = rowed passed is;
+          pairs = tt;
+          long = length-replicate (numbersIn (r .state) .filter) zero64 ∙ none;
         };
+        point = start-point s;
         sizes-fit = sound .sizes-fit;
         within = sound .within;
         few-asked = sound .few-asked;
@@ -443,15 +400,12 @@ module _ (law : ExactLaws) (h : History) (r : Run) (sound : Sound (r .state))
       After (none-context h r [] (start-stood s) (s .changes-are)) (r .state .sizes)
       (answeredNone kind.Start (r .state) own)
   start-none s =
-      let v =
-      read-sized (r .state) (r .area) (size-bounds (r .state .sizes) (sound .sizes-fit)) (sound .within) in
       finish-counts (none-context h r [] (start-stood s) (s .changes-are)) (r .state) own stop.Infeasible (h .mu)
       (record {
         before = [];
         way = unmoved (start-same s) refl refl;
         before-many = sym (counted ∙ s .changes-are);
         point = start-point s;
-        long = v .standing-size;
         sound = record {
           sizes-fit = sound .sizes-fit;
           within = sound .within;

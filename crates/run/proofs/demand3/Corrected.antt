@@ -1,18 +1,17 @@
 -- An accepted answer, from the question that it answers to the next one or the finish: where its point lands, and what
 -- corrections follow.
 use Prim.Native.Nat.{ℕ, _+_, _≤_, _<_, zero-le}
-use mathlib.Core.Path.{_≡_, sym, _∙_, subst}
+use mathlib.Core.Path.{_≡_, sym, subst}
 use mathlib.Core.List.{List, _∷_}
 use native.Mathlib.Omega.{arith}
 use borrow.Author.Tests.{leb-false}
 use lib.Dec.{leb}
 use lib.Ieee.{Float}
-use lib.ListN.{length}
 use Rattle.interval.specs.declared.Scalar.{Scalar}
 use Rattle.interval.specs.Result.{ok}
 use Rattle.interval.specs.Scalar.{definitelyGreater, definitelyLess}
 use Rattle.run.specs.Residuals.{violationOf}
-use Rattle.run.specs.Area.{POINT-LEN, Memory, withAsked, withLanded}
+use Rattle.run.specs.Area.{Memory, withAsked, withLanded}
 use Rattle.run.specs.Limits.{CORRECTIONS}
 use Rattle.run.specs.Corrected.{to, stay, shiftOf, shiftFrom, shiftedStep}
 use Rattle.run.specs.Area.{rowsAt, standingAt, landedAt}
@@ -20,46 +19,14 @@ use Rattle.run.specs.State.{landing}
 use Rattle.run.specs.Decide.{judge}
 use Rattle.run.specs.Corrected.{correct, landTrial, keep, landCorrection}
 use Rattle.run.specs.Demand.{In}
-use Rattle.run.specs.declared.state.Counts.{Counts}
-use Rattle.run.specs.declared.state.Last.{Last}
-use Rattle.run.specs.declared.state.Sizes.{Sizes}
 use Rattle.run.specs.declared.state.State.{State}
-use Rattle.run.proofs.VectorLaws.{length-fillTo}
-use Rattle.run.proofs.RefusalLaws.{Long, violation-yields, shift-yields, shifted-yields}
+use Rattle.run.proofs.RefusalLaws.{violation-yields, shift-yields, shifted-yields}
 use Rattle.run.proofs.demand3.ExactLaws.{ExactLaws}
-use Rattle.run.proofs.demand3.Invariant.{CallContext, Consistent, After}
+use Rattle.run.proofs.demand3.Invariant.{CallContext, After}
 use Rattle.run.proofs.demand3.Endings.{either-after, or-refuse-after, correction-after}
 use Rattle.run.proofs.demand3.Decide.{Landing, judge-after}
 
 -- ---- corrections
-
-abbrev asked-consistent :
-    (S : CallContext) (z : Sizes) (k : Counts) (last : Last) (mu : Scalar) (w : Memory) (next : List Float) →
-    Long POINT-LEN next → Consistent S z k last mu w → Consistent S z k last mu (withAsked w next)
-asked-consistent S z k last mu w next e v =
-    record {
-      before = v .before;
-      way = v .way;
-      before-many = v .before-many;
-      below = v .below;
-      stands = record { slot = v .stands .slot; pairs = v .stands .pairs };
-      point = v .point;
-      sized = record {
-        standing-size = v .sized .standing-size;
-        landed-size = v .sized .landed-size;
-        asked-size = e;
-        standing-rows-size = v .sized .standing-rows-size;
-        landed-rows-size = v .sized .landed-rows-size;
-        step-size = v .sized .step-size;
-        multipliers-size = v .sized .multipliers-size;
-        curvature-size = v .sized .curvature-size;
-        filter-size = v .sized .filter-size;
-      };
-      sizes-fit = v .sizes-fit;
-      within = v .within;
-      few-asked = v .few-asked;
-      few-corrections = v .few-corrections;
-    }
 
 below-landed : (S : CallContext) (st : State) (w : Memory) (since : ℕ) (L : Landing S st w since) (e : ℕ)
     → In e (st .counts .standing ∷ L .consistent .before) → e < st .counts .landed
@@ -76,10 +43,9 @@ correct-after law S st w L few theta theta-is =
     or-refuse-after S (st .sizes) st w (shiftFrom (st .moving) (landedAt st w .constraints) (w .landed)) _
     (shifted-yields (st .moving) (landedAt st w .constraints) (w .landed))
     (λ s. elim s [
-      | to next ↦ λ e size.
-          correction-after S st (withAsked w next) (S .history .mu)
-          (asked-consistent S (st .sizes) (st .counts) (st .last) (S .history .mu) w next size (L .consistent))
-          (L .count-bounds) (L .below-limit) few (L .landed-slot) (L .landed-point) (L .landed-asked)
+      | to next ↦ λ e u.
+          correction-after S st (withAsked st w next) (S .history .mu) (L .consistent) (L .count-bounds)
+          (L .below-limit) few (L .landed-rows) (L .landed-point) (L .landed-asked)
           (below-landed S st w (1 + st .counts .corrections) L)
       | stay ↦ λ e u. judge-after law S st w (1 + st .counts .corrections) L (omega arith) theta theta-is
     ])
@@ -100,20 +66,19 @@ land-trial-after law S st w rows L theta theta-is =
     (λ h. judge-after law S t v 1 L (omega arith) theta theta-is))
 
 keep-after : (law : ExactLaws) (S : CallContext) (st : State) (w : Memory) (rows : List Float)
-    → length (w .step) ≡ POINT-LEN
-    → ((step : List Float) → length step ≡ POINT-LEN
+    → ((step : List Float)
     → Landing S (landing st (st .counts .corrections + 1)) (withLanded w rows step) (1 + (st .counts .corrections + 1)))
     → st .counts .corrections ≤ 3
     → (theta : Scalar) → violationOf (standingAt st w .constraints) ≡ ok theta
     → After S (st .sizes) (keep st w rows theta)
-unfolding keep shiftedStep
-keep-after law S st w rows size land few theta theta-is =
+unfolding keep
+keep-after law S st w rows land few theta theta-is =
     or-refuse-after S (st .sizes) st w (shiftOf (st .moving) (landedAt st w .constraints)) _
     (shift-yields (st .moving) (landedAt st w .constraints))
     (λ d e u.
     let t = landing st (st .counts .corrections + 1) in
     let v = withLanded w rows (shiftedStep (st .sizes .n) (w .step) d) in
-    let L = land (shiftedStep (st .sizes .n) (w .step) d) (length-fillTo (w .step) 0 _ (st .sizes .n) ∙ size) in
+    let L = land (shiftedStep (st .sizes .n) (w .step) d) in
     either-after S (st .sizes) (leb CORRECTIONS (st .counts .corrections + 1)) (judge t v theta) (correct t v theta)
     (λ h. judge-after law S t v (1 + (st .counts .corrections + 1)) L (omega arith) theta theta-is)
     (λ h. let l = leb-false CORRECTIONS (st .counts .corrections + 1) h in
@@ -121,7 +86,7 @@ keep-after law S st w rows size land few theta theta-is =
 
 pub land-correction-after : (law : ExactLaws) (S : CallContext) (st : State) (w : Memory) (rows : List Float)
     → Landing S st w (2 + st .counts .corrections)
-    → ((step : List Float) → length step ≡ POINT-LEN
+    → ((step : List Float)
     → Landing S (landing st (st .counts .corrections + 1)) (withLanded w rows step) (1 + (st .counts .corrections + 1)))
     → st .counts .corrections ≤ 3
     → (theta : Scalar) → violationOf (standingAt st w .constraints) ≡ ok theta
@@ -135,5 +100,5 @@ land-correction-after law S st w rows L land few theta theta-is =
     (violation-yields (landedAt st w .constraints))
     (λ old d v.
     either-after S (st .sizes) (definitelyLess new old) (keep st w rows theta) (judge st w theta)
-    (λ h. keep-after law S st w rows (L .consistent .sized .step-size) land few theta theta-is)
+    (λ h. keep-after law S st w rows land few theta theta-is)
     (λ h. judge-after law S st w (2 + st .counts .corrections) L (omega arith) theta theta-is)))

@@ -1,33 +1,33 @@
 -- A landed point: taken, it stands with its rows and the filter gains the pair of the point it replaced; not taken,
 -- what stood still stands.
 use Prim.Native.Nat.{ℕ, _+_, _*_, _≤_, _<_}
-use mathlib.Core.Bool.{Bool, true, false, not, _&&_, _||_}
+use mathlib.Core.Bool.{Bool, true, not, _&&_, _||_}
 use mathlib.Core.Logic.{inl, inr, ⊎-elim, _≢_}
 use mathlib.Core.Path.{_≡_, refl, sym, ap, ap₂, _∙_, subst}
-use mathlib.Core.List.{List, [], _∷_}
+use mathlib.Core.List.{List, [], _∷_, _++_}
 use native.Mathlib.Omega.{arith}
-use lib.Ieee.{Float}
-use lib.ListN.{length, length-replicate}
+use borrow.Author.Tests.{lt-ltb}
+use lib.Ieee.{Float, nan}
+use lib.ListN.{length, getD, length-append, List·getD-append}
+use lib.Seq.{getD-append-add}
 use Rattle.interval.specs.declared.Scalar.{Scalar}
 use Rattle.interval.specs.Result.{ok}
-use Rattle.interval.specs.Scalar.{zero64, pick, degenerate, divOf, subOf}
+use Rattle.interval.specs.Scalar.{degenerate, divOf, subOf}
 use Rattle.interval.specs.Scaling.{three64}
-use Rattle.linear.specs.Flat.{at, put, zeros}
-use Rattle.linear.proofs.FlatLaws.{length-put, at-put-same, at-put-other}
+use Rattle.linear.specs.Flat.{at}
 use Rattle.linear.proofs.Folds.{bind-value}
 use Rattle.interval.proofs.Given.{yes}
 use Rattle.interval.proofs.Results.{ok-inj}
 use Rattle.run.specs.Residuals.{sumSquared, violationOf}
-use Rattle.run.specs.Area.{CURVATURE-LEN, Memory, withTaken}
+use Rattle.run.specs.Area.{Memory, withTaken, pairsIn}
 use Rattle.run.specs.Curvature.{updateCurvature}
 use Rattle.run.specs.Judgement.{sumChange, rises, indefinite, contracts, Judged, judgedBy, judgeOf}
-use Rattle.run.specs.Filter.{beatsTo}
+use Rattle.run.specs.Filter.{beatsTo, filterSum, filterViolation, pairNumbers, filterWith}
 use Rattle.run.specs.Area.{standingAt, landedAt, curvatureOf}
 use Rattle.run.specs.Decide.{linearOf, take, notLower, wasTaken, decide, judge}
 use Rattle.run.specs.Damping.{shrunk}
 use Rattle.run.specs.Radius.{radiusAfter}
 use Rattle.run.specs.State.{standingOn}
-use Rattle.run.specs.Filter.{filterWith}
 use Rattle.linear.specs.Norm.{normOf}
 use Rattle.run.specs.Demand.{
   In,
@@ -45,16 +45,14 @@ use Rattle.run.specs.declared.state.Sizes.{Sizes}
 use Rattle.run.specs.declared.state.State.{State}
 use Rattle.run.specs.declared.state.Stop.the-variants as stop
 use Rattle.run.proofs.Booleans.{and-left, and-right, or-either}
-use Rattle.run.proofs.AreaLaws.{length-filter}
-use Rattle.run.proofs.CheckLaws.{size-bounds}
-use Rattle.run.proofs.AreaRead.{violation-padded, squared-padded, change-padded}
-use Rattle.run.proofs.RefusalLaws.{Long, div-yields, judge-yields, linear-yields, curvature-yields}
+use Rattle.run.proofs.LengthsKept.{length-filter}
+use Rattle.run.proofs.RefusalLaws.{div-yields, judge-yields, linear-yields, curvature-yields}
 use Rattle.run.proofs.DampingGrowth.{growth-none, growth-third, next-mu-is}
 use Rattle.run.proofs.demand3.ExactLaws.{ExactLaws}
 use Rattle.run.proofs.demand3.Invariant.{
   FittingRows,
-  Slot,
   Pairs,
+  Stands,
   CountBounds,
   CallContext,
   Halves,
@@ -64,7 +62,7 @@ use Rattle.run.proofs.demand3.Invariant.{
   Consistent,
   After,
 }
-use Rattle.run.proofs.demand3.Endings.{pairs-filter, either-after, or-refuse-after, finish-after}
+use Rattle.run.proofs.demand3.Endings.{either-after, or-refuse-after, finish-after}
 use Rattle.run.proofs.demand3.Iterate.{bounds-few, iterate-after, not-lower-after}
 use Rattle.run.proofs.demand3.Judgement.{of-rows, sums, constraints, lower-definite, undecided-rows, lower-pairs}
 
@@ -76,36 +74,16 @@ pub record Landing (S : CallContext) (st : State) (w : Memory) (since : ℕ) : T
   pub still-before : consistent .before ≡ S .before
   pub newer : (e : ℕ) → In e (S .history .stood) → e < st .counts .landed
   pub landed-asked : st .counts .landed ≤ st .counts .question
-  pub landed-slot : Slot (st .sizes) (S .rows (st .counts .landed)) (w .landedRows)
-  pub landed-point : lib.ListN.take (2 * st .sizes .n) (w .landed) ≡ S .history .points (st .counts .landed)
+  pub landed-rows : FittingRows (st .sizes) (S .rows (st .counts .landed)) (w .landedRows)
+  pub landed-point : w .landed ≡ S .history .points (st .counts .landed)
   pub count-bounds : CountBounds (S .history .mu) (st .counts) (st .search) since
   pub below-limit : st .counts .iterations < st .sizes .limit
   pub mu-same : S .run .state .search .mu ≡ st .search .mu
   pub last-same : S .run .state .last ≡ st .last
 
--- ---- what is read of the rows in the slots is read of the rows as they were answered
-
-module _ (z : Sizes) (x : AnsweredRows) (slot : List Float) (s : Slot z x slot) where
-  slot-violation : violationOf (constraints z slot) ≡ violationOf (constraints z (s .rowed .rows))
-  slot-violation =
-      ap (λ (l : List Float). violationOf (constraints z l)) (s .in-slot)
-      ∙ violation-padded z (s .rowed .rows) (s .rowed .good .size)
-
-  slot-squared : sumSquared (sums z slot) ≡ sumSquared (sums z (s .rowed .rows))
-  slot-squared =
-      ap (λ (l : List Float). sumSquared (sums z l)) (s .in-slot)
-      ∙ squared-padded z (s .rowed .rows) (s .rowed .good .size)
-
-slot-change :
-    (z : Sizes) (x y : AnsweredRows) (a b : List Float) (s : Slot z x a) (t : Slot z y b) →
-    sumChange (sums z a) (sums z b) ≡ sumChange (sums z (s .rowed .rows)) (sums z (t .rowed .rows))
-slot-change z x y a b s t =
-    ap₂ (λ (k l : List Float). sumChange (sums z k) (sums z l)) (s .in-slot) (t .in-slot)
-    ∙ change-padded z (s .rowed .rows) (t .rowed .rows) (s .rowed .good .size) (t .rowed .good .size)
-
 -- ---- rows of points that stood
 
-pub rowed-answered : {z : Sizes} {x : AnsweredRows} → FittingRows z x → Answered z x
+rowed-answered : {z : Sizes} {x : AnsweredRows} {xs : List Float} → FittingRows z x xs → Answered z x
 rowed-answered {z} r = subst (Answered z) (sym (r .given-is)) (r .fitting)
 
 pairs-answered :
@@ -119,56 +97,90 @@ pairs-answered z rows filter (d ∷ es) p e (inr i) = pairs-answered z rows filt
 
 -- ---- a step taken
 
+-- pairs in another filter
+pairs-filter :
+    (z : Sizes) (rows : ℕ → AnsweredRows) (f f′ : List Float) (es : List ℕ) →
+    ((i : ℕ) → i < 2 * length es → at f′ i ≡ at f i) → Pairs z rows f es → Pairs z rows f′ es
+pairs-filter z rows f f′ [] h p = tt
+pairs-filter z rows f f′ (e ∷ es) h p =
+    let i = length es in (
+      record {
+        rows = p .0 .rows;
+        rowed = p .0 .rowed;
+        pair-sum = h (2 * i) (omega arith) ∙ p .0 .pair-sum;
+        pair-violation = p .0 .pair-violation ∙ ap ok (sym (h (2 * i + 1) (omega arith)));
+      },
+      pairs-filter z rows f f′ es (λ j l. h j (omega arith)) (p .1),
+    )
+
+-- the scalars of a list that goes on, and of what follows it
+module _ (xs ys : List Float) where
+  at-front : (i : ℕ) → 2 * i + 1 < length xs → at (xs ++ ys) i ≡ at xs i
+  unfolding at
+  at-front i h =
+      let l : 2 * i + 1 < length (xs ++ ys) = omega (arith, length-append xs ys) in
+      rw (
+        lt-ltb _ _ l,
+        lt-ltb _ _ h,
+        List·getD-append xs ys nan (2 * i) (omega arith),
+        List·getD-append xs ys nan (2 * i + 1) h,
+      )
+
+  at-behind : (i j : ℕ) → 2 * i ≡ length xs + 2 * j → 2 * j + 1 < length ys → at (xs ++ ys) i ≡ at ys j
+  unfolding at
+  at-behind i j e h =
+      let l : 2 * i + 1 < length (xs ++ ys) = omega (arith, length-append xs ys) in
+      let p : 2 * i + 1 ≡ length xs + (2 * j + 1) = omega arith in
+      rw (
+        lt-ltb _ _ l,
+        lt-ltb _ _ h,
+        ap (λ (k : ℕ). getD (xs ++ ys) k nan) e ∙ getD-append-add xs ys (2 * j) nan,
+        ap (λ (k : ℕ). getD (xs ++ ys) k nan) p ∙ getD-append-add xs ys (2 * j + 1) nan,
+      )
+
 -- the filter with one pair more
-module _ (filter : List Float) (count : ℕ) (f theta : Scalar) (room : 4 * count + 3 < length filter) where
-  filter-kept : (i : ℕ) → i < 2 * count → at (filterWith filter count f theta) i ≡ at filter i
+module _ (filter : List Float) (count : ℕ) (f theta : Scalar) (long : length filter ≡ 4 * count) where
+  filter-kept : (i : ℕ) → i < 2 * count → at (filterWith filter f theta) i ≡ at filter i
   unfolding filterWith
-  filter-kept i h =
-      at-put-other (put filter (2 * count) f) (2 * count + 1) i theta (λ e. omega arith)
-      ∙ at-put-other filter (2 * count) i f (λ e. omega arith)
+  filter-kept i h = at-front filter (pairNumbers f theta) i (omega (arith, long))
 
-  filter-sum : at (filterWith filter count f theta) (2 * count) ≡ f
-  unfolding filterWith
-  filter-sum =
-      at-put-other (put filter (2 * count) f) (2 * count + 1) (2 * count) theta (λ e. omega arith)
-      ∙ at-put-same filter (2 * count) f (omega arith)
+  filter-sum : filterSum (filterWith filter f theta) count ≡ f
+  unfolding filterWith at
+  filter-sum = at-behind filter (pairNumbers f theta) (2 * count) 0 (omega (arith, long)) (omega arith)
 
-  filter-violation : at (filterWith filter count f theta) (2 * count + 1) ≡ theta
-  unfolding filterWith
-  filter-violation =
-      at-put-same (put filter (2 * count) f) (2 * count + 1) theta (omega (arith, length-put filter (2 * count) f))
+  filter-violation : filterViolation (filterWith filter f theta) count ≡ theta
+  unfolding filterWith at
+  filter-violation = at-behind filter (pairNumbers f theta) (2 * count + 1) 1 (omega (arith, long)) (omega arith)
 
 module _ (S : CallContext) (st : State) (w : Memory) (since : ℕ) (L : Landing S st w since) (theta : Scalar)
     (theta-is : violationOf (standingAt st w .constraints) ≡ ok theta) where
-  room : 4 * st .counts .iterations + 3 < length (w .filter)
-  room =
-      let s = size-bounds (st .sizes) (L .consistent .sizes-fit) in let b = L .below-limit in
-      omega (arith, L .consistent .sized .filter-size)
-
   filter′ : List Float
-  filter′ = filterWith (w .filter) (st .counts .iterations) (sumSquared (standingAt st w .sum)) theta
+  filter′ = filterWith (w .filter) (sumSquared (standingAt st w .sum)) theta
 
   -- the point that stood, as the newest pair, and those before it
-  taken-pairs : Pairs (st .sizes) (S .rows) filter′ (st .counts .standing ∷ L .consistent .before)
+  taken-stands :
+      Stands (st .sizes) (S .rows) (st .counts .landed) (st .counts .standing ∷ L .consistent .before) (w .landedRows)
+      filter′
   unfolding filter′
-  taken-pairs =
-      let z = st .sizes in
-      let it = st .counts .iterations in
+  taken-stands =
       let f = sumSquared (standingAt st w .sum) in
-      let s = L .consistent .stands .slot in
-      let x = S .rows (st .counts .standing) in
-      let many = L .consistent .before-many in (
-        record {
-          rowed = s .rowed;
-          pair-sum = rw many (filter-sum (w .filter) it f theta room) ∙ slot-squared z x (w .standingRows) s;
-          pair-violation =
-              sym (slot-violation z x (w .standingRows) s)
-              ∙ theta-is
-              ∙ ap ok (sym (rw many (filter-violation (w .filter) it f theta room)));
-        },
-        pairs-filter z (S .rows) (w .filter) (filterWith (w .filter) it f theta) (L .consistent .before)
-            (λ i h. filter-kept (w .filter) it f theta room i (omega arith)) (L .consistent .stands .pairs),
-      )
+      let s = L .consistent .stands in
+      let before = L .consistent .before in
+      let count = length before in
+      record {
+        rowed = L .landed-rows;
+        pairs = (
+          record {
+            rows = w .standingRows;
+            rowed = s .rowed;
+            pair-sum = filter-sum (w .filter) count f theta (s .long);
+            pair-violation = theta-is ∙ ap ok (sym (filter-violation (w .filter) count f theta (s .long)));
+          },
+          pairs-filter (st .sizes) (S .rows) (w .filter) filter′ before
+              (λ i h. filter-kept (w .filter) count f theta (s .long) i h) (s .pairs),
+        );
+        long = length-filter (w .filter) f theta count (s .long) ∙ omega arith;
+      }
 
   taken-new : st .counts .landed ≢ S .history .standing
   unfolding In
@@ -184,9 +196,7 @@ module _ (S : CallContext) (st : State) (w : Memory) (since : ℕ) (L : Landing 
   taken-below e (inr i) = L .consistent .below e i
 
   -- the landed point stands
-  taken-point :
-      (b filter : List Float) →
-      lib.ListN.take (2 * st .sizes .n) (withTaken w b filter .standing) ≡ S .history .points (st .counts .landed)
+  taken-point : (b filter : List Float) → withTaken w b filter .standing ≡ S .history .points (st .counts .landed)
   taken-point b filter = L .landed-point
 
   -- under its number: a change of standing
@@ -201,45 +211,24 @@ module _ (S : CallContext) (st : State) (w : Memory) (since : ℕ) (L : Landing 
 
   taken-consistent :
       (length mu radius : Scalar) (b : List Float) →
-      Long CURVATURE-LEN b →
       mu ≡ nextMu (S .run .state .search .mu) →
       Forward S (st .sizes) (st .counts .landed) (last.Taken length) →
       Consistent S (st .sizes) (standingOn st length mu radius .counts) (last.Taken length) mu (withTaken w b filter′)
   unfolding filter′
-  taken-consistent length mu radius b size next f =
+  taken-consistent length mu radius b next f =
       let v = L .consistent in
       record {
         before = st .counts .standing ∷ v .before;
         way = taken-way length mu radius next f;
         before-many = let m = v .before-many in omega arith;
         below = taken-below;
-        stands = record { slot = L .landed-slot; pairs = taken-pairs };
+        stands = taken-stands;
         point = taken-point b filter′;
-        sized = record {
-          standing-size = v .sized .landed-size;
-          landed-size = v .sized .landed-size;
-          asked-size = v .sized .asked-size;
-          standing-rows-size = v .sized .landed-rows-size;
-          landed-rows-size = v .sized .landed-rows-size;
-          step-size = v .sized .step-size;
-          multipliers-size = v .sized .multipliers-size;
-          curvature-size = size;
-          filter-size =
-              length-filter (w .filter) (st .counts .iterations) (sumSquared (standingAt st w .sum)) theta
-              ∙ v .sized .filter-size;
-        };
         sizes-fit = v .sizes-fit;
         within = let b = L .below-limit in omega arith;
         few-asked = v .few-asked;
         few-corrections = v .few-corrections;
       }
-
-  curvature-long : Long CURVATURE-LEN (curvatureOf st w)
-  curvature-long = go (st .search .plain)
-    where
-      go : (b : Bool) → Long CURVATURE-LEN (pick b (zeros CURVATURE-LEN) (w .curvature))
-      go true = length-replicate CURVATURE-LEN zero64
-      go false = L .consistent .sized .curvature-size
 
   pub take-after :
       since ≤ 5 →
@@ -260,12 +249,11 @@ module _ (S : CallContext) (st : State) (w : Memory) (since : ℕ) (L : Landing 
       next-mu-is mu third is-third ∙ ap nextMu (sym (L .mu-same)) in
       or-refuse-after S z st w
       (updateCurvature (z .n) (curvatureOf st w) (w .step) (standingAt st w) (landedAt st w) (w .multipliers)) _
-      (curvature-yields CURVATURE-LEN (z .n) (curvatureOf st w) (w .step) (standingAt st w) (landedAt st w)
-      (w .multipliers)
-      curvature-long)
-      (λ b u size.
+      (curvature-yields (lib.ListN.length (curvatureOf st w)) (z .n) (curvatureOf st w) (w .step) (standingAt st w)
+      (landedAt st w) (w .multipliers) refl)
+      (λ b u v.
       iterate-after S (standingOn st length (shrunk mu third) radius) (withTaken w b filter′) (shrunk mu third)
-      (taken-consistent length (shrunk mu third) radius b size next f)
+      (taken-consistent length (shrunk mu third) radius b next f)
       (record {
         growths = 0;
         growth = growth-third (L .count-bounds .growth) is-third;
@@ -282,13 +270,13 @@ module _ (law : ExactLaws) (S : CallContext) (st : State) (w : Memory) (since : 
   z : Sizes
   z = st .sizes
 
-  x : FittingRows z (S .rows (st .counts .standing))
+  x : FittingRows z (S .rows (st .counts .standing)) (w .standingRows)
   unfolding z
-  x = L .consistent .stands .slot .rowed
+  x = L .consistent .stands .rowed
 
-  y : FittingRows z (S .rows (st .counts .landed))
+  y : FittingRows z (S .rows (st .counts .landed)) (w .landedRows)
   unfolding z
-  y = L .landed-slot .rowed
+  y = L .landed-rows
 
   change : Scalar
   change = sumChange (standingAt st w .sum) (landedAt st w .sum)
@@ -299,31 +287,16 @@ module _ (law : ExactLaws) (S : CallContext) (st : State) (w : Memory) (since : 
   j : Judged
   j = judgedBy change (subOf theta new) beats length (st .last)
 
-  change-is : change ≡ sumChange (sums z (x .rows)) (sums z (y .rows))
-  unfolding z x y change
-  change-is =
-      slot-change z (S .rows (st .counts .standing)) (S .rows (st .counts .landed)) (w .standingRows) (w .landedRows)
-      (L .consistent .stands .slot) (L .landed-slot)
-
-  x-violation : violationOf (constraints z (x .rows)) ≡ ok theta
-  unfolding z x
-  x-violation =
-      sym (slot-violation z (S .rows (st .counts .standing)) (w .standingRows) (L .consistent .stands .slot)) ∙ theta-is
-
-  y-violation : violationOf (constraints z (y .rows)) ≡ ok new
-  unfolding z y
-  y-violation = sym (slot-violation z (S .rows (st .counts .landed)) (w .landedRows) (L .landed-slot)) ∙ new-is
-
   -- every point that stood, and the landed one, had rows
   all-answered : (e : ℕ) → In e (st .counts .landed ∷ S .history .stood) → Answered z (S .rows e)
   unfolding z In
-  all-answered e (inl q) = subst (λ (k : ℕ). Answered z (S .rows k)) (sym q) (rowed-answered (L .landed-slot .rowed))
+  all-answered e (inl q) = subst (λ (k : ℕ). Answered z (S .rows k)) (sym q) (rowed-answered (L .landed-rows))
   all-answered e (inr i) = by (subst (In e) (S .stood-is) i)
     where
       by : In e (S .history .standing ∷ S .before) → Answered z (S .rows e)
       by (inl q) =
           subst (λ (k : ℕ). Answered z (S .rows k)) (L .still ∙ sym q)
-          (rowed-answered (L .consistent .stands .slot .rowed))
+          (rowed-answered (L .consistent .stands .rowed))
       by (inr k) =
           pairs-answered z (S .rows) (w .filter) (L .consistent .before) (L .consistent .stands .pairs) e
           (subst (In e) (sym (L .still-before)) k)
@@ -333,25 +306,18 @@ module _ (law : ExactLaws) (S : CallContext) (st : State) (w : Memory) (since : 
   unfolding j z x y change beats In
   lower-all h e i = by (subst (In e) (S .stood-is) i)
     where
-      definite : (rises (sumChange (sums z (x .rows)) (sums z (y .rows))) || rises (subOf theta new)) ≡ true
-      definite =
-          ap (λ (v : Scalar). rises v || rises (subOf theta new)) (sym change-is)
-          ∙ and-left (rises change || rises (subOf theta new)) beats h
-
-      beaten :
-          beatsTo (w .filter) (sumSquared (sums z (y .rows))) new (lib.ListN.length (L .consistent .before)) ≡ true
-      beaten =
-          let squared = slot-squared z (S .rows (st .counts .landed)) (w .landedRows) (L .landed-slot) in
-          rw (L .consistent .before-many, ← squared)
-          (and-right (rises change || rises (subOf theta new)) beats h)
+      beaten : beatsTo (w .filter) (sumSquared (sums z (w .landedRows))) new (lib.ListN.length (L .consistent .before))
+          ≡ true
+      beaten = rw (L .consistent .before-many) (and-right (rises change || rises (subOf theta new)) beats h)
 
       by : In e (S .history .standing ∷ S .before) → Lower z (S .rows e) (S .rows (st .counts .landed))
       by (inl q) =
           subst (λ (k : ℕ). Lower z (S .rows k) (S .rows (st .counts .landed))) (L .still ∙ sym q)
           (of-rows (LowerRows z) (x .given-is) (y .given-is)
-          (lower-definite law z (x .rows) (y .rows) (x .good) (y .good) theta new x-violation y-violation definite))
+          (lower-definite law z (w .standingRows) (w .landedRows) (x .good) (y .good) theta new theta-is new-is
+          (and-left (rises change || rises (subOf theta new)) beats h)))
       by (inr k) =
-          lower-pairs law z (S .rows) (w .filter) (S .rows (st .counts .landed)) y new y-violation
+          lower-pairs law z (S .rows) (w .filter) (S .rows (st .counts .landed)) (w .landedRows) y new new-is
           (L .consistent .before) (L .consistent .stands .pairs) beaten e (subst (In e) (sym (L .still-before)) k)
 
   -- undecided, before the damping grew, and half as long as the last
@@ -363,16 +329,14 @@ module _ (law : ExactLaws) (S : CallContext) (st : State) (w : Memory) (since : 
       let c = contracts (st .last) length in
       let f = st .search .first in
       let fu : (f && u) ≡ true = and-left (f && u) c h in
-      let d = sumChange (sums z (x .rows)) (sums z (y .rows)) in
-      let open-sum : (indefinite d && indefinite (subOf theta new)) ≡ true =
-      ap (λ (v : Scalar). indefinite v && indefinite (subOf theta new)) (sym change-is) ∙ and-right f u fu in
       record {
         not-damped =
             L .mu-same ∙ growth-none (L .count-bounds .growth) (L .count-bounds .fresh (and-left f u fu));
         undecided =
             subst (λ (k : ℕ). Undecided z (S .rows k) (S .rows (st .counts .landed))) (L .still)
             (of-rows (UndecidedRows z) (x .given-is) (y .given-is)
-            (undecided-rows law z (x .rows) (y .rows) (x .good) (y .good) theta new x-violation y-violation open-sum));
+            (undecided-rows law z (w .standingRows) (w .landedRows) (x .good) (y .good) theta new theta-is new-is
+            (and-right f u fu)));
         shorter = yes (ap (λ (b : Last). contracts b length) (L .last-same) ∙ and-right (f && u) c h);
       }
 
@@ -412,9 +376,9 @@ pub judge-after :
 unfolding judge judgeOf
 judge-after law S st w since L few theta theta-is =
     or-refuse-after S (st .sizes) st w
-    (judgeOf (st .sizes .n) (standingAt st w) (landedAt st w) theta (w .filter) (st .counts .iterations) (st .last)
+    (judgeOf (st .sizes .n) (standingAt st w) (landedAt st w) theta (w .filter) (pairsIn st) (st .last)
     (w .step)) _
-    (judge-yields (st .sizes .n) (standingAt st w) (landedAt st w) theta (w .filter) (st .counts .iterations) (st .last)
+    (judge-yields (st .sizes .n) (standingAt st w) (landedAt st w) theta (w .filter) (pairsIn st) (st .last)
     (w .step))
     (λ j e u.
     let a = bind-value (normOf (at (w .step)) (st .sizes .n)) _ e in

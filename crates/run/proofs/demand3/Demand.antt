@@ -1,6 +1,6 @@
 -- Demand 3: begin makes the invariant true, each call keeps it and makes its claim, so the claim holds along every list
 -- of calls. A call that is refused by number changes nothing.
-use Prim.Native.Nat.{ℕ, _+_, _*_, _≤_, zero-le}
+use Prim.Native.Nat.{ℕ, _+_, _*_, zero-le}
 use mathlib.Core.Bool.{true, false, not, cond, _&&_}
 use mathlib.Core.Logic.{⊎-elim}
 use mathlib.Core.Path.{_≡_, refl, sym, ap, _∙_, subst}
@@ -9,12 +9,10 @@ use native.Mathlib.Omega.{arith}
 use borrow.Author.Tests.{eq-eqb, eqb-true}
 use lib.Dec.{eqb}
 use lib.Ieee.{Float}
-use lib.ListN.{length, take, length-replicate}
+use lib.ListN.{length}
 use Rattle.interval.specs.declared.Scalar.{Scalar}
-use Rattle.interval.specs.Scalar.{zero64}
 use Rattle.run.specs.Rows.{rowNumbers, rowCounts}
-use Rattle.run.specs.Area.{POINT-LEN, ROWS-LEN, CURVATURE-LEN, FILTER-LEN, ASKED-AT, begunMemory, areaOf}
-use Rattle.run.specs.Limits.{AREA}
+use Rattle.run.specs.Area.{areaLength, Memory, memoryOf, areaOf, begunMemory}
 use Rattle.run.specs.Calls.{AfterCall, unchanged, beginOf, replyOpen, replyOf, noneOpen, replyNoneOf}
 use Rattle.run.specs.Checks.{sizesFit, allInDomain, stepFits, valid}
 use Rattle.run.specs.State.{stateWith, noRun}
@@ -48,17 +46,17 @@ use Rattle.run.specs.declared.state.Kind.the-variants as kind
 use Rattle.run.specs.declared.state.Phase.{Phase}
 use Rattle.run.specs.declared.state.Phase.the-variants.{Open, Over}
 use Rattle.run.specs.declared.state.Sizes.{Sizes}
-use Rattle.run.proofs.AreaLaws.{length-padded}
+use Rattle.run.proofs.AreaRead.{area-long, memory-back}
 use Rattle.run.proofs.Booleans.{clash, and-left, and-right}
 use Rattle.run.proofs.CheckLaws.{size-bounds, checked}
+use Rattle.run.proofs.Cleared.{reply-kept, reply-none-kept, begun-lengths, begun-limits}
 use Rattle.run.proofs.DampingGrowth.{growth-begin, growth-positive}
 use Rattle.run.proofs.demand3.ExactLaws.{ExactLaws}
 use Rattle.run.proofs.demand3.Invariant.{Sound, Phased, Inv}
-use Rattle.run.proofs.demand3.Endings.{sound-valid, inv-between, point-given}
+use Rattle.run.proofs.demand3.Endings.{sound-valid, inv-between, asked-given}
 use Rattle.run.proofs.Domains.{domain-rows}
 use Rattle.run.proofs.demand3.ExactSums.{exact-laws}
 use Rattle.run.proofs.demand3.Answered.{rows-kept, none-kept}
-use Rattle.run.proofs.AreaRead.{Sized, area-long, standing-part, asked-part}
 
 -- ---- one call
 
@@ -145,32 +143,39 @@ module _ (law : ExactLaws) (h : History) (r : Run) (v : Inv (r .state .sizes) h 
   EndsOther c left = Kept h r c (callResultBy left (r .area))
 
   rows-open :
-      (xs : List Float) (f : Floats xs) (p : Phase) →
-      Phased h r p → Ends (rows same xs f) (replyOpen (r .state) (r .area) xs p)
+      (xs : List Float) (f : Floats xs) →
+      valid (r .state) ≡ true →
+      (p : Phase) → r .state .phase ≡ p → Phased h r p → Ends (rows same xs f) (replyOpen (r .state) (r .area) xs p)
   unfolding Ends
-  rows-open xs f Over q = refused-same (rows same xs f) 4
-  rows-open xs f (Open k) q =
+  rows-open xs f e Over o q = refused-same (rows same xs f) 4
+  rows-open xs f e (Open k) o q =
       let z = r .state .sizes in
-      let fits = eqb (length (r .area)) AREA in
+      let fits = eqb (length (r .area)) (areaLength z) in
       let count = rowNumbers (rowCounts z) in
       checked (Ends (rows same xs f)) (fits && eqb (length xs) count) 2 (unchanged (r .state) (r .area)) _
       (refused-same (rows same xs f) 2)
       (λ lengths.
-      let long = eqb-true (length (r .area)) AREA (and-left fits (eqb (length xs) count) lengths) in
+      let long = eqb-true (length (r .area)) (areaLength z) (and-left fits (eqb (length xs) count) lengths) in
       let size = eqb-true (length xs) count (and-right fits (eqb (length xs) count) lengths) in
       checked (Ends (rows same xs f)) (allInDomain xs ((z .m + z .s) * (z .n + 1))) 3 (unchanged (r .state) (r .area)) _
       (refused-same (rows same xs f) 3)
-      (λ d.
-      rows-kept law h r (v .sound) (v .counted) long (v .point) k q xs f
-      (record { fitting = record { length-is = size; in-domain = d }; good = domain-rows z xs f size d })))
+      (λ d g.
+      rows-kept law h r (v .sound) (v .counted) (v .point) k q xs f
+      (record { fitting = record { length-is = size; in-domain = d }; good = domain-rows z xs f size d }) g
+      (reply-kept (r .state) (r .area) e long xs size k o .lengths)))
 
-  none-open : (p : Phase) → Phased h r p → Ends (none same) (noneOpen (r .state) (r .area) p)
+  none-open :
+      valid (r .state) ≡ true →
+      (p : Phase) → r .state .phase ≡ p → Phased h r p → Ends (none same) (noneOpen (r .state) (r .area) p)
   unfolding Ends
-  none-open Over q = refused-same (none same) 4
-  none-open (Open k) q =
-      checked (Ends (none same)) (eqb (length (r .area)) AREA) 2 (unchanged (r .state) (r .area)) _
+  none-open e Over o q = refused-same (none same) 4
+  none-open e (Open k) o q =
+      let whole = areaLength (r .state .sizes) in
+      checked (Ends (none same)) (eqb (length (r .area)) whole) 2 (unchanged (r .state) (r .area)) _
       (refused-same (none same) 2)
-      (λ long. none-kept law h r (v .sound) (v .counted) (eqb-true (length (r .area)) AREA long) (v .point) k q)
+      (λ long g.
+      none-kept law h r (v .sound) (v .counted) (v .point) k q g
+      (reply-none-kept (r .state) (r .area) e (eqb-true (length (r .area)) whole long) k o .lengths))
 
   -- a call that is refused for its length
   rows-other :
@@ -182,13 +187,13 @@ module _ (law : ExactLaws) (h : History) (r : Run) (v : Inv (r .state .sizes) h 
   rows-other a xs f x (Open k) =
       let z = r .state .sizes in
       let count = rowNumbers (rowCounts z) in
-      let fits = eqb (length a) AREA in
+      let fits = eqb (length a) (areaLength z) in
       let long = eqb (length xs) count in
       checked (EndsOther (rows (other a) xs f)) (fits && long) 2 (unchanged (r .state) a) _
       (refused-other (rows (other a) xs f) a 2)
       (λ e.
       absurd
-      (⊎-elim (λ n. n (eqb-true (length a) AREA (and-left fits long e)))
+      (⊎-elim (λ n. n (eqb-true (length a) (areaLength z) (and-left fits long e)))
       (λ n. n (eqb-true (length xs) count (and-right fits long e))) x))
 
   none-other :
@@ -198,20 +203,21 @@ module _ (law : ExactLaws) (h : History) (r : Run) (v : Inv (r .state .sizes) h 
   unfolding EndsOther
   none-other a x Over = refused-other (none (other a)) a 4
   none-other a x (Open k) =
-      checked (EndsOther (none (other a))) (eqb (length a) AREA) 2 (unchanged (r .state) a) _
-      (refused-other (none (other a)) a 2) (λ e. absurd (x (eqb-true (length a) AREA e)))
+      let whole = areaLength (r .state .sizes) in
+      checked (EndsOther (none (other a))) (eqb (length a) whole) 2 (unchanged (r .state) a) _
+      (refused-other (none (other a)) a 2) (λ e. absurd (x (eqb-true (length a) whole e)))
 
   call-kept : (c : Call) → Allowed (r .state .sizes) c → Kept h r c (callResult r c)
   unfolding replyOf replyNoneOf Ends EndsOther
   call-kept (rows same xs f) x =
       checked (Ends (rows same xs f)) (valid (r .state)) 4 (unchanged (r .state) (r .area)) _
-      (refused-same (rows same xs f) 4) (λ e. rows-open xs f (r .state .phase) (v .phased))
+      (refused-same (rows same xs f) 4) (λ e. rows-open xs f e (r .state .phase) refl (v .phased))
   call-kept (rows (other a) xs f) x =
       checked (EndsOther (rows (other a) xs f)) (valid (r .state)) 4 (unchanged (r .state) a) _
       (refused-other (rows (other a) xs f) a 4) (λ e. rows-other a xs f x (r .state .phase))
   call-kept (none same) x =
       checked (Ends (none same)) (valid (r .state)) 4 (unchanged (r .state) (r .area)) _
-      (refused-same (none same) 4) (λ e. none-open (r .state .phase) (v .phased))
+      (refused-same (none same) 4) (λ e. none-open e (r .state .phase) refl (v .phased))
   call-kept (none (other a)) x =
       checked (EndsOther (none (other a))) (valid (r .state)) 4 (unchanged (r .state) a) _
       (refused-other (none (other a)) a 4) (λ e. none-other a x (r .state .phase))
@@ -246,24 +252,10 @@ along law z (c ∷ cs) h r v = (
 
 -- ---- begin
 
-begun-sized : (start : List Float) → length start ≤ POINT-LEN → Sized (begunMemory start)
-begun-sized start e =
-    record {
-      standing-size = length-padded POINT-LEN start e;
-      landed-size = length-replicate POINT-LEN zero64;
-      asked-size = length-padded POINT-LEN start e;
-      standing-rows-size = length-replicate ROWS-LEN zero64;
-      landed-rows-size = length-replicate ROWS-LEN zero64;
-      step-size = length-replicate POINT-LEN zero64;
-      multipliers-size = length-replicate POINT-LEN zero64;
-      curvature-size = length-replicate CURVATURE-LEN zero64;
-      filter-size = length-replicate FILTER-LEN zero64;
-    }
-
 module _ (z : Sizes) (start : List Float) (max : Scalar) (fit : sizesFit z ≡ true)
     (size : length start ≡ 2 * z .n) where
   abbrev begins : Run
-  begins = record { state = stateWith z firstMu max (Open kind.Start); area = areaOf (begunMemory start) }
+  begins = record { state = stateWith z firstMu max (Open kind.Start); area = areaOf z (begunMemory start) }
 
   begun-sound : Sound (begins .state)
   begun-sound =
@@ -277,15 +269,15 @@ module _ (z : Sizes) (start : List Float) (max : Scalar) (fit : sizesFit z ≡ t
       }
 
   -- the start stands as it is asked
-  begun-point : take (2 * z .n) (begins .area) ≡ begun begins .points 0
+  begun-point : memoryOf (begins .state) (begins .area) .standing ≡ begun begins .points 0
   begun-point =
-      let n2 : 2 * z .n ≤ POINT-LEN = omega (arith, size-bounds z fit .n) in
-      let sized = begun-sized start (omega (arith, size, n2)) in
+      let st = begins .state in
       let w = begunMemory start in
-      let valid-begun = sound-valid (begins .state) begun-sound in
-      standing-part w sized (2 * z .n) n2
-      ∙ sym (asked-part w sized (2 * z .n) n2)
-      ∙ sym (point-given (begins .state) (areaOf w) ASKED-AT valid-begun (area-long w sized) refl)
+      let l = begun-limits z start max (size-bounds z fit) in
+      let e = begun-lengths z start max size in
+      let back = memory-back st w l e in
+      ap (λ (m : Memory). m .standing) back ∙ sym (ap (λ (m : Memory). m .asked) back)
+      ∙ sym (asked-given st (begins .area) (sound-valid st begun-sound) (area-long st w l e) refl)
 
   begun-holds : Inv z (begun begins) begins
   begun-holds =
@@ -319,10 +311,12 @@ begin-holds z start max a =
     let sized = eqb (length start) (2 * z .n) in
     checked Accepted (sizesFit z) 1 (unchanged noRun a) _ (not-asked 1)
     (λ fit.
-    checked Accepted (sized && eqb (length a) AREA) 2 (unchanged noRun a) _ (not-asked 2)
+    checked Accepted (sized && eqb (length a) (areaLength z)) 2 (unchanged noRun a) _ (not-asked 2)
     (λ g.
     checked Accepted (allInDomain start (z .n) && stepFits max) 3 (unchanged noRun a) _ (not-asked 3)
-    (λ d q. begun-holds z start max fit (eqb-true (length start) (2 * z .n) (and-left sized (eqb (length a) AREA) g)))))
+    (λ d q.
+    begun-holds z start max fit
+    (eqb-true (length start) (2 * z .n) (and-left sized (eqb (length a) (areaLength z)) g)))))
   where
     Accepted : AfterCall → Type 0
     Accepted b = b .event ≡ event.Question 0 kind.Start 0 → Inv z (begun (runOf b)) (runOf b)

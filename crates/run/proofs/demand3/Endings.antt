@@ -1,5 +1,6 @@
 -- How a call ends: a finish, a question or a refusal, each with the invariant for the history that it is entered in,
--- and the claim.
+-- and the claim. The lists of the memory have just the numbers in use, so that the next call reads them back as they
+-- are.
 use Prim.Native.Nat.{ℕ, suc, _+_, _*_, _≤_, _<_, zero-le}
 use mathlib.Core.Bool.{Bool, true, false, not, _||_}
 use mathlib.Core.Logic.{_⊎_, inl, inr}
@@ -9,19 +10,15 @@ use native.Mathlib.Omega.{arith}
 use borrow.Author.Tests.{lt-ltb, le-leb, eq-eqb, ne-eqb}
 use lib.Dec.{T, eqb}
 use lib.Ieee.{Float}
-use lib.ListN.{length, take, drop, length-replicate}
+use lib.ListN.{length}
 use Rattle.interval.specs.Result.{Res, ok, refused}
 use Rattle.interval.specs.declared.Scalar.{Scalar}
-use Rattle.interval.specs.Scalar.{zero64, pick}
-use Rattle.linear.specs.Flat.{at}
-use Rattle.run.specs.Area.{POINT-LEN, ROWS-LEN, CURVATURE-LEN, FILTER-LEN, ASKED-AT, Memory, memoryOf, areaOf}
-use Rattle.run.specs.Area.{onlyStanding}
-use Rattle.run.specs.Area.{isTried, isCorrected}
-use Rattle.run.specs.Limits.{AREA}
+use Rattle.interval.specs.Scalar.{pick}
+use Rattle.run.specs.Area.{HasRoom, pairsIn, usedIn, Memory, memoryOf, areaOf, onlyStanding}
 use Rattle.run.specs.Endings.{AfterSlots, finish, refuse, question, orRefuse}
 use Rattle.run.specs.State.{over, asking}
 use Rattle.run.specs.Checks.{valid, phaseFits}
-use Rattle.run.specs.Calls.{pointAt, pointOf}
+use Rattle.run.specs.Calls.{pointOf}
 use Rattle.run.specs.Demand.{
   Run,
   CallResult,
@@ -38,34 +35,26 @@ use Rattle.run.specs.Demand.{
   standingBy,
   isRefused,
   Between,
+  Claim,
 }
 use Rattle.run.specs.declared.state.Event.the-variants as event
 use Rattle.run.specs.declared.state.Kind.{Kind}
 use Rattle.run.specs.declared.state.Kind.the-variants as kind
 use Rattle.run.specs.declared.state.Last.{Last}
-use Rattle.run.specs.declared.state.Phase.the-variants.{Open}
+use Rattle.run.specs.declared.state.Phase.the-variants.{Open, Over}
 use Rattle.run.specs.declared.state.Sizes.{Sizes}
 use Rattle.run.specs.declared.state.State.{State}
 use Rattle.run.specs.declared.state.Stop.{Stop}
+use Rattle.run.specs.program.Area.{Limits, lengthsOf}
 use Rattle.run.proofs.Booleans.{clash}
 use Rattle.run.proofs.CheckLaws.{size-bounds}
-use Rattle.run.proofs.AreaRead.{
-  Sized,
-  area-long,
-  used-part,
-  standing-part,
-  landed-part,
-  standing-rows-back,
-  landed-rows-back,
-  filter-back,
-}
+use Rattle.run.proofs.AreaRead.{limits-from, area-long, memory-back}
 use Rattle.run.proofs.RefusalLaws.{Yields, gives, refuses}
 use Rattle.run.proofs.DampingGrowth.{growth-few, growth-positive}
 use Rattle.run.proofs.demand3.Invariant.{
-  Slot,
+  FittingRows,
   Pair,
   Pairs,
-  Stands,
   once-few,
   CountBounds,
   Sound,
@@ -98,6 +87,7 @@ sound-valid st s =
 
 -- what holds between two calls
 pub inv-between : (z : Sizes) (h : History) (r : Run) → Inv z h r → Between z h r
+unfolding memoryOf
 inv-between z h r v =
     record {
       counted = v .counted;
@@ -108,21 +98,7 @@ inv-between z h r v =
       standing-point = rw (← v .sizes-are) (v .point);
     }
 
--- ---- pairs, in another filter or by other rows
-
-pub pairs-filter :
-    (z : Sizes) (rows : ℕ → AnsweredRows) (f f′ : List Float) (es : List ℕ) →
-    ((i : ℕ) → i < 2 * length es → at f′ i ≡ at f i) → Pairs z rows f es → Pairs z rows f′ es
-pairs-filter z rows f f′ [] h p = tt
-pairs-filter z rows f f′ (e ∷ es) h p =
-    let i = length es in (
-      record {
-        rowed = p .0 .rowed;
-        pair-sum = h (2 * i) (omega arith) ∙ p .0 .pair-sum;
-        pair-violation = p .0 .pair-violation ∙ ap ok (sym (h (2 * i + 1) (omega arith)));
-      },
-      pairs-filter z rows f f′ es (λ j l. h j (omega arith)) (p .1),
-    )
+-- ---- pairs, by other rows
 
 pub pairs-rows :
     (z : Sizes) (rows rows′ : ℕ → AnsweredRows) (f : List Float) (es : List ℕ) →
@@ -225,68 +201,44 @@ module _ (S : CallContext) (z : Sizes) (p : CallResult) (accepts : isRefused (p 
 -- ---- points
 
 -- the point that `point` gives, of a run that number 4 lets pass
-pub point-given :
-    (st : State) (a : List Float) (base : ℕ) →
-    valid st ≡ true →
-    length a ≡ AREA → pointAt (st .phase) ≡ base → pointOf st a ≡ take (2 * st .sizes .n) (drop base a)
-unfolding pointOf
-point-given st a base v l e = rw (v, eq-eqb _ _ l, e)
+module _ (st : State) (a : List Float) (v : valid st ≡ true) (l : HasRoom (st .sizes) a) where
+  pub asked-given : {k : Kind} → st .phase ≡ Open k → pointOf st a ≡ memoryOf st a .asked
+  unfolding pointOf memoryOf
+  asked-given e = rw (v, eq-eqb _ _ l, e)
 
-landed-back :
-    (st : State) (w : Memory) →
-    Sized w →
-    2 * st .sizes .n ≤ POINT-LEN →
-    isCorrected (st .phase) ≡ true →
-    take (2 * st .sizes .n) (memoryOf st (areaOf w) .landed) ≡ take (2 * st .sizes .n) (w .landed)
-unfolding memoryOf
-landed-back st w sized n2 u =
-    used-part (areaOf w) 24 POINT-LEN (2 * st .sizes .n) (isCorrected (st .phase)) u
-    (omega (arith, n2, area-long w sized))
-    ∙ landed-part w sized (2 * st .sizes .n) n2
+  pub standing-given : st .phase ≡ Over → pointOf st a ≡ memoryOf st a .standing
+  unfolding pointOf memoryOf
+  standing-given e = rw (v, eq-eqb _ _ l, e)
+
+pub sound-limits : {st : State} → Sound st → Limits (st .sizes) (pairsIn st)
+sound-limits {st} s = limits-from st (size-bounds (st .sizes) (s .sizes-fit)) (s .within)
 
 -- ---- a finish
-
-standing-sized : (w : Memory) → length (w .standing) ≡ POINT-LEN → Sized (onlyStanding w)
-standing-sized w e =
-    record {
-      standing-size = e;
-      landed-size = length-replicate POINT-LEN zero64;
-      asked-size = length-replicate POINT-LEN zero64;
-      standing-rows-size = length-replicate ROWS-LEN zero64;
-      landed-rows-size = length-replicate ROWS-LEN zero64;
-      step-size = length-replicate POINT-LEN zero64;
-      multipliers-size = length-replicate POINT-LEN zero64;
-      curvature-size = length-replicate CURVATURE-LEN zero64;
-      filter-size = length-replicate FILTER-LEN zero64;
-    }
 
 -- of a state of which only the counts and the point are known
 pub record Ending (S : CallContext) (st : State) (w : Memory) (mu : Scalar) : Type 0 where
   pub before : List ℕ
   pub way : Way S (st .sizes) (st .counts .standing) before (st .last) mu
   pub before-many : length before ≡ st .counts .iterations
-  pub point : take (2 * st .sizes .n) (w .standing) ≡ S .history .points (st .counts .standing)
-  pub long : length (w .standing) ≡ POINT-LEN
+  pub point : w .standing ≡ S .history .points (st .counts .standing)
   pub sound : Sound (over st)
 
 pub finish-counts :
     (S : CallContext) (st : State) (w : Memory) (s : Stop) (mu : Scalar) →
     Ending S st w mu → After S (st .sizes) (finish st w s)
-finish-counts S st w s mu E q =
+finish-counts S st w s mu E q e =
     let z = st .sizes in
     let p = playedTo (finish st w s) in
-    let sized = standing-sized w (E .long) in
-    let small = size-bounds z (E .sound .sizes-fit) in
-    let n2 : 2 * z .n ≤ POINT-LEN = omega (arith, small .n) in
+    let l = sound-limits (E .sound) in
     let d = enter S z (st .counts .standing) (E .before) (st .last) mu (E .way) p refl in
     let counted : st .counts .iterations ≡ entered (S .history) (S .run) (S .call) p .changes =
     sym (d .changes-are ∙ E .before-many) in
-    let a = areaOf (onlyStanding w) in
-    let own = S .history .points (st .counts .standing) in
-    let point : take (2 * z .n) a ≡ own = standing-part (onlyStanding w) sized (2 * z .n) n2 ∙ E .point in
-    let sound = sound-valid (over st) (E .sound) in
-    let given : pointOf (over st) a ≡ own =
-    point-given (over st) a 0 sound (area-long (onlyStanding w) sized) refl ∙ point in (
+    let a = areaOf z (onlyStanding w) in
+    let point : memoryOf (over st) a .standing ≡ S .history .points (st .counts .standing) =
+    ap (λ (m : Memory). m .standing) (memory-back (over st) (onlyStanding w) l e) ∙ E .point in
+    let given : pointOf (over st) a ≡ S .history .points (st .counts .standing) =
+    standing-given (over st) a (sound-valid (over st) (E .sound)) (area-long (over st) (onlyStanding w) l e) refl
+    ∙ point in (
       record { sizes-are = refl; sound = E .sound; counted = counted; point = point; phased = tt },
       record {
         reported = λ e i t n q. (
@@ -310,7 +262,6 @@ finish-after S st w s mu v few =
       way = v .way;
       before-many = v .before-many;
       point = v .point;
-      long = v .sized .standing-size;
       sound = record {
         sizes-fit = v .sizes-fit;
         within = v .within;
@@ -329,7 +280,8 @@ no-finish p = absurd (let z : _≡_ {A = ℕ} 0 1 = cc in omega arith)
 module _ (S : CallContext) (st : State) (w : Memory) (k : Kind) (corrections since : ℕ) (mu : Scalar)
     (v : Consistent S (st .sizes) (st .counts) (st .last) mu w)
     (count-bounds : CountBounds mu (st .counts) (st .search) since)
-    (below-limit : st .counts .iterations < st .sizes .limit) where
+    (below-limit : st .counts .iterations < st .sizes .limit)
+    (lengths : lengthsOf w ≡ usedIn (asking st k corrections)) where
   st′ : State
   st′ = asking st k corrections
 
@@ -346,9 +298,6 @@ module _ (S : CallContext) (st : State) (w : Memory) (k : Kind) (corrections sin
   rows-are : h′ .rows ≡ S .rows
   unfolding h′ p
   rows-are = S .enters (p .event) refl
-
-  n2 : 2 * st .sizes .n ≤ POINT-LEN
-  n2 = omega (arith, size-bounds (st .sizes) (v .sizes-fit) .n)
 
   -- a point that was asked before is still known under its number
   older : (e : ℕ) → e ≤ st .counts .question → h′ .points e ≡ S .history .points e
@@ -384,37 +333,27 @@ module _ (S : CallContext) (st : State) (w : Memory) (k : Kind) (corrections sin
         few = let q = count-bounds .few in omega arith;
       })
 
-  -- the point that is asked is read back as `point` gives it
-  asked-back :
-      valid st′ ≡ true →
-      take (2 * st .sizes .n) (memoryOf st′ (areaOf w) .asked) ≡ h′ .points (st .counts .question + 1)
-  unfolding p st′ h′ memoryOf
+  -- the next call reads what this one leaves
+  limits : Limits (st .sizes) (st .counts .iterations)
+  limits = limits-from st (size-bounds (st .sizes) (v .sizes-fit)) (v .within)
+
+  read-back : memoryOf st′ (areaOf (st .sizes) w) ≡ w
+  unfolding st′
+  read-back = memory-back (asking st k corrections) w limits lengths
+
+  -- the point that is asked is the one that `point` gives
+  asked-back : valid st′ ≡ true → memoryOf st′ (areaOf (st .sizes) w) .asked ≡ h′ .points (st .counts .question + 1)
+  unfolding p st′ h′
   asked-back sound =
-      let long = area-long w (v .sized) in
-      used-part (areaOf w) ASKED-AT POINT-LEN (2 * st .sizes .n) true refl (omega (arith, n2, long))
-      ∙ rw (eq-eqb (st .counts .question + 1) (st .counts .question + 1) refl)
-      (sym (point-given st′ (areaOf w) ASKED-AT sound long refl))
+      rw (eq-eqb (st .counts .question + 1) (st .counts .question + 1) refl)
+      (sym (asked-given st′ (areaOf (st .sizes) w) sound (area-long st′ w limits lengths) refl))
 
   asked-tried :
       (n top : ℕ) →
       Sound st′ →
-      isTried (Open k) ≡ true →
       suc since ≤ n → ((e : ℕ) → In e (st .counts .standing ∷ v .before) → e < top) → Tried h′ (p .run) n top
   unfolding p st′ h′
-  asked-tried n top sound tried l below =
-      let z = st .sizes in
-      let small = size-bounds z (v .sizes-fit) in
-      let s = v .stands in
-      let rowed = s .slot .rowed in
-      let slot : Slot z (S .rows (st .counts .standing)) (memoryOf st′ (areaOf w) .standingRows) =
-      record {
-        rowed = rowed;
-        in-slot = standing-rows-back st′ w (v .sized) small tried (rowed .rows) (rowed .good .size) (s .slot .in-slot);
-      } in
-      let pairs : Pairs z (S .rows) (memoryOf st′ (areaOf w) .filter) (v .before) =
-      pairs-filter z (S .rows) (w .filter) (memoryOf st′ (areaOf w) .filter) (v .before)
-      (λ i l. filter-back st′ w (v .sized) small tried (v .within) i (let m = v .before-many in omega arith))
-      (s .pairs) in
+  asked-tried n top sound l below =
       record {
         before = v .before;
         asked-is = refl;
@@ -424,16 +363,22 @@ module _ (S : CallContext) (st : State) (w : Memory) (k : Kind) (corrections sin
         below = λ e i. below e (subst (In e) (entry .stood-are) i);
         count-bounds = asked-bounds n l;
         below-limit = below-limit;
-        stands =
-            subst (λ (rows : ℕ → AnsweredRows). Stands z rows (st .counts .standing) (v .before)
-            (memoryOf st′ (areaOf w)))
-            (sym rows-are) (record { slot = slot; pairs = pairs });
+        stands = rw (read-back, rows-are) (v .stands);
         asked-point = asked-back (sound-valid st′ sound);
       }
 
-  asked-after : Sound st′ → Phased h′ (p .run) (Open k) → After S (st .sizes) (question st w k corrections)
+  landed-back :
+      (n : ℕ) →
+      FittingRows (st .sizes) (S .rows n) (w .landedRows) →
+      FittingRows (st .sizes) (h′ .rows n) (memoryOf st′ (areaOf (st .sizes) w) .landedRows)
+  landed-back n rowed = rw (read-back, rows-are) rowed
+
+  asked-after :
+      Sound st′ →
+      Phased h′ (p .run) (Open k) →
+      Inv (st .sizes) h′ (p .run) × Claim (st .sizes) (S .history) h′ (S .run) p
   unfolding p st′ h′ older
-  asked-after sound phased q =
+  asked-after sound phased =
       let z = st .sizes in
       let counted : st .counts .iterations ≡ entered (S .history) (S .run) (S .call) p .changes =
       sym (entry .changes-are ∙ v .before-many) in
@@ -442,7 +387,7 @@ module _ (S : CallContext) (st : State) (w : Memory) (k : Kind) (corrections sin
           sizes-are = refl;
           sound = sound;
           counted = counted;
-          point = standing-part w (v .sized) (2 * z .n) n2 ∙ v .point ∙ sym old;
+          point = ap (λ (m : Memory). m .standing) read-back ∙ v .point ∙ sym old;
           phased = phased;
         },
         record {
@@ -458,13 +403,13 @@ pub trial-after :
     Consistent S (st .sizes) (st .counts) (st .last) mu w →
     CountBounds mu (st .counts) (st .search) 0 →
     st .counts .iterations < st .sizes .limit → After S (st .sizes) (question st w kind.Trial 0)
-trial-after S st w mu v count-bounds lim =
+trial-after S st w mu v count-bounds lim q e =
     unfold st′ p h′ in
     let sound =
-    asked-sound S st w kind.Trial 0 0 mu v count-bounds lim zero-le zero-le
+    asked-sound S st w kind.Trial 0 0 mu v count-bounds lim e zero-le zero-le
     (rw (lt-ltb _ _ lim) (growth-positive (count-bounds .growth))) in
-    asked-after S st w kind.Trial 0 0 mu v count-bounds lim sound
-    (asked-tried S st w kind.Trial 0 0 mu v count-bounds lim 1 (st .counts .question + 1) sound refl (omega arith)
+    asked-after S st w kind.Trial 0 0 mu v count-bounds lim e sound
+    (asked-tried S st w kind.Trial 0 0 mu v count-bounds lim e 1 (st .counts .question + 1) sound (omega arith)
     (λ e i. let h = v .below e i in omega arith))
 
 pub correction-after :
@@ -473,40 +418,27 @@ pub correction-after :
     CountBounds mu (st .counts) (st .search) (1 + st .counts .corrections) →
     st .counts .iterations < st .sizes .limit →
     st .counts .corrections ≤ 3 →
-    Slot (st .sizes) (S .rows (st .counts .landed)) (w .landedRows) →
-    take (2 * st .sizes .n) (w .landed) ≡ S .history .points (st .counts .landed) →
+    FittingRows (st .sizes) (S .rows (st .counts .landed)) (w .landedRows) →
+    w .landed ≡ S .history .points (st .counts .landed) →
     st .counts .landed ≤ st .counts .question →
     ((e : ℕ) → In e (st .counts .standing ∷ v .before) → e < st .counts .landed) →
     After S (st .sizes) (question st w kind.Correction (st .counts .corrections))
-correction-after S st w mu v count-bounds lim few slot point asked below =
+correction-after S st w mu v count-bounds lim few rows point asked below q e =
     let n = st .counts .corrections in
-    let z = st .sizes in
-    let rows-back = rows-are S st w kind.Correction n (1 + n) mu v count-bounds lim in
-    let small = size-bounds z (v .sizes-fit) in
-    let n2 : 2 * z .n ≤ POINT-LEN = omega (arith, small .n) in
     let k = st .counts .landed in
-    let rowed = slot .rowed in
-    let old = older S st w kind.Correction n (1 + n) mu v count-bounds lim k asked in
+    let rowed = landed-back S st w kind.Correction n (1 + n) mu v count-bounds lim e k rows in
+    let back = read-back S st w kind.Correction n (1 + n) mu v count-bounds lim e in
+    let old = older S st w kind.Correction n (1 + n) mu v count-bounds lim e k asked in
     unfold st′ p h′ in
-    let back : Slot z (S .rows k) (memoryOf (asking st kind.Correction n) (areaOf w) .landedRows) =
-    record {
-      rowed = rowed;
-      in-slot =
-          landed-rows-back (asking st kind.Correction n) w (v .sized) small refl (rowed .rows) (rowed .good .size)
-          (slot .in-slot);
-    } in
     let sound =
-    asked-sound S st w kind.Correction n (1 + n) mu v count-bounds lim (omega arith) (omega arith)
+    asked-sound S st w kind.Correction n (1 + n) mu v count-bounds lim e (omega arith) (omega arith)
     (rw (lt-ltb _ _ lim) (growth-positive (count-bounds .growth))) in
-    asked-after S st w kind.Correction n (1 + n) mu v count-bounds lim sound
+    asked-after S st w kind.Correction n (1 + n) mu v count-bounds lim e sound
     (record {
       tried =
-          asked-tried S st w kind.Correction n (1 + n) mu v count-bounds lim (2 + n) k sound refl (omega arith) below;
+          asked-tried S st w kind.Correction n (1 + n) mu v count-bounds lim e (2 + n) k sound (omega arith) below;
       landed-below = omega arith;
       few = few;
-      landed-slot =
-          subst
-          (λ (rows : ℕ → AnsweredRows). Slot z (rows k) (memoryOf (asking st kind.Correction n) (areaOf w) .landedRows))
-          (sym rows-back) back;
-      landed-point = landed-back (asking st kind.Correction n) w (v .sized) n2 refl ∙ point ∙ sym old;
+      landed-rows = rowed;
+      landed-point = ap (λ (m : Memory). m .landed) back ∙ point ∙ sym old;
     })

@@ -8,13 +8,13 @@ use mathlib.Core.List.{List, [], _∷_}
 use native.Mathlib.Omega.{arith}
 use lib.Dec.{T}
 use lib.Ieee.{Float}
-use lib.ListN.{length, take}
+use lib.ListN.{length}
 use Rattle.interval.specs.declared.Scalar.{Scalar}
 use Rattle.interval.specs.Result.{ok}
 use Rattle.run.specs.Rows.{constraintsOf, sumOf, rowCounts}
 use Rattle.run.specs.Residuals.{sumSquared, violationOf}
 use Rattle.run.specs.Filter.{filterSum, filterViolation}
-use Rattle.run.specs.Area.{ROWS-LEN, Memory, memoryOf, padded}
+use Rattle.run.specs.Area.{usedIn, Memory, memoryOf}
 use Rattle.run.specs.Endings.{AfterSlots}
 use Rattle.run.specs.Checks.{sizesFit, phaseFits}
 use Rattle.run.specs.Calls.{inArea}
@@ -48,38 +48,36 @@ use Rattle.run.specs.declared.state.Phase.the-variants.{Open, Over}
 use Rattle.run.specs.declared.state.Search.{Search}
 use Rattle.run.specs.declared.state.Sizes.{Sizes}
 use Rattle.run.specs.declared.state.State.{State}
-use Rattle.run.proofs.AreaRead.{Sized}
+use Rattle.run.specs.program.Area.{lengthsOf}
 use Rattle.run.proofs.DampingGrowth.{Growth}
 use Rattle.run.proofs.demand3.ExactLaws.{Good}
 
 -- ---- rows and pairs
 
 -- a question was answered with these rows
-pub record FittingRows (z : Sizes) (given : AnsweredRows) : Type 0 where
-  pub rows : List Float
+pub record FittingRows (z : Sizes) (given : AnsweredRows) (rows : List Float) : Type 0 where
   pub given-is : given ≡ hasRows rows
   pub fitting : Fitting z rows
   pub good : Good z rows
 
--- the rows accepted for a question are in a slot
-pub record Slot (z : Sizes) (given : AnsweredRows) (slot : List Float) : Type 0 where
-  pub rowed : FittingRows z given
-  pub in-slot : slot ≡ padded ROWS-LEN (rowed .rows)
-
--- the i-th pair is f and the violation of those rows
+-- the i-th pair is f and the violation of the rows that a question was answered with
 pub record Pair (z : Sizes) (given : AnsweredRows) (filter : List Float) (i : ℕ) : Type 0 where
-  pub rowed : FittingRows z given
-  pub pair-sum : filterSum filter i ≡ sumSquared (sumOf (rowCounts z) (rowed .rows))
-  pub pair-violation : violationOf (constraintsOf (rowCounts z) (rowed .rows)) ≡ ok (filterViolation filter i)
+  pub rows : List Float
+  pub rowed : FittingRows z given rows
+  pub pair-sum : filterSum filter i ≡ sumSquared (sumOf (rowCounts z) rows)
+  pub pair-violation : violationOf (constraintsOf (rowCounts z) rows) ≡ ok (filterViolation filter i)
 
 -- a pair for each number that stood before, the last one first
 abbrev pub Pairs : Sizes → (ℕ → AnsweredRows) → List Float → List ℕ → Type 0
 Pairs z rows filter [] = Unit
 Pairs z rows filter (e ∷ es) = Pair z (rows e) filter (length es) × Pairs z rows filter es
 
-pub record Stands (z : Sizes) (rows : ℕ → AnsweredRows) (standing : ℕ) (before : List ℕ) (w : Memory) : Type 0 where
-  pub slot : Slot z (rows standing) (w .standingRows)
-  pub pairs : Pairs z rows (w .filter) before
+-- the rows of the point that stands, and the filter, as the memory has them
+pub record Stands (z : Sizes) (rows : ℕ → AnsweredRows) (standing : ℕ) (before : List ℕ) (own filter : List Float)
+    : Type 0 where
+  pub rowed : FittingRows z (rows standing) own
+  pub pairs : Pairs z rows filter before
+  pub long : length filter ≡ 4 * length before
 
 -- ---- damping and questions
 
@@ -121,18 +119,18 @@ pub record Tried (h : History) (r : Run) (since top : ℕ) : Type 0 where
   pub below : (e : ℕ) → In e (h .stood) → e < top
   pub count-bounds : CountBounds (h .mu) (r .state .counts) (r .state .search) since
   pub below-limit : r .state .counts .iterations < r .state .sizes .limit
-  pub stands : Stands (r .state .sizes) (h .rows) (h .standing) before (memoryOf (r .state) (r .area))
-  pub asked-point :
-      take (2 * r .state .sizes .n) (memoryOf (r .state) (r .area) .asked) ≡ h .points (r .state .counts .question)
+  pub stands :
+      let w = memoryOf (r .state) (r .area) in
+      Stands (r .state .sizes) (h .rows) (h .standing) before (w .standingRows) (w .filter)
+  pub asked-point : memoryOf (r .state) (r .area) .asked ≡ h .points (r .state .counts .question)
 
 pub record Corrected (h : History) (r : Run) : Type 0 where
   pub tried : Tried h r (2 + r .state .counts .corrections) (r .state .counts .landed)
   pub landed-below : r .state .counts .landed < r .state .counts .question
   pub few : r .state .counts .corrections ≤ 3
-  pub landed-slot :
-      Slot (r .state .sizes) (h .rows (r .state .counts .landed)) (memoryOf (r .state) (r .area) .landedRows)
-  pub landed-point :
-      take (2 * r .state .sizes .n) (memoryOf (r .state) (r .area) .landed) ≡ h .points (r .state .counts .landed)
+  pub landed-rows :
+      FittingRows (r .state .sizes) (h .rows (r .state .counts .landed)) (memoryOf (r .state) (r .area) .landedRows)
+  pub landed-point : memoryOf (r .state) (r .area) .landed ≡ h .points (r .state .counts .landed)
 
 pub record Started (h : History) (r : Run) : Type 0 where
   pub changes-are : h .changes ≡ 0
@@ -152,7 +150,7 @@ pub record Inv (z : Sizes) (h : History) (r : Run) : Type 0 where
   pub sizes-are : r .state .sizes ≡ z
   pub sound : Sound (r .state)
   pub counted : r .state .counts .iterations ≡ h .changes
-  pub point : take (2 * r .state .sizes .n) (r .area) ≡ h .points (h .standing)
+  pub point : memoryOf (r .state) (r .area) .standing ≡ h .points (h .standing)
   pub phased : Phased h r (r .state .phase)
 
 -- ---- inside a call
@@ -188,27 +186,32 @@ pub data Way (S : CallContext) (z : Sizes) (standing : ℕ) (before : List ℕ) 
       before ≡ S .history .standing ∷ S .before →
       mu ≡ nextMu (S .run .state .search .mu) → Forward S z standing last → Way S z standing before last mu
 
--- a state, by its sizes, counts, last length and the damping that its iteration began with, with its memory
-pub record Consistent (S : CallContext) (z : Sizes) (k : Counts) (last : Last) (mu : Scalar) (w : Memory) : Type 0 where
+-- A state, by its sizes, counts, last length and the damping that its iteration began with, with the standing point,
+-- its rows and the filter.
+pub record ConsistentWith (S : CallContext) (z : Sizes) (k : Counts) (last : Last) (mu : Scalar)
+    (own rows filter : List Float) : Type 0 where
   pub before : List ℕ
   pub way : Way S z (k .standing) before last mu
   pub before-many : length before ≡ k .iterations
   pub below : (e : ℕ) → In e (k .standing ∷ before) → e ≤ k .question
-  pub stands : Stands z (S .rows) (k .standing) before w
-  pub point : take (2 * z .n) (w .standing) ≡ S .history .points (k .standing)
-  pub sized : Sized w
+  pub stands : Stands z (S .rows) (k .standing) before rows filter
+  pub point : own ≡ S .history .points (k .standing)
   pub sizes-fit : sizesFit z ≡ true
   pub within : k .iterations ≤ z .limit
   pub few-asked : k .question ≤ 5500 * z .limit
   pub few-corrections : k .corrections ≤ 4
 
+abbrev pub Consistent : CallContext → Sizes → Counts → Last → Scalar → Memory → Type 0
+Consistent S z k last mu w = ConsistentWith S z k last mu (w .standing) (w .standingRows) (w .filter)
+
 -- what a call over the area that the call before left, left itself
 abbrev pub playedTo : AfterSlots → CallResult
 playedTo o = let l = inArea o in callResultBy l (l .area)
 
--- what a call leaves, unless its answer is 5 or 6
+-- what a call leaves, unless its answer is 5 or 6, where the lists of its memory have the numbers in use
 abbrev pub After : CallContext → Sizes → AfterSlots → Type 0
 After S z o =
     let p = playedTo o in
     let h′ = entered (S .history) (S .run) (S .call) p in
-    isArithmetic (o .event) ≡ false → Inv z h′ (p .run) × Claim z (S .history) h′ (S .run) p
+    isArithmetic (o .event) ≡ false → lengthsOf (o .memory) ≡ usedIn (o .state) →
+    Inv z h′ (p .run) × Claim z (S .history) h′ (S .run) p

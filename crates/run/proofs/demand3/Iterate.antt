@@ -6,13 +6,11 @@ use mathlib.Core.Path.{_≡_, refl, sym, ap}
 use native.Mathlib.Omega.{arith}
 use borrow.Author.Tests.{leb-false}
 use lib.Dec.{leb}
-use lib.ListN.{length-replicate}
 use Rattle.interval.specs.declared.Scalar.{Scalar}
-use Rattle.interval.specs.Scalar.{zero64, degenerate, divOf, isFinite, sharpen}
+use Rattle.interval.specs.Scalar.{degenerate, divOf, isFinite, sharpen}
 use Rattle.interval.specs.Scaling.{four64}
 use Rattle.run.specs.Residuals.{violationOf}
-use Rattle.run.specs.Proposal.{Trial}
-use Rattle.run.specs.Area.{ROWS-LEN, POINT-LEN, Memory, withTrial}
+use Rattle.run.specs.Area.{Memory, withTrial}
 use Rattle.run.specs.Curvature.{learnedOf}
 use Rattle.run.specs.Search.{Found, asks, stops, refuses, searchOf}
 use Rattle.run.specs.Damping.{grown}
@@ -23,14 +21,12 @@ use Rattle.run.specs.Iterate.{standingOf, leftAt, search, iterate}
 use Rattle.run.specs.Endings.{finish}
 use Rattle.run.specs.Decide.{grow, turnDown, notLower}
 use Rattle.run.specs.declared.state.Counts.{Counts}
-use Rattle.run.specs.declared.state.Last.{Last}
 use Rattle.run.specs.declared.state.Rejection.{Rejection}
 use Rattle.run.specs.declared.state.Rejection.the-variants as why
 use Rattle.run.specs.declared.state.Search.{Search}
-use Rattle.run.specs.declared.state.Sizes.{Sizes}
 use Rattle.run.specs.declared.state.State.{State}
 use Rattle.run.specs.declared.state.Stop.the-variants as stop
-use Rattle.run.proofs.RefusalLaws.{TrialSized, violation-yields, div-yields}
+use Rattle.run.proofs.RefusalLaws.{violation-yields, div-yields}
 use Rattle.run.proofs.DampingGrowth.{Growth, growth-few, growth-more, Grew, Leaves, search-left}
 use Rattle.run.proofs.demand3.Invariant.{once, once-few, CountBounds, CallContext, Consistent, After}
 use Rattle.run.proofs.Booleans.{never}
@@ -43,35 +39,6 @@ pub bounds-few :
 bounds-few mu k x since p = let t = p .turned in omega (arith, once-few (x .plain), growth-few (p .growth))
 
 -- ---- the search
-
-trial-consistent :
-    (S : CallContext) (z : Sizes) (k : Counts) (last : Last) (mu : Scalar) (w : Memory) (t : Trial) →
-    TrialSized t →
-    Consistent S z k last mu w → Consistent S z k last mu (withTrial w (t .next) (t .delta) (t .lambda))
-trial-consistent S z k last mu w t s v =
-    record {
-      before = v .before;
-      way = v .way;
-      before-many = v .before-many;
-      below = v .below;
-      stands = record { slot = v .stands .slot; pairs = v .stands .pairs };
-      point = v .point;
-      sized = record {
-        standing-size = v .sized .standing-size;
-        landed-size = length-replicate POINT-LEN zero64;
-        asked-size = s .next-size;
-        standing-rows-size = v .sized .standing-rows-size;
-        landed-rows-size = length-replicate ROWS-LEN zero64;
-        step-size = s .delta-size;
-        multipliers-size = s .lambda-size;
-        curvature-size = v .sized .curvature-size;
-        filter-size = v .sized .filter-size;
-      };
-      sizes-fit = v .sizes-fit;
-      within = v .within;
-      few-asked = v .few-asked;
-      few-corrections = v .few-corrections;
-    }
 
 grown-bounds :
     (mu : Scalar) (k : Counts) (x y : Search) (since d : ℕ) (p : CountBounds mu k x since) →
@@ -98,8 +65,7 @@ module _ (S : CallContext) (st : State) (w : Memory) (mu : Scalar)
       (f : Found) → Leaves mu (st .search) (p .growths) f → After S (st .sizes) (leftAt st w f)
   unfolding leftAt
   left-after p lim (asks y t) h =
-      trial-after S (trying st y t) (withTrial w (t .next) (t .delta) (t .lambda)) mu
-      (trial-consistent S (st .sizes) (st .counts) (st .last) mu w t (h .sized) v)
+      trial-after S (trying st y t) (withTrial st w (t .next) (t .delta) (t .lambda)) mu v
       (grown-bounds mu (st .counts) (st .search) y 0 (h .more) p (h .grew) (h .growth)) lim
   left-after p lim (stops y s) h =
       finish-after S (searching st y) w s mu v

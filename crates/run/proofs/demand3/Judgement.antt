@@ -79,26 +79,25 @@ module _ (law : ExactLaws) (z : Sizes) (xs ys : List Float) (gx : Good z xs) (gy
 
 -- against the points that stood before, by their pairs
 module _ (law : ExactLaws) (z : Sizes) (rows : ℕ → AnsweredRows) (filter : List Float) (y : AnsweredRows)
-    (r : FittingRows z y)
-    (theta′ : Scalar) (e′ : violationOf (constraints z (r .rows)) ≡ ok theta′) where
+    (ys : List Float) (r : FittingRows z y ys) (theta′ : Scalar) (e′ : violationOf (constraints z ys) ≡ ok theta′) where
   beats : List ℕ → Bool
-  beats es = beatsTo filter (sumSquared (sums z (r .rows))) theta′ (length es)
+  beats es = beatsTo filter (sumSquared (sums z ys)) theta′ (length es)
 
   one : List ℕ → Bool
   one es =
-      definitelyLess (sumSquared (sums z (r .rows))) (filterSum filter (length es))
+      definitelyLess (sumSquared (sums z ys)) (filterSum filter (length es))
       || definitelyLess theta′ (filterViolation filter (length es))
 
   pub lower-pairs :
       (es : List ℕ) →
       Pairs z rows filter es →
-      beatsTo filter (sumSquared (sums z (r .rows))) theta′ (length es) ≡ true → (e : ℕ) → In e es → Lower z (rows e) y
+      beatsTo filter (sumSquared (sums z ys)) theta′ (length es) ≡ true → (e : ℕ) → In e es → Lower z (rows e) y
   unfolding beatsTo allTo In beats one
   lower-pairs [] p b e i = absurd i
   lower-pairs (d ∷ es) p b e (inl q) =
       let own = p .0 .rowed in
       subst (λ (k : ℕ). Lower z (rows k) y) (sym q)
       (of-rows (LowerRows z) (own .given-is) (r .given-is)
-      (lower-less law z (own .rows) (r .rows) (own .good) (r .good) (filterViolation filter (length es)) theta′
+      (lower-less law z (p .0 .rows) ys (own .good) (r .good) (filterViolation filter (length es)) theta′
       (p .0 .pair-violation) e′ (rw (← p .0 .pair-sum) (and-right (beats es) (one es) b))))
   lower-pairs (d ∷ es) p b e (inr i) = lower-pairs es (p .1) (and-left (beats es) (one es) b) e i

@@ -1,6 +1,6 @@
 -- How long a run is: an accepted reply raises the question's number by one or ends the run, a run that is over refuses
 -- every call by 4, and the number is within its bound as long as the invariant of demand 3 holds.
-use Prim.Native.Nat.{ℕ, _+_, _*_, _≤_}
+use Prim.Native.Nat.{ℕ, _+_, _≤_}
 use mathlib.Core.Bool.{Bool, true, false, cond}
 use mathlib.Core.Path.{_≡_, refl, ap, _∙_, subst}
 use mathlib.Core.List.{List, [], _∷_}
@@ -11,10 +11,9 @@ use lib.Ieee.{Float}
 use Rattle.interval.specs.declared.Scalar.{Scalar}
 use Rattle.run.specs.Calls.{AfterCall, unchanged, checks, replyOpen, replyOf, noneOpen, replyNoneOf}
 use Rattle.run.specs.Calls.{Accepted, beginOf, refusedByCheck, Follows}
-use Rattle.run.specs.Checks.{valid}
+use Rattle.run.specs.Checks.{valid, mostQuestions}
 use Rattle.run.specs.Demand.{same, other, Call, rows, none, Allowed, Run, runOf, callResult, History}
 use Rattle.run.specs.Demand.{entered, isArithmetic, begun}
-use Rattle.run.specs.Limits.{QUESTIONS}
 use Rattle.run.specs.Questions.{AllAllowed, acceptedIn, isQuestion, questionsIn, QuestionBounds}
 use Rattle.run.specs.declared.state.Event.{Event}
 use Rattle.run.specs.declared.state.Event.the-variants.{Question, Finish, Refused}
@@ -113,10 +112,10 @@ none-accepted (c ∷ cs) r o =
 
 -- what is left to ask and to accept
 pub record Few (z : Sizes) (r : Run) (cs : List Call) : Type 0 where
-  pub asked : r .state .counts .question + questionsIn r cs ≤ QUESTIONS * z .limit
-  pub accepted : r .state .counts .question + acceptedIn r cs ≤ 1 + QUESTIONS * z .limit
+  pub asked : r .state .counts .question + questionsIn r cs ≤ mostQuestions z
+  pub accepted : r .state .counts .question + acceptedIn r cs ≤ 1 + mostQuestions z
 
-within : (z : Sizes) (h : History) (r : Run) → Inv z h r → r .state .counts .question ≤ QUESTIONS * z .limit
+within : (z : Sizes) (h : History) (r : Run) → Inv z h r → r .state .counts .question ≤ mostQuestions z
 within z h r v = inv-between z h r v .few-questions
 
 -- numbers up to 4 are no arithmetic refusals
@@ -135,8 +134,8 @@ module _ (z : Sizes) (h : History) (r : Run) (v : Inv z h r) (c : Call) (cs : Li
 
   -- with the counts after a call whose event is a
   record FewBy (a : Event) : Type 0 where
-    pub asked : r .state .counts .question + (cond (isQuestion a) 1 0 + asks) ≤ QUESTIONS * z .limit
-    pub accepted : r .state .counts .question + (cond (refusedByCheck a) 0 1 + accepts) ≤ 1 + QUESTIONS * z .limit
+    pub asked : r .state .counts .question + (cond (isQuestion a) 1 0 + asks) ≤ mostQuestions z
+    pub accepted : r .state .counts .question + (cond (refusedByCheck a) 0 1 + accepts) ≤ 1 + mostQuestions z
 
   after : isArithmetic (callResult r c .event) ≡ false → Few z (callResult r c .run) cs
   after q =
@@ -150,8 +149,8 @@ module _ (z : Sizes) (h : History) (r : Run) (v : Inv z h r) (c : Call) (cs : Li
       let p = none-accepted cs (callResult r c .run) o in
       record { asked = rw n (omega (arith, w, q)); accepted = at-most (refusedByCheck a) p w }
     where
-      at-most : (b : Bool) → accepts ≡ 0 → r .state .counts .question ≤ QUESTIONS * z .limit
-          → r .state .counts .question + (cond b 0 1 + accepts) ≤ 1 + QUESTIONS * z .limit
+      at-most : (b : Bool) → accepts ≡ 0 → r .state .counts .question ≤ mostQuestions z
+          → r .state .counts .question + (cond b 0 1 + accepts) ≤ 1 + mostQuestions z
       at-most true p w = omega (arith, p, w)
       at-most false p w = omega (arith, p, w)
 

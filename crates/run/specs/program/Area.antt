@@ -1,110 +1,172 @@
--- The memory while a call works: each list has its slot's length, and +0 behind as many numbers as the sizes and the
--- iterations say, so that a slot is cleared or copied by its numbers in use alone; and the violations that are worked
--- out already, which a call hands on. Contracts within the crate cite this.
-use Prim.Native.Nat.{ℕ, _+_, zero, suc, _≤_, _*_}
-use mathlib.Core.List.{List, _++_, [], _∷_, map}
+-- The memory while a call works: each list is no longer than its contents can be, so that a slot is cleared by that
+-- many numbers alone, and what is read has its whole length; and the violations that are worked out already, which a
+-- call hands on. Contracts within the crate cite this.
+use Prim.Native.Nat.{ℕ, _+_, _-_, zero, suc, _≤_}
+use mathlib.Core.List.{List, _++_, []}
 use mathlib.Core.Path.{_≡_}
+use mathlib.Core.Logic.{_⊎_}
 use lib.Ieee.{Float}
 use lib.ListN.{length, take, drop, getD}
 use Rattle.interval.specs.Result.{Res, ok}
-use Rattle.interval.specs.Scalar.{zero64}
 use Rattle.interval.specs.declared.Scalar.{Scalar}
+use Rattle.linear.specs.Flat.{zeros}
 use Rattle.run.specs.Limits.{ITERATIONS}
-use Rattle.run.specs.Area.{Memory, areaOf, SIZES, padded, startOf, POINT-LEN, ROWS-LEN, CURVATURE-LEN, FILTER-LEN}
-use Rattle.run.specs.Area.{standingCounts, landedCounts}
-use Rattle.run.specs.Curvature.{curvatureEntries}
+use Rattle.run.specs.Area.{Slots, Memory, areaOf, startOf, slotSizes, numbersIn, partOf, standingCounts}
+use Rattle.run.specs.Area.{landedCounts}
 use Rattle.run.specs.Residuals.{violationOf}
-use Rattle.run.specs.Rows.{rowNumbers, constraintsOf, rowCounts}
+use Rattle.run.specs.Rows.{constraintsOf, rowCounts}
+use Rattle.run.specs.declared.area.SlotNumbers.{SlotNumbers}
+use Rattle.run.specs.declared.rows.RowCounts.{RowCounts}
 use Rattle.run.specs.declared.state.Sizes.{Sizes}
 use Rattle.run.specs.declared.state.State.{State}
-use Rattle.run.specs.declared.rows.RowCounts.{RowCounts}
 use Rattle.run.specs.program.Rows.{FewRows}
 
 -- ---- slots in the area
+
+-- a number for each slot
+abbrev pub numbersOf : SlotNumbers → Slots ℕ
+numbersOf x = record {
+  standing = x .standing;
+  landed = x .landed;
+  asked = x .asked;
+  standingRows = x .«standing_rows»;
+  landedRows = x .«landed_rows»;
+  step = x .step;
+  multipliers = x .multipliers;
+  curvature = x .curvature;
+  filter = x .filter;
+}
+
+-- of all slots the standing point's alone
+abbrev pub standingAlone : Slots ℕ → Slots ℕ
+standingAlone x = record {
+  standing = x .standing;
+  landed = 0;
+  asked = 0;
+  standingRows = 0;
+  landedRows = 0;
+  step = 0;
+  multipliers = 0;
+  curvature = 0;
+  filter = 0;
+}
 
 -- a with s written from the place `base` on
 abbrev pub written : List Float → ℕ → List Float → List Float
 written a base s = take base a ++ s ++ drop (base + length s) a
 
--- the slots in order, and how many numbers each has
-abbrev pub slotsOf : Memory → List (List Float)
-slotsOf w =
-    w .standing ∷ w .landed ∷ w .asked ∷ w .standingRows ∷ w .landedRows ∷ w .step ∷ w .multipliers ∷ w .curvature
-    ∷ w .filter ∷ []
+-- so many numbers from one place on, and as many from another, do not meet
+abbrev pub Apart : ℕ → ℕ → ℕ → Type 0
+Apart from to count = (to + count ≤ from) ⊎ (from + count ≤ to)
 
--- an area that holds w, each list of its slot's length
-pub record Holds (w : Memory) (a : List Float) : Type 0 where
-  pub sized : map length (slotsOf w) ≡ SIZES
-  pub is : a ≡ areaOf w
+-- a list of which the numbers between two places are +0
+abbrev pub clearedBetween : ℕ → ℕ → List Float → List Float
+clearedBetween from to xs = take from xs ++ zeros (to - from) ++ drop to xs
 
--- what a reader of a slot returns: as many numbers as the slot has, and those that the area holds there
-pub record SlotRead (size : ℕ) (slot : Memory → List Float) (a xs : List Float) : Type 0 where
-  pub long : length xs ≡ size
-  pub read : (w : Memory) → Holds w a → xs ≡ slot w
+-- the first k slots, each with the numbers between two places cleared
+unfoldable pub clearedTo : List ℕ → List ℕ → List ℕ → List Float → ℕ → List Float
+clearedTo sizes from to a zero = []
+clearedTo sizes from to a (suc k) =
+    clearedTo sizes from to a k
+    ++ clearedBetween (getD from k 0) (getD to k 0) (partOf a (startOf sizes k) (getD sizes k 0))
 
--- the first k slots, each with so many numbers of an area and +0 behind
-unfoldable pub clearedTo : List ℕ → List ℕ → List Float → ℕ → List Float
-clearedTo sizes used a zero = []
-clearedTo sizes used a (suc k) =
-    clearedTo sizes used a k ++ padded (getD sizes k 0) (take (getD used k 0) (drop (startOf sizes k) a))
+-- ---- the lengths of a memory
 
--- a list of a slot's length, of which only the first places may be other than +0; beyond the list +0 is read
-pub record ZeroBehind (size used : ℕ) (xs : List Float) : Type 0 where
-  pub long : length xs ≡ size
-  pub rest : (j : ℕ) → used ≤ j → getD xs j zero64 ≡ zero64
+-- no list is longer than so many numbers
+pub record AtMost (used : Slots ℕ) (w : Memory) : Type 0 where
+  pub standing : length (w .standing) ≤ used .standing
+  pub landed : length (w .landed) ≤ used .landed
+  pub asked : length (w .asked) ≤ used .asked
+  pub standing-rows : length (w .standingRows) ≤ used .standingRows
+  pub landed-rows : length (w .landedRows) ≤ used .landedRows
+  pub step : length (w .step) ≤ used .step
+  pub multipliers : length (w .multipliers) ≤ used .multipliers
+  pub curvature : length (w .curvature) ≤ used .curvature
+  pub filter : length (w .filter) ≤ used .filter
 
--- each list in its slot, with so many numbers of each in use
-pub record SlotsZeroBehind (used : List ℕ) (w : Memory) : Type 0 where
-  pub standing : ZeroBehind POINT-LEN (getD used 0 0) (w .standing)
-  pub landed : ZeroBehind POINT-LEN (getD used 1 0) (w .landed)
-  pub asked : ZeroBehind POINT-LEN (getD used 2 0) (w .asked)
-  pub standing-rows : ZeroBehind ROWS-LEN (getD used 3 0) (w .standingRows)
-  pub landed-rows : ZeroBehind ROWS-LEN (getD used 4 0) (w .landedRows)
-  pub step : ZeroBehind POINT-LEN (getD used 5 0) (w .step)
-  pub multipliers : ZeroBehind POINT-LEN (getD used 6 0) (w .multipliers)
-  pub curvature : ZeroBehind CURVATURE-LEN (getD used 7 0) (w .curvature)
-  pub filter : ZeroBehind FILTER-LEN (getD used 8 0) (w .filter)
+-- the lengths of all lists
+abbrev pub lengthsOf : Memory → Slots ℕ
+lengthsOf w = record {
+  standing = length (w .standing);
+  landed = length (w .landed);
+  asked = length (w .asked);
+  standingRows = length (w .standingRows);
+  landedRows = length (w .landedRows);
+  step = length (w .step);
+  multipliers = length (w .multipliers);
+  curvature = length (w .curvature);
+  filter = length (w .filter);
+}
 
--- every slot in use, as while a correction is open, by the counts of the standing and of the landed answer
-abbrev pub allUsed : RowCounts → RowCounts → ℕ → List ℕ
-allUsed c d iterations =
-    let point = 2 * c .n in
-    let entries = 2 * curvatureEntries (c .n) in
-    point ∷ point ∷ point ∷ rowNumbers c ∷ rowNumbers d ∷ point ∷ 2 * c .m ∷ entries ∷ 4 * iterations ∷ []
+-- what a search reads has its whole length
+pub record StandingWhole (used : Slots ℕ) (w : Memory) : Type 0 where
+  pub standing : length (w .standing) ≡ used .standing
+  pub standing-rows : length (w .standingRows) ≡ used .standingRows
+  pub curvature : length (w .curvature) ≡ used .curvature
+  pub filter : length (w .filter) ≡ used .filter
 
--- the standing and the asked point alone in use, as before a start's answer
-abbrev pub pointsUsed : ℕ → List ℕ
-pointsUsed point = point ∷ 0 ∷ point ∷ 0 ∷ 0 ∷ 0 ∷ 0 ∷ 0 ∷ 0 ∷ []
+-- and what an answer to a trial reads beside
+pub record TrialWhole (used : Slots ℕ) (w : Memory) : Type 0 where
+  pub asked : length (w .asked) ≡ used .asked
+  pub step : length (w .step) ≡ used .step
+  pub multipliers : length (w .multipliers) ≡ used .multipliers
 
--- an area that holds w, with so many numbers of each slot in use
-pub record Uses (used : List ℕ) (w : Memory) (a : List Float) : Type 0 where
-  pub holds : Holds w a
-  pub zero-behind : SlotsZeroBehind used w
+-- and a judgement
+pub record LandedWhole (used : Slots ℕ) (w : Memory) : Type 0 where
+  pub landed : length (w .landed) ≡ used .landed
+  pub landed-rows : length (w .landedRows) ≡ used .landedRows
+
+-- ---- an area that holds a memory
+
+pub record Holds (z : Sizes) (w : Memory) (a : List Float) : Type 0 where
+  pub fits : AtMost (slotSizes z) w
+  pub is : a ≡ areaOf z w
+
+-- with so many numbers of each slot in use
+pub record Uses (z : Sizes) (used : Slots ℕ) (w : Memory) (a : List Float) : Type 0 where
+  pub holds : Holds z w a
+  pub lengths : lengthsOf w ≡ used
+
+-- with at most so many
+pub record Within (z : Sizes) (used : Slots ℕ) (w : Memory) (a : List Float) : Type 0 where
+  pub holds : Holds z w a
+  pub at-most : AtMost used w
 
 -- an area while a call works
 abbrev pub Working : State → Memory → List Float → Type 0
-Working st w a = Uses (allUsed (standingCounts st) (landedCounts st) (st .counts .iterations)) w a
+Working st w a = Within (st .sizes) (numbersIn st) w a
 
 -- and the violation of the standing point, or its refusal, worked out already
-pub record WithStanding (c d : RowCounts) (iterations : ℕ) (standing : Res Scalar) (w : Memory)
+pub record WithStanding (z : Sizes) (used : Slots ℕ) (c : RowCounts) (standing : Res Scalar) (w : Memory)
     (a : List Float) : Type 0 where
-  pub uses : Uses (allUsed c d iterations) w a
+  pub within : Within z used w a
+  pub standing-whole : StandingWhole used w
   pub standing-is : standing ≡ violationOf (constraintsOf c (w .standingRows))
 
 -- and that of the landed point
-pub record WithViolations (c d : RowCounts) (iterations : ℕ) (theta : Scalar) (landed : Res Scalar) (w : Memory)
-    (a : List Float) :
-    Type 0 where
-  pub measured : WithStanding c d iterations (ok theta) w a
+pub record WithViolations (z : Sizes) (used : Slots ℕ) (c d : RowCounts) (theta : Scalar) (landed : Res Scalar)
+    (w : Memory) (a : List Float) : Type 0 where
+  pub from-standing : WithStanding z used c (ok theta) w a
+  pub trial-whole : TrialWhole used w
+  pub landed-whole : LandedWhole used w
   pub landed-is : landed ≡ violationOf (constraintsOf d (w .landedRows))
 
 abbrev pub StandingKnown : State → Res Scalar → Memory → List Float → Type 0
-StandingKnown st standing w a =
-    WithStanding (standingCounts st) (landedCounts st) (st .counts .iterations) standing w a
+StandingKnown st standing w a = WithStanding (st .sizes) (numbersIn st) (standingCounts st) standing w a
 
 abbrev pub ViolationsKnown : State → Scalar → Res Scalar → Memory → List Float → Type 0
 ViolationsKnown st theta landed w a =
-    WithViolations (standingCounts st) (landedCounts st) (st .counts .iterations) theta landed w a
+    WithViolations (st .sizes) (numbersIn st) (standingCounts st) (landedCounts st) theta landed w a
+
+-- an area that holds a memory of which all is read
+pub record AllWhole (z : Sizes) (used : Slots ℕ) (w : Memory) (a : List Float) : Type 0 where
+  pub holds : Holds z w a
+  pub standing-whole : StandingWhole used w
+  pub trial-whole : TrialWhole used w
+  pub landed-whole : LandedWhole used w
+
+abbrev pub ReadAll : State → Memory → List Float → Type 0
+ReadAll st w a = AllWhole (st .sizes) (numbersIn st) w a
 
 -- sizes and iterations whose numbers in use fit the slots
 pub record Limits (z : Sizes) (iterations : ℕ) : Type 0 where

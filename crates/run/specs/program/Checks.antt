@@ -9,7 +9,6 @@ use lib.ListN.{length}
 use Rattle.interval.specs.Scalar.{pick}
 use Rattle.interval.specs.declared.Scalar.{Scalar}
 use Rattle.run.specs.Checks.{sizesFit, stepFits, valid, allInDomain}
-use Rattle.run.specs.Limits.{AREA}
 use Rattle.run.specs.Rows.{rowNumbers}
 use Rattle.run.specs.declared.checks.Checked.{Checked}
 use Rattle.run.specs.declared.checks.Checked.the-variants.{Refuse, Accept}
@@ -19,25 +18,25 @@ use Rattle.run.specs.declared.state.Phase.the-variants.{Open, Over}
 use Rattle.run.specs.declared.state.Sizes.{Sizes}
 use Rattle.run.specs.declared.state.State.{State}
 use Rattle.run.specs.declared.rows.RowCounts.{RowCounts}
-use Rattle.run.specs.Area.{landedCounts}
+use Rattle.run.specs.Area.{areaLength, landedCounts}
 
 -- ---- the checks of a begin, with an area of that length: the number that refuses it, or 0
 
 abbrev pub refusalOf : Sizes → List Float → Scalar → ℕ → ℕ
 refusalOf z start max area =
     pick (sizesFit z)
-    (pick (eqb (length start) (2 * z .n) && eqb area AREA)
+    (pick (eqb (length start) (2 * z .n) && eqb area (areaLength z))
     (pick (allInDomain start (z .n) && stepFits max) 0 3) 2) 1
 
 -- ---- the checks of a reply: the number that refuses it, or the kind of the question that is answered
 
-abbrev pub checkOpen : ℕ → Phase → Checked
-checkOpen area Over = Refuse 4
-checkOpen area (Open k) = pick (eqb area AREA) (Accept k) (Refuse 2)
+abbrev pub checkOpen : Sizes → ℕ → Phase → Checked
+checkOpen z area Over = Refuse 4
+checkOpen z area (Open k) = pick (eqb area (areaLength z)) (Accept k) (Refuse 2)
 
 -- of reply none, with an area of that length
 unfoldable pub checkOf : State → ℕ → Checked
-checkOf st area = pick (valid st) (checkOpen area (st .phase)) (Refuse 4)
+checkOf st area = pick (valid st) (checkOpen (st .sizes) area (st .phase)) (Refuse 4)
 
 abbrev pub rowsCheck : RowCounts → List Float → Kind → Checked
 rowsCheck c rows k =

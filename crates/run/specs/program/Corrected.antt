@@ -11,7 +11,7 @@ use Rattle.interval.specs.declared.Scalar.{Scalar}
 use Rattle.linear.specs.LinearResult.{numberOf}
 use Rattle.linear.specs.Results.{bind}
 use Rattle.run.specs.Corrected.{Shift, to, stay}
-use Rattle.run.specs.Limits.{AREA, VARIABLES}
+use Rattle.run.specs.Limits.{VARIABLES}
 use Rattle.run.specs.Rows.{rowNumbers}
 use Rattle.run.specs.program.Endings.{Underway}
 use Rattle.run.specs.program.Rows.{FewRows}
@@ -19,7 +19,7 @@ use Rattle.run.specs.declared.corrected.Shifted.{Shifted}
 use Rattle.run.specs.declared.corrected.Shifted.the-variants as shifted
 use Rattle.run.specs.declared.rows.RowCounts.{RowCounts}
 use Rattle.run.specs.declared.state.State.{State}
-use Rattle.run.specs.Area.{landedCounts}
+use Rattle.run.specs.Area.{HasRoom, landedCounts}
 
 -- ---- counts and lengths
 
@@ -29,8 +29,8 @@ pub record MarkedCounts (c : RowCounts) (moving : ℕ) : Type 0 where
   pub marks : moving ≡ VARIABLES
 
 -- the area and an answer's rows have their lengths, and a trial or a correction is open
-pub record RowsToLand (st : State) (area rows : ℕ) : Type 0 where
-  pub whole-area : area ≡ AREA
+pub record RowsToLand (st : State) (area : List Float) (rows : ℕ) : Type 0 where
+  pub whole-area : HasRoom (st .sizes) area
   pub whole-rows : rows ≡ rowNumbers (landedCounts st)
   pub underway : Underway st
 

@@ -29,7 +29,7 @@ pub record AlongLengths (c : RowCounts) (v out : ℕ) : Type 0 where
 pub record UpdateLengths (c : RowCounts) (y step : ℕ) : Type 0 where
   pub few : FewRows c
   pub y-is : y ≡ POINT-LEN
-  pub step-is : step ≡ POINT-LEN
+  pub step-is : 2 * c .n ≤ step
 
 -- ---- the factor, and the update by it
 

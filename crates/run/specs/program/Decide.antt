@@ -17,4 +17,4 @@ takenWith st w theta length mu radius =
     orRefuse st w learned
     (λ b.
     iterate (standingOn st length mu radius)
-    (withTaken w b (filterWith (w .filter) (st .counts .iterations) (sumSquared (standingAt st w .sum)) theta)))
+    (withTaken w b (filterWith (w .filter) (sumSquared (standingAt st w .sum)) theta)))

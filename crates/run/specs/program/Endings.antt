@@ -17,7 +17,7 @@ use Rattle.run.specs.declared.state.State.{State}
 pub record Leaves (o : AfterSlots) (r : Returned) (a : List Float) : Type 0 where
   pub state-is : r .state ≡ o .state
   pub event-is : r .event ≡ o .event
-  pub held : Holds (o .memory) a
+  pub held : Holds (o .state .sizes) (o .memory) a
 
 -- the numbers of an open run are small, with fewer than t turn-downs, and its damping is positive
 pub record Bounded (t : ℕ) (st : State) : Type 0 where

@@ -25,7 +25,8 @@ abbrev pub searchOrigin : State → List Float → Scalar → Origin
 searchOrigin st a theta =
     let c = standingCounts st in
     record {
-      point = record { counts = c; f = sumSquared (sumOf c (rowsOf a)); theta = theta };
+      sizes = st .sizes;
+      point = record { counts = c; f = sumSquared (sumOf c (rowsOf (st .sizes) c a)); theta = theta };
       moving = st .moving;
       plain = st .search .plain;
       «max_step» = st .«max_step»;

@@ -1,9 +1,7 @@
 -- For private functions: what a judgement is given, and what it answers.
-use Prim.Native.Nat.{ℕ, _<_}
-use mathlib.Core.Path.{_≡_}
+use Prim.Native.Nat.{ℕ, _<_, _≤_, _*_}
 use Rattle.interval.specs.Result.{Res, ok, refused}
 use Rattle.linear.specs.LinearResult.{numberOf}
-use Rattle.run.specs.Area.{POINT-LEN}
 use Rattle.run.specs.Judgement.{Judged}
 use Rattle.run.specs.declared.judgement.Baseline.{Baseline}
 use Rattle.run.specs.declared.judgement.Judgement.{Judgement}
@@ -15,7 +13,7 @@ use Rattle.run.specs.program.Rows.{FewRows}
 pub record Judging (c : RowCounts) (b : Baseline) (step : ℕ) : Type 0 where
   pub counts : FewRows c
   pub few-pairs : b .pairs < 65536
-  pub step-is : step ≡ POINT-LEN
+  pub step-is : 2 * c .n ≤ step
 
 -- what a judgement means
 abbrev pub judgementOf : Judgement → Res Judged

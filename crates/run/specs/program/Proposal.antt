@@ -1,17 +1,18 @@
 -- For private functions: a standing point by its parts, and what a proposal answers.
-use Prim.Native.Nat.{ℕ}
+use Prim.Native.Nat.{ℕ, _*_}
 use mathlib.Core.Bool.{Bool}
 use mathlib.Core.List.{List, []}
 use lib.Ieee.{Float}
-use lib.ListN.{take, drop}
 use Rattle.interval.specs.Result.{Res, ok, refused}
 use Rattle.interval.specs.Scalar.{zeroS, pick}
 use Rattle.interval.specs.declared.Scalar.{Scalar}
 use Rattle.linear.specs.LinearResult.{numberOf}
-use Rattle.run.specs.Area.{POINT-LEN, ROWS-LEN, CURVATURE-LEN, STANDING-AT, STANDING-ROWS-AT, CURVATURE-AT}
-use Rattle.run.specs.Area.{SPARE-AT}
+use Rattle.run.specs.Area.{partOf, placesOf, spareAt}
+use Rattle.run.specs.Curvature.{curvatureEntries}
+use Rattle.run.specs.declared.rows.RowCounts.{RowCounts}
+use Rattle.run.specs.declared.state.Sizes.{Sizes}
 use Rattle.run.specs.Proposal.{Standing, Proposal, noChange, ask, notPositive, noDrop, unresolved}
-use Rattle.run.specs.Rows.{Evaluation, evaluationOf, Rows}
+use Rattle.run.specs.Rows.{Evaluation, evaluationOf, Rows, rowNumbers}
 use Rattle.run.specs.Vectors.{movedOf}
 use Rattle.run.specs.program.Step.{PreparedFor}
 use Rattle.run.specs.declared.proposal.Proposal as declared
@@ -46,28 +47,31 @@ pointOf n x c = standingWith n x (record { constraints = c; sum = c }) zeroS zer
 
 -- ---- what a search reads of an area
 
-abbrev pub standingPart : List Float → List Float
-standingPart a = take POINT-LEN (drop STANDING-AT a)
+abbrev pub standingPart : Sizes → List Float → List Float
+standingPart z a = partOf a (placesOf z .standing) (2 * z .n)
 
-abbrev pub rowsOf : List Float → List Float
-rowsOf a = take ROWS-LEN (drop STANDING-ROWS-AT a)
+abbrev pub rowsOf : Sizes → RowCounts → List Float → List Float
+rowsOf z c a = partOf a (placesOf z .standingRows) (rowNumbers c)
 
--- the curvature that it goes by; in plain the last numbers, which are +0
-abbrev pub curvatureFor : Bool → List Float → List Float
-curvatureFor plain a = take CURVATURE-LEN (drop (pick plain SPARE-AT CURVATURE-AT) a)
+-- the curvature that it goes by; in plain as many of the last numbers, which are +0
+abbrev pub curvatureFor : Sizes → Bool → List Float → List Float
+curvatureFor z plain a = partOf a (pick plain (spareAt z) (placesOf z .curvature)) (2 * curvatureEntries (z .n))
 
 -- what is prepared gives the step of every damping of the search
 abbrev pub PreparedAt : Origin → List Float → Prepared → List ℕ → List Float → Type 0
 PreparedAt z a x order fixed =
     let c = z .point .counts in
-    PreparedFor (c .n) (evaluationOf c (rowsOf a)) (curvatureFor (z .plain) a) (z .moving) x order fixed
+    PreparedFor (c .n) (evaluationOf c (rowsOf (z .sizes) c a)) (curvatureFor (z .sizes) (z .plain) a) (z .moving) x
+    order fixed
 
 -- what it stands on, and where a step leads
 abbrev pub standingIn : Origin → List Float → Standing
-standingIn z a = standingFor (z .point) (rowsOf a) (curvatureFor (z .plain) a) (standingPart a) (z .moving)
+standingIn z a =
+    standingFor (z .point) (rowsOf (z .sizes) (z .point .counts) a) (curvatureFor (z .sizes) (z .plain) a)
+    (standingPart (z .sizes) a) (z .moving)
 
 abbrev pub nextIn : Origin → List Float → List Float → List Float
-nextIn z a delta = movedOf (z .point .counts .n) (standingPart a) delta
+nextIn z a delta = movedOf (z .point .counts .n) (standingPart (z .sizes) a) delta
 
 -- ---- what the functions answer
 

@@ -1,7 +1,11 @@
 -- `has_point` meets its contract: the checks in their order.
+use Prim.Native.Nat.{ℕ}
+use lib.Dec.{eqb}
 use mathlib.Core.Path.{_∙_, sym, ap}
 use borrow.Author.Tests.{not-true, not-false}
+use Rattle.run.specs.Area.{areaLength}
 use Rattle.run.specs.Checks.{valid}
+use Rattle.run.specs.declared.state.State.{State}
 use Rattle.yadzvego.specs.Exports.{hasPoint}
 use borrow.Author.Needs.{needs}
 use Rattle.yadzvego.proofs.has_point.Statement.{statement}
@@ -24,17 +28,32 @@ returns-2 : tie.Need-returns-2
 unfolding hasPoint
 returns-2 c = rw (
   sym (c .before .before .before .before .numbers-fit .ensures) ∙ not-false _ (c .before .before .before .if1 .left),
-  ap valid (sym (c .before .before .state-at .ensures)) ∙ sym (c .before .valid .ensures) ∙ c .if2 .taken,
+  ap valid (sym (c .before .before .state-at .ensures)) ∙ sym (c .before .valid .ensures) ∙ not-true _ (c .if2 .taken),
 )
+
+area-length-requires : tie.Need-area-length-requires
+area-length-requires c κs = search needs
 
 returns-3 : tie.Need-returns-3
 unfolding hasPoint
 returns-3 c = rw (
-  sym (c .before .before .before .before .numbers-fit .ensures) ∙ not-false _ (c .before .before .before .if1 .left),
-  ap valid (sym (c .before .before .state-at .ensures)) ∙ sym (c .before .valid .ensures) ∙ c .if2 .left,
-) (c .if2 .left)
+  sym (c .before .before .before .before .before .numbers-fit .ensures)
+      ∙ not-false _ (c .before .before .before .before .if1 .left),
+  ap valid (sym (c .before .before .before .state-at .ensures)) ∙ sym (c .before .before .valid .ensures)
+      ∙ not-false _ (c .before .if2 .left),
+)
+    (ap (λ (long : ℕ). eqb (c .before .before .before .before .before .before .args .area) long)
+    (c .area-length .ensures ∙ ap (λ (st : State). areaLength (st .sizes))
+    (c .before .before .before .state-at .ensures)))
 
 pub has-point-spec : {M : Type 1} → statement M
 has-point-spec =
     tie.close
-    (tie.spec numbers-fit-requires returns state-at-requires valid-requires returns-2 returns-3)
+    (tie.spec
+    numbers-fit-requires
+    returns
+    state-at-requires
+    valid-requires
+    returns-2
+    area-length-requires
+    returns-3)

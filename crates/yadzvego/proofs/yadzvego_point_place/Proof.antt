@@ -1,7 +1,7 @@
 -- `yadzvego_point_place` meets its contract: 0 where there is none, else by the phase.
 use mathlib.Core.Path.{_∙_, sym, ap}
 use borrow.Author.Tests.{not-true, not-false}
-use Rattle.run.specs.Calls.{pointAt}
+use Rattle.run.specs.Area.{pointAt}
 use Rattle.run.specs.declared.state.State.{State}
 use Rattle.yadzvego.specs.Exports.{pointPlace}
 use borrow.Author.Needs.{needs}
@@ -18,15 +18,15 @@ returns c = rw (sym (c .before .has-point .ensures) ∙ not-true _ (c .if1 .take
 state-at-requires : tie.Need-state-at-requires
 state-at-requires c κs = search needs
 
-phase-place-requires : tie.Need-phase-place-requires
-phase-place-requires c κs = search needs
+point-place-requires : tie.Need-point-place-requires
+point-place-requires c κs = search needs
 
 returns-2 : tie.Need-returns-2
 unfolding pointPlace
 returns-2 c = rw (sym (c .before .before .before .has-point .ensures) ∙ not-false _ (c .before .before .if1 .left))
-    (c .phase-place .ensures ∙ ap (λ (st : State). pointAt (st .phase)) (c .before .state-at .ensures))
+    (c .point-place .ensures ∙ ap (λ (st : State). pointAt (st .sizes) (st .phase)) (c .before .state-at .ensures))
 
 pub yadzvego-point-place-spec : {M : Type 1} → statement M
 yadzvego-point-place-spec =
     tie.close
-    (tie.spec has-point-requires returns state-at-requires phase-place-requires returns-2)
+    (tie.spec has-point-requires returns state-at-requires point-place-requires returns-2)

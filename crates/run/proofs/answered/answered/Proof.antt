@@ -1,7 +1,8 @@
 -- `answered` meets its contract: each kind is the definition's.
-use mathlib.Core.Path.{ap, _∙_}
-use Rattle.run.proofs.AnsweredLaws.{trial-underway, correction-underway, answered-as}
-use Rattle.run.proofs.ZeroBehind.{works}
+use mathlib.Core.Path.{sym, ap, _∙_}
+use Rattle.run.proofs.AnsweredLaws.{works, trial-underway, correction-underway, answered-as}
+use Rattle.run.proofs.Booleans.{never}
+use Rattle.run.proofs.PhaseLengths.{trial-read, correction-read}
 use Rattle.run.specs.declared.state.Phase.the-variants.{Open}
 use borrow.Author.Needs.{needs}
 use Rattle.run.proofs.answered.answered.Statement.{statement}
@@ -37,9 +38,12 @@ same-length-2 c = search needs
 
 returns-2 : tie.Need-returns-2
 returns-2 c w h =
-    let a = c .before .before .before .before .before .before .before .before .args in answered-as (a .st) w
-    (c .before .before .before .before .enum-told2 .given .1) (a .rows .now)
-    (c .before .before .land .ensures w (works (a .st) h))
+    let s = c .before .before .before .before .before .before .before .before in
+    let a = s .args in
+    let e = c .before .before .before .before .enum-told2 .given .1 in
+    let t = trial-read (a .st) w (h .lengths) (s .pre .1 .1 .1 .1 .1 ∙ ap Open e) in
+    answered-as (a .st) w e (a .rows .now)
+    (c .before .before .land .ensures w (works (a .st) h) (t .standing-whole) (t .trial-whole) (λ f. never (sym f)))
 
 enum-told-3 : tie.Need-enum-told-3
 enum-told-3 c = search needs
@@ -55,10 +59,12 @@ same-length-3 c = search needs
 
 returns-3 : tie.Need-returns-3
 returns-3 c w h =
-    let a = c .before .before .before .before .before .before .before .before .args in answered-as (a .st) w
-    (c .before .before .before .before .enum-told3 .given .1) (a .rows .now)
-    (c .before .before .land2 .ensures w (works (a .st)
-    h))
+    let s = c .before .before .before .before .before .before .before .before in
+    let a = s .args in
+    let e = c .before .before .before .before .enum-told3 .given .1 in
+    let t = correction-read (a .st) w (h .lengths) (s .pre .1 .1 .1 .1 .1 ∙ ap Open e) in
+    answered-as (a .st) w e (a .rows .now)
+    (c .before .before .land2 .ensures w (works (a .st) h) (t .standing-whole) (t .trial-whole) (λ f. t .landed-whole))
 
 pub answered-spec : {M : Type 1} → statement M
 answered-spec =

@@ -7,7 +7,7 @@ use Rattle.run.specs.Area.{Memory}
 use Rattle.run.specs.Endings.{AfterSlots}
 use Rattle.run.specs.Corrected.{landTrial, landCorrection}
 use Rattle.run.proofs.EndingLaws.{or-next, or-refused, when, unless}
-use Rattle.run.proofs.ZeroBehind.{limits-of, measures}
+use Rattle.run.proofs.MemoryLaws.{limits-of, rows-of, measures}
 use borrow.Author.Needs.{needs}
 use Rattle.run.proofs.answered.land.Statement.{statement}
 use Rattle.run.proofs.answered.land.Tie as tie
@@ -20,7 +20,8 @@ next s w theta =
 
 standing-violation-requires : tie.Need-standing-violation-requires
 standing-violation-requires c κs =
-    let p = c .before .before .before .pre in (p .0 .underway .bounded .few-constraints, p .0 .whole-area)
+    let p = c .before .before .before .pre .0 in
+    (p .whole-area, rows-of (p .underway .bounded))
 
 enum-known-theta : tie.Need-enum-known-theta
 enum-known-theta c = search needs
@@ -32,14 +33,14 @@ same-length : tie.Need-same-length
 same-length c = search needs
 
 returns : tie.Need-returns
-returns c w h =
+returns c w u r t l =
     let s = c .before .before .before .before .before .before .before .before .before .before .before .before in
-    let v = c .before .before .before .before .before .before .before .before .standing-violation .ensures w (h .holds)
-    in
+    let v = c .before .before .before .before .before .before .before .before .standing-violation .ensures w (u .holds)
+    (r .standing-rows) in
     let e = ap resultOf (c .before .before .before .before .before .before .theta .given .1) in
-    let hs = measures (s .args .st) h (sym e ∙ v) in
     or-next (s .args .st) w (next s w) (sym v ∙ e)
-    (when _ _ (c .before .before .before .before .if1 .taken) (c .before .before .land-trial .ensures w hs))
+    (when _ _ (c .before .before .before .before .if1 .taken) (c .before .before .land-trial .ensures w (measures (s
+    .args .st) u r (sym e ∙ v)) t))
 
 land-correction-requires : tie.Need-land-correction-requires
 land-correction-requires c κs = c .before .before .before .before .before .before .before .before .before .pre
@@ -48,14 +49,15 @@ same-length-2 : tie.Need-same-length-2
 same-length-2 c = search needs
 
 returns-2 : tie.Need-returns-2
-returns-2 c w h =
+returns-2 c w u r t l =
     let s = c .before .before .before .before .before .before .before .before .before .before .before .before in
-    let v = c .before .before .before .before .before .before .before .before .standing-violation .ensures w (h .holds)
-    in
+    let v = c .before .before .before .before .before .before .before .before .standing-violation .ensures w (u .holds)
+    (r .standing-rows) in
     let e = ap resultOf (c .before .before .before .before .before .before .theta .given .1) in
-    let hs = measures (s .args .st) h (sym e ∙ v) in
+    let left = c .before .before .before .before .if1 .left in
     or-next (s .args .st) w (next s w) (sym v ∙ e)
-    (unless _ _ (c .before .before .before .before .if1 .left) (c .before .before .land-correction .ensures w hs))
+    (unless _ _ left (c .before .before .land-correction .ensures w (measures (s .args .st) u r (sym e ∙ v)) t (l
+    left)))
 
 enum-known-e : tie.Need-enum-known-e
 enum-known-e c = search needs
@@ -71,11 +73,12 @@ same-length-3 : tie.Need-same-length-3
 same-length-3 c = search needs
 
 returns-3 : tie.Need-returns-3
-returns-3 c w h =
+returns-3 c w u r t l =
     let s = c .before .before .before .before .before .before .before .before .before .before .before in
-    let e = sym (c .before .before .before .before .before .before .before .standing-violation .ensures w (h .holds)) ∙
-    ap resultOf (c .before .before .before .before .before .e .given .1) in
-    or-refused (s .args .st) w (next s w) e (c .before .before .refuse .ensures w h)
+    let v = c .before .before .before .before .before .before .before .standing-violation .ensures w (u .holds) (r
+    .standing-rows) in
+    or-refused (s .args .st) w (next s w) (sym v ∙ ap resultOf (c .before .before .before .before .before .e .given .1))
+    (c .before .before .refuse .ensures w u)
 
 pub land-spec : {M : Type 1} → statement M
 land-spec =

@@ -1,13 +1,8 @@
 -- `started` meets its contract: the area holds the start's rows, and the first iteration follows from there.
-use mathlib.Core.Path.{sym, subst}
-use Prim.Native.Nat.{_*_}
-use native.Mathlib.Omega.{arith}
+use mathlib.Core.Path.{_∙_}
 use Rattle.run.specs.Area.{withStart}
-use Rattle.run.specs.program.Endings.{Bounded}
-use Rattle.run.specs.declared.state.State.{State}
-use Rattle.run.proofs.AnsweredLaws.{started-known, moved-on, rows-few}
-use Rattle.run.proofs.ZeroBehind.{seeks-as, measures, rows-of}
-use Rattle.run.proofs.ZeroBehindKept.{starts}
+use Rattle.run.proofs.AnsweredLaws.{started-known, starts, moved-on}
+use Rattle.run.proofs.MemoryLaws.{limits-of, rows-of, seeks-as}
 use borrow.Author.Needs.{needs}
 use Rattle.run.proofs.answered.started.Statement.{statement}
 use Rattle.run.proofs.answered.started.Tie as tie
@@ -23,12 +18,12 @@ moving-requires c κs =
 write-start-requires : tie.Need-write-start-requires
 write-start-requires c κs =
     let p = c .before .before .before .before .before .pre in
-    (p .0, omega (arith, rows-few (p .2), p .1))
+    (p .0, limits-of (p .2), p .1, p .3)
 
 standing-violation-requires : tie.Need-standing-violation-requires
 standing-violation-requires c κs =
     let p = c .before .before .before .before .before .before .before .before .before .pre in
-    (p .2 .few-constraints, omega (arith, c .before .before .before .write-start .kept, p .0))
+    (c .before .before .before .write-start .kept .0 ∙ p .0, rows-of (p .2))
 
 with-moving-requires : tie.Need-with-moving-requires
 with-moving-requires c κs = search needs
@@ -36,31 +31,31 @@ with-moving-requires c κs = search needs
 iterate-requires : tie.Need-iterate-requires
 iterate-requires c κs =
     let p = c .before .before .before .before .before .before .before .before .before .before .before .before .pre in
-    let long = c .before .before .before .before .before .before .write-start .kept in
-    let t = sym (c .before .with-moving .ensures) in
-    (omega (arith, long, p .0), subst (λ (x : State). Bounded 2147483648 x) t (moved-on _ (p .2)))
+    rw (c .before .with-moving .ensures) (
+      c .before .before .before .before .before .before .write-start .kept .0 ∙ p
+          .0,
+      moved-on _ (p .2),
+    )
 
 same-length : tie.Need-same-length
 same-length c = search needs
 
 returns : tie.Need-returns
 returns c w h =
-    let a = c .before .before .before .before .before .before .before .before .before .before .before .before .before
-    .before .before .args in
-    let p = c .before .before .before .before .before .before .before .before .before .before .before .before .before
-    .before .before .pre in
+    let s = c .before .before .before .before .before .before .before .before .before .before .before .before .before
+    .before .before in
+    let a = s .args in
+    let many = s .pre .1 in
     let t = c .before .before .before .before .with-moving .ensures in
-    let v = withStart w (a .rows .now) in
-    let hv = starts (a .st) (p .2) (a .rows .now) (p .1) h (p .3)
-    (c .before .before .before .before .before .before .before .before .before .write-start .ensures w
-    (2 * a .st .sizes .n)) in
-    let hs = measures (a .st) hv (c .before .before .before .before .before .standing-violation .ensures v (hv .holds))
-    in
+    let v = withStart (a .st) w (a .rows .now) in
+    let held = c .before .before .before .before .before .before .before .before .before .write-start .ensures w h in
+    let known = starts (a .st) h many held (c .before .before .before .before .before .standing-violation .ensures v
+    held many) in
     started-known (a .st) w (a .rows .now) t
     (rw (c .before .before .before .before .before .before .before .before .before .before .before .before
-    .landed-counts .ensures) at
-    (c .before .before .before .before .before .before .before .before .before .before .before .moving .ensures))
-    (c .before .before .iterate .ensures v (seeks-as t hs))
+    .landed-counts .ensures) at (c .before .before .before .before .before .before .before .before .before .before
+    .before .moving .ensures))
+    (c .before .before .iterate .ensures v (seeks-as t known))
 
 pub started-spec : {M : Type 1} → statement M
 started-spec =

@@ -1,77 +1,124 @@
--- `clear_unused` meets its contract: the counts are those of the slots in use.
-use mathlib.Core.List.{List, _++_}
-use mathlib.Core.Path.{_≡_, sym, ap, subst, _∙_}
-use Prim.Native.Nat.{ℕ, _≤_}
+-- `clear_unused` meets its contract: what is not in use of each slot is cleared, and the last numbers are.
+use mathlib.Core.List.{_++_}
+use mathlib.Core.Path.{_≡_, ap, ap₂, _∙_}
+use Prim.Native.Nat.{ℕ, _-_}
 use native.Mathlib.Omega.{arith}
-use lib.ListN.{length, getD, drop}
-use Rattle.run.specs.Area.{SIZES, startOf, usedIn}
-use Rattle.run.specs.program.Area.{clearedTo}
-use Rattle.run.proofs.AreaLaws.{used-fit, tidied-end, memory-holds}
-use Rattle.run.proofs.ZeroBehind.{reads-behind}
+use lib.ListN.{drop}
+use Rattle.linear.specs.Flat.{zeros}
+use Rattle.run.specs.Area.{Slots, inOrder, slotSizes, usedIn, areaLength, spareAt}
+use Rattle.run.specs.program.Area.{clearedTo, written}
+use Rattle.run.proofs.AreaLaws.{cleared-end}
+use Rattle.run.proofs.MemoryLaws.{unused-fit, cleared-uses}
+use Rattle.run.proofs.PlaceLaws.{spare-room}
 use borrow.Author.Needs.{needs}
 use Rattle.run.proofs.area.clear_unused.Statement.{statement}
 use Rattle.run.proofs.area.clear_unused.Tie as tie
 
-in-use-requires : tie.Need-in-use-requires
-in-use-requires c κs = search needs
+slot-sizes-requires : tie.Need-slot-sizes-requires
+slot-sizes-requires c κs = search needs
 
-slice-aggregate-behind-slots : tie.Need-slice-aggregate-clear-unused-slots
-slice-aggregate-behind-slots c = search needs
+in-order-requires : tie.Need-in-order-requires
+in-order-requires c κs = search needs
 
-slice-aggregate-behind-slots-2 : tie.Need-slice-aggregate-clear-unused-slots-2
-slice-aggregate-behind-slots-2 c = search needs
+used-in-requires : tie.Need-used-in-requires
+used-in-requires c κs = c .before .before .before .before .pre .1
 
-clear-unused-slots-requires : tie.Need-clear-unused-slots-requires
-unfolding startOf
-clear-unused-slots-requires c κs =
-    let s = c .before .before .before .before .before in
-    let f = used-fit (s .args .st) (s .pre .1) (s .args .area .now) (s .pre .0) in (
-      ap length (c .before .before .before .in-use .ensures),
-      (
-        f .inside,
-        λ j h. subst (λ (us : List ℕ). getD us j 0 ≤ getD SIZES j 0)
-            (sym (c .before .before .before .in-use .ensures)) (f .below j h),
-      ),
-    )
+in-order-requires-2 : tie.Need-in-order-requires-2
+in-order-requires-2 c κs = search needs
+
+slice-aggregate-clear-slots : tie.Need-slice-aggregate-clear-slots
+slice-aggregate-clear-slots c = search needs
+
+slice-aggregate-clear-slots-2 : tie.Need-slice-aggregate-clear-slots-2
+slice-aggregate-clear-slots-2 c = search needs
+
+slice-aggregate-clear-slots-3 : tie.Need-slice-aggregate-clear-slots-3
+slice-aggregate-clear-slots-3 c = search needs
+
+clear-slots-requires : tie.Need-clear-slots-requires
+clear-slots-requires c κs =
+    let s = c .before .before .before .before .before .before .before .before .before .before in
+    let sizes = c .before .before .before .before .before .before .in-order .ensures
+    ∙ ap (λ (x : Slots ℕ). inOrder x)
+    (c .before .before .before .before .before .before .before .slot-sizes .ensures) in
+    let used = c .before .before .before .before .in-order2 .ensures
+    ∙ ap (λ (x : Slots ℕ). inOrder x) (c .before .before .before .before .before .used-in .ensures) in
+    rw (sizes, used) (unused-fit (s .args .st) (s .pre .1) (s .args .area .now) (s .pre .0))
+
+spare-at-requires : tie.Need-spare-at-requires
+spare-at-requires c κs = search needs
+
+area-length-requires : tie.Need-area-length-requires
+area-length-requires c κs = search needs
 
 sub-clear-from : tie.Need-sub-clear-from
-sub-clear-from c = search needs
+sub-clear-from c = omega (
+  arith,
+  c .area-length .ensures,
+  c .before .before .spare-at .ensures,
+  spare-room
+      (c .before .before .before .before .before .before .before .before .before .before .before .before .before .before
+      .before .before .args .st .sizes),
+)
 
 clear-from-requires : tie.Need-clear-from-requires
 clear-from-requires c κs =
     omega (
       arith,
-      c .before .before .before .clear-unused-slots .kept,
-      c .before .before .before .before .before .before .before .before .before .pre .0,
+      c .area-length .ensures,
+      c .before .before .spare-at .ensures,
+      spare-room (c .before .before .before .before .before .before .before .before .before .before .before .before
+          .before .before .before .before .args .st .sizes),
+      c .before .before .before .before .before .clear-slots .kept,
+      c .before .before .before .before .before .before .before .before .before .before .before .before .before .before
+          .before .before .pre .0,
     )
 
 same-length : tie.Need-same-length
 same-length c = search needs
 
 returns : tie.Need-returns
-unfolding startOf
 returns c =
-    let s = c .before .before .before .before .before .before .before .before .before .before .before .before in
+    let s = c .before .before .before .before .before .before .before .before .before .before .before .before .before
+    .before .before .before .before .before .before in
+    let z = s .args .st .sizes in
     let a = s .args .area .now in
-    let l = s .pre .1 in
-    let e : c .before .before .before .before .before .before .clear-unused-slots .last .0
-    ≡ clearedTo SIZES (usedIn (s .args .st)) a 9 ++ drop 3080 a =
-    c .before .before .before .before .before .before .clear-unused-slots .ensures
-    ∙ ap (λ (us : List ℕ). clearedTo SIZES us a 9 ++ drop 3080 a)
-    (c .before .before .before .before .before .before .before .before .before .before .in-use .ensures) in
-    let k = memory-holds (s .args .st) l a (s .pre .0)
-    (tidied-end SIZES (usedIn (s .args .st)) a (used-fit (s .args .st) l a (s .pre .0)) 4920 (omega (arith, s .pre .0))
-    e (c .before .before .clear-from .ensures)) in
-    record { holds = k; zero-behind = reads-behind (s .args .st) a l }
+    let fit = unused-fit (s .args .st) (s .pre .1) a (s .pre .0) in
+    let sizes = c .before .before .before .before .before .before .before .before .before .before .before .before
+    .before .before .before .in-order .ensures ∙ ap (λ (x : Slots ℕ). inOrder x)
+    (c .before .before .before .before .before .before .before .before .before .before .before .before .before .before
+    .before .before .slot-sizes .ensures) in
+    let used = c .before .before .before .before .before .before .before .before .before .before .before .before .before
+    .in-order2 .ensures ∙ ap (λ (x : Slots ℕ). inOrder x)
+    (c .before .before .before .before .before .before .before .before .before .before .before .before .before .before
+    .used-in .ensures) in
+    let b = c .before .before .before .before .before .before .before .before .clear-slots .last .0 in
+    let e : b ≡ clearedTo (inOrder (slotSizes z)) (inOrder (usedIn (s .args .st))) (inOrder (slotSizes z)) a 9
+    ++ drop (spareAt z) a = rw (sizes, used) at
+    (c .before .before .before .before .before .before .before .before .clear-slots .ensures) in
+    let q = c .before .before .clear-from .ensures
+    ∙ ap₂ (λ (place end : ℕ). written b place (zeros (end - place)))
+    (c .before .before .before .before .before .spare-at .ensures)
+    (c .before .before .before .area-length .ensures) in
+    cleared-uses (s .args .st) (s .pre .1) a (s .pre .0)
+    (cleared-end (inOrder (slotSizes z)) (inOrder (usedIn (s .args .st))) (inOrder (slotSizes z)) a
+    (record { below = fit .3; inside = fit .2 }) (areaLength z - spareAt z)
+    (omega (arith, spare-room z, s .pre .0)) e q)
 
 pub clear-unused-spec : {M : Type 1} → statement M
 clear-unused-spec =
     tie.close
     (tie.spec
-    in-use-requires
-    slice-aggregate-behind-slots
-    slice-aggregate-behind-slots-2
-    clear-unused-slots-requires
+    slot-sizes-requires
+    in-order-requires
+    used-in-requires
+    in-order-requires-2
+    slice-aggregate-clear-slots
+    slice-aggregate-clear-slots-2
+    slice-aggregate-clear-slots-3
+    clear-slots-requires
+    spare-at-requires
+    area-length-requires
     sub-clear-from
     clear-from-requires
     same-length

@@ -1,226 +1,88 @@
--- `only_standing` meets its contract: in the slots behind the first the numbers in use are cleared, and the rest was.
-use Prim.Native.Nat.{ℕ, _<_, _≤_}
-use native.Mathlib.Omega.{arith}
-use lib.ListN.{getD}
-use Rattle.linear.specs.Flat.{zeros}
-use Rattle.run.specs.Area.{SIZES, startOf, onlyStanding}
-use Rattle.run.proofs.AreaLaws.{slots-of, holds-of, wrote, length-clear, room}
-use Rattle.run.proofs.ZeroBehind.{fits, used-as, cleared-first}
+-- `keep_standing` meets its contract: of all slots but the standing point's the numbers in use are cleared.
+use mathlib.Core.Path.{ap, _∙_}
+use Prim.Native.Nat.{ℕ}
+use Rattle.run.specs.Area.{Slots, inOrder}
+use Rattle.run.specs.program.Area.{standingAlone}
+use Rattle.run.proofs.MemoryLaws.{alone-fit, keeps-standing}
+use borrow.Author.Needs.{needs}
 use Rattle.run.proofs.area.keep_standing.Statement.{statement}
 use Rattle.run.proofs.area.keep_standing.Tie as tie
 
-all-used-requires : tie.Need-all-used-requires
-all-used-requires c κs = c .before .pre .1
+numbers-in-requires : tie.Need-numbers-in-requires
+numbers-in-requires c κs = c .before .pre .1
 
-clear-from-requires : tie.Need-clear-from-requires
-clear-from-requires c κs =
-    omega (
-      arith,
-      c .before .before .before .pre .0,
-    )
+slot-sizes-requires : tie.Need-slot-sizes-requires
+slot-sizes-requires c κs = search needs
 
-clear-from-requires-2 : tie.Need-clear-from-requires-2
-clear-from-requires-2 c κs =
-    omega (
-      arith,
-      c .before .before .before .clear-from .kept,
-      c .before .before .before .before .before .before .before .pre .0,
-    )
+in-order-requires : tie.Need-in-order-requires
+in-order-requires c κs = search needs
 
-array-read-clear-from : tie.Need-array-read-clear-from
-array-read-clear-from c = omega arith
+standing-alone-requires : tie.Need-standing-alone-requires
+standing-alone-requires c κs = search needs
 
-clear-from-requires-3 : tie.Need-clear-from-requires-3
-clear-from-requires-3 c κs =
+in-order-requires-2 : tie.Need-in-order-requires-2
+in-order-requires-2 c κs = search needs
+
+in-order-requires-3 : tie.Need-in-order-requires-3
+in-order-requires-3 c κs = search needs
+
+slice-aggregate-clear-slots : tie.Need-slice-aggregate-clear-slots
+slice-aggregate-clear-slots c = search needs
+
+slice-aggregate-clear-slots-2 : tie.Need-slice-aggregate-clear-slots-2
+slice-aggregate-clear-slots-2 c = search needs
+
+slice-aggregate-clear-slots-3 : tie.Need-slice-aggregate-clear-slots-3
+slice-aggregate-clear-slots-3 c = search needs
+
+clear-slots-requires : tie.Need-clear-slots-requires
+clear-slots-requires c κs =
     let s = c .before .before .before .before .before .before .before .before .before .before .before in
-    room 72 936 (fits (s .args .st .sizes) (s .pre .1)
-    (c .before .before .before .before .before .before .before .before .before .all-used .ensures) 3 (omega arith))
-    (omega arith)
-    (omega (
-      arith,
-      c .before .before .before .clear-from2 .kept,
-      c .before .before .before .before .before .before .before .clear-from .kept,
-      s .pre .0,
-    ))
-
-array-read-clear-from-2 : tie.Need-array-read-clear-from-2
-array-read-clear-from-2 c = omega arith
-
-clear-from-requires-4 : tie.Need-clear-from-requires-4
-clear-from-requires-4 c κs =
-    let s = c .before .before .before .before .before .before .before .before .before .before .before .before .before
-    .before .before in
-    room 1008 936 (fits (s .args .st .sizes) (s .pre .1)
-    (c .before .before .before .before .before .before .before .before .before .before .before .before .before .all-used
-    .ensures) 4 (omega arith)) (omega arith)
-    (omega (
-      arith,
-      c .before .before .before .clear-from3 .kept,
-      c .before .before .before .before .before .before .before .clear-from2 .kept,
-      c .before .before .before .before .before .before .before .before .before .before .before .clear-from .kept,
-      s .pre .0,
-    ))
-
-clear-from-requires-5 : tie.Need-clear-from-requires-5
-clear-from-requires-5 c κs =
-    omega (
-      arith,
-      c .before .before .before .clear-from4 .kept,
-      c .before .before .before .before .before .before .before .clear-from3 .kept,
-      c .before .before .before .before .before .before .before .before .before .before .before .clear-from2 .kept,
-      c .before .before .before .before .before .before .before .before .before .before .before .before .before .before
-          .before .clear-from .kept,
-      c .before .before .before .before .before .before .before .before .before .before .before .before .before .before
-          .before .before .before .before .before .pre .0,
-    )
-
-clear-from-requires-6 : tie.Need-clear-from-requires-6
-clear-from-requires-6 c κs =
-    omega (
-      arith,
-      c .before .before .before .clear-from5 .kept,
-      c .before .before .before .before .before .before .before .clear-from4 .kept,
-      c .before .before .before .before .before .before .before .before .before .before .before .clear-from3 .kept,
-      c .before .before .before .before .before .before .before .before .before .before .before .before .before .before
-          .before .clear-from2 .kept,
-      c .before .before .before .before .before .before .before .before .before .before .before .before .before .before
-          .before .before .before .before .before .clear-from .kept,
-      c .before .before .before .before .before .before .before .before .before .before .before .before .before .before
-          .before .before .before .before .before .before .before .before .before .pre .0,
-    )
-
-array-read-clear-from-3 : tie.Need-array-read-clear-from-3
-array-read-clear-from-3 c = omega arith
-
-clear-from-requires-7 : tie.Need-clear-from-requires-7
-clear-from-requires-7 c κs =
-    let s = c .before .before .before .before .before .before .before .before .before .before .before .before .before
-    .before .before .before .before .before .before .before .before .before .before .before .before .before .before in
-    room 1992 288 (fits (s .args .st .sizes) (s .pre .1)
-    (c .before .before .before .before .before .before .before .before .before .before .before .before .before .before
-    .before .before .before .before .before .before .before .before .before .before .before .all-used .ensures) 7
-    (omega arith)) (omega arith)
-    (omega (
-      arith,
-      c .before .before .before .clear-from6 .kept,
-      c .before .before .before .before .before .before .before .clear-from5 .kept,
-      c .before .before .before .before .before .before .before .before .before .before .before .clear-from4 .kept,
-      c .before .before .before .before .before .before .before .before .before .before .before .before .before .before
-          .before .clear-from3 .kept,
-      c .before .before .before .before .before .before .before .before .before .before .before .before .before .before
-          .before .before .before .before .before .clear-from2 .kept,
-      c .before .before .before .before .before .before .before .before .before .before .before .before .before .before
-          .before .before .before .before .before .before .before .before .before .clear-from .kept,
-      s .pre .0,
-    ))
-
-array-read-clear-from-4 : tie.Need-array-read-clear-from-4
-array-read-clear-from-4 c = omega arith
-
-clear-from-requires-8 : tie.Need-clear-from-requires-8
-clear-from-requires-8 c κs =
-    let s = c .before .before .before .before .before .before .before .before .before .before .before .before .before
-    .before .before .before .before .before .before .before .before .before .before .before .before .before .before
-    .before .before .before .before in
-    room 2280 800 (fits (s .args .st .sizes) (s .pre .1)
-    (c .before .before .before .before .before .before .before .before .before .before .before .before .before .before
-    .before .before .before .before .before .before .before .before .before .before .before .before .before .before
-    .before .all-used .ensures) 8 (omega arith)) (omega arith)
-    (omega (
-      arith,
-      c .before .before .before .clear-from7 .kept,
-      c .before .before .before .before .before .before .before .clear-from6 .kept,
-      c .before .before .before .before .before .before .before .before .before .before .before .clear-from5 .kept,
-      c .before .before .before .before .before .before .before .before .before .before .before .before .before .before
-          .before .clear-from4 .kept,
-      c .before .before .before .before .before .before .before .before .before .before .before .before .before .before
-          .before .before .before .before .before .clear-from3 .kept,
-      c .before .before .before .before .before .before .before .before .before .before .before .before .before .before
-          .before .before .before .before .before .before .before .before .before .clear-from2 .kept,
-      c .before .before .before .before .before .before .before .before .before .before .before .before .before .before
-          .before .before .before .before .before .before .before .before .before .before .before .before .before
-          .clear-from .kept,
-      s .pre .0,
-    ))
+    let all = c .before .before .before .before .before .before .before .before .before .numbers-in .ensures in
+    let sizes = c .before .before .before .before .before .before .before .in-order .ensures
+    ∙ ap (λ (x : Slots ℕ). inOrder x)
+    (c .before .before .before .before .before .before .before .before .slot-sizes .ensures) in
+    let from = c .before .before .before .before .before .in-order2 .ensures
+    ∙ ap (λ (x : Slots ℕ). inOrder x)
+    (c .before .before .before .before .before .before .standing-alone .ensures
+    ∙ ap (λ (x : Slots ℕ). standingAlone x) all) in
+    let to = c .before .before .before .before .in-order3 .ensures ∙ ap (λ (x : Slots ℕ). inOrder x) all in
+    rw (sizes, from, to) (alone-fit (s .args .st) (s .pre .1) (s .args .area .now) (s .pre .0))
 
 same-length : tie.Need-same-length
-same-length c =
-    omega (
-      arith,
-      c .before .before .clear-from8 .kept,
-      c .before .before .before .before .before .before .clear-from7 .kept,
-      c .before .before .before .before .before .before .before .before .before .before .clear-from6 .kept,
-      c .before .before .before .before .before .before .before .before .before .before .before .before .before .before
-          .clear-from5 .kept,
-      c .before .before .before .before .before .before .before .before .before .before .before .before .before .before
-          .before .before .before .before .clear-from4 .kept,
-      c .before .before .before .before .before .before .before .before .before .before .before .before .before .before
-          .before .before .before .before .before .before .before .before .clear-from3 .kept,
-      c .before .before .before .before .before .before .before .before .before .before .before .before .before .before
-          .before .before .before .before .before .before .before .before .before .before .before .before .clear-from2
-          .kept,
-      c .before .before .before .before .before .before .before .before .before .before .before .before .before .before
-          .before .before .before .before .before .before .before .before .before .before .before .before
-          .before .before
-          .before .before .clear-from .kept,
-    )
+same-length c = search needs
 
 returns : tie.Need-returns
-unfolding startOf
-returns c w h =
+returns c w u =
     let s = c .before .before .before .before .before .before .before .before .before .before .before .before .before
-    .before .before .before .before .before .before .before .before .before .before .before .before .before .before
-    .before .before .before .before .before .before .before in
-    let z = s .args .st .sizes in
-    let us = c .before .before .before .before .before .before .before .before .before .before .before .before .before
-    .before .before .before .before .before .before .before .before .before .before .before .before .before .before
-    .before .before .before .before .before .all-used .result in
-    let e = c .before .before .before .before .before .before .before .before .before .before .before .before .before
-    .before .before .before .before .before .before .before .before .before .before .before .before .before .before
-    .before .before .before .before .before .all-used .ensures in
-    let t = h .zero-behind in
-    let f : (k : ℕ) → k < 9 → getD us k 0 ≤ getD SIZES k 0 = fits z (s .pre .1) e in
-    let h₁ = wrote (slots-of (h .holds)) 1 (zeros 24) (omega arith) (length-clear 24)
-    (c .before .before .before .before .before .before .before .before .before .before .before .before .before .before
-    .before .before .before .before .before .before .before .before .before .before .before .before .before .before
-    .before .before .clear-from .ensures) in
-    let h₂ = wrote h₁ 2 (zeros 24) (omega arith) (length-clear 24)
-    (c .before .before .before .before .before .before .before .before .before .before .before .before .before .before
-    .before .before .before .before .before .before .before .before .before .before .before .before .clear-from2
-    .ensures) in
-    let h₃ = cleared-first h₂ 3 (omega arith) (getD us 3 0) (f 3 (omega arith)) (used-as e 3 (t .standing-rows))
-    (c .before .before .before .before .before .before .before .before .before .before .before .before .before .before
-    .before .before .before .before .before .before .before .before .clear-from3 .ensures) in
-    let h₄ = cleared-first h₃ 4 (omega arith) (getD us 4 0) (f 4 (omega arith)) (used-as e 4 (t .landed-rows))
-    (c .before .before .before .before .before .before .before .before .before .before .before .before .before .before
-    .before .before .before .before .clear-from4 .ensures) in
-    let h₅ = wrote h₄ 5 (zeros 24) (omega arith) (length-clear 24)
-    (c .before .before .before .before .before .before .before .before .before .before .before .before .before .before
-    .clear-from5 .ensures) in
-    let h₆ = wrote h₅ 6 (zeros 24) (omega arith) (length-clear 24)
-    (c .before .before .before .before .before .before .before .before .before .before .clear-from6 .ensures) in
-    let h₇ = cleared-first h₆ 7 (omega arith) (getD us 7 0) (f 7 (omega arith)) (used-as e 7 (t .curvature))
-    (c .before .before .before .before .before .before .clear-from7 .ensures) in
-    holds-of (onlyStanding w)
-    (cleared-first h₇ 8 (omega arith) (getD us 8 0) (f 8 (omega arith)) (used-as e 8 (t .filter))
-    (c .before .before .clear-from8 .ensures))
+    .before in
+    let all = c .before .before .before .before .before .before .before .before .before .before .before .before
+    .numbers-in .ensures in
+    let sizes = c .before .before .before .before .before .before .before .before .before .before .in-order .ensures
+    ∙ ap (λ (x : Slots ℕ). inOrder x)
+    (c .before .before .before .before .before .before .before .before .before .before .before .slot-sizes .ensures) in
+    let from = c .before .before .before .before .before .before .before .before .in-order2 .ensures
+    ∙ ap (λ (x : Slots ℕ). inOrder x)
+    (c .before .before .before .before .before .before .before .before .before .standing-alone .ensures
+    ∙ ap (λ (x : Slots ℕ). standingAlone x) all) in
+    let to = c .before .before .before .before .before .before .before .in-order3 .ensures
+    ∙ ap (λ (x : Slots ℕ). inOrder x) all in
+    keeps-standing (s .args .st) (s .pre .1) w (s .args .area .now) u
+    (rw (sizes, from, to) at (c .before .before .clear-slots .ensures))
 
 pub keep-standing-spec : {M : Type 1} → statement M
 keep-standing-spec =
     tie.close
     (tie.spec
-    all-used-requires
-    clear-from-requires
-    clear-from-requires-2
-    array-read-clear-from
-    clear-from-requires-3
-    array-read-clear-from-2
-    clear-from-requires-4
-    clear-from-requires-5
-    clear-from-requires-6
-    array-read-clear-from-3
-    clear-from-requires-7
-    array-read-clear-from-4
-    clear-from-requires-8
+    numbers-in-requires
+    slot-sizes-requires
+    in-order-requires
+    standing-alone-requires
+    in-order-requires-2
+    in-order-requires-3
+    slice-aggregate-clear-slots
+    slice-aggregate-clear-slots-2
+    slice-aggregate-clear-slots-3
+    clear-slots-requires
     same-length
     returns)

@@ -1,20 +1,18 @@
--- `with_next` meets its contract: the point is worked out from the slot and written over another.
+-- `write_next` meets its contract: the point is worked out from the standing one and written over the asked one.
 use mathlib.Core.List.{List}
 use mathlib.Core.Path.{ap, _∙_}
+use Prim.Native.Nat.{_*_}
 use lib.Ieee.{Float}
+use lib.ListN.{take}
+use Rattle.run.specs.Area.{placesOf}
+use Rattle.run.specs.Vectors.{movedOf}
 use Rattle.run.specs.program.Area.{written}
 use borrow.Author.Needs.{needs}
 use Rattle.run.proofs.area.write_next.Statement.{statement}
 use Rattle.run.proofs.area.write_next.Tie as tie
 
-sub-moved : tie.Need-sub-moved
-sub-moved c = search needs
-
-part-moved-start : tie.Need-part-moved-start
-part-moved-start c = search needs
-
-part-moved-end : tie.Need-part-moved-end
-part-moved-end c = search needs
+standing-point-requires : tie.Need-standing-point-requires
+standing-point-requires c κs = c .before .before .before .pre
 
 slice-aggregate-moved : tie.Need-slice-aggregate-moved
 slice-aggregate-moved c = search needs
@@ -22,32 +20,37 @@ slice-aggregate-moved c = search needs
 moved-requires : tie.Need-moved-requires
 moved-requires c κs = search needs
 
-slice-aggregate-place : tie.Need-slice-aggregate-write
-slice-aggregate-place c = search needs
+slice-aggregate-write-asked : tie.Need-slice-aggregate-write-asked
+slice-aggregate-write-asked c = search needs
 
-write-requires : tie.Need-write-requires
-write-requires c κs = search needs
+write-asked-requires : tie.Need-write-asked-requires
+write-asked-requires c κs = (
+  c .before .before .before .before .before .before .before .before .before .pre .0,
+  c .before .before .before .before .before .before .before .before .before .pre .1,
+  search needs,
+)
 
 same-length : tie.Need-same-length
 same-length c = search needs
 
 returns : tie.Need-returns
 returns c =
-    c .before .before .write .ensures
-    ∙ ap (λ (x : List Float). written
-    (c .before .before .before .before .before .before .before .before .before .before .before .before .args
-    .area .now) 48 x) (c .before .before .before .before .before .before .moved .ensures)
+    let a = c .before .before .before .before .before .before .before .before .before .before .before .before .args in
+    let n = a .z .n in
+    c .before .before .write-asked .ensures
+    ∙ ap (λ (x : List Float). written (a .area .now) (placesOf (a .z) .asked) (take (2 * n) x))
+    (c .before .before .before .before .before .before .moved .ensures
+    ∙ ap (λ (x : List Float). movedOf n x (a .delta .now))
+    (c .before .before .before .before .before .before .before .before .standing-point .ensures))
 
 pub write-next-spec : {M : Type 1} → statement M
 write-next-spec =
     tie.close
     (tie.spec
-    sub-moved
-    part-moved-start
-    part-moved-end
+    standing-point-requires
     slice-aggregate-moved
     moved-requires
-    slice-aggregate-place
-    write-requires
+    slice-aggregate-write-asked
+    write-asked-requires
     same-length
     returns)

@@ -21,7 +21,7 @@ use Rattle.run.proofs.calls.begin.Tie as tie
 
 -- a run that has begun, of equal parts
 begun : {z : Sizes} {mu max : Scalar} {st : State} {a : List Float} (start : List Float)
-    → st ≡ stateWith z mu max (Open kind.Start) → mu ≡ firstMu → a ≡ areaOf (begunMemory start)
+    → st ≡ stateWith z mu max (Open kind.Start) → mu ≡ firstMu → a ≡ areaOf z (begunMemory start)
     → afterCall (record { state = st; event = event.Question 0 kind.Start 0 }) a ≡ begunOf z start max
 begun start es em ea = rw (es, em, ea)
 

@@ -6,7 +6,7 @@ use lib.ListN.{length}
 use Rattle.run.specs.Area.{memoryOf}
 use Rattle.run.proofs.CheckLaws.{bounds, accepted-rows, rows-refused, rows-accepted}
 use Rattle.run.proofs.ReplyLaws.{leaves-left, reply-phase, reply-bounded}
-use Rattle.run.proofs.ZeroBehind.{limits-of}
+use Rattle.run.proofs.MemoryLaws.{limits-of}
 use borrow.Author.Needs.{needs}
 use Rattle.run.proofs.calls.reply.Statement.{statement}
 use Rattle.run.proofs.calls.reply.Tie as tie

@@ -6,7 +6,7 @@ use lib.ListN.{length}
 use Rattle.run.specs.Area.{memoryOf}
 use Rattle.run.proofs.CheckLaws.{accepted, none-refused, none-accepted}
 use Rattle.run.proofs.ReplyLaws.{leaves-left, reply-phase, reply-bounded}
-use Rattle.run.proofs.ZeroBehind.{limits-of, works}
+use Rattle.run.proofs.MemoryLaws.{limits-of}
 use borrow.Author.Needs.{needs}
 use Rattle.run.proofs.calls.reply_none.Statement.{statement}
 use Rattle.run.proofs.calls.reply_none.Tie as tie
@@ -43,7 +43,7 @@ answered-none-requires c κs =
     (sym (c .before .before .before .before .before .before .before .before .check .ensures)
     ∙ c .before .before .before .before .before .before .kind .given .1) in (
       omega (arith, c .before .before .before .clear-unused .kept, r .whole),
-      (reply-bounded (a .st) _ (r .run) (r .opened), reply-phase (a .st) _ (r .run) (r .opened)),
+      (reply-bounded (a .st) _ (r .run) (r .opened), (reply-phase (a .st) _ (r .run) (r .opened), r .opened)),
     )
 
 same-length : tie.Need-same-length
@@ -51,14 +51,13 @@ same-length c = search needs
 
 returns-2 : tie.Need-returns-2
 returns-2 c =
-    let a =
-    c .before .before .before .before .before .before .before .before .before .before .before .before
-    .before .args in
-    leaves-left _ _ _ (c .before .before .answered-none .ensures (memoryOf (a .st) (a .area .now))
-    (works (a .st) (c .before .before .before .before .before .before .clear-unused .ensures))) ∙ sym
-    (none-accepted (a .st) (a .area .now) _ (sym
-    (c .before .before .before .before .before .before .before .before .before .before .before .check .ensures) ∙ c
-    .before .before .before .before .before .before .before .before .before .kind .given .1))
+    let read = c .before .before .before .before .before .before .before .before .before in
+    let a = read .before .before .before .before .args in
+    let is = sym (read .before .before .check .ensures) ∙ read .kind .given .1 in
+    leaves-left _ _ _
+    (c .before .before .answered-none .ensures (memoryOf (a .st) (a .area .now))
+    (c .before .before .before .before .before .before .clear-unused .ensures))
+    ∙ sym (none-accepted (a .st) (a .area .now) _ is)
 
 pub reply-none-spec : {M : Type 1} → statement M
 reply-none-spec =

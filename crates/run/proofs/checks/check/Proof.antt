@@ -1,8 +1,11 @@
--- `check` meets its contract.
+-- `check` meets its contract: each check decides one of the definition's.
 use borrow.Author.Needs.{needs}
-use mathlib.Core.Path.{_∙_, sym}
-use borrow.Author.Tests.{not-true, not-false, eq-eqb, ne-eqb}
+use mathlib.Core.Bool.{true}
+use mathlib.Core.Path.{_≡_, _∙_, sym}
+use borrow.Author.Tests.{not-true, not-false}
+use Rattle.run.specs.Checks.{valid}
 use Rattle.run.specs.program.Checks.{checkOf}
+use Rattle.run.proofs.CheckLaws.{compared-same, compared-other}
 use Rattle.run.proofs.checks.check.Statement.{statement}
 use Rattle.run.proofs.checks.check.Tie as tie
 
@@ -28,27 +31,42 @@ returns-2 c =
       c .enum-told .given .1,
     )
 
+area-length-requires : tie.Need-area-length-requires
+area-length-requires c κs = search needs
+
+-- a run that passed
+run-fits : (k : tie.Else1) → valid (k .before .before .args .st) ≡ true
+run-fits k = sym (k .before .valid .ensures) ∙ not-false _ (k .if1 .left)
+
 returns-3 : tie.Need-returns-3
 unfolding checkOf
 returns-3 c =
     rw (
-      sym (c .before .before .before .before .before .valid .ensures)
-          ∙ not-false _ (c .before .before .before .before .if1 .left),
-      c .before .before .phase .given .1,
-      ne-eqb _ _ (c .if2 .taken),
+      run-fits (c .before .before .before .before .before),
+      c .before .before .before .phase .given .1,
+      compared-other
+          (c .before .area-length .ensures) (c .if2 .taken),
     )
 
 returns-4 : tie.Need-returns-4
 unfolding checkOf
 returns-4 c =
     rw (
-      sym (c .before .before .before .before .before .valid .ensures)
-          ∙ not-false _ (c .before .before .before .before .if1 .left),
-      c .before .before .phase .given .1,
-      eq-eqb _ _ (c .if2 .left),
+      run-fits (c .before .before .before .before .before),
+      c .before .before .before .phase .given .1,
+      compared-same
+          (c .before .area-length .ensures) (c .if2 .left),
     )
 
 pub check-spec : {M : Type 1} → statement M
 check-spec =
     tie.close
-    (tie.spec valid-requires returns enum-known-phase enum-told returns-2 returns-3 returns-4)
+    (tie.spec
+    valid-requires
+    returns
+    enum-known-phase
+    enum-told
+    returns-2
+    area-length-requires
+    returns-3
+    returns-4)

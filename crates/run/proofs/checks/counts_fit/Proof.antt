@@ -1,4 +1,4 @@
--- `counts_fit` meets its contract.
+-- `counts_fit` meets its contract: each comparison decides one of the definition's.
 use borrow.Author.Needs.{needs}
 use borrow.Author.Tests.{le-leb, lt-leb}
 use Rattle.run.proofs.checks.counts_fit.Statement.{statement}
@@ -7,34 +7,47 @@ use Rattle.run.proofs.checks.counts_fit.Tie as tie
 returns : tie.Need-returns
 returns c = rw (lt-leb _ _ (c .if1 .taken))
 
-add-if2 : tie.Need-add-if2
-add-if2 c = search needs
-
-mul-if2 : tie.Need-mul-if2
-mul-if2 c = search needs
+most-turn-downs-requires : tie.Need-most-turn-downs-requires
+most-turn-downs-requires c κs = search needs
 
 returns-2 : tie.Need-returns-2
-returns-2 c = rw (le-leb _ _ (c .before .before .if1 .left), lt-leb _ _ (c .if2 .taken))
+returns-2 c =
+    rw (
+      le-leb _ _ (c .before .before .before .if1 .left),
+      ← c .before .before .most-turn-downs .ensures,
+      lt-leb _ _ (c .if2 .taken),
+    )
 
-mul-if3 : tie.Need-mul-if3
-mul-if3 c = search needs
+most-questions-requires : tie.Need-most-questions-requires
+most-questions-requires c κs = search needs
 
 returns-3 : tie.Need-returns-3
 returns-3 c =
     rw (
-      le-leb _ _ (c .before .before .before .before .if1 .left),
-      le-leb _ _ (c .before .before .if2 .left),
+      le-leb _ _ (c .before .before .before .before .before .before .if1 .left),
+      ← c .before .before .before .before .before .most-turn-downs .ensures,
+      le-leb _ _ (c .before .before .before .if2 .left),
+      ← c .before .before .most-questions .ensures,
       lt-leb _ _ (c .if3 .taken),
     )
 
 returns-4 : tie.Need-returns-4
 returns-4 c =
     rw (
-      le-leb _ _ (c .before .before .before .before .before .if1 .left),
-      le-leb _ _ (c .before .before .before .if2 .left),
+      le-leb _ _ (c .before .before .before .before .before .before .before .if1 .left),
+      ← c .before .before .before .before .before .before .most-turn-downs .ensures,
+      le-leb _ _ (c .before .before .before .before .if2 .left),
+      ← c .before .before .before .most-questions .ensures,
       le-leb _ _ (c .before .if3 .left),
     )
 
 pub counts-fit-spec : {M : Type 1} → statement M
 counts-fit-spec =
-    tie.close (tie.spec returns add-if2 mul-if2 returns-2 mul-if3 returns-3 returns-4)
+    tie.close
+    (tie.spec
+    returns
+    most-turn-downs-requires
+    returns-2
+    most-questions-requires
+    returns-3
+    returns-4)

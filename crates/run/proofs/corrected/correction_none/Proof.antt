@@ -3,13 +3,13 @@ use mathlib.Core.Path.{sym, ap, _∙_}
 use Rattle.linear.specs.LinearResult.{resultOf}
 use Rattle.run.specs.Decide.{judge}
 use Rattle.run.proofs.EndingLaws.{or-next, or-refused}
-use Rattle.run.proofs.ZeroBehind.{limits-of, compares}
+use Rattle.run.proofs.MemoryLaws.{limits-of, rows-of, compares}
 use borrow.Author.Needs.{needs}
 use Rattle.run.proofs.corrected.correction_none.Statement.{statement}
 use Rattle.run.proofs.corrected.correction_none.Tie as tie
 
 standing-violation-requires : tie.Need-standing-violation-requires
-standing-violation-requires c κs = let p = c .before .before .pre in (p .1 .bounded .few-constraints, p .0)
+standing-violation-requires c κs = let p = c .before .before .pre in (p .0, rows-of (p .1 .bounded))
 
 enum-known-theta : tie.Need-enum-known-theta
 enum-known-theta c = search needs
@@ -17,7 +17,7 @@ enum-known-theta c = search needs
 landed-violation-requires : tie.Need-landed-violation-requires
 landed-violation-requires c κs =
     let p = c .before .before .before .before .before .before .before .pre in
-    (p .1 .bounded .few-constraints, p .0)
+    (p .0, rows-of (p .1 .bounded))
 
 judge-landed-requires : tie.Need-judge-landed-requires
 judge-landed-requires c κs = c .before .before .before .before .before .before .before .before .before .pre
@@ -26,14 +26,15 @@ same-length : tie.Need-same-length
 same-length c = search needs
 
 returns : tie.Need-returns
-returns c w h =
+returns c w u s t l =
     let st = c .before .before .before .before .before .before .before .before .before .before .before .before .args .st
     in
-    let v = c .before .before .before .before .before .before .before .before .before .standing-violation .ensures w
-    (h .holds) in
+    let v = c .before .before .before .before .before .before .before .before .before .standing-violation .ensures w (u
+    .holds) (s .standing-rows) in
     let e = ap resultOf (c .before .before .before .before .before .before .before .theta .given .1) in
-    let hj = compares st h (sym e ∙ v) (c .before .before .before .before .landed-violation .ensures w (h .holds)) in
-    or-next st w (judge st w) (sym v ∙ e) (c .before .before .judge-landed .ensures w hj)
+    let known = compares st u s t l (sym e ∙ v) (c .before .before .before .before .landed-violation .ensures w (u
+    .holds) (l .landed-rows)) in
+    or-next st w (judge st w) (sym v ∙ e) (c .before .before .judge-landed .ensures w known)
 
 enum-known-e : tie.Need-enum-known-e
 enum-known-e c = search needs
@@ -46,12 +47,12 @@ same-length-2 : tie.Need-same-length-2
 same-length-2 c = search needs
 
 returns-2 : tie.Need-returns-2
-returns-2 c w h =
-    let st = c .before .before .before .before .before .before .before .before .before .before .args .st in or-refused
-    st w (judge st w) (sym (c .before .before .before .before .before .before .before .standing-violation .ensures w
-    (h .holds)) ∙ ap resultOf (c .before .before .before .before .before .e .given .1))
-    (c .before .before .refuse .ensures
-    w h)
+returns-2 c w u s t l =
+    let st = c .before .before .before .before .before .before .before .before .before .before .args .st in
+    let v = c .before .before .before .before .before .before .before .standing-violation .ensures w (u .holds) (s
+    .standing-rows) in
+    or-refused st w (judge st w) (sym v ∙ ap resultOf (c .before .before .before .before .before .e .given .1)) (c
+    .before .before .refuse .ensures w u)
 
 pub correction-none-spec : {M : Type 1} → statement M
 correction-none-spec =

@@ -1,18 +1,19 @@
 -- `keep` meets its contract: the shift, with fewer than four corrections corrected again, or its refusal.
-use mathlib.Core.Path.{_≡_, refl, sym, ap, subst, _∙_}
+use mathlib.Core.Path.{_≡_, refl, sym, ap, _∙_}
+use Prim.Native.Nat.{_+_, _-_, _*_, _≤_}
 use native.Mathlib.Omega.{arith}
+use lib.Dec.{lit<}
 use lib.ListN.{length}
 use Rattle.linear.specs.LinearResult.{doneOf}
 use Rattle.linear.specs.declared.results.Done.{Done}
-use Rattle.run.specs.Area.{withLanded}
+use Rattle.run.specs.Area.{indices, withLanded}
 use Rattle.run.specs.Corrected.{shiftedStep}
-use Rattle.run.specs.program.Endings.{Underway}
-use Rattle.run.specs.declared.state.State.{State}
-use Rattle.run.proofs.AnsweredLaws.{keep-known, keep-refused, kept-known, rows-few}
-use Rattle.run.proofs.DecideLaws.{marks-count, shift-read, landed-again, withStep, stepped}
-use Rattle.run.proofs.ZeroBehind.{limits-of, judges-as, compares, rows-of}
-use Rattle.run.proofs.AreaRead.{violation-padded}
-use Rattle.run.proofs.ZeroBehindKept.{shifts, lands}
+use Rattle.run.proofs.AnsweredLaws.{keep-known, keep-refused, kept-known}
+use Rattle.run.proofs.DecideLaws.{marks-count, shift-read, landed-again, landed-known, withStep, stepped}
+use Rattle.run.proofs.DecideLaws.{step-length, step-whole}
+use Rattle.run.proofs.MemoryLaws.{limits-of, judges-as, rows-of}
+use Rattle.run.proofs.PlaceLaws.{each-same, place-room}
+use borrow.Rule.Slice.PartMut.{putMid, same-len-mid}
 use borrow.Author.Needs.{needs}
 use Rattle.run.proofs.corrected.keep.Statement.{statement}
 use Rattle.run.proofs.corrected.keep.Tie as tie
@@ -25,7 +26,9 @@ landed-counts-requires : tie.Need-landed-counts-requires
 landed-counts-requires c κs = search needs
 
 landed-rows-requires : tie.Need-landed-rows-requires
-landed-rows-requires c κs = search needs
+landed-rows-requires c κs =
+    let p = c .before .before .before .before .before .pre .0 in
+    (p .whole-area, rw (c .before .landed-counts .ensures) (rows-of (p .underway .bounded)))
 
 slice-aggregate-shift : tie.Need-slice-aggregate-shift
 slice-aggregate-shift c = sym (marks (c .before .before .before .before .before .before .before))
@@ -57,18 +60,39 @@ same-length : tie.Need-same-length
 same-length c = search needs
 
 returns : tie.Need-returns
-returns c w h v =
-    let a = c .before .before .before .before .before .before .before .before .before .before .before .before .before
-    .before .before .before .before .args in
-    let x = c .before .before .before .before .before .before .before .before .shift in
+returns c w h t l v =
+    let k = c .before .before .before .before .before .before .before .before in
+    let a = k .before .before .before .before .before .before .before .before .before .args in
+    let x = k .shift in
     keep-refused (a .st) w (a .rows .now) (a .theta) refl
-    (shift-read (a .st) w
-    (c .before .before .before .before .before .before .before .before .before .before .before .landed-rows .ensures
-    .read w (h .uses .holds))
-    (rw (c .before .before .before .before .before .before .before .before .before .before .before .before .before
-    .landed-counts .ensures) at (x .ensures)))
+    (shift-read (a .st) (h .within .holds) l (k .before .before .before .before .before .landed-counts .ensures) (k
+    .before .before .before .landed-rows .ensures) (x .ensures))
     (ap (λ (r : Done). doneOf r (x .last .1 .1 .1 .0)) (c .before .before .before .before .before .shift2 .given .1))
-    (c .before .before .refuse .ensures w (h .uses))
+    (c .before .before .refuse .ensures w (h .within))
+
+places-requires : tie.Need-places-requires
+places-requires c κs = search needs
+
+-- the step is in the area
+inside :
+    (k : tie.After-places) →
+    let a = k .before .before .before .before .before .before .before .before .before .before .before .before .before
+    .args in
+    k .places .result .step + 2 * a .st .sizes .n ≤ length (a .area .now)
+inside k =
+    let s = k .before .before .before .before .before .before .before .before .before .before .before .before .before in
+    let p = s .pre .0 in
+    place-room (s .args .st .sizes) (indices .step) (lit< tt) (each-same (k .places .ensures) .step)
+    (omega (arith, p .underway .bounded .few-variables)) (p .whole-area)
+
+mul-shifted-step : tie.Need-mul-shifted-step
+mul-shifted-step c = omega (arith, inside c)
+
+add-shifted-step : tie.Need-add-shifted-step
+add-shifted-step c = omega (arith, inside c)
+
+mul-shifted-step-2 : tie.Need-mul-shifted-step-2
+mul-shifted-step-2 c = omega (arith, inside c)
 
 sub-shifted-step : tie.Need-sub-shifted-step
 sub-shifted-step c = search needs
@@ -77,7 +101,7 @@ part-shifted-step-start : tie.Need-part-shifted-step-start
 part-shifted-step-start c = search needs
 
 part-shifted-step-end : tie.Need-part-shifted-step-end
-part-shifted-step-end c = search needs
+part-shifted-step-end c = inside c
 
 slice-aggregate-shifted-step : tie.Need-slice-aggregate-shifted-step
 slice-aggregate-shifted-step c = search needs
@@ -85,18 +109,33 @@ slice-aggregate-shifted-step c = search needs
 shifted-step-requires : tie.Need-shifted-step-requires
 shifted-step-requires c κs = search needs
 
+-- the area is as long with the step in its place
+stays-long :
+    (k : tie.After-shifted-step) →
+    let at = k .before .before .before .places .result .step in
+    let a = k .before .before .before .before .before .before .before .before .before .before .before .before .before
+    .before .before .before .args in
+    length (putMid at (at + 2 * a .st .sizes .n - at) (a .area .now) (k .shifted-step .last .1 .0))
+    ≡ length (a .area .now)
+stays-long k =
+    let at = k .before .before .before .places .result .step in
+    let a = k .before .before .before .before .before .before .before .before .before .before .before .before .before
+    .before .before .before .args in
+    same-len-mid at (at + 2 * a .st .sizes .n - at) (a .area .now) (k .shifted-step .last .1 .0)
+    (k .shifted-step .kept .1 .0)
+
 write-landed-requires : tie.Need-write-landed-requires
 write-landed-requires c κs =
     let p = c .before .before .before .before .before .before .before .before .before .before .before .before .before
-    .before .before .before .before .before .pre in
-    (search needs, omega (arith, rows-few (p .0 .underway .bounded), p .0 .whole-rows))
+    .before .before .before .before .before .before .pre .0 in
+    (stays-long (c .before .before .before) ∙ p .whole-area, limits-of (p .underway .bounded), p .whole-rows)
 
 add-corrections : tie.Need-add-corrections
 add-corrections c =
     omega (
       arith,
-      c .before .before .before .before .before .before .before .before .before .before .before .before .before .before
-          .before .before .before .before .before .before .before .before .pre .1,
+      c .before .before .before .before .before .before .before .before .before .before .before .before
+          .before .before .before .before .before .before .before .before .before .before .before .pre .1,
     )
 
 with-landed-number-requires : tie.Need-with-landed-number-requires
@@ -105,57 +144,44 @@ with-landed-number-requires c κs = search needs
 correct-or-judge-requires : tie.Need-correct-or-judge-requires
 correct-or-judge-requires c κs =
     let p = c .before .before .before .before .before .before .before .before .before .before .before .before .before
-    .before .before .before .before .before .before .before .before .before .before .before .pre in (
-      search needs,
-      subst (λ (x : State). Underway x) (sym (c .before .with-landed-number .ensures))
-          (landed-again _ (omega (arith, p .1)) (p .0 .underway)),
+    .before .before .before .before .before .before .before .before .before .before .before .before .pre in
+    rw (c .before .with-landed-number .ensures) (
+      c .before .before .before .before .before .write-landed .kept .0 ∙ stays-long (c .before .before .before .before
+          .before .before .before .before .before) ∙ p .0 .whole-area,
+      landed-again _ (omega (arith, p .1)) (p .0 .underway),
     )
 
 same-length-2 : tie.Need-same-length-2
 same-length-2 c =
-    omega (
-      arith,
-      c .before .before .correct-or-judge .kept,
-      correct-or-judge-requires (c .before .before .before)
-          (c .before .before .correct-or-judge .lifetimes) .0,
-      c .before .before .before .before .before .before .before .before .before .before .before .before .before .before
-          .before .before .before .before .before .before .before .before .before .before .before .before
-          .before .pre .0 .whole-area,
-    )
+    c .before .before .correct-or-judge .kept .1 .0 ∙ c .before .before .before .before .before .before .before .before
+    .write-landed .kept .0 ∙ stays-long (c .before .before .before .before .before .before .before .before .before
+    .before .before .before)
 
 returns-2 : tie.Need-returns-2
-returns-2 c w h v =
-    let a = c .before .before .before .before .before .before .before .before .before .before .before .before .before
-    .before .before .before .before .before .before .before .before .before .before .before .before .before .before
-    .args in
-    let p = c .before .before .before .before .before .before .before .before .before .before .before .before .before
-    .before .before .before .before .before .before .before .before .before .before .before .before .before .before
-    .pre in
-    let z = a .st .sizes in
-    let shifting = c .before .before .before .before .before .before .before .before .before .before .before .before in
-    let x = shifting .before .before .before .before .before .before .shift in
+returns-2 c w h t l v =
+    let j = c .before .before .before .before .before .before .before .before .before .before .before .before in
+    let k = j .before .before .before .before .before .before .before in
+    let s = k .before .before .before .before .before .before .before .before .before in
+    let a = s .args in
+    let st = a .st in
+    let rows = a .rows .now in
+    let p = s .pre .0 in
+    let x = k .shift in
     let d = x .last .1 .1 .1 .0 in
-    let s = shiftedStep (z .n) (w .step) d in
-    let t = c .before .before .before .before .with-landed-number .ensures in
-    let hs = shifts (a .st) d (h .uses) (stepped (z .n) d (h .uses .holds)
-    (c .before .before .before .before .before .before .before .before .before .before .before .before .shifted-step
-    .ensures)) in
-    let hv = lands (a .st) (p .0 .underway .bounded) (a .rows .now) (p .0 .whole-rows) hs
-    (c .before .before .before .before .before .before .before .before .write-landed .ensures (withStep w s)
-    (hs .holds)) in
-    let hj = compares (a .st) hv (h .standing-is) (v ∙ sym (violation-padded z (a .rows .now) (p .0 .whole-rows))) in
-    keep-known (a .st) w (a .rows .now) (a .theta) refl
-    (shift-read (a .st) w
-    (c .before .before .before .before .before .before .before .before .before .before .before .before .before .before
-    .before .before .before .before .before .before .before .landed-rows .ensures .read w (h .uses .holds))
-    (rw (c .before .before .before .before .before .before .before .before .before .before .before .before .before
-    .before .before .before .before .before .before .before .before .before .before .landed-counts .ensures) at
-    (x .ensures)))
-    (ap (λ (r : Done). doneOf r d)
-    (c .before .before .before .before .before .before .before .before .before .before .before .before .before .before
-    .before .enum-told .given .1))
-    (kept-known (a .st) w (a .rows .now) (a .theta) d t
-    (c .before .before .correct-or-judge .ensures (withLanded w (a .rows .now) s) (judges-as t hj)))
+    let step = shiftedStep (st .sizes .n) (w .step) d in
+    let n = c .before .before .before .before .with-landed-number .ensures in
+    let u = stepped st d t (p .underway .bounded .few-variables) (h .within) (each-same (j .before .before .before
+    .places .ensures) .step)
+    (j .shifted-step .ensures) in
+    let held = c .before .before .before .before .before .before .before .before .write-landed .ensures (withStep w
+    step) u (step-whole st d t) in
+    let known = landed-known st rows step (p .whole-rows) (step-length st d t) h t held v in
+    keep-known st w rows (a .theta) refl
+    (shift-read st (h .within .holds) l (k .before .before .before .before .before .landed-counts .ensures) (k .before
+    .before .before .landed-rows .ensures) (x .ensures))
+    (ap (λ (r : Done). doneOf r d) (j .before .before .before .before .enum-told .given .1))
+    (kept-known st w rows (a .theta) d n
+    (c .before .before .correct-or-judge .ensures (withLanded w rows step) (judges-as n known)))
 
 pub keep-spec : {M : Type 1} → statement M
 keep-spec =
@@ -171,6 +197,10 @@ keep-spec =
     refuse-requires
     same-length
     returns
+    places-requires
+    mul-shifted-step
+    add-shifted-step
+    mul-shifted-step-2
     sub-shifted-step
     part-shifted-step-start
     part-shifted-step-end

@@ -1,17 +1,20 @@
 -- `land_correction` meets its contract: whether its rows are nearer decides, or that is refused.
 use mathlib.Core.Bool.{Bool}
-use mathlib.Core.Path.{ap, _∙_}
+use mathlib.Core.Path.{_≡_, ap, _∙_}
 use native.Mathlib.Omega.{arith}
 use Rattle.interval.specs.Scalar.{pick}
-use Rattle.run.specs.Area.{Memory}
+use Rattle.linear.specs.LinearResult.{resultOf}
+use Rattle.run.specs.Area.{Memory, rowsAt}
 use Rattle.run.specs.Endings.{AfterSlots}
 use Rattle.run.specs.Corrected.{keep}
 use Rattle.run.specs.Decide.{judge}
+use Rattle.run.specs.Residuals.{violationOf}
 use Rattle.run.specs.Results.{truthOf}
 use Rattle.run.specs.Rows.{rowCounts}
-use Rattle.run.proofs.AnsweredLaws.{correction-by, nearer-read, rows-enough}
+use Rattle.run.proofs.AnsweredLaws.{correction-by, nearer-read}
 use Rattle.run.proofs.EndingLaws.{or-next, or-refused, when, unless}
-use Rattle.run.proofs.ZeroBehind.{limits-of, compares}
+use Rattle.run.proofs.MemoryLaws.{limits-of, rows-of, compares}
+use Rattle.run.proofs.RowLaws.{rows-enough}
 use borrow.Author.Needs.{needs}
 use Rattle.run.proofs.corrected.land_correction.Statement.{statement}
 use Rattle.run.proofs.corrected.land_correction.Tie as tie
@@ -34,11 +37,19 @@ violation-requires c κs =
 
 landed-violation-requires : tie.Need-landed-violation-requires
 landed-violation-requires c κs =
-    let p = c .before .before .before .before .before .pre in
-    (p .0 .underway .bounded .few-constraints, p .0 .whole-area)
+    let p = c .before .before .before .before .before .pre .0 in
+    (p .whole-area, rows-of (p .underway .bounded))
 
 is-nearer-requires : tie.Need-is-nearer-requires
 is-nearer-requires c κs = search needs
+
+-- the violations that were worked out
+new-is :
+    (k : tie.After-violation) →
+    resultOf (k .violation .result)
+    ≡ violationOf (rowsAt (k .before .before .before .before .args .st) (k .before .before .before .before .args .rows
+    .now) .constraints)
+new-is k = rw (k .before .landed-counts .ensures) at (k .violation .ensures)
 
 enum-known-kept : tie.Need-enum-known-kept
 enum-known-kept c = search needs
@@ -51,22 +62,18 @@ same-length : tie.Need-same-length
 same-length c = search needs
 
 returns : tie.Need-returns
-returns c w h =
-    let a = c .before .before .before .before .before .before .before .before .before .before .before .before .before
-    .before .before .args in
-    let k = h .uses .holds in
-    let new = rw (c .before .before .before .before .before .before .before .before .before .before .before .before
-    .landed-counts .ensures) at
-    (c .before .before .before .before .before .before .before .before .before .before .before .violation .ensures) in
-    let old = c .before .before .before .before .before .before .before .before .before .landed-violation .ensures w k
-    in
+returns c w h t l =
+    let k = c .before .before .before .before .before .before .before .before .before .before .before in
+    let s = k .before .before .before .before in
+    let a = s .args in
+    let new = new-is k in
+    let old = c .before .before .before .before .before .before .before .before .before .landed-violation .ensures w (h
+    .within .holds) (l .landed-rows) in
     let e = nearer-read (c .before .before .before .before .before .before .before .before .is-nearer .ensures) new old
     ∙ ap truthOf (c .before .before .before .before .before .before .kept .given .1) in
     correction-by (a .st) w (a .rows .now) (a .theta)
-    (or-next (a .st) w (next
-    (c .before .before .before .before .before .before .before .before .before .before .before .before .before .before
-    .before) w) e (when _ _ (c .before .before .before .before .if1 .taken)
-    (c .before .before .keep .ensures w h new)))
+    (or-next (a .st) w (next s w) e (when _ _ (c .before .before .before .before .if1 .taken) (c .before .before .keep
+    .ensures w h t l new)))
 
 judge-landed-requires : tie.Need-judge-landed-requires
 judge-landed-requires c κs =
@@ -77,23 +84,20 @@ same-length-2 : tie.Need-same-length-2
 same-length-2 c = search needs
 
 returns-2 : tie.Need-returns-2
-returns-2 c w h =
-    let a = c .before .before .before .before .before .before .before .before .before .before .before .before .before
-    .before .before .args in
-    let k = h .uses .holds in
-    let new = rw (c .before .before .before .before .before .before .before .before .before .before .before .before
-    .landed-counts .ensures) at
-    (c .before .before .before .before .before .before .before .before .before .before .before .violation .ensures) in
-    let old = c .before .before .before .before .before .before .before .before .before .landed-violation .ensures w k
-    in
+returns-2 c w h t l =
+    let k = c .before .before .before .before .before .before .before .before .before .before .before in
+    let s = k .before .before .before .before in
+    let a = s .args in
+    let new = new-is k in
+    let old = c .before .before .before .before .before .before .before .before .before .landed-violation .ensures w (h
+    .within .holds) (l .landed-rows) in
     let e = nearer-read (c .before .before .before .before .before .before .before .before .is-nearer .ensures) new old
     ∙ ap truthOf (c .before .before .before .before .before .before .kept .given .1) in
-    let hj = compares (a .st) (h .uses) (h .standing-is) old in
     correction-by (a .st) w (a .rows .now) (a .theta)
-    (or-next (a .st) w (next
-    (c .before .before .before .before .before .before .before .before .before .before .before .before .before .before
-    .before) w) e (unless _ _ (c .before .before .before .before .if1 .left)
-    (c .before .before .judge-landed .ensures w hj)))
+    (or-next (a .st) w (next s w) e
+    (unless _ _ (c .before .before .before .before .if1 .left)
+    (c .before .before .judge-landed .ensures w (compares (a .st) (h .within) (h .standing-whole) t l (h .standing-is)
+    old))))
 
 enum-known-e : tie.Need-enum-known-e
 enum-known-e c = search needs
@@ -107,21 +111,16 @@ same-length-3 : tie.Need-same-length-3
 same-length-3 c = search needs
 
 returns-3 : tie.Need-returns-3
-returns-3 c w h =
-    let a = c .before .before .before .before .before .before .before .before .before .before .before .before .before
-    .before
-    .args in
-    let k = h .uses .holds in
-    let new = rw (c .before .before .before .before .before .before .before .before .before .before .before
-    .landed-counts .ensures) at
-    (c .before .before .before .before .before .before .before .before .before .before .violation .ensures) in
-    let old = c .before .before .before .before .before .before .before .before .landed-violation .ensures w k in
-    let e = nearer-read (c .before .before .before .before .before .before .before .is-nearer .ensures) new old ∙ ap
-    truthOf (c .before .before .before .before .before .e .given .1) in
+returns-3 c w h t l =
+    let k = c .before .before .before .before .before .before .before .before .before .before in
+    let s = k .before .before .before .before in
+    let a = s .args in
+    let old = c .before .before .before .before .before .before .before .before .landed-violation .ensures w (h .within
+    .holds) (l .landed-rows) in
+    let e = nearer-read (c .before .before .before .before .before .before .before .is-nearer .ensures) (new-is k) old ∙
+    ap truthOf (c .before .before .before .before .before .e .given .1) in
     correction-by (a .st) w (a .rows .now) (a .theta)
-    (or-refused (a .st) w
-    (next (c .before .before .before .before .before .before .before .before .before .before .before .before .before
-    .before) w) e (c .before .before .refuse .ensures w (h .uses)))
+    (or-refused (a .st) w (next s w) e (c .before .before .refuse .ensures w (h .within)))
 
 pub land-correction-spec : {M : Type 1} → statement M
 land-correction-spec =

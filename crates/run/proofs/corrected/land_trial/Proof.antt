@@ -1,13 +1,10 @@
 -- `land_trial` meets its contract: the violation where it landed decides, or is refused.
-use mathlib.Core.Path.{sym, ap, subst, _∙_}
+use mathlib.Core.Path.{sym, ap, _∙_}
 use native.Mathlib.Omega.{arith}
 use Rattle.linear.specs.LinearResult.{resultOf}
-use Rattle.run.specs.program.Endings.{Underway}
-use Rattle.run.specs.declared.state.State.{State}
-use Rattle.run.proofs.AnsweredLaws.{landed-with, rows-few, trial-known, trial-refused}
-use Rattle.run.proofs.DecideLaws.{landed-again}
-use Rattle.run.proofs.ZeroBehind.{limits-of, limits-as, works-as, judges-as, compares}
-use Rattle.run.proofs.ZeroBehindKept.{lands}
+use Rattle.run.proofs.AnsweredLaws.{landed-with, trial-known, trial-refused}
+use Rattle.run.proofs.DecideLaws.{landed-again, lands, landed-known}
+use Rattle.run.proofs.MemoryLaws.{limits-of, rows-of, works-as, judges-as}
 use borrow.Author.Needs.{needs}
 use Rattle.run.proofs.corrected.land_trial.Statement.{statement}
 use Rattle.run.proofs.corrected.land_trial.Tie as tie
@@ -15,21 +12,15 @@ use Rattle.run.proofs.corrected.land_trial.Tie as tie
 write-landed-requires : tie.Need-write-landed-requires
 write-landed-requires c κs =
     let p = c .before .before .before .pre in
-    (p .whole-area, omega (arith, rows-few (p .underway .bounded), p .whole-rows))
+    (p .whole-area, limits-of (p .underway .bounded), p .whole-rows)
 
 with-landed-number-requires : tie.Need-with-landed-number-requires
 with-landed-number-requires c κs = search needs
 
 landed-violation-requires : tie.Need-landed-violation-requires
 landed-violation-requires c κs =
-    let p = c .before .before .before .before .before .before .before .before .pre in (
-      p .underway .bounded .few-constraints,
-      omega (
-        arith,
-        c .before .before .before .before .write-landed .kept,
-        p .whole-area,
-      ),
-    )
+    let p = c .before .before .before .before .before .before .before .before .pre in
+    (c .before .before .before .before .write-landed .kept .0 ∙ p .whole-area, rows-of (p .underway .bounded))
 
 enum-known-landed : tie.Need-enum-known-landed
 enum-known-landed c = search needs
@@ -41,39 +32,32 @@ correct-or-judge-requires : tie.Need-correct-or-judge-requires
 correct-or-judge-requires c κs =
     let p = c .before .before .before .before .before .before .before .before .before .before .before .before .before
     .before .pre in
-    let t = sym (c .before .before .before .before .before .before .before .with-landed-number .ensures) in
-    let underway = subst (λ (x : State). Underway x) t (landed-again 0 (omega arith) (p .underway)) in (
-      omega (
-        arith,
-        c .before .before .before .before .before .before .before .before .before .before .write-landed .kept,
-        p .whole-area,
-      ),
-      underway,
+    rw (c .before .before .before .before .before .before .before .with-landed-number .ensures) (
+      c .before .before .before .before .before .before .before .before .before .before .write-landed .kept .0 ∙ p
+          .whole-area,
+      landed-again 0 (omega arith) (p .underway),
     )
 
 same-length : tie.Need-same-length
 same-length c = search needs
 
 returns : tie.Need-returns
-returns c w h =
-    let a = c .before .before .before .before .before .before .before .before .before .before .before .before .before
-    .before .before .before .before .args in
-    let p = c .before .before .before .before .before .before .before .before .before .before .before .before .before
-    .before .before .before .before .pre in
-    let t = c .before .before .before .before .before .before .before .before .before .before .with-landed-number
+returns c w h t =
+    let s = c .before .before .before .before .before .before .before .before .before .before .before .before .before
+    .before .before .before .before in
+    let a = s .args in
+    let many = s .pre .whole-rows in
+    let n = c .before .before .before .before .before .before .before .before .before .before .with-landed-number
     .ensures in
     let x = landed-with w (a .rows .now) in
-    let hv = lands (a .st) (p .underway .bounded) (a .rows .now) (p .whole-rows) (h .uses)
-    (c .before .before .before .before .before .before .before .before .before .before .before .before .before
-    .write-landed
-    .ensures w (h .uses .holds)) in
-    let v = c .before .before .before .before .before .before .before .before .landed-violation .ensures x (hv .holds)
-    in
+    let held = c .before .before .before .before .before .before .before .before .before .before .before .before .before
+    .write-landed .ensures w (h .within) t in
+    let v = c .before .before .before .before .before .before .before .before .landed-violation .ensures x held many in
     let e = ap resultOf (c .before .before .before .before .before .before .landed .given .1) in
-    let hj = compares (a .st) hv (h .standing-is) (sym e ∙ v) in
-    trial-known (a .st) w (a .rows .now) (a .theta) t (sym v ∙ e)
-    (c .before .before .before .definitely-greater .ensures) (c .before .before .correct-or-judge .ensures x (judges-as
-    t hj))
+    let known = landed-known (a .st) (a .rows .now) (w .step) many (t .step) h t held (sym e ∙ v) in
+    trial-known (a .st) w (a .rows .now) (a .theta) n (sym v ∙ e) (c .before .before .before .definitely-greater
+    .ensures)
+    (c .before .before .correct-or-judge .ensures x (judges-as n known))
 
 enum-known-landed-2 : tie.Need-enum-known-landed-2
 enum-known-landed-2 c = search needs
@@ -82,34 +66,29 @@ refuse-requires : tie.Need-refuse-requires
 refuse-requires c κs =
     let p = c .before .before .before .before .before .before .before .before .before .before .before .before .before
     .pre in
-    let t = c .before .before .before .before .before .before .with-landed-number .ensures in (
-      omega (
-        arith,
-        c .before .before .before .before .before .before .before .before .before .write-landed .kept,
-        p .whole-area,
-      ),
-      limits-as t (limits-of (p .underway .bounded)),
+    rw (c .before .before .before .before .before .before .with-landed-number .ensures) (
+      c .before .before .before .before .before .before .before .before .before .write-landed .kept .0 ∙ p .whole-area,
+      limits-of (p .underway .bounded),
     )
 
 same-length-2 : tie.Need-same-length-2
 same-length-2 c = search needs
 
 returns-2 : tie.Need-returns-2
-returns-2 c w h =
-    let a = c .before .before .before .before .before .before .before .before .before .before .before .before .before
-    .before .before .before .args in
-    let p = c .before .before .before .before .before .before .before .before .before .before .before .before .before
-    .before .before .before .pre in
-    let t = c .before .before .before .before .before .before .before .before .before .with-landed-number .ensures in
+returns-2 c w h t =
+    let s = c .before .before .before .before .before .before .before .before .before .before .before .before .before
+    .before .before .before in
+    let a = s .args in
+    let many = s .pre .whole-rows in
+    let n = c .before .before .before .before .before .before .before .before .before .with-landed-number .ensures in
     let x = landed-with w (a .rows .now) in
-    let hv = lands (a .st) (p .underway .bounded) (a .rows .now) (p .whole-rows) (h .uses)
-    (c .before .before .before .before .before .before .before .before .before .before .before .before .write-landed
-    .ensures
-    w (h .uses .holds)) in
-    let v = c .before .before .before .before .before .before .before .landed-violation .ensures x (hv .holds) in
-    trial-refused (a .st) w (a .rows .now) (a .theta) t
-    (sym v ∙ ap resultOf (c .before .before .before .before .before .landed2 .given .1))
-    (c .before .before .refuse .ensures x (works-as t hv))
+    let held = c .before .before .before .before .before .before .before .before .before .before .before .before
+    .write-landed .ensures w (h .within) t in
+    let v = c .before .before .before .before .before .before .before .landed-violation .ensures x held many in
+    trial-refused (a .st) w (a .rows .now) (a .theta) n (sym v ∙ ap resultOf (c .before .before .before .before .before
+    .landed2 .given .1))
+    (c .before .before .refuse .ensures x (works-as n (lands (a .st) (a .rows .now) (w .step) many (t .step) (h .within)
+    held)))
 
 pub land-trial-spec : {M : Type 1} → statement M
 land-trial-spec =

@@ -1,6 +1,6 @@
 -- `decide` meets its contract: the two tests decide.
 use Rattle.run.proofs.AnsweredLaws.{decide-stuck, decide-better, decide-not}
-use Rattle.run.proofs.ZeroBehind.{limits-of}
+use Rattle.run.proofs.MemoryLaws.{limits-of}
 use borrow.Author.Needs.{needs}
 use Rattle.run.proofs.decide.decide.Statement.{statement}
 use Rattle.run.proofs.decide.decide.Tie as tie
@@ -18,7 +18,7 @@ returns : tie.Need-returns
 returns c w h =
     let a = c .before .before .before .before .before .before .before .args in decide-stuck (a .st) w (a .theta) (a .j)
     (c .before .before .before .before .before .is-stuck .ensures) (c .before .before .before .before .if1 .taken)
-    (c .before .before .finish .ensures w (h .measured .uses))
+    (c .before .before .finish .ensures w (h .from-standing .within))
 
 is-better-requires : tie.Need-is-better-requires
 is-better-requires c κs = search needs
@@ -50,7 +50,7 @@ returns-3 c w h =
     (a .theta) (a .j) (c .before .before .before .before .before .before .before .is-stuck .ensures)
     (c .before .before .before .before .before .before .if1 .left)
     (c .before .before .before .before .before .is-better .ensures) (c .before .before .before .before .if2 .left)
-    (c .before .before .not-lower .ensures w (h .measured))
+    (c .before .before .not-lower .ensures w (h .from-standing))
 
 pub decide-spec : {M : Type 1} → statement M
 decide-spec =

@@ -6,7 +6,7 @@ use Rattle.run.specs.State.{searching}
 use Rattle.run.specs.State.{rejectedFor, withRadius}
 use Rattle.run.specs.declared.state.Search.{Search}
 use Rattle.run.proofs.IterateLaws.{searched, grown-bounded, grow-on, grow-stops}
-use Rattle.run.proofs.ZeroBehind.{limits-of, limits-as, works-as, seeks-as}
+use Rattle.run.proofs.MemoryLaws.{limits-of, works-as, seeks-as}
 use borrow.Author.Needs.{needs}
 use Rattle.run.proofs.decide.grow.Statement.{statement}
 use Rattle.run.proofs.decide.grow.Tie as tie
@@ -57,10 +57,8 @@ with-search-requires-2 c κs = search needs
 
 finish-requires : tie.Need-finish-requires
 finish-requires c κs =
-    let p = c .before .before .before .before .before .before .before .pre in (
-      p .0,
-      limits-as (c .before .with-search2 .ensures) (limits-of (p .1)),
-    )
+    let p = c .before .before .before .before .before .before .before .pre in
+    rw (c .before .with-search2 .ensures) (p .0, limits-of (p .1))
 
 same-length-2 : tie.Need-same-length-2
 same-length-2 c = search needs
@@ -73,7 +71,7 @@ returns-2 c w h =
     grow-stops (searching (s .args .st) (within s)) w
     (sym (c .before .before .before .before .before .before .y2 .given .1) ∙ c .before .before .before .before .before
     .before .before .before .damp .ensures) t
-    (c .before .before .finish .ensures w (works-as t (h .uses)))
+    (c .before .before .finish .ensures w (works-as t (h .within)))
 
 pub grow-spec : {M : Type 1} → statement M
 grow-spec =

@@ -1,51 +1,70 @@
 -- `judge_in` meets its contract: each part of the area is its slot.
 use native.Mathlib.Omega.{arith}
-use Rattle.run.proofs.DecideLaws.{judged-is}
-use Rattle.run.proofs.ZeroBehind.{rows-of}
+use Rattle.run.proofs.DecideLaws.{judged-is, step-part}
+use Rattle.run.proofs.MemoryLaws.{limits-of, rows-of}
 use borrow.Author.Needs.{needs}
 use Rattle.run.proofs.decide.judge_in.Statement.{statement}
 use Rattle.run.proofs.decide.judge_in.Tie as tie
+
+pairs-in-requires : tie.Need-pairs-in-requires
+pairs-in-requires c κs = search needs
 
 row-counts-requires : tie.Need-row-counts-requires
 row-counts-requires c κs = search needs
 
 standing-rows-requires : tie.Need-standing-rows-requires
-standing-rows-requires c κs = search needs
+standing-rows-requires c κs =
+    let p = c .before .before .before .before .pre in
+    (p .0, rw (c .row-counts .ensures) (rows-of (p .1 .bounded)))
 
 landed-rows-requires : tie.Need-landed-rows-requires
-landed-rows-requires c κs = search needs
+landed-rows-requires c κs =
+    let p = c .before .before .before .before .before .pre in
+    (p .0, rw (c .before .row-counts .ensures) (rows-of (p .1 .bounded)))
 
 filter-requires : tie.Need-filter-requires
-filter-requires c κs = search needs
+filter-requires c κs =
+    let p = c .before .before .before .before .before .before .pre in (
+      p .0,
+      rw (c .before .before .before .pairs-in
+          .ensures) (limits-of (p .1 .bounded) .iterations-fit),
+    )
 
 step-requires : tie.Need-step-requires
-step-requires c κs = search needs
+step-requires c κs =
+    let p = c .before .before .before .before .before .before .before .pre in
+    (p .0, p .1 .bounded .few-variables)
 
 judge-requires : tie.Need-judge-requires
 judge-requires c κs =
-    let u = c .before .before .before .before .before .before .pre .1 in
+    let s = c .before .before .before .before .before .before .before .before in
+    let u = s .pre .1 in
     let b = u .bounded in
-    rw (c .before .before .before .before .row-counts .ensures)
+    rw (
+      c .before .before .before .before .row-counts .ensures,
+      c .before .before .before .before .before .pairs-in
+          .ensures,
+      c .step .ensures,
+    )
     (record {
       counts = rows-of b;
       few-pairs = omega (arith, u .below, b .few-iterations);
-      step-is = c .step .ensures .long;
+      step-is = omega (arith, step-part (s .args .st .sizes) (s .args .area .now) (b .few-variables) (s .pre .0));
     })
 
 returns : tie.Need-returns
 returns c w h =
-    let a = c .before .before .before .before .before .before .before .args in
-    let k = h .measured .uses .holds in
-    judged-is (a .st .sizes) w (a .theta) (a .st .counts .iterations) (a .st .last)
-    (c .before .before .before .before .before .row-counts .ensures)
-    (c .before .before .before .before .standing-rows .ensures .read w k)
-    (c .before .before .before .landed-rows .ensures .read w k) (c .before .before .filter .ensures .read w k)
-    (c .before .step .ensures .read w k) (h .landed-is) (c .judge .ensures)
+    judged-is (c .before .before .before .before .before .before .before .before .before .args .st) h (c .before .before
+    .before .before .before .row-counts .ensures) (c .before .before .before .before .before .before .pairs-in .ensures)
+    (c .before .before .before .before .standing-rows .ensures)
+    (c .before .before .before .landed-rows .ensures) (c .before .before .filter .ensures) (c .before .step .ensures) (c
+    .judge .ensures)
 
 pub judge-in-spec : {M : Type 1} → statement M
 judge-in-spec =
     tie.close
     (tie.spec
+    pairs-in-requires
     row-counts-requires
     standing-rows-requires
     landed-rows-requires

@@ -2,7 +2,7 @@
 use mathlib.Core.Path.{sym, ap, _∙_}
 use Rattle.run.specs.program.Judgement.{judgementOf}
 use Rattle.run.proofs.AnsweredLaws.{judge-known, judge-refused}
-use Rattle.run.proofs.ZeroBehind.{limits-of}
+use Rattle.run.proofs.MemoryLaws.{limits-of}
 use borrow.Author.Needs.{needs}
 use Rattle.run.proofs.decide.judge_landed.Statement.{statement}
 use Rattle.run.proofs.decide.judge_landed.Tie as tie
@@ -41,7 +41,7 @@ returns-2 c w h =
     let a = c .before .before .before .before .before .before .before .before .before .before .args in
     let e = sym (c .before .before .before .before .before .before .before .judge-in .ensures w h) ∙ ap judgementOf
     (c .before .before .before .before .before .e .given .1) in
-    judge-refused (a .st) w (a .theta) e (c .before .before .refuse .ensures w (h .measured .uses))
+    judge-refused (a .st) w (a .theta) e (c .before .before .refuse .ensures w (h .from-standing .within))
 
 pub judge-landed-spec : {M : Type 1} → statement M
 judge-landed-spec =

@@ -1,26 +1,19 @@
--- `may_retry` meets its contract: the slot is read only where plain is not tried.
-use mathlib.Core.Path.{ap, _∙_}
-use mathlib.Core.List.{List}
-use lib.Ieee.{Float}
-use Rattle.run.specs.Curvature.{learnedOf}
+-- `may_retry` meets its contract: the curvature is read only where plain is not tried.
 use borrow.Author.Needs.{needs}
 use Rattle.run.proofs.decide.may_retry.Statement.{statement}
 use Rattle.run.proofs.decide.may_retry.Tie as tie
 
 returns : tie.Need-returns
-returns c w h = rw (c .if1 .taken)
+returns c = rw (c .if1 .taken)
 
-curvature-requires : tie.Need-curvature-requires
-curvature-requires c κs = search needs
+curvature-for-requires : tie.Need-curvature-for-requires
+curvature-for-requires c κs = let p = c .before .before .pre in (p .1, p .0)
 
 learned-requires : tie.Need-learned-requires
 learned-requires c κs = search needs
 
 returns-2 : tie.Need-returns-2
-returns-2 c w h =
-    let n = c .before .before .before .before .args .n in
-    rw (c .before .before .if1 .left)
-    (c .learned .ensures ∙ ap (λ (b : List Float). learnedOf n b) (c .before .curvature .ensures .read w h))
+returns-2 c = rw (c .before .before .if1 .left, ← c .before .curvature-for .ensures) (c .learned .ensures)
 
 pub may-retry-spec : {M : Type 1} → statement M
-may-retry-spec = tie.close (tie.spec returns curvature-requires learned-requires returns-2)
+may-retry-spec = tie.close (tie.spec returns curvature-for-requires learned-requires returns-2)

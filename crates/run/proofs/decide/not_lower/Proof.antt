@@ -1,15 +1,22 @@
 -- `not_lower` meets its contract: whether it is tried again decides.
 use Prim.Native.Nat.{_+_}
 use native.Mathlib.Omega.{arith}
-use mathlib.Core.Bool.{true}
+use mathlib.Core.Bool.{Bool, true, false, not, _&&_}
+use mathlib.Core.List.{List}
 use mathlib.Core.Path.{_≡_, refl, sym, ap, _∙_}
-use Rattle.run.specs.State.{searching}
-use Rattle.run.specs.State.{rejectedFor, retried}
+use lib.Ieee.{Float}
+use Rattle.interval.specs.Result.{Res}
+use Rattle.interval.specs.declared.Scalar.{Scalar}
+use Rattle.run.specs.Area.{Memory}
+use Rattle.run.specs.Curvature.{learnedOf}
+use Rattle.run.specs.State.{searching, rejectedFor, retried}
 use Rattle.run.specs.declared.state.Rejection.the-variants as why
 use Rattle.run.specs.declared.state.Search.{Search}
 use Rattle.run.specs.declared.state.State.{State}
+use Rattle.run.specs.program.Area.{StandingKnown}
+use Rattle.run.specs.program.Proposal.{curvatureFor}
 use Rattle.run.proofs.IterateLaws.{searched, retries, turns-down}
-use Rattle.run.proofs.ZeroBehind.{seeks-as}
+use Rattle.run.proofs.MemoryLaws.{read-curvature, seeks-as}
 use borrow.Author.Needs.{needs}
 use Rattle.run.proofs.decide.not_lower.Statement.{statement}
 use Rattle.run.proofs.decide.not_lower.Tie as tie
@@ -38,8 +45,15 @@ again st e f =
       rejected = x .rejected;
     })) e
 
+-- whether it may be, by the curvature that is held
+retry-read :
+    (st : State) {standing : Res Scalar} {w : Memory} {a : List Float} {b : Bool} → StandingKnown st standing w a →
+    b ≡ (not (st .search .plain) && learnedOf (st .sizes .n) (curvatureFor (st .sizes) false a)) →
+    (not (st .search .plain) && learnedOf (st .sizes .n) (w .curvature)) ≡ b
+retry-read st h e = sym (rw (read-curvature (h .within .holds) (h .standing-whole .curvature)) at e)
+
 may-retry-requires : tie.Need-may-retry-requires
-may-retry-requires c κs = search needs
+may-retry-requires c κs = let p = c .before .before .pre in (p .1 .few-variables, p .0)
 
 reject-requires : tie.Need-reject-requires
 reject-requires c κs = search needs
@@ -67,10 +81,10 @@ returns : tie.Need-returns
 returns c w h =
     let st = c .before .before .before .before .before .before .before .before .before .before .before .args .st in
     let t = c .before .before .before .before .with-search .ensures in
-    retries st w (sym (c .before .before .before .before .before .before .before .before .may-retry .ensures w
-    (h .uses .holds)) ∙ c .before .before .before .before .before .before .before .if1 .taken) refl refl
-    (again st (c .before .before .before .before .before .before .reject .ensures) t)
-    (c .before .before .search .ensures w (seeks-as t h))
+    retries st w (retry-read st h (c .before .before .before .before .before .before .before .before .may-retry
+    .ensures) ∙ c .before .before .before .before .before .before .before .if1 .taken) refl refl
+    (again st (c .before .before .before .before .before .before .reject .ensures) t) (c .before .before .search
+    .ensures w (seeks-as t h))
 
 turn-down-requires : tie.Need-turn-down-requires
 turn-down-requires c κs = search needs
@@ -80,10 +94,9 @@ same-length-2 c = search needs
 
 returns-2 : tie.Need-returns-2
 returns-2 c w h =
-    turns-down (c .before .before .before .before .before .before .before .before .args .st) w
-    (sym (c .before .before .before .before .before .may-retry .ensures w (h .uses .holds)) ∙ c .before .before .before
-    .before .if1 .left)
-    (c .before .before .turn-down .ensures w h)
+    let st = c .before .before .before .before .before .before .before .before .args .st in
+    turns-down st w (retry-read st h (c .before .before .before .before .before .may-retry .ensures) ∙ c .before .before
+    .before .before .if1 .left) (c .before .before .turn-down .ensures w h)
 
 pub not-lower-spec : {M : Type 1} → statement M
 not-lower-spec =

@@ -11,7 +11,7 @@ use Rattle.interval.proofs.Given.{yes}
 use Rattle.run.specs.Results.{truthOf}
 use Rattle.run.proofs.DampingBounds.{shrunk-positive}
 use Rattle.run.proofs.AnsweredLaws.{take-known, take-refused, third-known, third-refused}
-use Rattle.run.proofs.ZeroBehind.{limits-of}
+use Rattle.run.proofs.MemoryLaws.{limits-of}
 use borrow.Author.Needs.{needs}
 use Rattle.run.proofs.decide.take.Statement.{statement}
 use Rattle.run.proofs.decide.take.Tie as tie
@@ -99,7 +99,7 @@ returns-2 c w h =
     take-known (a .st) w (a .theta) (a .span) near
     (third-refused (a .st) w (a .theta) (a .span)
     (c .before .before .before .before .before .before .before .before .before .before .linear .given .0 .0) third
-    (c .before .before .refuse .ensures w (h .measured .uses)))
+    (c .before .before .refuse .ensures w (h .from-standing .within)))
 
 enum-known-e-2 : tie.Need-enum-known-e-2
 enum-known-e-2 c = search needs
@@ -117,7 +117,7 @@ returns-3 c w h =
     let a = c .before .before .before .before .before .before .before .before .before .args in
     let near = sym (c .before .before .before .before .before .before .before .linear-of .ensures w (h .landed-is)) ∙ ap
     truthOf (c .before .before .before .before .before .e2 .given .1) in
-    take-refused (a .st) w (a .theta) (a .span) near (c .before .before .refuse2 .ensures w (h .measured .uses))
+    take-refused (a .st) w (a .theta) (a .span) near (c .before .before .refuse2 .ensures w (h .from-standing .within))
 
 pub take-spec : {M : Type 1} → statement M
 take-spec =

@@ -7,7 +7,7 @@ use Rattle.interval.specs.Scaling.{four64}
 use Rattle.interval.specs.declared.Scalar.{Scalar}
 use Rattle.interval.specs.declared.ScalarResult.{ScalarResult}
 use Rattle.run.proofs.IterateLaws.{turn-next, turn-refused}
-use Rattle.run.proofs.ZeroBehind.{limits-of, limits-as, works-as}
+use Rattle.run.proofs.MemoryLaws.{limits-of, works-as}
 use borrow.Author.Needs.{needs}
 use Rattle.run.proofs.decide.turn_down.Statement.{statement}
 use Rattle.run.proofs.decide.turn_down.Tie as tie
@@ -57,10 +57,8 @@ with-search-requires c κs = search needs
 
 refuse-requires : tie.Need-refuse-requires
 refuse-requires c κs =
-    let p = c .before .before .before .before .before .before .before .before .before .pre in (
-      p .0,
-      limits-as (c .before .with-search .ensures) (limits-of (p .1)),
-    )
+    let p = c .before .before .before .before .before .before .before .before .before .pre in
+    rw (c .before .with-search .ensures) (p .0, limits-of (p .1))
 
 same-length-2 : tie.Need-same-length-2
 same-length-2 c = search needs
@@ -72,7 +70,7 @@ returns-2 c w h =
     turn-refused (a .st) w (a .why) (c .before .before .before .before .before .reject .ensures)
     (divided (c .before .before .before .before .before .before .before .before .before)
     (c .before .before .before .before .before .before .before .e .given .1)) t
-    (c .before .before .refuse .ensures w (works-as t (h .uses)))
+    (c .before .before .refuse .ensures w (works-as t (h .within)))
 
 pub turn-down-spec : {M : Type 1} → statement M
 turn-down-spec =

@@ -2,7 +2,7 @@
 use borrow.Author.Tests.{le-leb, lt-leb}
 use Rattle.run.specs.Iterate.{iterate}
 use Rattle.run.proofs.EndingLaws.{when, unless}
-use Rattle.run.proofs.ZeroBehind.{limits-of}
+use Rattle.run.proofs.MemoryLaws.{limits-of}
 use borrow.Author.Needs.{needs}
 use Rattle.run.proofs.iterate.iterate.Statement.{statement}
 use Rattle.run.proofs.iterate.iterate.Tie as tie
@@ -17,7 +17,7 @@ returns : tie.Need-returns
 unfolding iterate
 returns c w h =
     when _ _ (le-leb _ _ (c .before .before .before .before .if1 .taken))
-    (c .before .before .finish .ensures w (h .uses))
+    (c .before .before .finish .ensures w (h .within))
 
 search-requires : tie.Need-search-requires
 search-requires c κs = search needs

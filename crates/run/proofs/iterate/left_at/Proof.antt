@@ -3,7 +3,7 @@ use mathlib.Core.List.{[]}
 use Rattle.run.specs.Area.{withTrial}
 use Rattle.run.specs.Vectors.{movedOf}
 use Rattle.run.specs.Iterate.{leftAt}
-use Rattle.run.proofs.ZeroBehind.{limits-of, limits-as, works-as, rows-of}
+use Rattle.run.proofs.MemoryLaws.{limits-of, works-as}
 use borrow.Author.Needs.{needs}
 use Rattle.run.proofs.iterate.left_at.Statement.{statement}
 use Rattle.run.proofs.iterate.left_at.Tie as tie
@@ -11,15 +11,9 @@ use Rattle.run.proofs.iterate.left_at.Tie as tie
 enum-known-found : tie.Need-enum-known-found
 enum-known-found c = search needs
 
-landed-counts-requires : tie.Need-landed-counts-requires
-landed-counts-requires c κs = search needs
-
 write-trial-requires : tie.Need-write-trial-requires
 write-trial-requires c κs =
-    let p = c .before .before .before .before .before .before .before .before .pre in
-    let b = p .1 in
-    let l = p .2 in
-    (p .0, (rw (c .landed-counts .ensures) (rows-of b), (l .delta-length, l .lambda-length)))
+    let p = c .before .before .before .before .before .before .before .pre in (p .0, limits-of (p .1), p .2)
 
 with-trial-of-requires : tie.Need-with-trial-of-requires
 with-trial-of-requires c κs = search needs
@@ -27,23 +21,20 @@ with-trial-of-requires c κs = search needs
 ask-requires : tie.Need-ask-requires
 ask-requires c κs =
     rw (c .with-trial-of .ensures [] [] [])
-    (c .before .before .before .before .before .before .before .before .before .before .before .before
-    .pre .1 .few-questions)
+    (c .before .before .before .before .before .before .before .before .before .before .before .pre .1 .few-questions)
 
 same-length : tie.Need-same-length
 same-length c = search needs
 
 returns : tie.Need-returns
 unfolding leftAt
-returns c w h =
-    let a = c .before .before .before .before .before .before .before .before .before .before .before .before .before
-    .args in
+returns c w h t =
+    let a = c .before .before .before .before .before .before .before .before .before .before .before .before .args in
     let next = movedOf (a .st .sizes .n) (w .standing) (a .delta .now) in
-    rw (c .before .before .before .before .before .before .before .before .found .given .1)
-    (rw (c .before .with-trial-of .ensures (a .delta .now) (a .lambda .now) next) at (c .ask .ensures (withTrial w next
-    (a .delta .now) (a .lambda .now)) _
-    ((rw (c .before .before .before .before .before .landed-counts .ensures) at
-    (c .before .before .before .before .write-trial .ensures)) w (h .holds) (h .zero-behind .landed-rows))))
+    rw (c .before .before .before .before .before .before .before .found .given .1)
+    ((rw (c .before .with-trial-of .ensures (a .delta .now) (a .lambda .now) next) at (c .ask .ensures))
+    (withTrial (a .st) w next (a .delta .now) (a .lambda .now)) _
+    (c .before .before .before .before .write-trial .ensures w h t))
 
 enum-known-found-2 : tie.Need-enum-known-found-2
 enum-known-found-2 c = search needs
@@ -53,17 +44,15 @@ with-search-requires c κs = search needs
 
 finish-requires : tie.Need-finish-requires
 finish-requires c κs =
-    let p = c .before .before .before .before .before .before .before .before .pre in (
-      p .0,
-      limits-as (c .before .with-search .ensures) (limits-of (p .1)),
-    )
+    let p = c .before .before .before .before .before .before .before .before .pre in
+    rw (c .before .with-search .ensures) (p .0, limits-of (p .1))
 
 same-length-2 : tie.Need-same-length-2
 same-length-2 c = search needs
 
 returns-2 : tie.Need-returns-2
 unfolding leftAt
-returns-2 c w h =
+returns-2 c w h t =
     rw (c .before .before .before .before .before .before .found2 .given .1)
     (rw (c .before .before .before .before .with-search .ensures) at
     (c .before .before .finish .ensures w (works-as (c .before .before .before .before .with-search .ensures) h)))
@@ -76,17 +65,15 @@ with-search-requires-2 c κs = search needs
 
 refuse-requires : tie.Need-refuse-requires
 refuse-requires c κs =
-    let p = c .before .before .before .before .before .before .before .before .pre in (
-      p .0,
-      limits-as (c .before .with-search2 .ensures) (limits-of (p .1)),
-    )
+    let p = c .before .before .before .before .before .before .before .before .pre in
+    rw (c .before .with-search2 .ensures) (p .0, limits-of (p .1))
 
 same-length-3 : tie.Need-same-length-3
 same-length-3 c = search needs
 
 returns-3 : tie.Need-returns-3
 unfolding leftAt
-returns-3 c w h =
+returns-3 c w h t =
     rw (c .before .before .before .before .before .before .found3 .given .1)
     (rw (c .before .before .before .before .with-search2 .ensures) at
     (c .before .before .refuse .ensures w (works-as (c .before .before .before .before .with-search2 .ensures) h)))
@@ -96,7 +83,6 @@ left-at-spec =
     tie.close
     (tie.spec
     enum-known-found
-    landed-counts-requires
     write-trial-requires
     with-trial-of-requires
     ask-requires

@@ -35,7 +35,7 @@ returns : tie.Need-returns
 returns c w h =
     search-by (c .before .before .before .before .before .before .before .before .before .before .before .before .before
     .args .st) w (c .before .before .before .before .before .before .before .before .seek-standing .ensures w h)
-    (c .before .before .left-at .ensures w (h .uses))
+    (c .before .before .left-at .ensures w (h .within) (h .standing-whole))
 
 pub search-spec : {M : Type 1} → statement M
 search-spec =

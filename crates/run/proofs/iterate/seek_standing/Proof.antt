@@ -5,7 +5,7 @@ use Rattle.run.specs.program.Iterate.{soughtWith}
 use Rattle.run.specs.program.Rows.{FewRows}
 use Rattle.run.specs.Area.{standingCounts}
 use Rattle.run.proofs.IterateLaws.{sought-by}
-use Rattle.run.proofs.ZeroBehind.{rows-of}
+use Rattle.run.proofs.MemoryLaws.{rows-of}
 use borrow.Author.Needs.{needs}
 use Rattle.run.proofs.iterate.seek_standing.Statement.{statement}
 use Rattle.run.proofs.iterate.seek_standing.Tie as tie
@@ -24,7 +24,8 @@ seek-requires : tie.Need-seek-requires
 seek-requires c κs =
     let s = c .before .before .before .before .before .before .before .before .before .before in
     let b = s .pre .1 in
-    rw (c .before .before .search-origin .ensures) ((few s, s .pre .0, s .pre .2), (b .few-turned, b .damping))
+    rw (c .before .before .search-origin .ensures)
+    ((few s, s .pre .0, b .few-variables, s .pre .2), (b .few-turned, b .damping))
 
 same-length : tie.Need-same-length
 same-length c = search needs
@@ -34,14 +35,14 @@ same-length-2 c = search needs
 
 returns : tie.Need-returns
 returns c w h =
-    let st = c .before .before .before .before .before .before .before .before .before .before .before .before .before
-    .before .before .args .st in
+    let s = c .before .before .before .before .before .before .before .before .before .before .before .before .before
+    .before .before in
     let k = c .before .before .before .before .seek in
     let l = k .last .1 .1 .1 in
-    let v = sym (h .standing-is)
-    ∙ ap resultOf (c .before .before .before .before .before .before .before .before .before .standing .given .1) in
-    sought-by st (l .0) (l .1 .0) (k .result) (h .uses .holds)
-    (c .before .before .before .before .before .before .before .search-origin .ensures) v (k .ensures)
+    sought-by (s .args .st) (l .0) (l .1 .0) (k .result) h
+    (ap resultOf (c .before .before .before .before .before .before .before .before .before .standing .given .1))
+    (s .pre .1 .few-variables) (c .before .before .before .before .before .before .before .search-origin .ensures)
+    (k .ensures)
 
 enum-known-standing-2 : tie.Need-enum-known-standing-2
 enum-known-standing-2 c = search needs

@@ -47,7 +47,7 @@ judge-requires c κs =
     record {
       counts = q .sized .counts;
       few-pairs = omega (arith, c .before .before .before .before .before .if1 .left);
-      step-is = p .1;
+      step-is = omega (arith, p .1, q .sized .counts .few-variables);
     }
 
 returns-3 : tie.Need-returns-3

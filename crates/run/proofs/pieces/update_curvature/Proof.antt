@@ -39,7 +39,7 @@ update-curvature-requires c κs =
     (c .before .before .before .wants2 .ensures) in
     let q = wants-passed _ _ _ (p .0) (c .before .before .before .before .wants .ensures) in
     let z = fits-passed (q .0) (c .before .before .before .before .before .fits2 .ensures) .sized in
-    (z .counts, q .1)
+    (z .counts, omega (arith, q .1, z .counts .few-variables))
 
 cleared-requires : tie.Need-cleared-requires
 cleared-requires c κs = search needs

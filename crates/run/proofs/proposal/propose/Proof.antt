@@ -3,15 +3,14 @@ use mathlib.Core.Bool.{Bool}
 use mathlib.Core.Path.{_≡_, sym, ap, _∙_}
 use mathlib.Core.List.{List}
 use Prim.Native.Nat.{ℕ}
-use native.Mathlib.Omega.{arith}
 use lib.Ieee.{Float}
 use lib.ListN.{length}
 use Rattle.interval.specs.Result.{ok}
 use Rattle.interval.specs.declared.Scalar.{Scalar}
-use Rattle.run.specs.Proposal.{Standing, expectsOf, withinOf}
+use Rattle.run.specs.Proposal.{Standing, expectsOf}
 use Rattle.run.specs.Results.{truthOf}
 use Rattle.run.specs.Step.{Step, found, notPositive, stepOf}
-use Rattle.run.specs.program.Proposal.{standingIn, modelFor, stillFor, rowsOf, standingPart}
+use Rattle.run.specs.program.Proposal.{standingIn}
 use Rattle.run.specs.program.Step.{endOf}
 use Rattle.run.specs.declared.step.StepEnd as declared
 use Rattle.run.proofs.ProposalLaws.{expects-reads, within-reads, proposal-refused, proposal-by}
@@ -23,7 +22,7 @@ use Rattle.run.proofs.proposal.propose.Tie as tie
 
 -- as many marks as there may be variables
 marks : (s : tie.Start) → length (s .args .origin .moving) ≡ 12
-marks s = length-unmapped Bool (s .args .origin .moving) 12 (s .good .0 .1 .1 .1 .0 .1 .0 .1)
+marks s = length-unmapped Bool (s .args .origin .moving) 12 (s .good .0 .1 .1 .1 .1 .0 .1 .0 .1)
 
 -- what it stands on, the step, and its parts
 module _ (k : tie.After-damped-step) where
@@ -57,14 +56,12 @@ module _ (k : tie.After-damped-step) where
 
 -- what the model expects of it
 expected : (k : tie.After-expects) →
-    let s = k .before .before .before .before .before .before .before .before .before .before .before in
+    let s = k .before .before .before .before .before .before .before .before .before .before .before .before in
     expectsOf (from s) (raw s) ≡ truthOf (k .expects .result)
 expected k =
-    let s = k .before .before .before .before .before .before .before .before .before .before .before in
-    let a = s .before .before .before .before .before .before .before .before .before .before .before .args in
-    sym (k .expects .ensures
-    ∙ ap (λ (b : List Float). expectsOf (modelFor (a .origin .point) (rowsOf (a .area .now)) b) (raw s))
-    (k .before .before .curvature-for .ensures)
+    let s = k .before .before .before .before .before .before .before .before .before .before .before .before in
+    sym (rw (k .before .before .before .standing-rows .ensures, k .before .before .curvature-for .ensures) at
+    (k .expects .ensures)
     ∙ expects-reads (from s) (raw s))
 
 slice-aggregate-damped-step : tie.Need-slice-aggregate-damped-step
@@ -74,51 +71,48 @@ damped-step-requires : tie.Need-damped-step-requires
 damped-step-requires c κs =
     let s = c .before .before .before .before .before .before .before .before .before .before in
     let p = s .pre in
-    (p .0 .0 .few-variables, marks s, p .1 .sizes, p .0 .2)
+    (p .0 .0 .few-variables, marks s, p .1 .sizes, p .0 .3)
 
 enum-known-r : tie.Need-enum-known-r
 enum-known-r c = search needs
 
-sub-rows : tie.Need-sub-rows
-sub-rows c = search needs
-
-part-rows-start : tie.Need-part-rows-start
-part-rows-start c = search needs
-
-part-rows-end : tie.Need-part-rows-end
-part-rows-end c = search needs
+standing-rows-requires : tie.Need-standing-rows-requires
+standing-rows-requires c κs =
+    let p =
+    c .before .before .before .before .before .before .before .before .before .before .before .before .before .before
+    .before .before .before .before .before .pre .0 in (p .1, p .0)
 
 curvature-for-requires : tie.Need-curvature-for-requires
-curvature-for-requires c κs = search needs
+curvature-for-requires c κs =
+    let p =
+    c .before .before .before .before .before .before .before .before .before .before .before .before .before .before
+    .before .before .before .before .before .before .pre .0 in (p .1, p .2)
 
 expects-requires : tie.Need-expects-requires
 expects-requires c κs =
     c .before .before .before .before .before .before .before .before .before .before .before .before .before .before
-    .before .before .before .before .before .before .before .pre .0 .0
+    .before .before .before .before .before .before .before .before .pre .0 .0
 
 enum-known-drop : tie.Need-enum-known-drop
 enum-known-drop c = search needs
 
-sub-x : tie.Need-sub-x
-sub-x c = search needs
-
-part-x-start : tie.Need-part-x-start
-part-x-start c = search needs
-
-part-x-end : tie.Need-part-x-end
-part-x-end c =
-    let p = c .before .before .before .before .before .before .before .before .before .before .before .before .before
-    .before .before .before .before .before .before .before .before .before .before .before .before .before .pre .0 in
-    omega (arith, p .1)
+standing-point-requires : tie.Need-standing-point-requires
+standing-point-requires c κs =
+    let p =
+    c .before .before .before .before .before .before .before .before .before .before .before .before .before .before
+    .before .before .before .before .before .before .before .before .before .before .before .before .before .pre .0
+    in (p .1, p .2)
 
 within-requires : tie.Need-within-requires
 within-requires c κs =
-    let p = c .before .before .before .before .before .before .before .before .before .before .before .before .before
+    let p =
+    c .before .before .before .before .before .before .before .before .before .before .before .before .before .before
     .before .before .before .before .before .before .before .before .before .before .before .before .before .before
     .before .pre .0 in
-    let k = c .before .before .before .before .before .before .before .before .before .before .before .before .before
+    let k =
+    c .before .before .before .before .before .before .before .before .before .before .before .before .before .before
     .before .before .before .before .damped-step .kept .1 .1 .1 .1 .1 .1 .0 in
-    (p .0, k ∙ p .2 .delta-length)
+    (p .0, k ∙ p .3 .delta-length)
 
 same-length : tie.Need-same-length
 same-length c = search needs
@@ -128,23 +122,22 @@ same-length-2 c = search needs
 
 returns : tie.Need-returns
 returns c =
-    let k = c .before .before .before .before .before .before .before .before .before .before .before .before .before
+    let k =
+    c .before .before .before .before .before .before .before .before .before .before .before .before .before .before
     .before .before .before .before .before .before .before in
-    let a = c .before .before .before .before .before .before .before .before .before .before .before .before .before
-    .before .before .before .before .before .before .before .before .before .before .before .before .before .before
-    .before .before .before .before .args in
-    let r = c .before .before .before .before .before .before .before .before .before .before .before .before .before
+    let r =
+    c .before .before .before .before .before .before .before .before .before .before .before .before .before .before
     .before .r .given in
     let x = step k (r .0 .0) in
     let e = expected (c .before .before .before .before .before .before .before .before .before)
     ∙ ap truthOf (c .before .before .before .before .before .before .before .drop .given .1)
     ∙ ap ok (c .before .before .before .before .before .if1 .taken) in
-    c .before .before .within .ensures (lambda k)
-    ∙ ap
-    (λ (b : List Float).
-    withinOf (stillFor (a .origin .point) (rowsOf (a .area .now)) b (standingPart (a .area .now))) (radius k) (raw k)
-    (lambda k))
-    (c .before .before .before .before .before .before .before .before .before .before .before .curvature-for .ensures)
+    rw (
+      c .before .before .before .before .before .before .before .before .before .before .before .before .standing-rows
+          .ensures,
+      c .before .before .before .before .before .before .before .before .before .before .before .curvature-for .ensures,
+      c .before .before .before .before .standing-point .ensures,
+    ) at (c .before .before .within .ensures (lambda k))
     ∙ within-reads (from k) (radius k) (raw k) (lambda k)
     ∙ sym (proposal-by (from k) (mu k) (radius k) (found x) (stepped k _ (r .1))
     ∙ proposed-drop (from k) (mu k) (radius k) x e)
@@ -157,9 +150,10 @@ same-length-4 c = search needs
 
 returns-2 : tie.Need-returns-2
 returns-2 c =
-    let k = c .before .before .before .before .before .before .before .before .before .before .before .before .before
+    let k =
+    c .before .before .before .before .before .before .before .before .before .before .before .before .before .before
     .before .before in
-    let r = c .before .before .before .before .before .before .before .before .before .r .given in
+    let r = c .before .before .before .before .before .before .before .before .before .before .r .given in
     let x = step k (r .0 .0) in
     let e = expected (c .before .before .before .before) ∙ ap truthOf (c .before .before .drop .given .1)
     ∙ ap ok (c .if1 .left) in
@@ -178,8 +172,9 @@ same-length-6 c = search needs
 returns-3 : tie.Need-returns-3
 returns-3 c =
     let k =
-    c .before .before .before .before .before .before .before .before .before .before .before .before .before .before in
-    let r = c .before .before .before .before .before .before .before .before .r .given in
+    c .before .before .before .before .before .before .before .before .before .before .before .before .before .before
+    .before in
+    let r = c .before .before .before .before .before .before .before .before .before .r .given in
     let x = step k (r .0 .0) in
     sym (proposal-by (from k) (mu k) (radius k) (found x) (stepped k _ (r .1))
     ∙ proposed-refused (from k) (mu k) (radius k) x (expected (c .before .before .before)
@@ -220,15 +215,11 @@ propose-spec =
     slice-aggregate-damped-step
     damped-step-requires
     enum-known-r
-    sub-rows
-    part-rows-start
-    part-rows-end
+    standing-rows-requires
     curvature-for-requires
     expects-requires
     enum-known-drop
-    sub-x
-    part-x-start
-    part-x-end
+    standing-point-requires
     within-requires
     same-length
     same-length-2

@@ -1,33 +1,42 @@
--- `standing_violation` meets its contract: the rows are those of their slot.
+-- `standing_violation` meets its contract: the rows that are read are the memory's, of their whole length.
 use mathlib.Core.List.{List}
 use mathlib.Core.Path.{ap, _∙_}
-use native.Mathlib.Omega.{arith}
 use lib.Ieee.{Float}
-use Rattle.run.specs.Rows.{constraintsOf}
-use Rattle.run.specs.Residuals.{violationOf}
 use Rattle.run.specs.Area.{standingCounts}
+use Rattle.run.specs.Residuals.{violationOf}
+use Rattle.run.specs.Rows.{constraintsOf}
+use Rattle.run.proofs.MemoryLaws.{read-standing-rows}
+use Rattle.run.proofs.PlaceLaws.{standing-rows-lent}
 use borrow.Author.Needs.{needs}
 use Rattle.run.proofs.residuals.standing_violation.Statement.{statement}
 use Rattle.run.proofs.residuals.standing_violation.Tie as tie
 
-standing-rows-requires : tie.Need-standing-rows-requires
-standing-rows-requires c κs = search needs
-
 standing-counts-requires : tie.Need-standing-counts-requires
 standing-counts-requires c κs = search needs
 
+standing-rows-requires : tie.Need-standing-rows-requires
+standing-rows-requires c κs =
+    let p = c .before .before .pre in (p .0, rw (c .standing-counts .ensures) (p .1))
+
 violation-requires : tie.Need-violation-requires
 violation-requires c κs =
-    let p = c .before .before .before .pre in
-    rw (c .standing-counts .ensures) (p .0, omega (arith, c .before .standing-rows .ensures .long, p .0))
+    let s = c .before .before .before in
+    let st = s .args .st in
+    let e = c .before .standing-counts .ensures in
+    rw e (
+      s .pre .1 .few-constraints,
+      standing-rows-lent (st .sizes) (s .args .area .now) (s .pre .0) (standingCounts st) (s .pre .1)
+          (rw e at (c .standing-rows .ensures)),
+    )
 
 returns : tie.Need-returns
-returns c w h =
+returns c w h e =
     let st = c .before .before .before .before .args .st in
-    rw (c .before .standing-counts .ensures) at (c .violation .ensures)
+    let k = c .before .before .standing-counts .ensures in
+    rw k at (c .violation .ensures)
     ∙ ap (λ (xs : List Float). violationOf (constraintsOf (standingCounts st) xs))
-    (c .before .before .standing-rows .ensures .read w h)
+    (rw k at (c .before .standing-rows .ensures) ∙ read-standing-rows h e)
 
 pub standing-violation-spec : {M : Type 1} → statement M
-standing-violation-spec = tie.close (tie.spec standing-rows-requires standing-counts-requires
-    violation-requires returns)
+standing-violation-spec =
+    tie.close (tie.spec standing-counts-requires standing-rows-requires violation-requires returns)

@@ -10,22 +10,18 @@ use Rattle.run.proofs.search.seek.Tie as tie
 
 -- as many marks as there may be variables
 marks : (s : tie.Start) → length (s .args .origin .moving) ≡ 12
-marks s = length-unmapped Bool (s .args .origin .moving) 12 (s .good .0 .1 .1 .1 .0 .1 .0 .1)
+marks s = length-unmapped Bool (s .args .origin .moving) 12 (s .good .0 .1 .1 .1 .1 .0 .1 .0 .1)
 
-sub-prepare : tie.Need-sub-prepare
-sub-prepare c = search needs
-
-part-prepare-start : tie.Need-part-prepare-start
-part-prepare-start c = search needs
-
-part-prepare-end : tie.Need-part-prepare-end
-part-prepare-end c = search needs
+standing-rows-requires : tie.Need-standing-rows-requires
+standing-rows-requires c κs =
+    let p = c .before .before .before .before .before .before .pre .0 in (p .1, p .0)
 
 curvature-for-requires : tie.Need-curvature-for-requires
-curvature-for-requires c κs = search needs
+curvature-for-requires c κs =
+    let p = c .before .before .before .before .before .before .before .pre .0 in (p .1, p .2)
 
 slice-aggregate-prepare : tie.Need-slice-aggregate-prepare
-slice-aggregate-prepare c = sym (marks (c .before .before .before .before .before .before .before .before))
+slice-aggregate-prepare c = sym (marks (c .before .before .before .before .before .before .before .before .before))
 
 slice-aggregate-prepare-2 : tie.Need-slice-aggregate-prepare-2
 slice-aggregate-prepare-2 c = search needs
@@ -36,7 +32,7 @@ slice-aggregate-prepare-3 c = search needs
 prepare-requires : tie.Need-prepare-requires
 unfolding ofBits
 prepare-requires c κs =
-    let s = c .before .before .before .before .before .before .before .before .before .before in
+    let s = c .before .before .before .before .before .before .before .before .before .before .before in
     (s .pre .0 .0, marks s, refl, refl)
 
 slice-aggregate-seek-from : tie.Need-slice-aggregate-seek-from
@@ -47,15 +43,15 @@ slice-aggregate-seek-from-2 c = search needs
 
 seek-from-requires : tie.Need-seek-from-requires
 seek-from-requires c κs =
-    let p = c .before .before .before .before .before .before .before .before .before .before .before .before .before
-    .before .before .before .before .pre in (
-      p .0,
-      (
-        rw (c .before .before .before .before .before .before .before .before .before .before .curvature-for
-            .ensures) at (c .before .before .before .before .before .before .prepare .ensures),
-        p .1,
-      ),
-    )
+    let p =
+    c .before .before .before .before .before .before .before .before .before .before .before .before .before .before
+    .before .before .before .before .pre in
+    let prepared = rw (
+      c .before .before .before .before .before .before .before .before .before .before .before .standing-rows .ensures,
+      c .before .before .before .before .before .before .before .before .before .before .curvature-for .ensures,
+    ) at
+    (c .before .before .before .before .before .before .prepare .ensures) in
+    (p .0, (prepared, p .1))
 
 same-length : tie.Need-same-length
 same-length c = search needs
@@ -70,9 +66,7 @@ pub seek-spec : {M : Type 1} → statement M
 seek-spec =
     tie.close
     (tie.spec
-    sub-prepare
-    part-prepare-start
-    part-prepare-end
+    standing-rows-requires
     curvature-for-requires
     slice-aggregate-prepare
     slice-aggregate-prepare-2

@@ -91,10 +91,10 @@ propose-requires : tie.Need-propose-requires Inv-loop μ-loop
 propose-requires c κs =
     let i = c .before .before .loop .inv in
     let p = c .before .before .before .before .before .before .before .before .pre in
-    let l = p .0 .2 in
+    let l = p .0 .3 in
     let d = i .0 ∙ l .delta-length in
     let m = i .1 ∙ l .lambda-length in
-    ((p .0 .0, p .0 .1, record { delta-length = d; lambda-length = m }), p .1 .0)
+    ((p .0 .0, p .0 .1, p .0 .2, record { delta-length = d; lambda-length = m }), p .1 .0)
 
 follow-requires : tie.Need-follow-requires Inv-loop μ-loop
 follow-requires c κs =

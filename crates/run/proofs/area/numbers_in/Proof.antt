@@ -1,0 +1,77 @@
+-- `numbers_in` meets its contract: within the limits every count is small.
+use mathlib.Core.Path.{ap}
+use native.Mathlib.Nat.{mul-le-mul}
+use native.Mathlib.Omega.{arith}
+use Rattle.run.specs.declared.rows.RowCounts.{RowCounts}
+use borrow.Author.Needs.{needs}
+use Rattle.run.proofs.area.numbers_in.Statement.{statement}
+use Rattle.run.proofs.area.numbers_in.Tie as tie
+
+standing-counts-requires : tie.Need-standing-counts-requires
+standing-counts-requires c κs = search needs
+
+mul-point : tie.Need-mul-point
+mul-point c =
+    omega (
+      arith,
+      ap (λ (k : RowCounts). k .n) (c .before .standing-counts .ensures),
+      c .before .before .pre .few .few-variables,
+    )
+
+row-numbers-requires : tie.Need-row-numbers-requires
+row-numbers-requires c κs = rw (c .before .standing-counts .ensures) (c .before .before .pre .few)
+
+landed-counts-requires : tie.Need-landed-counts-requires
+landed-counts-requires c κs = search needs
+
+row-numbers-requires-2 : tie.Need-row-numbers-requires-2
+row-numbers-requires-2 c κs = rw (c .landed-counts .ensures) (c .before .before .before .before .pre .few)
+
+mul-t7 : tie.Need-mul-t7
+mul-t7 c = search needs
+
+mul-t8 : tie.Need-mul-t8
+mul-t8 c =
+    let z = c .before .before .before .before .before .before .before .args .st .sizes in
+    let f = c .before .before .before .before .before .before .before .pre .few .few-variables in
+    rw (ap (λ (k : RowCounts). k .n) (c .before .before .before .before .before .before .standing-counts .ensures))
+    (omega (arith, mul-le-mul {n₁ = z .n} {m₁ = z .n} {n₂ = 12} {m₂ = 12} f f))
+
+mul-t9 : tie.Need-mul-t9
+mul-t9 c =
+    let z = c .before .before .before .before .before .before .before .args .st .sizes in
+    let f = c .before .before .before .before .before .before .before .pre .few .few-variables in
+    rw (ap (λ (k : RowCounts). k .n) (c .before .before .before .before .before .before .standing-counts .ensures))
+    (omega (arith, mul-le-mul {n₁ = z .n} {m₁ = z .n} {n₂ = 12} {m₂ = 12} f f))
+
+pairs-in-requires : tie.Need-pairs-in-requires
+pairs-in-requires c κs = search needs
+
+mul-t11 : tie.Need-mul-t11
+mul-t11 c = search needs
+
+returns : tie.Need-returns
+returns c =
+    rw (
+      c .pairs-in .ensures,
+      c .before .before .before .row-numbers2 .ensures,
+      c .before .before .before .before .before .row-numbers .ensures,
+      c .before .before .before .before .landed-counts .ensures,
+      c .before .before .before .before .before .before .before .standing-counts .ensures,
+    )
+
+pub numbers-in-spec : {M : Type 1} → statement M
+numbers-in-spec =
+    tie.close
+    (tie.spec
+    standing-counts-requires
+    mul-point
+    row-numbers-requires
+    landed-counts-requires
+    row-numbers-requires-2
+    mul-t7
+    mul-t8
+    mul-t9
+    pairs-in-requires
+    mul-t11
+    returns)
