@@ -8,7 +8,7 @@ use native.Mathlib.Omega.{arith}
 use mathlib.Core.Bool.{Bool, true, false, not}
 use lib.Dec.{T}
 use lib.IntN.{ℤ}
-use lib.Ieee.{Float, nan, inf, fin, binary64, mul, neg, fits, isNan, toBits, ofBits}
+use lib.Ieee.{Float, nan, inf, fin, binary64, neg, fits, isNan, toBits, ofBits}
 use lib.Ieee.Bits.{ofBits-toBits}
 use lib.Ieee.Fits.{mul-fits, neg-fits}
 use Rattle.interval.specs.declared.Scalar.{Scalar}

@@ -3,20 +3,8 @@ use borrow.Author.Needs.{needs}
 use Rattle.call_list.proofs.answer.Statement.{statement}
 use Rattle.call_list.proofs.answer.Tie as tie
 
-reply-none-requires : tie.Need-reply-none-requires
-reply-none-requires c κs = search needs
-
-same-length : tie.Need-same-length
-same-length c = search needs
-
 returns : tie.Need-returns
 returns c = rw (c .before .before .before .before .if1 .taken) (c .before .before .reply-none .ensures)
-
-reply-requires : tie.Need-reply-requires
-reply-requires c κs = search needs
-
-same-length-2 : tie.Need-same-length-2
-same-length-2 c = search needs
 
 returns-2 : tie.Need-returns-2
 returns-2 c = rw (c .before .before .before .before .if1 .left) (c .before .before .reply .ensures)
@@ -24,4 +12,4 @@ returns-2 c = rw (c .before .before .before .before .if1 .left) (c .before .befo
 pub answer-spec : {M : Type 1} → statement M
 answer-spec =
     tie.close
-    (tie.spec reply-none-requires same-length returns reply-requires same-length-2 returns-2)
+    (tie.spec (λ c κs. search needs) (λ c. search needs) returns (λ c κs. search needs) (λ c. search needs) returns-2)

@@ -3,15 +3,6 @@ use borrow.Author.Needs.{needs}
 use Rattle.run_c.proofs.decision_of.Statement.{statement}
 use Rattle.run_c.proofs.decision_of.Tie as tie
 
-enum-known-t : tie.Need-enum-known-t
-enum-known-t c = search needs
-
-enum-known-t-2 : tie.Need-enum-known-t-2
-enum-known-t-2 c = search needs
-
-number-of-requires : tie.Need-number-of-requires
-number-of-requires c κs = search needs
-
 returns : tie.Need-returns
 returns c = rw (c .before .t .given .1)
 
@@ -19,4 +10,4 @@ returns-2 : tie.Need-returns-2
 returns-2 c = rw (c .before .before .t2 .given .1, c .number-of .ensures)
 
 pub decision-of-spec : {M : Type 1} → statement M
-decision-of-spec = tie.close (tie.spec enum-known-t enum-known-t-2 number-of-requires returns returns-2)
+decision-of-spec = tie.close (tie.spec (λ c. search needs) (λ c. search needs) (λ c κs. search needs) returns returns-2)

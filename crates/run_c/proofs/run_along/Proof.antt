@@ -5,17 +5,8 @@ use borrow.Author.Needs.{needs}
 use Rattle.run_c.proofs.run_along.Statement.{statement}
 use Rattle.run_c.proofs.run_along.Tie as tie
 
-along-requires : tie.Need-along-requires
-along-requires c κs = search needs
-
-number-of-done-requires : tie.Need-number-of-done-requires
-number-of-done-requires c κs = search needs
-
-same-length : tie.Need-same-length
-same-length c = search needs
-
 returns : tie.Need-returns
 returns c = rw (c .number-of-done .ensures) (ap writtenOf (c .before .before .before .along .ensures))
 
 pub run-along-spec : {M : Type 1} → statement M
-run-along-spec = tie.close (tie.spec along-requires number-of-done-requires same-length returns)
+run-along-spec = tie.close (tie.spec (λ c κs. search needs) (λ c κs. search needs) (λ c. search needs) returns)

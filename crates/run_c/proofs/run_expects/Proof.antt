@@ -5,14 +5,8 @@ use borrow.Author.Needs.{needs}
 use Rattle.run_c.proofs.run_expects.Statement.{statement}
 use Rattle.run_c.proofs.run_expects.Tie as tie
 
-expects-requires : tie.Need-expects-requires
-expects-requires c κs = search needs
-
-decision-of-requires : tie.Need-decision-of-requires
-decision-of-requires c κs = search needs
-
 returns : tie.Need-returns
 returns c = c .decision-of .ensures ∙ ap decisionOf (c .before .expects .ensures)
 
 pub run-expects-spec : {M : Type 1} → statement M
-run-expects-spec = tie.close (tie.spec expects-requires decision-of-requires returns)
+run-expects-spec = tie.close (tie.spec (λ c κs. search needs) (λ c κs. search needs) returns)

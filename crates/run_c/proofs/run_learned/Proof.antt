@@ -5,14 +5,8 @@ use borrow.Author.Needs.{needs}
 use Rattle.run_c.proofs.run_learned.Statement.{statement}
 use Rattle.run_c.proofs.run_learned.Tie as tie
 
-learned-requires : tie.Need-learned-requires
-learned-requires c κs = search needs
-
-decision-of-requires : tie.Need-decision-of-requires
-decision-of-requires c κs = search needs
-
 returns : tie.Need-returns
 returns c = c .decision-of .ensures ∙ ap decisionOf (c .before .learned .ensures)
 
 pub run-learned-spec : {M : Type 1} → statement M
-run-learned-spec = tie.close (tie.spec learned-requires decision-of-requires returns)
+run-learned-spec = tie.close (tie.spec (λ c κs. search needs) (λ c κs. search needs) returns)

@@ -5,17 +5,8 @@ use borrow.Author.Needs.{needs}
 use Rattle.run_c.proofs.run_shift.Statement.{statement}
 use Rattle.run_c.proofs.run_shift.Tie as tie
 
-shift-requires : tie.Need-shift-requires
-shift-requires c κs = search needs
-
-number-of-done-requires : tie.Need-number-of-done-requires
-number-of-done-requires c κs = search needs
-
-same-length : tie.Need-same-length
-same-length c = search needs
-
 returns : tie.Need-returns
 returns c = rw (c .number-of-done .ensures) (ap writtenOf (c .before .before .before .shift .ensures))
 
 pub run-shift-spec : {M : Type 1} → statement M
-run-shift-spec = tie.close (tie.spec shift-requires number-of-done-requires same-length returns)
+run-shift-spec = tie.close (tie.spec (λ c κs. search needs) (λ c κs. search needs) (λ c. search needs) returns)

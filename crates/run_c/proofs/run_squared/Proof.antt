@@ -5,14 +5,8 @@ use borrow.Author.Needs.{needs}
 use Rattle.run_c.proofs.run_squared.Statement.{statement}
 use Rattle.run_c.proofs.run_squared.Tie as tie
 
-squared-requires : tie.Need-squared-requires
-squared-requires c κs = search needs
-
-scalar-result-of-requires : tie.Need-scalar-result-of-requires
-scalar-result-of-requires c κs = search needs
-
 returns : tie.Need-returns
 returns c = c .scalar-result-of .ensures ∙ ap scalarResultOf (c .before .squared .ensures)
 
 pub run-squared-spec : {M : Type 1} → statement M
-run-squared-spec = tie.close (tie.spec squared-requires scalar-result-of-requires returns)
+run-squared-spec = tie.close (tie.spec (λ c κs. search needs) (λ c κs. search needs) returns)

@@ -5,17 +5,9 @@ use borrow.Author.Needs.{needs}
 use Rattle.run_c.proofs.run_update_curvature.Statement.{statement}
 use Rattle.run_c.proofs.run_update_curvature.Tie as tie
 
-update-curvature-requires : tie.Need-update-curvature-requires
-update-curvature-requires c κs = search needs
-
-number-of-done-requires : tie.Need-number-of-done-requires
-number-of-done-requires c κs = search needs
-
-same-length : tie.Need-same-length
-same-length c = search needs
-
 returns : tie.Need-returns
 returns c = rw (c .number-of-done .ensures) (ap writtenOf (c .before .before .before .update-curvature .ensures))
 
 pub run-update-curvature-spec : {M : Type 1} → statement M
-run-update-curvature-spec = tie.close (tie.spec update-curvature-requires number-of-done-requires same-length returns)
+run-update-curvature-spec = tie.close (tie.spec (λ c κs. search needs) (λ c κs. search needs) (λ c. search needs)
+    returns)

@@ -3,18 +3,6 @@ use borrow.Author.Needs.{needs}
 use Rattle.run_c.proofs.stepped_of.Statement.{statement}
 use Rattle.run_c.proofs.stepped_of.Tie as tie
 
-enum-known-e : tie.Need-enum-known-e
-enum-known-e c = search needs
-
-enum-told : tie.Need-enum-told
-enum-told c = search needs
-
-enum-known-e-2 : tie.Need-enum-known-e-2
-enum-known-e-2 c = search needs
-
-number-of-requires : tie.Need-number-of-requires
-number-of-requires c κs = search needs
-
 returns : tie.Need-returns
 returns c = rw (c .before .e .given .1)
 
@@ -26,4 +14,5 @@ returns-3 c = rw (c .before .before .e2 .given .1, c .number-of .ensures)
 
 pub stepped-of-spec : {M : Type 1} → statement M
 stepped-of-spec =
-    tie.close (tie.spec enum-known-e enum-told enum-known-e-2 number-of-requires returns returns-2 returns-3)
+    tie.close (tie.spec (λ c. search needs) (λ c. search needs) (λ c. search needs) (λ c κs. search needs) returns
+    returns-2 returns-3)

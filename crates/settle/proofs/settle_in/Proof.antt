@@ -12,41 +12,17 @@ returns c = search needs
 returns-2 : tie.Need-returns-2
 returns-2 c = search needs
 
-mul-numbers : tie.Need-mul-numbers
-mul-numbers c = search needs
-
-row-numbers-requires : tie.Need-row-numbers-requires
-row-numbers-requires c κs = search needs
-
 returns-3 : tie.Need-returns-3
 returns-3 c = search needs
 
 returns-4 : tie.Need-returns-4
 returns-4 c = search needs
 
-slice-relend-prefix-settle-cut : tie.Need-slice-relend-prefix-settle-cut
-slice-relend-prefix-settle-cut c = search needs
-
 slice-aggregate-settle-cut : tie.Need-slice-aggregate-settle-cut
 slice-aggregate-settle-cut c = sym (length-take-le _ _ (omega arith))
 
-slice-relend-prefix-settle-cut-2 : tie.Need-slice-relend-prefix-settle-cut-2
-slice-relend-prefix-settle-cut-2 c = search needs
-
 slice-aggregate-settle-cut-2 : tie.Need-slice-aggregate-settle-cut-2
 slice-aggregate-settle-cut-2 c = sym (length-take-le _ _ (omega arith))
-
-settle-cut-requires : tie.Need-settle-cut-requires
-settle-cut-requires c κs = search needs
-
-same-length : tie.Need-same-length
-same-length c = search needs
-
-same-length-2 : tie.Need-same-length-2
-same-length-2 c = search needs
-
-same-length-3 : tie.Need-same-length-3
-same-length-3 c = search needs
 
 returns-5 : tie.Need-returns-5
 returns-5 c = search needs
@@ -57,16 +33,16 @@ settle-in-spec =
     (tie.spec
     returns
     returns-2
-    mul-numbers
-    row-numbers-requires
+    (λ c. search needs)
+    (λ c κs. search needs)
     returns-3
     returns-4
-    slice-relend-prefix-settle-cut
+    (λ c. search needs)
     slice-aggregate-settle-cut
-    slice-relend-prefix-settle-cut-2
+    (λ c. search needs)
     slice-aggregate-settle-cut-2
-    settle-cut-requires
-    same-length
-    same-length-2
-    same-length-3
+    (λ c κs. search needs)
+    (λ c. search needs)
+    (λ c. search needs)
+    (λ c. search needs)
     returns-5)

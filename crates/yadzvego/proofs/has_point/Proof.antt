@@ -11,18 +11,9 @@ use borrow.Author.Needs.{needs}
 use Rattle.yadzvego.proofs.has_point.Statement.{statement}
 use Rattle.yadzvego.proofs.has_point.Tie as tie
 
-numbers-fit-requires : tie.Need-numbers-fit-requires
-numbers-fit-requires c κs = search needs
-
 returns : tie.Need-returns
 unfolding hasPoint
 returns c = rw (sym (c .before .numbers-fit .ensures) ∙ not-true _ (c .if1 .taken))
-
-state-at-requires : tie.Need-state-at-requires
-state-at-requires c κs = search needs
-
-valid-requires : tie.Need-valid-requires
-valid-requires c κs = search needs
 
 returns-2 : tie.Need-returns-2
 unfolding hasPoint
@@ -30,9 +21,6 @@ returns-2 c = rw (
   sym (c .before .before .before .before .numbers-fit .ensures) ∙ not-false _ (c .before .before .before .if1 .left),
   ap valid (sym (c .before .before .state-at .ensures)) ∙ sym (c .before .valid .ensures) ∙ not-true _ (c .if2 .taken),
 )
-
-area-length-requires : tie.Need-area-length-requires
-area-length-requires c κs = search needs
 
 returns-3 : tie.Need-returns-3
 unfolding hasPoint
@@ -50,10 +38,10 @@ pub has-point-spec : {M : Type 1} → statement M
 has-point-spec =
     tie.close
     (tie.spec
-    numbers-fit-requires
+    (λ c κs. search needs)
     returns
-    state-at-requires
-    valid-requires
+    (λ c κs. search needs)
+    (λ c κs. search needs)
     returns-2
-    area-length-requires
+    (λ c κs. search needs)
     returns-3)

@@ -5,18 +5,9 @@ use borrow.Author.Needs.{needs}
 use Rattle.yadzvego.proofs.yadzvego_begin.Statement.{statement}
 use Rattle.yadzvego.proofs.yadzvego_begin.Tie as tie
 
-begin-requires : tie.Need-begin-requires
-begin-requires c κs = search needs
-
-returned-of-requires : tie.Need-returned-of-requires
-returned-of-requires c κs = search needs
-
-same-length : tie.Need-same-length
-same-length c = search needs
-
 returns : tie.Need-returns
 unfolding beginExport
 returns c = rw (c .returned-of .ensures) (ap afterExportOf (c .before .before .before .begin .ensures))
 
 pub yadzvego-begin-spec : {M : Type 1} → statement M
-yadzvego-begin-spec = tie.close (tie.spec begin-requires returned-of-requires same-length returns)
+yadzvego-begin-spec = tie.close (tie.spec (λ c κs. search needs) (λ c κs. search needs) (λ c. search needs) returns)

@@ -8,9 +8,6 @@ use borrow.Author.Needs.{needs}
 use Rattle.yadzvego.proofs.yadzvego_point_length.Statement.{statement}
 use Rattle.yadzvego.proofs.yadzvego_point_length.Tie as tie
 
-has-point-requires : tie.Need-has-point-requires
-has-point-requires c κs = search needs
-
 returns : tie.Need-returns
 unfolding pointLength
 returns c = rw (sym (c .before .has-point .ensures) ∙ not-true _ (c .if1 .taken))
@@ -27,4 +24,4 @@ unfolding pointLength
 returns-2 c = rw (sym (c .before .before .has-point .ensures) ∙ not-false _ (c .before .if1 .left))
 
 pub yadzvego-point-length-spec : {M : Type 1} → statement M
-yadzvego-point-length-spec = tie.close (tie.spec has-point-requires returns mul-result returns-2)
+yadzvego-point-length-spec = tie.close (tie.spec (λ c κs. search needs) returns mul-result returns-2)

@@ -8,18 +8,9 @@ use borrow.Author.Needs.{needs}
 use Rattle.yadzvego.proofs.yadzvego_point_place.Statement.{statement}
 use Rattle.yadzvego.proofs.yadzvego_point_place.Tie as tie
 
-has-point-requires : tie.Need-has-point-requires
-has-point-requires c κs = search needs
-
 returns : tie.Need-returns
 unfolding pointPlace
 returns c = rw (sym (c .before .has-point .ensures) ∙ not-true _ (c .if1 .taken))
-
-state-at-requires : tie.Need-state-at-requires
-state-at-requires c κs = search needs
-
-point-place-requires : tie.Need-point-place-requires
-point-place-requires c κs = search needs
 
 returns-2 : tie.Need-returns-2
 unfolding pointPlace
@@ -29,4 +20,4 @@ returns-2 c = rw (sym (c .before .before .before .has-point .ensures) ∙ not-fa
 pub yadzvego-point-place-spec : {M : Type 1} → statement M
 yadzvego-point-place-spec =
     tie.close
-    (tie.spec has-point-requires returns state-at-requires point-place-requires returns-2)
+    (tie.spec (λ c κs. search needs) returns (λ c κs. search needs) (λ c κs. search needs) returns-2)

@@ -33,9 +33,6 @@ returns-2 c =
     gives (s .args .self) _ (yes (g .0 .1)) (yes (g .1 .0 .1))
     (rw (abs-is, c .before .before .before .before .if1 .left, c .before .before .if2 .taken))
 
-max-of-requires : tie.Need-max-of-requires
-max-of-requires c κs = search needs
-
 returns-3 : tie.Need-returns-3
 unfolding ofBits
 returns-3 c =
@@ -45,4 +42,4 @@ returns-3 c =
     (rw (abs-is, c .before .before .before .before .if1 .left, c .before .before .if2 .left, c .max-of .ensures))
 
 pub abs-spec : {M : Type 1} → statement M
-abs-spec = tie.close (tie.spec returns returns-2 max-of-requires returns-3)
+abs-spec = tie.close (tie.spec returns returns-2 (λ c κs. search needs) returns-3)

@@ -9,12 +9,6 @@ use Rattle.interval.proofs.Scalar.add.Tie as tie
 use Rattle.interval.proofs.Given.{yes}
 use Rattle.interval.proofs.Enclosure.Add.{add-holds}
 
-next-down-requires : tie.Need-next-down-requires
-next-down-requires c κs = search needs
-
-next-up-requires : tie.Need-next-up-requires
-next-up-requires c κs = search needs
-
 returns : tie.Need-returns
 returns c =
     let s = c .before .before .before .before .before .before in
@@ -30,4 +24,4 @@ returns c =
     }
 
 pub add-spec : {M : Type 1} → statement M
-add-spec = tie.close (tie.spec next-down-requires next-up-requires returns)
+add-spec = tie.close (tie.spec (λ c κs. search needs) (λ c κs. search needs) returns)

@@ -13,18 +13,6 @@ use Rattle.interval.proofs.Results.{refused-ok, ok-inj}
 use Rattle.interval.proofs.Division.{inverse-value, div-value, div-refused}
 use Rattle.interval.proofs.Enclosure.Div.{div-holds}
 
-inverse-requires : tie.Need-inverse-requires
-inverse-requires c κs = search needs
-
-enum-known-i : tie.Need-enum-known-i
-enum-known-i c = search needs
-
-mul-requires : tie.Need-mul-requires
-mul-requires c κs = search needs
-
-enum-known-e : tie.Need-enum-known-e
-enum-known-e c = search needs
-
 returns : tie.Need-returns
 returns c =
     let k = c .before .before in
@@ -51,4 +39,5 @@ returns-2 c =
     record { value = sym (div-refused (s .args .self) (s .args .other) _ i); encloses = λ x e. absurd (refused-ok e) }
 
 pub div-spec : {M : Type 1} → statement M
-div-spec = tie.close (tie.spec inverse-requires enum-known-i mul-requires enum-known-e returns returns-2)
+div-spec = tie.close (tie.spec (λ c κs. search needs) (λ c. search needs) (λ c κs. search needs) (λ c. search needs)
+    returns returns-2)

@@ -30,18 +30,6 @@ some n (negsuc d) h = refl
 returns : tie.Need-returns
 returns c = sym (none (c .before .args .num) (c .before .args .den) (c .before .fits .den) (c .if1 .taken))
 
-nearest-i64-to-f64-requires : tie.Need-nearest-i64-to-f64-requires
-nearest-i64-to-f64-requires c κs = search needs
-
-nearest-i64-to-f64-requires-2 : tie.Need-nearest-i64-to-f64-requires-2
-nearest-i64-to-f64-requires-2 c κs = search needs
-
-next-down-requires : tie.Need-next-down-requires
-next-down-requires c κs = search needs
-
-next-up-requires : tie.Need-next-up-requires
-next-up-requires c κs = search needs
-
 returns-2 : tie.Need-returns-2
 returns-2 c =
     let s = c .before .before .before .before .before in
@@ -62,8 +50,8 @@ from-ratio-spec =
     tie.close
     (tie.spec
     returns
-    nearest-i64-to-f64-requires
-    nearest-i64-to-f64-requires-2
-    next-down-requires
-    next-up-requires
+    (λ c κs. search needs)
+    (λ c κs. search needs)
+    (λ c κs. search needs)
+    (λ c κs. search needs)
     returns-2)

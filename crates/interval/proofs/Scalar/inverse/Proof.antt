@@ -7,18 +7,9 @@ use Rattle.interval.specs.Scalar.{inverseOf}
 use Rattle.interval.proofs.Scalar.inverse.Statement.{statement}
 use Rattle.interval.proofs.Scalar.inverse.Tie as tie
 
-holds-zero-requires : tie.Need-holds-zero-requires
-holds-zero-requires c κs = search needs
-
 returns : tie.Need-returns
 unfolding inverseOf
 returns c = simp (sym (c .before .holds-zero .ensures) ∙ c .if1 .taken)
-
-next-down-requires : tie.Need-next-down-requires
-next-down-requires c κs = search needs
-
-next-up-requires : tie.Need-next-up-requires
-next-up-requires c κs = search needs
 
 returns-2 : tie.Need-returns-2
 unfolding inverseOf ofBits
@@ -27,4 +18,5 @@ returns-2 c =
     simp (sym (k .before .holds-zero .ensures) ∙ k .if1 .left) (ap ok (cc))
 
 pub inverse-spec : {M : Type 1} → statement M
-inverse-spec = tie.close (tie.spec holds-zero-requires returns next-down-requires next-up-requires returns-2)
+inverse-spec = tie.close (tie.spec (λ c κs. search needs) returns (λ c κs. search needs) (λ c κs. search needs)
+    returns-2)

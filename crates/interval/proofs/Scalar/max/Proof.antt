@@ -8,21 +8,6 @@ use Rattle.interval.proofs.Scalar.max.Tie as tie
 use Rattle.interval.proofs.Given.{yes}
 use Rattle.interval.proofs.Enclosure.Max.{max-encloses}
 
-greater-of-requires : tie.Need-greater-of-requires
-greater-of-requires c κs = search needs
-
-degenerate-requires : tie.Need-degenerate-requires
-degenerate-requires c κs = search needs
-
-greater-of-requires-2 : tie.Need-greater-of-requires-2
-greater-of-requires-2 c κs = search needs
-
-degenerate-requires-2 : tie.Need-degenerate-requires-2
-degenerate-requires-2 c κs = search needs
-
-union-of-requires : tie.Need-union-of-requires
-union-of-requires c κs = search needs
-
 returns : tie.Need-returns
 returns c =
     let s = c .before .before .before .before .before in
@@ -41,9 +26,9 @@ pub max-spec : {M : Type 1} → statement M
 max-spec =
     tie.close
     (tie.spec
-    greater-of-requires
-    degenerate-requires
-    greater-of-requires-2
-    degenerate-requires-2
-    union-of-requires
+    (λ c κs. search needs)
+    (λ c κs. search needs)
+    (λ c κs. search needs)
+    (λ c κs. search needs)
+    (λ c κs. search needs)
     returns)

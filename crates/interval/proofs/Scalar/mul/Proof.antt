@@ -7,9 +7,6 @@ use Rattle.interval.proofs.Scalar.mul.Tie as tie
 use Rattle.interval.proofs.Given.{yes}
 use Rattle.interval.proofs.Enclosure.Mul.{mul-holds}
 
-spread-of-requires : tie.Need-spread-of-requires
-spread-of-requires c κs = search needs
-
 returns : tie.Need-returns
 returns c =
     let s = c .before .before .before .before .before .before .before .before .before in
@@ -24,4 +21,4 @@ returns c =
     }
 
 pub mul-spec : {M : Type 1} → statement M
-mul-spec = tie.close (tie.spec spread-of-requires returns)
+mul-spec = tie.close (tie.spec (λ c κs. search needs) returns)

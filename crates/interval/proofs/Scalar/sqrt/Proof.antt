@@ -16,21 +16,6 @@ returns : tie.Need-returns
 unfolding sqrtOf ofBits
 returns c = record { value = simp (c .if1 .taken); encloses = λ x e. absurd (refused-ok e) }
 
-clamped-at-zero-requires : tie.Need-clamped-at-zero-requires
-clamped-at-zero-requires c κs = search needs
-
-nearest-root-requires : tie.Need-nearest-root-requires
-nearest-root-requires c κs = search needs
-
-next-down-requires : tie.Need-next-down-requires
-next-down-requires c κs = search needs
-
-nearest-root-requires-2 : tie.Need-nearest-root-requires-2
-nearest-root-requires-2 c κs = search needs
-
-next-up-requires : tie.Need-next-up-requires
-next-up-requires c κs = search needs
-
 returns-2 : tie.Need-returns-2
 unfolding sqrtOf ofBits
 returns-2 c =
@@ -48,9 +33,9 @@ sqrt-spec =
     tie.close
     (tie.spec
     returns
-    clamped-at-zero-requires
-    nearest-root-requires
-    next-down-requires
-    nearest-root-requires-2
-    next-up-requires
+    (λ c κs. search needs)
+    (λ c κs. search needs)
+    (λ c κs. search needs)
+    (λ c κs. search needs)
+    (λ c κs. search needs)
     returns-2)

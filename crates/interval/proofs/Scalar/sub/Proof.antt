@@ -9,12 +9,6 @@ use Rattle.interval.proofs.Scalar.sub.Tie as tie
 use Rattle.interval.proofs.Given.{yes}
 use Rattle.interval.proofs.Enclosure.Neg.{sub-holds}
 
-next-down-requires : tie.Need-next-down-requires
-next-down-requires c κs = search needs
-
-next-up-requires : tie.Need-next-up-requires
-next-up-requires c κs = search needs
-
 returns : tie.Need-returns
 returns c =
     let s = c .before .before .before .before .before .before in
@@ -30,4 +24,4 @@ returns c =
     }
 
 pub sub-spec : {M : Type 1} → statement M
-sub-spec = tie.close (tie.spec next-down-requires next-up-requires returns)
+sub-spec = tie.close (tie.spec (λ c κs. search needs) (λ c κs. search needs) returns)

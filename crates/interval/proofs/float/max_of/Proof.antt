@@ -8,12 +8,9 @@ returns : tie.Need-returns
 unfolding fmax
 returns c = simp (c .if1 .taken)
 
-greater-of-requires : tie.Need-greater-of-requires
-greater-of-requires c κs = search needs
-
 returns-2 : tie.Need-returns-2
 unfolding fmax
 returns-2 c = simp (c .before .if1 .left) (c .greater-of .ensures)
 
 pub max-of-spec : {M : Type 1} → statement M
-max-of-spec = tie.close (tie.spec returns greater-of-requires returns-2)
+max-of-spec = tie.close (tie.spec returns (λ c κs. search needs) returns-2)

@@ -8,12 +8,9 @@ returns : tie.Need-returns
 unfolding fmin
 returns c = simp (c .if1 .taken)
 
-lesser-of-requires : tie.Need-lesser-of-requires
-lesser-of-requires c κs = search needs
-
 returns-2 : tie.Need-returns-2
 unfolding fmin
 returns-2 c = simp (c .before .if1 .left) (c .lesser-of .ensures)
 
 pub min-of-spec : {M : Type 1} → statement M
-min-of-spec = tie.close (tie.spec returns lesser-of-requires returns-2)
+min-of-spec = tie.close (tie.spec returns (λ c κs. search needs) returns-2)

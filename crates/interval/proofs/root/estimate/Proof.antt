@@ -4,9 +4,6 @@ use Rattle.interval.proofs.RootExtend.{no-nan, itself}
 use Rattle.interval.proofs.root.estimate.Statement.{statement}
 use Rattle.interval.proofs.root.estimate.Tie as tie
 
-pattern-of-requires : tie.Need-pattern-of-requires
-pattern-of-requires c κs = search needs
-
 float-from-bits-z : tie.Need-float-from-bits-z
 float-from-bits-z c = no-nan (c .pattern-of .result) (c .pattern-of .ensures)
 
@@ -21,4 +18,4 @@ returns-2 c = search needs
 
 pub estimate-spec : {M : Type 1} → statement M
 estimate-spec =
-    tie.close (tie.spec pattern-of-requires float-from-bits-z float-to-bits-result returns returns-2)
+    tie.close (tie.spec (λ c κs. search needs) float-from-bits-z float-to-bits-result returns returns-2)

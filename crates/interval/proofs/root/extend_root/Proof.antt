@@ -11,23 +11,8 @@ the : (c : tie.Start) → Facts (c .args .s) (c .args .r) (c .args .r * 13421772
     (c .args .r * 134217728 % (c .args .s * 2))
 the c = facts (c .args .s) (c .args .r) (c .pre .from) (c .pre .rest)
 
-mul-t : tie.Need-mul-t
-mul-t c = search needs
-
-mul-d : tie.Need-mul-d
-mul-d c = search needs
-
-div-u : tie.Need-div-u
-div-u c = search needs
-
-rem-v : tie.Need-rem-v
-rem-v c = search needs
-
 mul-p : tie.Need-mul-p
 mul-p c = record { fits = omega (arith, the c .rest, c .pre) }
-
-mul-q : tie.Need-mul-q
-mul-q c = search needs
 
 add-q : tie.Need-add-q
 add-q c = record { fits = omega (arith, the c .few, c .pre) }
@@ -41,17 +26,11 @@ returns c = record {
   rest = omega (arith, the (c .before) .rest);
 }
 
-sub-t10 : tie.Need-sub-t10
-sub-t10 c = search needs
-
 mul-t13 : tie.Need-mul-t13
 mul-t13 c = record { fits = omega (arith, the (c .before) .few, c .before .pre) }
 
 add-t14 : tie.Need-add-t14
 add-t14 c = record { fits = omega (arith, the (c .before) .few, the (c .before) .rest, c .before .pre) }
-
-sub-t15 : tie.Need-sub-t15
-sub-t15 c = search needs
 
 sub-t16 : tie.Need-sub-t16
 sub-t16 c = omega (
@@ -86,18 +65,18 @@ pub extend-root-spec : {M : Type 1} → statement M
 extend-root-spec =
     tie.close
     (tie.spec
-    mul-t
-    mul-d
-    div-u
-    rem-v
+    (λ c. search needs)
+    (λ c. search needs)
+    (λ c. search needs)
+    (λ c. search needs)
     mul-p
-    mul-q
+    (λ c. search needs)
     add-q
     mul-w
     returns
-    sub-t10
+    (λ c. search needs)
     mul-t13
     add-t14
-    sub-t15
+    (λ c. search needs)
     sub-t16
     returns-2)

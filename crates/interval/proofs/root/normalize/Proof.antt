@@ -14,9 +14,6 @@ abbrev μ-loop : tie.MeasureT-loop
 loop-holds : tie.Need-loop-holds Inv-loop μ-loop
 loop-holds c = up-start (c .args .s .c) (c .args .s .e) (c .pre)
 
-mul-c : tie.Need-mul-c Inv-loop μ-loop
-mul-c c = search needs
-
 sub-e : tie.Need-sub-e Inv-loop μ-loop
 sub-e c = up-more (c .before .before .args .s .c) (c .before .before .args .s .e) (c .before .loop .c)
     (c .before .loop .e) (c .before .loop .inv) (c .loop-test .taken)
@@ -39,4 +36,4 @@ returns c =
 
 pub normalize-spec : {M : Type 1} → statement M
 normalize-spec =
-    tie.close (tie.spec Inv-loop μ-loop loop-holds mul-c sub-e loop-less loop-again returns)
+    tie.close (tie.spec Inv-loop μ-loop loop-holds (λ c. search needs) sub-e loop-less loop-again returns)

@@ -50,9 +50,6 @@ loop-less c = omega (
       (omega (arith, c .before .before .pre .0)),
 )
 
-loop-again : tie.Need-loop-again Inv-loop μ-loop
-loop-again c = search needs
-
 returns : tie.Need-returns Inv-loop μ-loop
 returns c = (c .before .loop .inv, search needs)
 
@@ -68,5 +65,5 @@ raise-to-root-spec =
     mul-loop
     add-q
     loop-less
-    loop-again
+    (λ c. search needs)
     returns)

@@ -5,24 +5,9 @@ use Rattle.interval.proofs.RootBits.{lifts-of, all}
 use Rattle.interval.proofs.root.root_bits.Statement.{statement}
 use Rattle.interval.proofs.root.root_bits.Tie as tie
 
-decompose-requires : tie.Need-decompose-requires
-decompose-requires c κs = search needs
-
 normalize-requires : tie.Need-normalize-requires
 normalize-requires c κs = lifts-of (c .before .args .b) (c .decompose .result .c) (c .decompose .result .e)
     (c .before .pre .0) (c .decompose .ensures .0) (c .decompose .ensures .1)
-
-even-exponent-requires : tie.Need-even-exponent-requires
-even-exponent-requires c κs = search needs
-
-root-digits-requires : tie.Need-root-digits-requires
-root-digits-requires c κs = search needs
-
-add-result : tie.Need-add-result
-add-result c = search needs
-
-mul-result : tie.Need-mul-result
-mul-result c = search needs
 
 add-result-2 : tie.Need-add-result-2
 add-result-2 c =
@@ -34,9 +19,6 @@ add-result-2 c =
     (c .before .before .before .before .decompose .ensures .0) (c .before .before .before .normalize .ensures)
     (c .before .before .even-exponent .ensures) (c .before .root-digits .ensures) in
     record { fits = omega arith }
-
-add-result-3 : tie.Need-add-result-3
-add-result-3 c = search needs
 
 returns : tie.Need-returns
 returns c =
@@ -53,12 +35,12 @@ pub root-bits-spec : {M : Type 1} → statement M
 root-bits-spec =
     tie.close
     (tie.spec
-    decompose-requires
+    (λ c κs. search needs)
     normalize-requires
-    even-exponent-requires
-    root-digits-requires
-    add-result
-    mul-result
+    (λ c κs. search needs)
+    (λ c κs. search needs)
+    (λ c. search needs)
+    (λ c. search needs)
     add-result-2
-    add-result-3
+    (λ c. search needs)
     returns)

@@ -3,9 +3,6 @@ use borrow.Author.Needs.{needs}
 use Rattle.interval.proofs.step.pattern_above.Statement.{statement}
 use Rattle.interval.proofs.step.pattern_above.Tie as tie
 
-add-result : tie.Need-add-result
-add-result c = search needs
-
 returns : tie.Need-returns
 returns c = simp (c .if1 .taken)
 
@@ -16,4 +13,4 @@ returns-2 : tie.Need-returns-2
 returns-2 c = simp (c .if1 .left)
 
 pub pattern-above-spec : {M : Type 1} → statement M
-pattern-above-spec = tie.close (tie.spec add-result returns sub-result returns-2)
+pattern-above-spec = tie.close (tie.spec (λ c. search needs) returns sub-result returns-2)

@@ -35,17 +35,8 @@ module _ (word : ℕ) (h : 9223372036854775808 ≤ word) (fits : word < 18446744
       sym (toZ-neg w64 (18446744073709551615 - word) near) ∙
       ap (toZ w64) back
 
-cast-result : tie.Need-cast-result
-cast-result c = search needs
-
 returns : tie.Need-returns
 returns c = search needs
-
-sub-result : tie.Need-sub-result
-sub-result c = search needs
-
-cast-result-2 : tie.Need-cast-result-2
-cast-result-2 c = search needs
 
 sub-result-2 : tie.Need-sub-result-2
 sub-result-2 c = sfits (c .before .args .word) (c .if1 .left) (c .before .fits .word .fits)
@@ -55,4 +46,4 @@ returns-2 c = as-word (c .before .args .word) (c .if1 .left) (c .before .fits .w
 
 pub signed-spec : {M : Type 1} → statement M
 signed-spec =
-    tie.close (tie.spec cast-result returns sub-result cast-result-2 sub-result-2 returns-2)
+    tie.close (tie.spec (λ c. search needs) returns (λ c. search needs) (λ c. search needs) sub-result-2 returns-2)

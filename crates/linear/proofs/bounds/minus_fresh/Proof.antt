@@ -5,9 +5,6 @@ use Rattle.linear.proofs.BoundLaws.{difference-below, difference-above,
 use Rattle.linear.proofs.bounds.minus_fresh.Statement.{statement}
 use Rattle.linear.proofs.bounds.minus_fresh.Tie as tie
 
-product-fresh-requires : tie.Need-product-fresh-requires
-product-fresh-requires c κs = search needs
-
 step-up-requires : tie.Need-step-up-requires
 step-up-requires c κs = let k = c .before .before .before in
     difference-below (k .args .z) (mulOf (k .args .x) (k .args .y)) (k .pre)
@@ -27,4 +24,4 @@ returns c =
 
 pub minus-fresh-spec : {M : Type 1} → statement M
 minus-fresh-spec =
-    tie.close (tie.spec product-fresh-requires step-up-requires step-up-requires-2 returns)
+    tie.close (tie.spec (λ c κs. search needs) step-up-requires step-up-requires-2 returns)

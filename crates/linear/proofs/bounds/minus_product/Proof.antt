@@ -5,9 +5,6 @@ use Rattle.linear.proofs.BoundLaws.{difference-below, difference-above,
 use Rattle.linear.proofs.bounds.minus_product.Statement.{statement}
 use Rattle.linear.proofs.bounds.minus_product.Tie as tie
 
-product-requires : tie.Need-product-requires
-product-requires c κs = search needs
-
 step-up-requires : tie.Need-step-up-requires
 step-up-requires c κs = let k = c .before .before .before in
     difference-below (k .args .z) (mulOf (k .args .x) (k .args .y)) (k .pre) (c .before .before .product .ensures) .1
@@ -26,4 +23,4 @@ returns c =
 
 pub minus-product-spec : {M : Type 1} → statement M
 minus-product-spec =
-    tie.close (tie.spec product-requires step-up-requires step-up-requires-2 returns)
+    tie.close (tie.spec (λ c κs. search needs) step-up-requires step-up-requires-2 returns)

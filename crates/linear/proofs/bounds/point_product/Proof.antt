@@ -19,15 +19,9 @@ number q e = subst (λ (z : Float). T (not (isNan z))) (sym e) (greater-number (
 ended : {u g h e : Float} → u ≡ nextUp g → g ≡ h → nextUp h ≡ e → add binary64 u zero64 ≡ add binary64 e zero64
 ended p q r = ap (λ (z : Float). add binary64 z zero64) (p ∙ ap nextUp q ∙ r)
 
-greater-of-requires : tie.Need-greater-of-requires
-greater-of-requires c κs = search needs
-
 step-up-requires : tie.Need-step-up-requires
 unfolding ofBits div neg
 step-up-requires c κs = number _ (c .greater-of .ensures)
-
-greater-of-requires-2 : tie.Need-greater-of-requires-2
-greater-of-requires-2 c κs = search needs
 
 step-up-requires-2 : tie.Need-step-up-requires-2
 unfolding ofBits div neg
@@ -51,8 +45,8 @@ pub point-product-spec : {M : Type 1} → statement M
 point-product-spec =
     tie.close
     (tie.spec
-    greater-of-requires
+    (λ c κs. search needs)
     step-up-requires
-    greater-of-requires-2
+    (λ c κs. search needs)
     step-up-requires-2
     returns)

@@ -28,9 +28,6 @@ mul-result c = omega (arith, at-entry c .some, toBits-lt binary64 (c .args .x) (
 sub-result : tie.Need-sub-result
 sub-result c = at-entry c .some
 
-one-if-requires : tie.Need-one-if-requires
-one-if-requires c κs = search needs
-
 add-result : tie.Need-add-result
 unfolding ofBits
 add-result c = let k = c .before in
@@ -53,7 +50,7 @@ step-on-spec =
     float-to-bits-b
     mul-result
     sub-result
-    one-if-requires
+    (λ c κs. search needs)
     add-result
     float-from-bits-result
     returns)

@@ -9,26 +9,14 @@ returns : tie.Need-returns
 unfolding sharpReply
 returns c = rw (lt-leb _ _ (c .if1 .taken))
 
-mul-if2 : tie.Need-mul-if2
-mul-if2 c = search needs
-
 returns-2 : tie.Need-returns-2
 unfolding sharpReply
 returns-2 c = rw (le-leb _ _ (c .before .if1 .left), ne-eqb _ _ (c .if2 .taken))
-
-mul-if3 : tie.Need-mul-if3
-mul-if3 c = search needs
 
 returns-3 : tie.Need-returns-3
 unfolding sharpReply
 returns-3 c =
     rw (le-leb _ _ (c .before .before .if1 .left), eq-eqb _ _ (c .before .if2 .left), ne-eqb _ _ (c .if3 .taken))
-
-sharp-into-requires : tie.Need-sharp-into-requires
-sharp-into-requires c κs = search needs
-
-same-length : tie.Need-same-length
-same-length c = search needs
 
 returns-4 : tie.Need-returns-4
 unfolding sharpReply
@@ -46,10 +34,10 @@ sharp-spec =
     tie.close
     (tie.spec
     returns
-    mul-if2
+    (λ c. search needs)
     returns-2
-    mul-if3
+    (λ c. search needs)
     returns-3
-    sharp-into-requires
-    same-length
+    (λ c κs. search needs)
+    (λ c. search needs)
     returns-4)

@@ -3,12 +3,6 @@ use borrow.Author.Needs.{needs}
 use Rattle.linear.proofs.dots.are_points.Statement.{statement}
 use Rattle.linear.proofs.dots.are_points.Tie as tie
 
-is-sharp-requires : tie.Need-is-sharp-requires
-is-sharp-requires c κs = search needs
-
-is-sharp-requires-2 : tie.Need-is-sharp-requires-2
-is-sharp-requires-2 c κs = search needs
-
 returns : tie.Need-returns
 returns c = rw (← c .before .before .is-sharp .ensures, c .before .if1 .taken) (c .is-sharp2 .ensures)
 
@@ -19,7 +13,7 @@ pub are-points-spec : {M : Type 1} → statement M
 are-points-spec =
     tie.close
     (tie.spec
-    is-sharp-requires
-    is-sharp-requires-2
+    (λ c κs. search needs)
+    (λ c κs. search needs)
     returns
     returns-2)

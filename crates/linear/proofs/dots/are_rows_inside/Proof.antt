@@ -4,15 +4,6 @@ use borrow.Author.Needs.{needs}
 use Rattle.linear.proofs.dots.are_rows_inside.Statement.{statement}
 use Rattle.linear.proofs.dots.are_rows_inside.Tie as tie
 
-is-row-inside-requires : tie.Need-is-row-inside-requires
-is-row-inside-requires c κs = search needs
-
-is-row-inside-requires-2 : tie.Need-is-row-inside-requires-2
-is-row-inside-requires-2 c κs = search needs
-
-is-row-inside-requires-3 : tie.Need-is-row-inside-requires-3
-is-row-inside-requires-3 c κs = search needs
-
 returns : tie.Need-returns
 returns c =
     λ e. record {
@@ -28,8 +19,8 @@ pub are-rows-inside-spec : {M : Type 1} → statement M
 are-rows-inside-spec =
     tie.close
     (tie.spec
-    is-row-inside-requires
-    is-row-inside-requires-2
-    is-row-inside-requires-3
+    (λ c κs. search needs)
+    (λ c κs. search needs)
+    (λ c κs. search needs)
     returns
     returns-2)

@@ -4,12 +4,6 @@ use borrow.Author.Needs.{needs}
 use Rattle.linear.proofs.dots.are_runs_inside.Statement.{statement}
 use Rattle.linear.proofs.dots.are_runs_inside.Tie as tie
 
-both-inside-requires : tie.Need-both-inside-requires
-both-inside-requires c κs = search needs
-
-is-row-inside-requires : tie.Need-is-row-inside-requires
-is-row-inside-requires c κs = search needs
-
 returns : tie.Need-returns
 returns c =
     λ e. let i = c .before .before .both-inside .ensures (c .before .if1 .taken) in
@@ -19,4 +13,4 @@ returns-2 : tie.Need-returns-2
 returns-2 c = λ e. absurd (false≢true e)
 
 pub are-runs-inside-spec : {M : Type 1} → statement M
-are-runs-inside-spec = tie.close (tie.spec both-inside-requires is-row-inside-requires returns returns-2)
+are-runs-inside-spec = tie.close (tie.spec (λ c κs. search needs) (λ c κs. search needs) returns returns-2)

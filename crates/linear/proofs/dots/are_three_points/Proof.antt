@@ -4,12 +4,6 @@ use borrow.Author.Needs.{needs}
 use Rattle.linear.proofs.dots.are_three_points.Statement.{statement}
 use Rattle.linear.proofs.dots.are_three_points.Tie as tie
 
-is-sharp-requires : tie.Need-is-sharp-requires
-is-sharp-requires c κs = search needs
-
-are-points-requires : tie.Need-are-points-requires
-are-points-requires c κs = search needs
-
 returns : tie.Need-returns
 returns c = rw (sym (c .before .before .is-sharp .ensures) ∙ c .before .if1 .taken) (c .are-points .ensures)
 
@@ -17,4 +11,4 @@ returns-2 : tie.Need-returns-2
 returns-2 c = rw (sym (c .before .is-sharp .ensures) ∙ c .if1 .left)
 
 pub are-three-points-spec : {M : Type 1} → statement M
-are-three-points-spec = tie.close (tie.spec is-sharp-requires are-points-requires returns returns-2)
+are-three-points-spec = tie.close (tie.spec (λ c κs. search needs) (λ c κs. search needs) returns returns-2)

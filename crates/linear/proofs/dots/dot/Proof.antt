@@ -11,23 +11,14 @@ returns : tie.Need-returns
 unfolding dotReply
 returns c = rw (lt-leb _ _ (c .if1 .taken))
 
-mul-if2 : tie.Need-mul-if2
-mul-if2 c = search needs
-
 returns-2 : tie.Need-returns-2
 unfolding dotReply
 returns-2 c = rw (le-leb _ _ (c .before .if1 .left), ne-eqb _ _ (c .if2 .taken))
-
-mul-if3 : tie.Need-mul-if3
-mul-if3 c = search needs
 
 returns-3 : tie.Need-returns-3
 unfolding dotReply
 returns-3 c =
     rw (le-leb _ _ (c .before .before .if1 .left), eq-eqb _ _ (c .before .if2 .left), ne-eqb _ _ (c .if3 .taken))
-
-dot-of-requires : tie.Need-dot-of-requires
-dot-of-requires c κs = search needs
 
 returns-4 : tie.Need-returns-4
 unfolding dotReply
@@ -39,4 +30,5 @@ returns-4 c = rw (
 
 pub dot-spec : {M : Type 1} → statement M
 dot-spec =
-    tie.close (tie.spec returns mul-if2 returns-2 mul-if3 returns-3 dot-of-requires returns-4)
+    tie.close (tie.spec returns (λ c. search needs) returns-2 (λ c. search needs) returns-3 (λ c κs. search needs)
+    returns-4)

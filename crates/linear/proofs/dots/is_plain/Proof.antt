@@ -7,15 +7,6 @@ use Rattle.linear.specs.Bounds.{boundsOf, isProper}
 use Rattle.linear.proofs.dots.is_plain.Statement.{statement}
 use Rattle.linear.proofs.dots.is_plain.Tie as tie
 
-both-inside-requires : tie.Need-both-inside-requires
-both-inside-requires c κs = search needs
-
-bounds-of-requires : tie.Need-bounds-of-requires
-bounds-of-requires c κs = search needs
-
-is-proper-requires : tie.Need-is-proper-requires
-is-proper-requires c κs = search needs
-
 returns : tie.Need-returns
 returns c = λ e.
     let places = c .before .before .before .both-inside .ensures (c .before .before .if1 .taken) in
@@ -32,4 +23,4 @@ returns-2 c = λ e. absurd (false≢true e)
 pub is-plain-spec : {M : Type 1} → statement M
 is-plain-spec =
     tie.close
-    (tie.spec both-inside-requires bounds-of-requires is-proper-requires returns returns-2)
+    (tie.spec (λ c κs. search needs) (λ c κs. search needs) (λ c κs. search needs) returns returns-2)

@@ -11,14 +11,8 @@ slice-aggregate-plus-dot c = anew-length (c .before .before .before .args .a .no
 slice-aggregate-plus-dot-2 : tie.Need-slice-aggregate-plus-dot-2
 slice-aggregate-plus-dot-2 c = anew-length (c .before .before .before .before .args .b .now)
 
-neg-requires : tie.Need-neg-requires
-neg-requires c κs = search needs
-
 plus-dot-requires : tie.Need-plus-dot-requires
 plus-dot-requires c κs = tt
-
-neg-requires-2 : tie.Need-neg-requires-2
-neg-requires-2 c κs = search needs
 
 returns : tie.Need-returns
 returns c =
@@ -31,7 +25,7 @@ minus-dot-spec =
     (tie.spec
     slice-aggregate-plus-dot
     slice-aggregate-plus-dot-2
-    neg-requires
+    (λ c κs. search needs)
     plus-dot-requires
-    neg-requires-2
+    (λ c κs. search needs)
     returns)

@@ -3,17 +3,11 @@ use borrow.Author.Needs.{needs}
 use Rattle.linear.proofs.dots.plus_dot.Statement.{statement}
 use Rattle.linear.proofs.dots.plus_dot.Tie as tie
 
-is-plain-requires : tie.Need-is-plain-requires
-is-plain-requires c κs = search needs
-
 plus-inside-requires : tie.Need-plus-inside-requires
 plus-inside-requires c κs = c .before .is-plain .ensures (c .if1 .taken)
 
 returns : tie.Need-returns
 returns c = c .plus-inside .ensures
-
-plus-cut-requires : tie.Need-plus-cut-requires
-plus-cut-requires c κs = search needs
 
 returns-2 : tie.Need-returns-2
 returns-2 c = c .plus-cut .ensures
@@ -21,4 +15,4 @@ returns-2 c = c .plus-cut .ensures
 pub plus-dot-spec : {M : Type 1} → statement M
 plus-dot-spec =
     tie.close
-    (tie.spec is-plain-requires plus-inside-requires returns plus-cut-requires returns-2)
+    (tie.spec (λ c κs. search needs) plus-inside-requires returns (λ c κs. search needs) returns-2)

@@ -22,9 +22,6 @@ Inv-loop a a0 sa b b0 sb k sum₀ done t₀ sum t =
 abbrev μ-loop : tie.MeasureT-loop
 μ-loop a a0 sa b b0 sb k sum₀ done t₀ sum t = k - t
 
-bounds-of-requires : tie.Need-bounds-of-requires Inv-loop μ-loop
-bounds-of-requires c κs = search needs
-
 plus-points-inside-requires : tie.Need-plus-points-inside-requires Inv-loop μ-loop
 plus-points-inside-requires c κs =
     let k = c .before .before .before in
@@ -75,12 +72,6 @@ plus-product-requires : tie.Need-plus-product-requires Inv-loop μ-loop
 plus-product-requires c κs = c .before .before .before .loop .inv .1 _
     (c .before .before .before .before .before .plus-points-inside .ensures .1) .proper
 
-add-t : tie.Need-add-t Inv-loop μ-loop
-add-t c = search needs
-
-loop-less : tie.Need-loop-less Inv-loop μ-loop
-loop-less c = search needs
-
 loop-again : tie.Need-loop-again Inv-loop μ-loop
 unfolding along
 loop-again c =
@@ -90,9 +81,6 @@ loop-again c =
           (c .before .before .at-inside .ensures) (c .before .at-inside2 .ensures) refl refl)
           (c .plus-product .ensures),
     )
-
-scalar-of-requires : tie.Need-scalar-of-requires Inv-loop μ-loop
-scalar-of-requires c κs = search needs
 
 returns : tie.Need-returns Inv-loop μ-loop
 returns c =
@@ -109,7 +97,7 @@ plus-inside-spec =
     (tie.spec
     Inv-loop
     μ-loop
-    bounds-of-requires
+    (λ c κs. search needs)
     plus-points-inside-requires
     loop-holds
     mul-at-inside
@@ -119,8 +107,8 @@ plus-inside-spec =
     add-at-inside-2
     at-inside-requires-2
     plus-product-requires
-    add-t
-    loop-less
+    (λ c. search needs)
+    (λ c. search needs)
     loop-again
-    scalar-of-requires
+    (λ c κs. search needs)
     returns)

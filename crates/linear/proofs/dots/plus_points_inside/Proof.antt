@@ -53,9 +53,6 @@ at-inside-requires-2 : tie.Need-at-inside-requires-2 Inv-loop μ-loop
 at-inside-requires-2 c κs =
     c .before .before .before .before .before .pre .second (c .before .before .loop .t) (c .before .loop-test .taken)
 
-are-points-requires : tie.Need-are-points-requires Inv-loop μ-loop
-are-points-requires c κs = search needs
-
 returns : tie.Need-returns Inv-loop μ-loop
 unfolding along
 returns c =
@@ -70,12 +67,6 @@ plus-points-requires c κs =
     let l = c .before .before .before .before .before .loop in
     let s = both-sharp _ _ _ (c .before .are-points .ensures) (c .if1 .left) in
     (l .inv .2 .proper, s .0, s .1)
-
-add-t : tie.Need-add-t Inv-loop μ-loop
-add-t c = search needs
-
-loop-less : tie.Need-loop-less Inv-loop μ-loop
-loop-less c = search needs
 
 loop-again : tie.Need-loop-again Inv-loop μ-loop
 unfolding along
@@ -113,10 +104,10 @@ plus-points-inside-spec =
     mul-at-inside-2
     add-at-inside-2
     at-inside-requires-2
-    are-points-requires
+    (λ c κs. search needs)
     returns
     plus-points-requires
-    add-t
-    loop-less
+    (λ c. search needs)
+    (λ c. search needs)
     loop-again
     returns-2)

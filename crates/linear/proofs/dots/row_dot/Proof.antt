@@ -5,12 +5,6 @@ use Rattle.linear.proofs.SumBounds.{anew, anew-length}
 use Rattle.linear.proofs.dots.row_dot.Statement.{statement}
 use Rattle.linear.proofs.dots.row_dot.Tie as tie
 
-is-row-inside-requires : tie.Need-is-row-inside-requires
-is-row-inside-requires c κs = search needs
-
-is-row-inside-requires-2 : tie.Need-is-row-inside-requires-2
-is-row-inside-requires-2 c κs = search needs
-
 row-inside-requires : tie.Need-row-inside-requires
 row-inside-requires c κs =
     record {
@@ -38,8 +32,8 @@ pub row-dot-spec : {M : Type 1} → statement M
 row-dot-spec =
     tie.close
     (tie.spec
-    is-row-inside-requires
-    is-row-inside-requires-2
+    (λ c κs. search needs)
+    (λ c κs. search needs)
     row-inside-requires
     returns
     slice-aggregate-plus-dot

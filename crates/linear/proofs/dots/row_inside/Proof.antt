@@ -54,21 +54,12 @@ plus-product-requires c κs =
     c .before .before .before .loop .inv .1 zeroS
     (c .before .before .before .before .before .row-points-inside .ensures .1) .proper
 
-add-t : tie.Need-add-t Inv-loop μ-loop
-add-t c = search needs
-
-loop-less : tie.Need-loop-less Inv-loop μ-loop
-loop-less c = search needs
-
 loop-again : tie.Need-loop-again Inv-loop μ-loop
 loop-again c =
     let l = c .before .before .before .before .loop in
     let x = c .before .before .at-inside .ensures ∙ sym (along-row _ _ (l .t)) in
     let y = c .before .at-inside2 .ensures ∙ sym (along-row _ _ (l .t)) in
     (search needs, gone-more _ _ _ _ (l .t) (l .inv .1) x y (c .plus-product .ensures))
-
-scalar-of-requires : tie.Need-scalar-of-requires Inv-loop μ-loop
-scalar-of-requires c κs = search needs
 
 returns : tie.Need-returns Inv-loop μ-loop
 returns c =
@@ -89,8 +80,8 @@ row-inside-spec =
     add-at-inside-2
     at-inside-requires-2
     plus-product-requires
-    add-t
-    loop-less
+    (λ c. search needs)
+    (λ c. search needs)
     loop-again
-    scalar-of-requires
+    (λ c κs. search needs)
     returns)

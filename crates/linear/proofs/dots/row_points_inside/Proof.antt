@@ -21,9 +21,6 @@ Inv-loop a a0 b b0 k sum₀ t₀ sum t =
 abbrev μ-loop : tie.MeasureT-loop
 μ-loop a a0 b b0 k sum₀ t₀ sum t = k - t
 
-bounds-of-requires : tie.Need-bounds-of-requires Inv-loop μ-loop
-bounds-of-requires c κs = search needs
-
 loop-holds : tie.Need-loop-holds Inv-loop μ-loop
 unfolding plusTo ofBits
 loop-holds c = (search needs, zero-bounds (c .bounds-of .ensures))
@@ -52,9 +49,6 @@ at-inside-requires-2 c κs =
           (c .before .loop-test .taken),
     )
 
-are-points-requires : tie.Need-are-points-requires Inv-loop μ-loop
-are-points-requires c κs = search needs
-
 returns : tie.Need-returns Inv-loop μ-loop
 returns c =
     (c .before .before .before .before .before .loop .inv .0, c .before .before .before .before .before .loop .inv .1)
@@ -63,12 +57,6 @@ plus-points-requires : tie.Need-plus-points-requires Inv-loop μ-loop
 plus-points-requires c κs =
     let s = both-sharp _ _ _ (c .before .are-points .ensures) (c .if1 .left) in
     (c .before .before .before .before .before .loop .inv .1 .proper, s .0, s .1)
-
-add-t : tie.Need-add-t Inv-loop μ-loop
-add-t c = search needs
-
-loop-less : tie.Need-loop-less Inv-loop μ-loop
-loop-less c = search needs
 
 loop-again : tie.Need-loop-again Inv-loop μ-loop
 loop-again c =
@@ -88,16 +76,16 @@ row-points-inside-spec =
     (tie.spec
     Inv-loop
     μ-loop
-    bounds-of-requires
+    (λ c κs. search needs)
     loop-holds
     add-at-inside
     at-inside-requires
     add-at-inside-2
     at-inside-requires-2
-    are-points-requires
+    (λ c κs. search needs)
     returns
     plus-points-requires
-    add-t
-    loop-less
+    (λ c. search needs)
+    (λ c. search needs)
     loop-again
     returns-2)

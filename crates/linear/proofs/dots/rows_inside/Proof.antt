@@ -19,9 +19,6 @@ Inv-loop l i0 j0 k sum₀ t₀ sum t = (t ≤ k) × Bounding (minusTo (along l i
 abbrev μ-loop : tie.MeasureT-loop
 μ-loop l i0 j0 k sum₀ t₀ sum t = k - t
 
-bounds-of-requires : tie.Need-bounds-of-requires Inv-loop μ-loop
-bounds-of-requires c κs = search needs
-
 loop-holds : tie.Need-loop-holds Inv-loop μ-loop
 unfolding minusTo
 loop-holds c =
@@ -50,12 +47,6 @@ at-inside-requires-2 c κs = omega (
 minus-fresh-requires : tie.Need-minus-fresh-requires Inv-loop μ-loop
 minus-fresh-requires c κs = c .before .before .before .loop .inv .1 .proper
 
-add-t : tie.Need-add-t Inv-loop μ-loop
-add-t c = search needs
-
-loop-less : tie.Need-loop-less Inv-loop μ-loop
-loop-less c = search needs
-
 loop-again : tie.Need-loop-again Inv-loop μ-loop
 unfolding along
 loop-again c =
@@ -67,9 +58,6 @@ loop-again c =
       search needs,
       bounding (minusTo-more _ _ _ (l .t) (bounds-back (l .inv .1 .value)) x y refl refl) (c .minus-fresh .ensures),
     )
-
-scalar-of-requires : tie.Need-scalar-of-requires Inv-loop μ-loop
-scalar-of-requires c κs = search needs
 
 returns : tie.Need-returns Inv-loop μ-loop
 returns c =
@@ -84,15 +72,15 @@ rows-inside-spec =
     (tie.spec
     Inv-loop
     μ-loop
-    bounds-of-requires
+    (λ c κs. search needs)
     loop-holds
     add-at-inside
     at-inside-requires
     add-at-inside-2
     at-inside-requires-2
     minus-fresh-requires
-    add-t
-    loop-less
+    (λ c. search needs)
+    (λ c. search needs)
     loop-again
-    scalar-of-requires
+    (λ c κs. search needs)
     returns)

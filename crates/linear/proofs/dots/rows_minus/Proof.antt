@@ -5,12 +5,6 @@ use Rattle.interval.proofs.Given.{yes}
 use Rattle.linear.proofs.dots.rows_minus.Statement.{statement}
 use Rattle.linear.proofs.dots.rows_minus.Tie as tie
 
-bounds-of-requires : tie.Need-bounds-of-requires
-bounds-of-requires c κs = search needs
-
-is-proper-requires : tie.Need-is-proper-requires
-is-proper-requires c κs = search needs
-
 rows-inside-requires : tie.Need-rows-inside-requires
 rows-inside-requires c κs =
     let p = c .before .before .before .before .pre in
@@ -23,9 +17,6 @@ rows-inside-requires c κs =
 returns : tie.Need-returns
 returns c = c .rows-inside .ensures
 
-minus-dot-requires : tie.Need-minus-dot-requires
-minus-dot-requires c κs = search needs
-
 returns-2 : tie.Need-returns-2
 returns-2 c = c .minus-dot .ensures
 
@@ -33,9 +24,9 @@ pub rows-minus-spec : {M : Type 1} → statement M
 rows-minus-spec =
     tie.close
     (tie.spec
-    bounds-of-requires
-    is-proper-requires
+    (λ c κs. search needs)
+    (λ c κs. search needs)
     rows-inside-requires
     returns
-    minus-dot-requires
+    (λ c κs. search needs)
     returns-2)

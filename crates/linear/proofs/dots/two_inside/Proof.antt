@@ -99,9 +99,6 @@ add-t c =
       c .before .before .before .before .before .before .before .before .before .before .before .before .good,
     )
 
-loop-less : tie.Need-loop-less Inv-loop μ-loop
-loop-less c = search needs
-
 loop-again : tie.Need-loop-again Inv-loop μ-loop
 unfolding along
 loop-again c =
@@ -113,12 +110,6 @@ loop-again c =
       gone-more _ _ _ _ (l .t) (l .inv .2)
           (c .before .at-inside3 .ensures) w (c .plus-product2 .ensures),
     )
-
-scalar-of-requires : tie.Need-scalar-of-requires Inv-loop μ-loop
-scalar-of-requires c κs = search needs
-
-scalar-of-requires-2 : tie.Need-scalar-of-requires-2 Inv-loop μ-loop
-scalar-of-requires-2 c κs = search needs
 
 returns : tie.Need-returns Inv-loop μ-loop
 returns c =
@@ -148,8 +139,8 @@ two-inside-spec =
     at-inside-requires-3
     plus-product-requires-2
     add-t
-    loop-less
+    (λ c. search needs)
     loop-again
-    scalar-of-requires
-    scalar-of-requires-2
+    (λ c κs. search needs)
+    (λ c κs. search needs)
     returns)

@@ -8,27 +8,6 @@ use Rattle.linear.proofs.SumBounds.{anew, anew-length, anew-inside}
 use Rattle.linear.proofs.dots.two_minus.Statement.{statement}
 use Rattle.linear.proofs.dots.two_minus.Tie as tie
 
-neg-requires : tie.Need-neg-requires
-neg-requires c κs = search needs
-
-bounds-of-requires : tie.Need-bounds-of-requires
-bounds-of-requires c κs = search needs
-
-neg-requires-2 : tie.Need-neg-requires-2
-neg-requires-2 c κs = search needs
-
-bounds-of-requires-2 : tie.Need-bounds-of-requires-2
-bounds-of-requires-2 c κs = search needs
-
-are-runs-inside-requires : tie.Need-are-runs-inside-requires
-are-runs-inside-requires c κs = search needs
-
-is-proper-requires : tie.Need-is-proper-requires
-is-proper-requires c κs = search needs
-
-is-proper-requires-2 : tie.Need-is-proper-requires-2
-is-proper-requires-2 c κs = search needs
-
 slice-aggregate-two-inside : tie.Need-slice-aggregate-two-inside
 slice-aggregate-two-inside c =
     anew-length
@@ -58,12 +37,6 @@ two-inside-requires c κs =
       second-start = q;
     }
 
-neg-requires-3 : tie.Need-neg-requires-3
-neg-requires-3 c κs = search needs
-
-neg-requires-4 : tie.Need-neg-requires-4
-neg-requires-4 c κs = search needs
-
 returns : tie.Need-returns
 returns c =
     let k = c .before .before .before .before .before .before .before .before .before .before .before in
@@ -83,14 +56,8 @@ slice-aggregate-plus-dot-2 : tie.Need-slice-aggregate-plus-dot-2
 slice-aggregate-plus-dot-2 c =
     anew-length (c .before .before .before .before .before .before .before .before .before .before .args .b .now)
 
-neg-requires-5 : tie.Need-neg-requires-5
-neg-requires-5 c κs = search needs
-
 plus-dot-requires : tie.Need-plus-dot-requires
 plus-dot-requires c κs = tt
-
-neg-requires-6 : tie.Need-neg-requires-6
-neg-requires-6 c κs = search needs
 
 slice-aggregate-plus-dot-3 : tie.Need-slice-aggregate-plus-dot-3
 slice-aggregate-plus-dot-3 c =
@@ -104,14 +71,8 @@ slice-aggregate-plus-dot-4 c =
     (c .before .before .before .before .before .before .before .before .before .before .before .before .before
     .before .before .args .b .now)
 
-neg-requires-7 : tie.Need-neg-requires-7
-neg-requires-7 c κs = search needs
-
 plus-dot-requires-2 : tie.Need-plus-dot-requires-2
 plus-dot-requires-2 c κs = tt
-
-neg-requires-8 : tie.Need-neg-requires-8
-neg-requires-8 c κs = search needs
 
 returns-2 : tie.Need-returns-2
 returns-2 c =
@@ -126,27 +87,27 @@ pub two-minus-spec : {M : Type 1} → statement M
 two-minus-spec =
     tie.close
     (tie.spec
-    neg-requires
-    bounds-of-requires
-    neg-requires-2
-    bounds-of-requires-2
-    are-runs-inside-requires
-    is-proper-requires
-    is-proper-requires-2
+    (λ c κs. search needs)
+    (λ c κs. search needs)
+    (λ c κs. search needs)
+    (λ c κs. search needs)
+    (λ c κs. search needs)
+    (λ c κs. search needs)
+    (λ c κs. search needs)
     slice-aggregate-two-inside
     slice-aggregate-two-inside-2
     two-inside-requires
-    neg-requires-3
-    neg-requires-4
+    (λ c κs. search needs)
+    (λ c κs. search needs)
     returns
     slice-aggregate-plus-dot
     slice-aggregate-plus-dot-2
-    neg-requires-5
+    (λ c κs. search needs)
     plus-dot-requires
-    neg-requires-6
+    (λ c κs. search needs)
     slice-aggregate-plus-dot-3
     slice-aggregate-plus-dot-4
-    neg-requires-7
+    (λ c κs. search needs)
     plus-dot-requires-2
-    neg-requires-8
+    (λ c κs. search needs)
     returns-2)

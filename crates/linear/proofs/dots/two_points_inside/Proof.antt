@@ -77,9 +77,6 @@ at-inside-requires-3 c κs =
           (c .before .before .loop-test .taken),
     )
 
-are-three-points-requires : tie.Need-are-three-points-requires Inv-loop μ-loop
-are-three-points-requires c κs = search needs
-
 returns : tie.Need-returns Inv-loop μ-loop
 returns c = c .before .before .before .before .before .before .loop .inv
 
@@ -92,12 +89,6 @@ plus-points-requires-2 : tie.Need-plus-points-requires-2 Inv-loop μ-loop
 plus-points-requires-2 c κs =
     let s = three-sharp _ _ _ _ (c .before .before .are-three-points .ensures) (c .before .if1 .left) in
     (c .before .before .before .before .before .before .before .loop .inv .2 .proper, s .1, s .2)
-
-add-t : tie.Need-add-t Inv-loop μ-loop
-add-t c = search needs
-
-loop-less : tie.Need-loop-less Inv-loop μ-loop
-loop-less c = search needs
 
 loop-again : tie.Need-loop-again Inv-loop μ-loop
 unfolding along
@@ -133,11 +124,11 @@ two-points-inside-spec =
     at-inside-requires-2
     add-at-inside-3
     at-inside-requires-3
-    are-three-points-requires
+    (λ c κs. search needs)
     returns
     plus-points-requires
     plus-points-requires-2
-    add-t
-    loop-less
+    (λ c. search needs)
+    (λ c. search needs)
     loop-again
     returns-2)

@@ -6,12 +6,6 @@ use Rattle.linear.proofs.SumBounds.{anew, anew-length, anew-inside, zer
 use Rattle.linear.proofs.dots.two_rows.Statement.{statement}
 use Rattle.linear.proofs.dots.two_rows.Tie as tie
 
-are-rows-inside-requires : tie.Need-are-rows-inside-requires
-are-rows-inside-requires c κs = search needs
-
-bounds-of-requires : tie.Need-bounds-of-requires
-bounds-of-requires c κs = search needs
-
 slice-aggregate-two-inside : tie.Need-slice-aggregate-two-inside
 slice-aggregate-two-inside c = anew-length (c .before .before .before .before .before .before .args .a .now)
 
@@ -65,8 +59,8 @@ pub two-rows-spec : {M : Type 1} → statement M
 two-rows-spec =
     tie.close
     (tie.spec
-    are-rows-inside-requires
-    bounds-of-requires
+    (λ c κs. search needs)
+    (λ c κs. search needs)
     slice-aggregate-two-inside
     slice-aggregate-two-inside-2
     two-inside-requires

@@ -21,12 +21,6 @@ returns-2 : tie.Need-returns-2
 unfolding choleskyReply
 returns-2 c = rw (le-leb _ _ (c .before .if1 .left), ne-eqb _ _ (c .if2 .taken))
 
-mul-if3 : tie.Need-mul-if3
-mul-if3 c = search needs
-
-mul-if3-2 : tie.Need-mul-if3-2
-mul-if3-2 c = search needs
-
 returns-3 : tie.Need-returns-3
 unfolding choleskyReply
 returns-3 c =
@@ -40,15 +34,6 @@ returns-4 c = rw (
   eq-eqb _ _ (c .before .if3 .left),
   ne-eqb _ _ (c .if4 .taken),
 )
-
-factor-sized-requires : tie.Need-factor-sized-requires
-factor-sized-requires c κs = search needs
-
-same-length : tie.Need-same-length
-same-length c = search needs
-
-same-length-2 : tie.Need-same-length-2
-same-length-2 c = search needs
 
 returns-5 : tie.Need-returns-5
 unfolding choleskyReply
@@ -69,11 +54,11 @@ cholesky-spec =
     mul-if2
     mul-if2-2
     returns-2
-    mul-if3
-    mul-if3-2
+    (λ c. search needs)
+    (λ c. search needs)
     returns-3
     returns-4
-    factor-sized-requires
-    same-length
-    same-length-2
+    (λ c κs. search needs)
+    (λ c. search needs)
+    (λ c. search needs)
     returns-5)

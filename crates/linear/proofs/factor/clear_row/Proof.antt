@@ -31,15 +31,6 @@ mul-put c = omega (arith, row (c .before .before .before .before))
 add-put : tie.Need-add-put Inv-loop μ-loop
 add-put c = omega (arith, row (c .before .before .before .before))
 
-put-requires : tie.Need-put-requires Inv-loop μ-loop
-put-requires c κs = search needs
-
-add-k : tie.Need-add-k Inv-loop μ-loop
-add-k c = search needs
-
-loop-less : tie.Need-loop-less Inv-loop μ-loop
-loop-less c = search needs
-
 loop-again : tie.Need-loop-again Inv-loop μ-loop
 unfolding clearRow ofBits
 loop-again c = (
@@ -50,9 +41,6 @@ loop-again c = (
     ← c .before .before .before .before .before .loop .inv .2,
   ),
 )
-
-same-length : tie.Need-same-length Inv-loop μ-loop
-same-length c = search needs
 
 returns : tie.Need-returns Inv-loop μ-loop
 returns c = rw (le-antisymm (c .before .loop .inv .0) (c .loop-test .left)) at (c .before .loop .inv .2)
@@ -66,9 +54,9 @@ clear-row-spec =
     loop-holds
     mul-put
     add-put
-    put-requires
-    add-k
-    loop-less
+    (λ c κs. search needs)
+    (λ c. search needs)
+    (λ c. search needs)
     loop-again
-    same-length
+    (λ c. search needs)
     returns)

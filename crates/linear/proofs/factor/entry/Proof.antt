@@ -13,9 +13,6 @@ row s = product-small (omega arith) (omega arith)
 top : (s : tie.Start) → s .args .j * s .args .n ≤ 576
 top s = product-small (omega arith) (omega arith)
 
-shared-slice-read-if1 : tie.Need-shared-slice-read-if1
-shared-slice-read-if1 c = search needs
-
 returns : tie.Need-returns
 unfolding entryStep
 returns c = rw (c .if1 .taken)
@@ -28,9 +25,6 @@ mul-top c = omega (arith, top (c .before .before .before .before .before))
 
 add-at : tie.Need-add-at
 add-at c = omega (arith, row (c .before .before .before .before .before .before))
-
-at-requires : tie.Need-at-requires
-at-requires c κs = search needs
 
 rows-minus-requires : tie.Need-rows-minus-requires
 rows-minus-requires c κs =
@@ -45,18 +39,6 @@ add-store c = omega (arith, row (c .before .before .before .before .before .befo
 
 add-at-2 : tie.Need-add-at-2
 add-at-2 c = omega (arith, top (c .before .before .before .before .before .before .before .before .before .before))
-
-at-requires-2 : tie.Need-at-requires-2
-at-requires-2 c κs = search needs
-
-div-requires : tie.Need-div-requires
-div-requires c κs = search needs
-
-store-requires : tie.Need-store-requires
-store-requires c κs = search needs
-
-same-length : tie.Need-same-length
-same-length c = search needs
 
 returns-2 : tie.Need-returns-2
 unfolding entryStep
@@ -75,17 +57,17 @@ pub entry-spec : {M : Type 1} → statement M
 entry-spec =
     tie.close
     (tie.spec
-    shared-slice-read-if1
+    (λ c. search needs)
     returns
     mul-row
     mul-top
     add-at
-    at-requires
+    (λ c κs. search needs)
     rows-minus-requires
     add-store
     add-at-2
-    at-requires-2
-    div-requires
-    store-requires
-    same-length
+    (λ c κs. search needs)
+    (λ c κs. search needs)
+    (λ c κs. search needs)
+    (λ c. search needs)
     returns-2)

@@ -9,33 +9,6 @@ use Rattle.linear.proofs.CholeskyRows.{rows-are-entries}
 use Rattle.linear.proofs.factor.factor_sized.Statement.{statement}
 use Rattle.linear.proofs.factor.factor_sized.Tie as tie
 
-clear-requires : tie.Need-clear-requires
-clear-requires c κs = search needs
-
-unmark-requires : tie.Need-unmark-requires
-unmark-requires c κs = search needs
-
-factor-rows-requires : tie.Need-factor-rows-requires
-factor-rows-requires c κs = search needs
-
-enum-told : tie.Need-enum-told
-enum-told c = search needs
-
-enum-known-e : tie.Need-enum-known-e
-enum-known-e c = search needs
-
-clear-requires-2 : tie.Need-clear-requires-2
-clear-requires-2 c κs = search needs
-
-unmark-requires-2 : tie.Need-unmark-requires-2
-unmark-requires-2 c κs = search needs
-
-same-length : tie.Need-same-length
-same-length c = search needs
-
-same-length-2 : tie.Need-same-length-2
-same-length-2 c = search needs
-
 returns : tie.Need-returns
 returns c =
     let f = c .before .before .before .before .before .before in
@@ -47,12 +20,6 @@ returns c =
     let e = rw (c .enum-told .given .1, l, left) at (f .factor-rows .ensures)
     ∙ rows-are-entries (s .args .n) (s .args .a .now) in
     rw (← e)
-
-same-length-3 : tie.Need-same-length-3
-same-length-3 c = search needs
-
-same-length-4 : tie.Need-same-length-4
-same-length-4 c = search needs
 
 returns-2 : tie.Need-returns-2
 returns-2 c =
@@ -79,16 +46,16 @@ pub factor-sized-spec : {M : Type 1} → statement M
 factor-sized-spec =
     tie.close
     (tie.spec
-    clear-requires
-    unmark-requires
-    factor-rows-requires
-    enum-told
-    enum-known-e
-    clear-requires-2
-    unmark-requires-2
-    same-length
-    same-length-2
+    (λ c κs. search needs)
+    (λ c κs. search needs)
+    (λ c κs. search needs)
+    (λ c. search needs)
+    (λ c. search needs)
+    (λ c κs. search needs)
+    (λ c κs. search needs)
+    (λ c. search needs)
+    (λ c. search needs)
     returns
-    same-length-3
-    same-length-4
+    (λ c. search needs)
+    (λ c. search needs)
     returns-2)

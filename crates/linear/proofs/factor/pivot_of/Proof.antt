@@ -5,15 +5,6 @@ use Rattle.linear.specs.Cholesky.{pivotOf}
 use Rattle.linear.proofs.factor.pivot_of.Statement.{statement}
 use Rattle.linear.proofs.factor.pivot_of.Tie as tie
 
-definitely-greater-requires : tie.Need-definitely-greater-requires
-definitely-greater-requires c κs = search needs
-
-sqrt-requires : tie.Need-sqrt-requires
-sqrt-requires c κs = search needs
-
-root-pivot-requires : tie.Need-root-pivot-requires
-root-pivot-requires c κs = search needs
-
 returns : tie.Need-returns
 unfolding pivotOf ofBits
 returns c = rw (
@@ -29,4 +20,4 @@ returns-2 c = rw (← c .before .definitely-greater .ensures, c .if1 .left)
 pub pivot-of-spec : {M : Type 1} → statement M
 pivot-of-spec =
     tie.close
-    (tie.spec definitely-greater-requires sqrt-requires root-pivot-requires returns returns-2)
+    (tie.spec (λ c κs. search needs) (λ c κs. search needs) (λ c κs. search needs) returns returns-2)

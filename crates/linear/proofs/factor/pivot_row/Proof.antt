@@ -16,9 +16,6 @@ mul-row c = omega (arith, row (c .before .before .before))
 add-at : tie.Need-add-at
 add-at c = omega (arith, row (c .before .before .before .before))
 
-at-requires : tie.Need-at-requires
-at-requires c κs = search needs
-
 rows-minus-requires : tie.Need-rows-minus-requires
 rows-minus-requires c κs =
     let p = c .before .before .before .before .before .pre in
@@ -26,18 +23,6 @@ rows-minus-requires c κs =
       first = row-inside (p .0) (omega (arith, p)) (p .1 .entries);
       second = row-inside (p .0) (omega (arith, p)) (p .1 .entries);
     }
-
-pivot-of-requires : tie.Need-pivot-of-requires
-pivot-of-requires c κs = search needs
-
-store-pivot-requires : tie.Need-store-pivot-requires
-store-pivot-requires c κs = search needs
-
-same-length : tie.Need-same-length
-same-length c = search needs
-
-same-length-2 : tie.Need-same-length-2
-same-length-2 c = search needs
 
 returns : tie.Need-returns
 unfolding pivotStep
@@ -55,10 +40,10 @@ pivot-row-spec =
     (tie.spec
     mul-row
     add-at
-    at-requires
+    (λ c κs. search needs)
     rows-minus-requires
-    pivot-of-requires
-    store-pivot-requires
-    same-length
-    same-length-2
+    (λ c κs. search needs)
+    (λ c κs. search needs)
+    (λ c. search needs)
+    (λ c. search needs)
     returns)

@@ -5,18 +5,6 @@ use Rattle.linear.specs.Cholesky.{rootPivot}
 use Rattle.linear.proofs.factor.root_pivot.Statement.{statement}
 use Rattle.linear.proofs.factor.root_pivot.Tie as tie
 
-enum-known-q : tie.Need-enum-known-q
-enum-known-q c = search needs
-
-div-requires : tie.Need-div-requires
-div-requires c κs = search needs
-
-is-usable-requires : tie.Need-is-usable-requires
-is-usable-requires c κs = search needs
-
-enum-known-q-2 : tie.Need-enum-known-q-2
-enum-known-q-2 c = search needs
-
 returns : tie.Need-returns
 unfolding rootPivot ofBits
 returns c = rw (
@@ -43,10 +31,10 @@ pub root-pivot-spec : {M : Type 1} → statement M
 root-pivot-spec =
     tie.close
     (tie.spec
-    enum-known-q
-    div-requires
-    is-usable-requires
-    enum-known-q-2
+    (λ c. search needs)
+    (λ c κs. search needs)
+    (λ c κs. search needs)
+    (λ c. search needs)
     returns
     returns-2
     returns-3)

@@ -7,15 +7,9 @@ use Rattle.linear.proofs.Walks.{at-cut}
 use Rattle.linear.proofs.flat.along.Statement.{statement}
 use Rattle.linear.proofs.flat.along.Tie as tie
 
-place-requires : tie.Need-place-requires
-place-requires c κs = search needs
-
-at-requires : tie.Need-at-requires
-at-requires c κs = search needs
-
 returns : tie.Need-returns
 unfolding along
 returns c = c .at .ensures ∙ at-cut (c .before .before .before .args .xs .now) (omega arith)
 
 pub along-spec : {M : Type 1} → statement M
-along-spec = tie.close (tie.spec place-requires at-requires returns)
+along-spec = tie.close (tie.spec (λ c κs. search needs) (λ c κs. search needs) returns)

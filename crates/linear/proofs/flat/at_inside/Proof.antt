@@ -9,24 +9,6 @@ use Rattle.linear.proofs.flat.at_inside.Statement.{statement}
 use Rattle.linear.proofs.flat.at_inside.Tie as tie
 use Rattle.linear.proofs.FlatLaws.{at-inside}
 
-mul-k : tie.Need-mul-k
-mul-k c = search needs
-
-mul-t4 : tie.Need-mul-t4
-mul-t4 c = search needs
-
-shared-slice-read-t6 : tie.Need-shared-slice-read-t6
-shared-slice-read-t6 c = search needs
-
-add-t7 : tie.Need-add-t7
-add-t7 c = search needs
-
-mul-t8 : tie.Need-mul-t8
-mul-t8 c = search needs
-
-shared-slice-read-t10 : tie.Need-shared-slice-read-t10
-shared-slice-read-t10 c = search needs
-
 returns : tie.Need-returns
 returns c =
     let a = c .before .before .args in
@@ -35,4 +17,5 @@ returns c =
 pub at-inside-spec : {M : Type 1} → statement M
 at-inside-spec =
     tie.close
-    (tie.spec mul-k mul-t4 shared-slice-read-t6 add-t7 mul-t8 shared-slice-read-t10 returns)
+    (tie.spec (λ c. search needs) (λ c. search needs) (λ c. search needs) (λ c. search needs) (λ c. search needs)
+    (λ c. search needs) returns)

@@ -4,12 +4,6 @@ use borrow.Author.Needs.{needs}
 use Rattle.linear.proofs.flat.both_inside.Statement.{statement}
 use Rattle.linear.proofs.flat.both_inside.Tie as tie
 
-is-inside-requires : tie.Need-is-inside-requires
-is-inside-requires c κs = search needs
-
-is-inside-requires-2 : tie.Need-is-inside-requires-2
-is-inside-requires-2 c κs = search needs
-
 returns : tie.Need-returns
 returns c =
     λ e. record {
@@ -21,4 +15,4 @@ returns-2 : tie.Need-returns-2
 returns-2 c = λ e. absurd (false≢true e)
 
 pub both-inside-spec : {M : Type 1} → statement M
-both-inside-spec = tie.close (tie.spec is-inside-requires is-inside-requires-2 returns returns-2)
+both-inside-spec = tie.close (tie.spec (λ c κs. search needs) (λ c κs. search needs) returns returns-2)

@@ -18,18 +18,12 @@ returns-2 c = λ e. absurd (false≢true e)
 returns-3 : tie.Need-returns-3
 returns-3 c = λ e. absurd (false≢true e)
 
-sub-reach : tie.Need-sub-reach
-sub-reach c = search needs
-
 mul-reach : tie.Need-mul-reach
 mul-reach c =
     let a = c .before .before .before .args in
     let few : a .k - 1 ≤ 65535 = omega arith in
     let short : a .step ≤ 65535 = omega arith in
     omega (arith, mul-le-mul few short)
-
-sub-result : tie.Need-sub-result
-sub-result c = search needs
 
 returns-4 : tie.Need-returns-4
 returns-4 c = let a = c .before .before .before .before .args in
@@ -41,4 +35,4 @@ returns-5 c = λ e. absurd (false≢true e)
 pub is-inside-spec : {M : Type 1} → statement M
 is-inside-spec =
     tie.close
-    (tie.spec returns returns-2 returns-3 sub-reach mul-reach sub-result returns-4 returns-5)
+    (tie.spec returns returns-2 returns-3 (λ c. search needs) mul-reach (λ c. search needs) returns-4 returns-5)

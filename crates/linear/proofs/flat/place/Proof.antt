@@ -13,14 +13,8 @@ short j {step} h = omega (arith, mul-le-mul {n₁ = j} {m₁ = step} {n₂ = j} 
 mul-ahead : tie.Need-mul-ahead
 mul-ahead c = omega (arith, short (c .before .args .j) (c .if1 .taken))
 
-ahead-requires : tie.Need-ahead-requires
-ahead-requires c κs = search needs
-
 returns : tie.Need-returns
 returns c = search needs
-
-div-if2 : tie.Need-div-if2
-div-if2 c = search needs
 
 returns-2 : tie.Need-returns-2
 returns-2 c =
@@ -32,9 +26,6 @@ mul-ahead-2 c =
     let a = c .before .before .args in
     omega (arith, le-div-iff-mul-le {k = a .step} {x = a .j} {y = a .len} (omega arith) .0 (c .if2 .left))
 
-ahead-requires-2 : tie.Need-ahead-requires-2
-ahead-requires-2 c κs = search needs
-
 returns-3 : tie.Need-returns-3
 returns-3 c = search needs
 
@@ -43,10 +34,10 @@ place-spec =
     tie.close
     (tie.spec
     mul-ahead
-    ahead-requires
+    (λ c κs. search needs)
     returns
-    div-if2
+    (λ c. search needs)
     returns-2
     mul-ahead-2
-    ahead-requires-2
+    (λ c κs. search needs)
     returns-3)

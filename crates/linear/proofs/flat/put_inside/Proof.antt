@@ -9,21 +9,6 @@ use Rattle.linear.proofs.flat.put_inside.Statement.{statement}
 use Rattle.linear.proofs.flat.put_inside.Tie as tie
 use Rattle.linear.proofs.FlatLaws.{put-inside}
 
-mul-k : tie.Need-mul-k
-mul-k c = search needs
-
-mul-xs : tie.Need-mul-xs
-mul-xs c = search needs
-
-slice-write-xs : tie.Need-slice-write-xs
-slice-write-xs c = search needs
-
-add-xs : tie.Need-add-xs
-add-xs c = search needs
-
-mul-xs-2 : tie.Need-mul-xs-2
-mul-xs-2 c = search needs
-
 slice-write-xs-2 : tie.Need-slice-write-xs-2
 slice-write-xs-2 c = simp length-set (omega arith)
 
@@ -38,4 +23,5 @@ returns c =
 pub put-inside-spec : {M : Type 1} → statement M
 put-inside-spec =
     tie.close
-    (tie.spec mul-k mul-xs slice-write-xs add-xs mul-xs-2 slice-write-xs-2 same-length returns)
+    (tie.spec (λ c. search needs) (λ c. search needs) (λ c. search needs) (λ c. search needs) (λ c. search needs)
+    slice-write-xs-2 same-length returns)

@@ -5,15 +5,6 @@ use Rattle.interval.specs.Result.{ok}
 use Rattle.linear.proofs.householder.chosen_of.Statement.{statement}
 use Rattle.linear.proofs.householder.chosen_of.Tie as tie
 
-enum-known-q : tie.Need-enum-known-q
-enum-known-q c = search needs
-
-choose-requires : tie.Need-choose-requires
-choose-requires c κs = search needs
-
-enum-known-q-2 : tie.Need-enum-known-q-2
-enum-known-q-2 c = search needs
-
 returns : tie.Need-returns
 returns c = rw (c .before .before .q .given .1) (ap ok (c .choose .ensures))
 
@@ -22,4 +13,4 @@ returns-2 c = rw (c .before .q2 .given .1)
 
 pub chosen-of-spec : {M : Type 1} → statement M
 chosen-of-spec =
-    tie.close (tie.spec enum-known-q choose-requires enum-known-q-2 returns returns-2)
+    tie.close (tie.spec (λ c. search needs) (λ c κs. search needs) (λ c. search needs) returns returns-2)

@@ -12,30 +12,19 @@ use Rattle.linear.proofs.householder.column_entry.Tie as tie
 row : (s : tie.Start) → s .args .p % s .args .m * s .args .r ≤ 576
 row s = product-small (omega (arith, mod-lt (s .args .p) (s .pre .1))) (omega arith)
 
-div-t : tie.Need-div-t
-div-t c = search needs
-
-rem-i : tie.Need-rem-i
-rem-i c = search needs
-
 mul-at : tie.Need-mul-at
 mul-at c = omega (arith, row (c .before .before .before))
 
 add-at : tie.Need-add-at
 add-at c = let s = c .before .before .before in omega (arith, row s, div-le-self (s .args .p) (s .args .m))
 
-at-requires : tie.Need-at-requires
-at-requires c κs = search needs
-
 returns : tie.Need-returns
 returns c = rw (lt-ltb _ _ (c .before .if1 .taken)) (c .at .ensures)
-
-at-requires-2 : tie.Need-at-requires-2
-at-requires-2 c κs = search needs
 
 returns-2 : tie.Need-returns-2
 returns-2 c = rw (le-ltb _ _ (c .before .if1 .left)) (c .at2 .ensures)
 
 pub column-entry-spec : {M : Type 1} → statement M
 column-entry-spec =
-    tie.close (tie.spec div-t rem-i mul-at add-at at-requires returns at-requires-2 returns-2)
+    tie.close (tie.spec (λ c. search needs) (λ c. search needs) mul-at add-at (λ c κs. search needs) returns
+    (λ c κs. search needs) returns-2)

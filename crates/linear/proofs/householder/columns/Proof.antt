@@ -20,9 +20,6 @@ Inv-loop m r rows rhs cols₀ n p₀ cols p =
 abbrev μ-loop : tie.MeasureT-loop
 μ-loop m r rows rhs cols₀ n p₀ cols p = n - p
 
-add-n : tie.Need-add-n Inv-loop μ-loop
-add-n c = search needs
-
 mul-n : tie.Need-mul-n Inv-loop μ-loop
 mul-n c = let s = c .before .before .before in omega (arith, columns-small (s .pre .0 .columns) (s .pre .0 .rows))
 
@@ -36,15 +33,9 @@ column-entry-requires c κs = let s = c .before .before .before .before .before 
   omega (arith, columns-small (s .pre .0 .columns) (s .pre .0 .rows)),
 )
 
-put-requires : tie.Need-put-requires Inv-loop μ-loop
-put-requires c κs = search needs
-
 add-p : tie.Need-add-p Inv-loop μ-loop
 add-p c = let s = c .before .before .before .before .before .before .before .before .before .before in
     omega (arith, columns-small (s .pre .0 .columns) (s .pre .0 .rows))
-
-loop-less : tie.Need-loop-less Inv-loop μ-loop
-loop-less c = search needs
 
 loop-again : tie.Need-loop-again Inv-loop μ-loop
 loop-again c =
@@ -57,9 +48,6 @@ loop-again c =
       e ∙ listTo-more (columnEntry (a .m) (a .r) (a .rows .now) (a .rhs .now)) (l .loop .p) (a .cols .now)
           (omega arith),
     )
-
-same-length : tie.Need-same-length Inv-loop μ-loop
-same-length c = search needs
 
 returns : tie.Need-returns Inv-loop μ-loop
 unfolding columnsOf
@@ -76,13 +64,13 @@ columns-spec =
     (tie.spec
     Inv-loop
     μ-loop
-    add-n
+    (λ c. search needs)
     mul-n
     loop-holds
     column-entry-requires
-    put-requires
+    (λ c κs. search needs)
     add-p
-    loop-less
+    (λ c. search needs)
     loop-again
-    same-length
+    (λ c. search needs)
     returns)

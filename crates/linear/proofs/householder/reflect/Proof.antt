@@ -9,24 +9,6 @@ use Rattle.linear.proofs.householder.reflect.Tie as tie
 row-dot-requires : tie.Need-row-dot-requires
 row-dot-requires c κs = tt
 
-mul-requires : tie.Need-mul-requires
-mul-requires c κs = search needs
-
-div-requires : tie.Need-div-requires
-div-requires c κs = search needs
-
-enum-known-q : tie.Need-enum-known-q
-enum-known-q c = search needs
-
-minus-scaled-requires : tie.Need-minus-scaled-requires
-minus-scaled-requires c κs = search needs
-
-enum-known-q-2 : tie.Need-enum-known-q-2
-enum-known-q-2 c = search needs
-
-same-length : tie.Need-same-length
-same-length c = search needs
-
 returns : tie.Need-returns
 unfolding ofBits
 returns c =
@@ -35,9 +17,6 @@ returns c =
     reflect-ok _ _ _ _ _ (rw along-start at (c .before .before .before .before .before .before .before .before .before
     .row-dot .ensures)) (c .before .before .before .before .before .before .before .before .mul .ensures .value) q (c
     .before .before .minus-scaled .ensures)
-
-same-length-2 : tie.Need-same-length-2
-same-length-2 c = search needs
 
 returns-2 : tie.Need-returns-2
 unfolding ofBits
@@ -51,12 +30,12 @@ reflect-spec =
     tie.close
     (tie.spec
     row-dot-requires
-    mul-requires
-    div-requires
-    enum-known-q
-    minus-scaled-requires
-    enum-known-q-2
-    same-length
+    (λ c κs. search needs)
+    (λ c κs. search needs)
+    (λ c. search needs)
+    (λ c κs. search needs)
+    (λ c. search needs)
+    (λ c. search needs)
     returns
-    same-length-2
+    (λ c. search needs)
     returns-2)

@@ -24,33 +24,15 @@ start : (k : tie.In-loop Inv-loop μ-loop) → (k .before .before .before .befor
     * k .before .before .before .before .args .m ≤ 576
 start k = product-small (omega arith) (omega arith)
 
-sub-n : tie.Need-sub-n Inv-loop μ-loop
-sub-n c = search needs
-
 loop-holds : tie.Need-loop-holds Inv-loop μ-loop
 unfolding reflectTo foldR
 loop-holds c = search needs
-
-add-reflect : tie.Need-add-reflect Inv-loop μ-loop
-add-reflect c = search needs
 
 mul-reflect : tie.Need-mul-reflect Inv-loop μ-loop
 mul-reflect c = omega (arith, start c)
 
 add-reflect-2 : tie.Need-add-reflect-2 Inv-loop μ-loop
 add-reflect-2 c = omega (arith, start c)
-
-reflect-requires : tie.Need-reflect-requires Inv-loop μ-loop
-reflect-requires c κs = search needs
-
-enum-told : tie.Need-enum-told Inv-loop μ-loop
-enum-told c = search needs
-
-enum-known-e : tie.Need-enum-known-e Inv-loop μ-loop
-enum-known-e c = search needs
-
-same-length : tie.Need-same-length Inv-loop μ-loop
-same-length c = search needs
 
 returns : tie.Need-returns Inv-loop μ-loop
 unfolding reflectTo
@@ -59,12 +41,6 @@ returns c =
     let e = rw (c .before .e .given .1) at (h .reflect .ensures) in
     sym (ends _ _ (h .before .before .loop-test .taken) (h .before .before .before .loop .inv .2) (sym e))
 
-add-t : tie.Need-add-t Inv-loop μ-loop
-add-t c = search needs
-
-loop-less : tie.Need-loop-less Inv-loop μ-loop
-loop-less c = search needs
-
 loop-again : tie.Need-loop-again Inv-loop μ-loop
 unfolding reflectTo
 loop-again c =
@@ -72,9 +48,6 @@ loop-again c =
     let e = rw (c .enum-told .given .1) at (h .reflect .ensures) in
     let l = h .before .before .before .loop in
     (search needs, search needs, turn _ _ (l .t) (l .inv .2) ∙ sym e)
-
-same-length-2 : tie.Need-same-length-2 Inv-loop μ-loop
-same-length-2 c = search needs
 
 returns-2 : tie.Need-returns-2 Inv-loop μ-loop
 returns-2 c = sym (rw (le-antisymm (c .before .loop .inv .0) (c .loop-test .left)) at (c .before .loop .inv .2))
@@ -85,18 +58,18 @@ reflect-all-spec =
     (tie.spec
     Inv-loop
     μ-loop
-    sub-n
+    (λ c. search needs)
     loop-holds
-    add-reflect
+    (λ c. search needs)
     mul-reflect
     add-reflect-2
-    reflect-requires
-    enum-told
-    enum-known-e
-    same-length
+    (λ c κs. search needs)
+    (λ c. search needs)
+    (λ c. search needs)
+    (λ c. search needs)
     returns
-    add-t
-    loop-less
+    (λ c. search needs)
+    (λ c. search needs)
     loop-again
-    same-length-2
+    (λ c. search needs)
     returns-2)

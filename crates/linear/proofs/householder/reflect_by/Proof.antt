@@ -5,30 +5,6 @@ use Rattle.linear.specs.Householder.{reflectBy}
 use Rattle.linear.proofs.householder.reflect_by.Statement.{statement}
 use Rattle.linear.proofs.householder.reflect_by.Tie as tie
 
-sub-dot-of : tie.Need-sub-dot-of
-sub-dot-of c = search needs
-
-dot-of-requires : tie.Need-dot-of-requires
-dot-of-requires c κs = search needs
-
-choose-requires : tie.Need-choose-requires
-choose-requires c κs = search needs
-
-definitely-greater-requires : tie.Need-definitely-greater-requires
-definitely-greater-requires c κs = search needs
-
-add-reflect-all : tie.Need-add-reflect-all
-add-reflect-all c = search needs
-
-sub-reflect-all : tie.Need-sub-reflect-all
-sub-reflect-all c = search needs
-
-reflect-all-requires : tie.Need-reflect-all-requires
-reflect-all-requires c κs = search needs
-
-same-length : tie.Need-same-length
-same-length c = search needs
-
 returns : tie.Need-returns
 unfolding reflectBy ofBits
 returns c = rw (
@@ -51,13 +27,13 @@ pub reflect-by-spec : {M : Type 1} → statement M
 reflect-by-spec =
     tie.close
     (tie.spec
-    sub-dot-of
-    dot-of-requires
-    choose-requires
-    definitely-greater-requires
-    add-reflect-all
-    sub-reflect-all
-    reflect-all-requires
-    same-length
+    (λ c. search needs)
+    (λ c κs. search needs)
+    (λ c κs. search needs)
+    (λ c κs. search needs)
+    (λ c. search needs)
+    (λ c. search needs)
+    (λ c κs. search needs)
+    (λ c. search needs)
     returns
     returns-2)

@@ -26,15 +26,6 @@ loop-holds : tie.Need-loop-holds Inv-loop μ-loop
 unfolding foldR
 loop-holds c = search needs
 
-sub-e : tie.Need-sub-e Inv-loop μ-loop
-sub-e c = search needs
-
-mul-e : tie.Need-mul-e Inv-loop μ-loop
-mul-e c = search needs
-
-slice-relend-prefix-householder-step : tie.Need-slice-relend-prefix-householder-step Inv-loop μ-loop
-slice-relend-prefix-householder-step c = search needs
-
 slice-aggregate-householder-step : tie.Need-slice-aggregate-householder-step Inv-loop μ-loop
 slice-aggregate-householder-step c = sym (length-take-le _ _ (omega arith))
 
@@ -46,33 +37,12 @@ householder-step-requires c κs =
       length-take-le _ _ (omega arith),
     )
 
-enum-told : tie.Need-enum-told Inv-loop μ-loop
-enum-told c = search needs
-
-enum-known-e : tie.Need-enum-known-e Inv-loop μ-loop
-enum-known-e c = search needs
-
-same-length : tie.Need-same-length Inv-loop μ-loop
-same-length c = search needs
-
-same-length-2 : tie.Need-same-length-2 Inv-loop μ-loop
-same-length-2 c = search needs
-
-same-length-3 : tie.Need-same-length-3 Inv-loop μ-loop
-same-length-3 c = search needs
-
 returns : tie.Need-returns Inv-loop μ-loop
 returns c =
     let h = c .before .before .before .before .before .before .before .before .before in
     let e = rw (c .before .e .given .1) at (h .householder-step .ensures) in
     sym (ends _ _ (h .before .before .before .before .loop-test .taken)
     (h .before .before .before .before .before .loop .inv .4) (sym e))
-
-add-j : tie.Need-add-j Inv-loop μ-loop
-add-j c = search needs
-
-loop-less : tie.Need-loop-less Inv-loop μ-loop
-loop-less c = search needs
 
 loop-again : tie.Need-loop-again Inv-loop μ-loop
 loop-again c =
@@ -88,15 +58,6 @@ loop-again c =
       turn _ _ (l .j) (l .inv .4) ∙ sym e,
     )
 
-same-length-4 : tie.Need-same-length-4 Inv-loop μ-loop
-same-length-4 c = search needs
-
-same-length-5 : tie.Need-same-length-5 Inv-loop μ-loop
-same-length-5 c = search needs
-
-same-length-6 : tie.Need-same-length-6 Inv-loop μ-loop
-same-length-6 c = search needs
-
 returns-2 : tie.Need-returns-2 Inv-loop μ-loop
 returns-2 c = sym (rw (le-antisymm (c .before .loop .inv .0) (c .loop-test .left)) at (c .before .loop .inv .4))
 
@@ -107,21 +68,21 @@ reflections-spec =
     Inv-loop
     μ-loop
     loop-holds
-    sub-e
-    mul-e
-    slice-relend-prefix-householder-step
+    (λ c. search needs)
+    (λ c. search needs)
+    (λ c. search needs)
     slice-aggregate-householder-step
     householder-step-requires
-    enum-told
-    enum-known-e
-    same-length
-    same-length-2
-    same-length-3
+    (λ c. search needs)
+    (λ c. search needs)
+    (λ c. search needs)
+    (λ c. search needs)
+    (λ c. search needs)
     returns
-    add-j
-    loop-less
+    (λ c. search needs)
+    (λ c. search needs)
     loop-again
-    same-length-4
-    same-length-5
-    same-length-6
+    (λ c. search needs)
+    (λ c. search needs)
+    (λ c. search needs)
     returns-2)

@@ -11,9 +11,6 @@ use Rattle.linear.proofs.householder.squares_cut.Tie as tie
 room : (s : tie.Start) → (s .args .r + 1) * s .args .m ≤ 600
 room s = columns-small (s .pre .0 .columns) (s .pre .0 .rows)
 
-add-e : tie.Need-add-e
-add-e c = search needs
-
 mul-e : tie.Need-mul-e
 mul-e c = omega (arith, room (c .before .before .before .before .before .before))
 
@@ -27,9 +24,6 @@ slice-aggregate-squares-in : tie.Need-slice-aggregate-squares-in
 slice-aggregate-squares-in c =
     sym (length-take-le _ _ (omega (arith, room (c .before .before .before .before .before .before .before .before))))
 
-slice-relend-prefix-squares-in-2 : tie.Need-slice-relend-prefix-squares-in-2
-slice-relend-prefix-squares-in-2 c = search needs
-
 slice-aggregate-squares-in-2 : tie.Need-slice-aggregate-squares-in-2
 slice-aggregate-squares-in-2 c = sym (length-take-le _ _ (omega arith))
 
@@ -38,18 +32,6 @@ squares-in-requires c κs =
     let p = c .before .before .before .before .before .before .before .before .before .before .pre in
     (p .0, length-take-le _ _ (p .1), length-take-le _ _ (p .2), p .3)
 
-same-length : tie.Need-same-length
-same-length c = search needs
-
-same-length-2 : tie.Need-same-length-2
-same-length-2 c = search needs
-
-same-length-3 : tie.Need-same-length-3
-same-length-3 c = search needs
-
-same-length-4 : tie.Need-same-length-4
-same-length-4 c = search needs
-
 returns : tie.Need-returns
 returns c = search needs
 
@@ -57,16 +39,16 @@ pub squares-cut-spec : {M : Type 1} → statement M
 squares-cut-spec =
     tie.close
     (tie.spec
-    add-e
+    (λ c. search needs)
     mul-e
     mul-e-2
     slice-relend-prefix-squares-in
     slice-aggregate-squares-in
-    slice-relend-prefix-squares-in-2
+    (λ c. search needs)
     slice-aggregate-squares-in-2
     squares-in-requires
-    same-length
-    same-length-2
-    same-length-3
-    same-length-4
+    (λ c. search needs)
+    (λ c. search needs)
+    (λ c. search needs)
+    (λ c. search needs)
     returns)

@@ -36,24 +36,6 @@ reflected k =
       k .before .before .before .before .fewer .ensures,
     ) at (k .reflections .ensures)
 
-clear-requires : tie.Need-clear-requires
-clear-requires c κs = search needs
-
-unmark-requires : tie.Need-unmark-requires
-unmark-requires c κs = search needs
-
-columns-requires : tie.Need-columns-requires
-columns-requires c κs = search needs
-
-fewer-requires : tie.Need-fewer-requires
-fewer-requires c κs = search needs
-
-reflections-requires : tie.Need-reflections-requires
-reflections-requires c κs = search needs
-
-enum-told : tie.Need-enum-told
-enum-told c = search needs
-
 values-requires : tie.Need-values-requires
 values-requires c κs =
     let k = c .before .before .before .before .before .before .before .before .before .before .before in
@@ -69,12 +51,6 @@ values-requires c κs =
       marks = omega (arith, p, k .reflections .kept, u);
     }
 
-cleared-requires : tie.Need-cleared-requires
-cleared-requires c κs = search needs
-
-enum-known-e : tie.Need-enum-known-e
-enum-known-e c = search needs
-
 same-length : tie.Need-same-length
 same-length c = omega (
   arith,
@@ -84,15 +60,6 @@ same-length c = omega (
       .before .before .before .before .before .before .before .before .before .before .before .before .before .before
       .before .before .before .before .before .clear .kept,
 )
-
-same-length-2 : tie.Need-same-length-2
-same-length-2 c = search needs
-
-same-length-3 : tie.Need-same-length-3
-same-length-3 c = search needs
-
-same-length-4 : tie.Need-same-length-4
-same-length-4 c = search needs
 
 returns : tie.Need-returns
 unfolding leastSquaresOf bind
@@ -119,18 +86,6 @@ returns c =
     ) in
     rw (← f, ← e) (rw size at (c .before .before .cleared .ensures))
 
-same-length-5 : tie.Need-same-length-5
-same-length-5 c = search needs
-
-same-length-6 : tie.Need-same-length-6
-same-length-6 c = search needs
-
-same-length-7 : tie.Need-same-length-7
-same-length-7 c = search needs
-
-same-length-8 : tie.Need-same-length-8
-same-length-8 c = search needs
-
 returns-2 : tie.Need-returns-2
 unfolding leastSquaresOf bind
 returns-2 c =
@@ -146,22 +101,22 @@ pub squares-in-spec : {M : Type 1} → statement M
 squares-in-spec =
     tie.close
     (tie.spec
-    clear-requires
-    unmark-requires
-    columns-requires
-    fewer-requires
-    reflections-requires
-    enum-told
+    (λ c κs. search needs)
+    (λ c κs. search needs)
+    (λ c κs. search needs)
+    (λ c κs. search needs)
+    (λ c κs. search needs)
+    (λ c. search needs)
     values-requires
-    cleared-requires
-    enum-known-e
+    (λ c κs. search needs)
+    (λ c. search needs)
     same-length
-    same-length-2
-    same-length-3
-    same-length-4
+    (λ c. search needs)
+    (λ c. search needs)
+    (λ c. search needs)
     returns
-    same-length-5
-    same-length-6
-    same-length-7
-    same-length-8
+    (λ c. search needs)
+    (λ c. search needs)
+    (λ c. search needs)
+    (λ c. search needs)
     returns-2)

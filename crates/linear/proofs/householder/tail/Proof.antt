@@ -31,26 +31,11 @@ mul-base c = omega (arith, start (c .before .before))
 add-base : tie.Need-add-base Inv-loop μ-loop
 add-base c = omega (arith, start (c .before .before))
 
-sub-n : tie.Need-sub-n Inv-loop μ-loop
-sub-n c = search needs
-
 loop-holds : tie.Need-loop-holds Inv-loop μ-loop
 loop-holds c = (search needs, search needs, sym (listTo-none _ _))
 
 add-at : tie.Need-add-at Inv-loop μ-loop
 add-at c = omega (arith, start (c .before .before .before .before .before))
-
-at-requires : tie.Need-at-requires Inv-loop μ-loop
-at-requires c κs = search needs
-
-put-requires : tie.Need-put-requires Inv-loop μ-loop
-put-requires c κs = search needs
-
-add-k : tie.Need-add-k Inv-loop μ-loop
-add-k c = search needs
-
-loop-less : tie.Need-loop-less Inv-loop μ-loop
-loop-less c = search needs
 
 loop-again : tie.Need-loop-again Inv-loop μ-loop
 loop-again c =
@@ -65,9 +50,6 @@ loop-again c =
       search needs,
       e ∙ listTo-more (along (a .cols .now) (a .j * a .m + a .j) 1) (l .loop .k) (a .x .now) (omega arith),
     )
-
-same-length : tie.Need-same-length Inv-loop μ-loop
-same-length c = search needs
 
 returns : tie.Need-returns Inv-loop μ-loop
 unfolding tailOf
@@ -85,13 +67,13 @@ tail-spec =
     μ-loop
     mul-base
     add-base
-    sub-n
+    (λ c. search needs)
     loop-holds
     add-at
-    at-requires
-    put-requires
-    add-k
-    loop-less
+    (λ c κs. search needs)
+    (λ c κs. search needs)
+    (λ c. search needs)
+    (λ c. search needs)
     loop-again
-    same-length
+    (λ c. search needs)
     returns)

@@ -23,29 +23,11 @@ loop-holds : tie.Need-loop-holds Inv-loop μ-loop
 unfolding foldR
 loop-holds c = search needs
 
-value-row-requires : tie.Need-value-row-requires Inv-loop μ-loop
-value-row-requires c κs = search needs
-
-enum-told : tie.Need-enum-told Inv-loop μ-loop
-enum-told c = search needs
-
-enum-known-e : tie.Need-enum-known-e Inv-loop μ-loop
-enum-known-e c = search needs
-
-same-length : tie.Need-same-length Inv-loop μ-loop
-same-length c = search needs
-
 returns : tie.Need-returns Inv-loop μ-loop
 returns c =
     let h = c .before .before .before .before .before in
     let e = rw (c .before .e .given .1) at (h .value-row .ensures) in
     sym (ends _ _ (h .before .before .loop-test .taken) (h .before .before .before .loop .inv .2) (sym e))
-
-add-t : tie.Need-add-t Inv-loop μ-loop
-add-t c = search needs
-
-loop-less : tie.Need-loop-less Inv-loop μ-loop
-loop-less c = search needs
 
 loop-again : tie.Need-loop-again Inv-loop μ-loop
 loop-again c =
@@ -53,9 +35,6 @@ loop-again c =
     let e = rw (c .enum-told .given .1) at (h .value-row .ensures) in
     let l = h .before .before .before .loop in
     (search needs, search needs, turn _ _ (l .t) (l .inv .2) ∙ sym e)
-
-same-length-2 : tie.Need-same-length-2 Inv-loop μ-loop
-same-length-2 c = search needs
 
 returns-2 : tie.Need-returns-2 Inv-loop μ-loop
 returns-2 c = sym (rw (le-antisymm (c .before .loop .inv .0) (c .loop-test .left)) at (c .before .loop .inv .2))
@@ -67,13 +46,13 @@ values-spec =
     Inv-loop
     μ-loop
     loop-holds
-    value-row-requires
-    enum-told
-    enum-known-e
-    same-length
+    (λ c κs. search needs)
+    (λ c. search needs)
+    (λ c. search needs)
+    (λ c. search needs)
     returns
-    add-t
-    loop-less
+    (λ c. search needs)
+    (λ c. search needs)
     loop-again
-    same-length-2
+    (λ c. search needs)
     returns-2)

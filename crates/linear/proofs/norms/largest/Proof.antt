@@ -20,21 +20,6 @@ loop-holds : tie.Need-loop-holds Inv-loop μ-loop
 unfolding ofBits
 loop-holds c = (search needs, largest-none _)
 
-at-requires : tie.Need-at-requires Inv-loop μ-loop
-at-requires c κs = search needs
-
-greater-of-requires : tie.Need-greater-of-requires Inv-loop μ-loop
-greater-of-requires c κs = search needs
-
-greater-of-requires-2 : tie.Need-greater-of-requires-2 Inv-loop μ-loop
-greater-of-requires-2 c κs = search needs
-
-add-i : tie.Need-add-i Inv-loop μ-loop
-add-i c = search needs
-
-loop-less : tie.Need-loop-less Inv-loop μ-loop
-loop-less c = search needs
-
 loop-again : tie.Need-loop-again Inv-loop μ-loop
 loop-again c =
     let x = c .before .before .before in
@@ -44,12 +29,6 @@ loop-again c =
       largest-more _ (l .i) (l .inv .1) (g .0, g .1 .0) (x .at .ensures) (c .before .greater-of .ensures)
           (c .greater-of2 .ensures),
     )
-
-greater-of-requires-3 : tie.Need-greater-of-requires-3 Inv-loop μ-loop
-greater-of-requires-3 c κs = search needs
-
-degenerate-requires : tie.Need-degenerate-requires Inv-loop μ-loop
-degenerate-requires c κs = search needs
 
 returns : tie.Need-returns Inv-loop μ-loop
 returns c =
@@ -64,12 +43,12 @@ largest-spec =
     Inv-loop
     μ-loop
     loop-holds
-    at-requires
-    greater-of-requires
-    greater-of-requires-2
-    add-i
-    loop-less
+    (λ c κs. search needs)
+    (λ c κs. search needs)
+    (λ c κs. search needs)
+    (λ c. search needs)
+    (λ c. search needs)
     loop-again
-    greater-of-requires-3
-    degenerate-requires
+    (λ c κs. search needs)
+    (λ c κs. search needs)
     returns)

@@ -10,18 +10,9 @@ returns : tie.Need-returns
 unfolding normReply
 returns c = rw (lt-leb _ _ (c .if1 .taken))
 
-mul-if2 : tie.Need-mul-if2
-mul-if2 c = search needs
-
 returns-2 : tie.Need-returns-2
 unfolding normReply
 returns-2 c = rw (le-leb _ _ (c .before .if1 .left), ne-eqb _ _ (c .if2 .taken))
-
-norm-of-requires : tie.Need-norm-of-requires
-norm-of-requires c κs = search needs
-
-answer-requires : tie.Need-answer-requires
-answer-requires c κs = search needs
 
 returns-3 : tie.Need-returns-3
 unfolding normReply
@@ -30,4 +21,4 @@ returns-3 c = rw (le-leb _ _ (c .before .before .before .if1 .left), eq-eqb _ _ 
 
 pub norm-spec : {M : Type 1} → statement M
 norm-spec =
-    tie.close (tie.spec returns mul-if2 returns-2 norm-of-requires answer-requires returns-3)
+    tie.close (tie.spec returns (λ c. search needs) returns-2 (λ c κs. search needs) (λ c κs. search needs) returns-3)

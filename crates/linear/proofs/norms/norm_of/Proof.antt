@@ -8,21 +8,12 @@ use Rattle.linear.proofs.NormSquares.{some-size}
 use Rattle.linear.proofs.norms.norm_of.Statement.{statement}
 use Rattle.linear.proofs.norms.norm_of.Tie as tie
 
-largest-requires : tie.Need-largest-requires
-largest-requires c κs = search needs
-
-definitely-greater-requires : tie.Need-definitely-greater-requires
-definitely-greater-requires c κs = search needs
-
 scaled-squares-requires : tie.Need-scaled-squares-requires
 unfolding ofBits
 scaled-squares-requires c κs =
     let a = c .before .before .before .before .args in
     some-size (at (a .v .now)) (a .n)
     (rw (← c .before .before .largest .ensures) (sym (c .before .definitely-greater .ensures) ∙ c .if1 .taken))
-
-scaled-root-requires : tie.Need-scaled-root-requires
-scaled-root-requires c κs = search needs
 
 returns : tie.Need-returns
 unfolding normOf ofBits
@@ -34,12 +25,6 @@ returns c =
       k .if1 .taken,
       ← c .before .scaled-squares .ensures,
     ) (c .scaled-root .ensures)
-
-dot-of-requires : tie.Need-dot-of-requires
-dot-of-requires c κs = search needs
-
-sqrt-requires : tie.Need-sqrt-requires
-sqrt-requires c κs = search needs
 
 returns-2 : tie.Need-returns-2
 unfolding normOf ofBits
@@ -56,11 +41,11 @@ pub norm-of-spec : {M : Type 1} → statement M
 norm-of-spec =
     tie.close
     (tie.spec
-    largest-requires
-    definitely-greater-requires
+    (λ c κs. search needs)
+    (λ c κs. search needs)
     scaled-squares-requires
-    scaled-root-requires
+    (λ c κs. search needs)
     returns
-    dot-of-requires
-    sqrt-requires
+    (λ c κs. search needs)
+    (λ c κs. search needs)
     returns-2)

@@ -7,24 +7,6 @@ use Rattle.linear.specs.Norm.{scaledRoot}
 use Rattle.linear.proofs.norms.scaled_root.Statement.{statement}
 use Rattle.linear.proofs.norms.scaled_root.Tie as tie
 
-enum-known-squares : tie.Need-enum-known-squares
-enum-known-squares c = search needs
-
-sqrt-requires : tie.Need-sqrt-requires
-sqrt-requires c κs = search needs
-
-enum-known-r : tie.Need-enum-known-r
-enum-known-r c = search needs
-
-mul-requires : tie.Need-mul-requires
-mul-requires c κs = search needs
-
-enum-known-e : tie.Need-enum-known-e
-enum-known-e c = search needs
-
-enum-known-squares-2 : tie.Need-enum-known-squares-2
-enum-known-squares-2 c = search needs
-
 returns : tie.Need-returns
 unfolding scaledRoot bind
 returns c =
@@ -46,12 +28,12 @@ pub scaled-root-spec : {M : Type 1} → statement M
 scaled-root-spec =
     tie.close
     (tie.spec
-    enum-known-squares
-    sqrt-requires
-    enum-known-r
-    mul-requires
-    enum-known-e
-    enum-known-squares-2
+    (λ c. search needs)
+    (λ c κs. search needs)
+    (λ c. search needs)
+    (λ c κs. search needs)
+    (λ c. search needs)
+    (λ c. search needs)
     returns
     returns-2
     returns-3)

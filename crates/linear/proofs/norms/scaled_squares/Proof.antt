@@ -7,17 +7,8 @@ use Rattle.linear.proofs.NormSquares.{squares-value, squares-refused}
 use Rattle.linear.proofs.norms.scaled_squares.Statement.{statement}
 use Rattle.linear.proofs.norms.scaled_squares.Tie as tie
 
-inverse-requires : tie.Need-inverse-requires
-inverse-requires c κs = search needs
-
-enum-known-i : tie.Need-enum-known-i
-enum-known-i c = search needs
-
 squares-times-requires : tie.Need-squares-times-requires
 squares-times-requires c κs = tt
-
-enum-known-e : tie.Need-enum-known-e
-enum-known-e c = search needs
 
 returns : tie.Need-returns
 returns c =
@@ -36,9 +27,9 @@ pub scaled-squares-spec : {M : Type 1} → statement M
 scaled-squares-spec =
     tie.close
     (tie.spec
-    inverse-requires
-    enum-known-i
+    (λ c κs. search needs)
+    (λ c. search needs)
     squares-times-requires
-    enum-known-e
+    (λ c. search needs)
     returns
     returns-2)

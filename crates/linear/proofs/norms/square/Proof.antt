@@ -55,11 +55,8 @@ returns c =
     square-fixed (k .args .q) (is-tiny true (k .args .q .lo) (yes (g .0 .1)) (c .if2 .taken))
     (is-tiny false (k .args .q .hi) (yes (g .1 .0 .1)) (c .before .before .if1 .taken))
 
-mul-requires : tie.Need-mul-requires
-mul-requires c κs = search needs
-
 returns-2 : tie.Need-returns-2
 returns-2 c = c .mul .ensures .value
 
 pub square-spec : {M : Type 1} → statement M
-square-spec = tie.close (tie.spec returns mul-requires returns-2)
+square-spec = tie.close (tie.spec returns (λ c κs. search needs) returns-2)

@@ -6,9 +6,6 @@ use Rattle.linear.proofs.BoundLaws.{chosen-zero, chosen-middle}
 use Rattle.linear.proofs.scaled.chosen.Statement.{statement}
 use Rattle.linear.proofs.scaled.chosen.Tie as tie
 
-lesser-of-requires : tie.Need-lesser-of-requires
-lesser-of-requires c κs = search needs
-
 returns : tie.Need-returns
 unfolding ofBits
 returns c =
@@ -25,4 +22,4 @@ returns-2 c =
     (c .if1 .left)
 
 pub chosen-spec : {M : Type 1} → statement M
-chosen-spec = tie.close (tie.spec lesser-of-requires returns returns-2)
+chosen-spec = tie.close (tie.spec (λ c κs. search needs) returns returns-2)

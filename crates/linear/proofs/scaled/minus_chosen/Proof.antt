@@ -7,35 +7,17 @@ use Rattle.linear.proofs.BoundLaws.{difference-chosen}
 use Rattle.linear.proofs.scaled.minus_chosen.Statement.{statement}
 use Rattle.linear.proofs.scaled.minus_chosen.Tie as tie
 
-bounds-of-requires : tie.Need-bounds-of-requires
-bounds-of-requires c κs = search needs
-
-is-proper-requires : tie.Need-is-proper-requires
-is-proper-requires c κs = search needs
-
 minus-product-requires : tie.Need-minus-product-requires
 minus-product-requires c κs = yes (sym (rw (c .if1 .taken) at (c .before .is-proper .ensures)))
 
 chosen-requires : tie.Need-chosen-requires
 chosen-requires c κs = c .minus-product .ensures .proper
 
-degenerate-requires : tie.Need-degenerate-requires
-degenerate-requires c κs = search needs
-
 returns : tie.Need-returns
 returns c =
     let a = c .before .before .before .before .before .before .args in
     c .degenerate .ensures ∙ c .before .chosen .ensures ∙ difference-chosen (a .z) (mulOf (a .x) (a .y))
     (c .before .before .before .before .before .bounds-of .ensures) (c .before .before .minus-product .ensures)
-
-mul-requires : tie.Need-mul-requires
-mul-requires c κs = search needs
-
-sub-requires : tie.Need-sub-requires
-sub-requires c κs = search needs
-
-choose-requires : tie.Need-choose-requires
-choose-requires c κs = search needs
 
 returns-2 : tie.Need-returns-2
 returns-2 c = rw (c .choose .ensures, c .before .sub .ensures .value, c .before .before .mul .ensures .value)
@@ -44,13 +26,13 @@ pub minus-chosen-spec : {M : Type 1} → statement M
 minus-chosen-spec =
     tie.close
     (tie.spec
-    bounds-of-requires
-    is-proper-requires
+    (λ c κs. search needs)
+    (λ c κs. search needs)
     minus-product-requires
     chosen-requires
-    degenerate-requires
+    (λ c κs. search needs)
     returns
-    mul-requires
-    sub-requires
-    choose-requires
+    (λ c κs. search needs)
+    (λ c κs. search needs)
+    (λ c κs. search needs)
     returns-2)

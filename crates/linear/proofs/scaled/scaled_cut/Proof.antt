@@ -29,30 +29,6 @@ loop-holds : tie.Need-loop-holds Inv-loop μ-loop
 unfolding minusScaled fillTo
 loop-holds c = (search needs, refl, refl, omega arith, omega arith)
 
-at-requires : tie.Need-at-requires Inv-loop μ-loop
-at-requires c κs = search needs
-
-at-requires-2 : tie.Need-at-requires-2 Inv-loop μ-loop
-at-requires-2 c κs = search needs
-
-mul-requires : tie.Need-mul-requires Inv-loop μ-loop
-mul-requires c κs = search needs
-
-sub-requires : tie.Need-sub-requires Inv-loop μ-loop
-sub-requires c κs = search needs
-
-choose-requires : tie.Need-choose-requires Inv-loop μ-loop
-choose-requires c κs = search needs
-
-put-requires : tie.Need-put-requires Inv-loop μ-loop
-put-requires c κs = search needs
-
-ahead-requires : tie.Need-ahead-requires Inv-loop μ-loop
-ahead-requires c κs = search needs
-
-ahead-requires-2 : tie.Need-ahead-requires-2 Inv-loop μ-loop
-ahead-requires-2 c κs = search needs
-
 add-counter : tie.Need-add-counter Inv-loop μ-loop
 add-counter c = omega (
   arith,
@@ -87,9 +63,6 @@ loop-again c =
       cut-next (a .w0) (l .counter) (l .inv .4) (c .ahead2 .ensures) refl,
     )
 
-same-length : tie.Need-same-length Inv-loop μ-loop
-same-length c = search needs
-
 returns : tie.Need-returns Inv-loop μ-loop
 returns c = rw (le-antisymm (c .before .loop .inv .0) (c .loop-test .left)) at (c .before .loop .inv .2)
 
@@ -100,16 +73,16 @@ scaled-cut-spec =
     Inv-loop
     μ-loop
     loop-holds
-    at-requires
-    at-requires-2
-    mul-requires
-    sub-requires
-    choose-requires
-    put-requires
-    ahead-requires
-    ahead-requires-2
+    (λ c κs. search needs)
+    (λ c κs. search needs)
+    (λ c κs. search needs)
+    (λ c κs. search needs)
+    (λ c κs. search needs)
+    (λ c κs. search needs)
+    (λ c κs. search needs)
+    (λ c κs. search needs)
     add-counter
     loop-less
     loop-again
-    same-length
+    (λ c. search needs)
     returns)

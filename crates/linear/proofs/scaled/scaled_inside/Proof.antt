@@ -60,9 +60,6 @@ at-inside-requires-2 c κs =
     t .before .before .before .before .before .before .before .before .pre .second (l .p) (t .loop-test .taken) in
     omega (arith, i)
 
-minus-chosen-requires : tie.Need-minus-chosen-requires Inv-loop μ-loop
-minus-chosen-requires c κs = search needs
-
 add-put-inside : tie.Need-add-put-inside Inv-loop μ-loop
 add-put-inside c =
     let t = c .before .before .before .before .before in
@@ -84,9 +81,6 @@ add-p c =
     let t = c .before .before .before .before .before .before .before .before in
     omega (arith, t .loop-test .taken, t .before .before .before .before .before .before .before .before .fits)
 
-loop-less : tie.Need-loop-less Inv-loop μ-loop
-loop-less c = search needs
-
 loop-again : tie.Need-loop-again Inv-loop μ-loop
 loop-again c =
     let t = c .before .before .before .before .before .before .before .before in
@@ -96,9 +90,6 @@ loop-again c =
     let h = c .before .before .before .before .minus-chosen .ensures in
     let g = c .before .before .put-inside .ensures in
     (omega (arith, t .loop-test .taken), search needs, λ u e. scaled-more u _ _ _ _ (l .p) _ (l .inv .2 u e) x y h g)
-
-same-length : tie.Need-same-length Inv-loop μ-loop
-same-length c = search needs
 
 returns : tie.Need-returns Inv-loop μ-loop
 returns c =
@@ -118,11 +109,11 @@ scaled-inside-spec =
     at-inside-requires
     add-at-inside-2
     at-inside-requires-2
-    minus-chosen-requires
+    (λ c κs. search needs)
     add-put-inside
     put-inside-requires
     add-p
-    loop-less
+    (λ c. search needs)
     loop-again
-    same-length
+    (λ c. search needs)
     returns)

@@ -38,9 +38,6 @@ at-inside-requires c κs =
     let i = t .before .before .before .before .pre .first (l .p) (t .loop-test .taken) in
     omega (arith, i, l .inv .1)
 
-bounds-of-requires : tie.Need-bounds-of-requires Inv-loop μ-loop
-bounds-of-requires c κs = search needs
-
 add-at-inside-2 : tie.Need-add-at-inside-2 Inv-loop μ-loop
 add-at-inside-2 c =
     let t = c .before .before .before in
@@ -51,20 +48,8 @@ at-inside-requires-2 c κs =
     let t = c .before .before .before in
     omega (arith, t .before .before .before .before .pre .second (t .before .loop .p) (t .loop-test .taken))
 
-are-points-requires : tie.Need-are-points-requires Inv-loop μ-loop
-are-points-requires c κs = search needs
-
-same-length : tie.Need-same-length Inv-loop μ-loop
-same-length c = search needs
-
 returns : tie.Need-returns Inv-loop μ-loop
 returns c = let i = c .before .before .before .before .before .before .before .loop .inv in (i .0, i .2)
-
-is-proper-requires : tie.Need-is-proper-requires Inv-loop μ-loop
-is-proper-requires c κs = search needs
-
-same-length-2 : tie.Need-same-length-2 Inv-loop μ-loop
-same-length-2 c = search needs
 
 returns-2 : tie.Need-returns-2 Inv-loop μ-loop
 returns-2 c =
@@ -85,9 +70,6 @@ minus-points-requires c κs =
 chosen-requires : tie.Need-chosen-requires Inv-loop μ-loop
 chosen-requires c κs = c .minus-points .ensures .proper
 
-degenerate-requires : tie.Need-degenerate-requires Inv-loop μ-loop
-degenerate-requires c κs = search needs
-
 put-inside-requires : tie.Need-put-inside-requires Inv-loop μ-loop
 put-inside-requires c κs =
     let t = c .before .before .before .before .before .before .before .before .before .before .before .before in
@@ -100,9 +82,6 @@ add-p c =
     let b = c .before .before .before .before .before .before .before .before in
     let t = b .before .before .before .before .before .before .before in
     omega (arith, t .loop-test .taken, t .before .before .before .before .fits)
-
-loop-less : tie.Need-loop-less Inv-loop μ-loop
-loop-less c = search needs
 
 loop-again : tie.Need-loop-again Inv-loop μ-loop
 loop-again c =
@@ -119,9 +98,6 @@ loop-again c =
     let e = scaled-more _ _ _ _ _ (l .p) _ (l .inv .2) (x .ensures) (y .ensures) g f in
     (omega (arith, t .loop-test .taken), search needs, e)
 
-same-length-3 : tie.Need-same-length-3 Inv-loop μ-loop
-same-length-3 c = search needs
-
 returns-3 : tie.Need-returns-3 Inv-loop μ-loop
 returns-3 c = (le-refl _, rw (le-antisymm (c .before .loop .inv .0) (c .loop-test .left)) at (c .before .loop .inv .2))
 
@@ -134,22 +110,22 @@ scaled-points-inside-spec =
     loop-holds
     add-at-inside
     at-inside-requires
-    bounds-of-requires
+    (λ c κs. search needs)
     add-at-inside-2
     at-inside-requires-2
-    are-points-requires
-    same-length
+    (λ c κs. search needs)
+    (λ c. search needs)
     returns
-    is-proper-requires
-    same-length-2
+    (λ c κs. search needs)
+    (λ c. search needs)
     returns-2
     add-put-inside
     minus-points-requires
     chosen-requires
-    degenerate-requires
+    (λ c κs. search needs)
     put-inside-requires
     add-p
-    loop-less
+    (λ c. search needs)
     loop-again
-    same-length-3
+    (λ c. search needs)
     returns-3)

@@ -28,20 +28,11 @@ gram-rows-requires c κs =
     let l = c .before .before .loop in
     (s .pre .0, l .inv .1 ∙ s .pre .1, omega (arith, c .before .loop-test .taken), l .inv .2)
 
-add-h : tie.Need-add-h Inv-loop μ-loop
-add-h c = search needs
-
-loop-less : tie.Need-loop-less Inv-loop μ-loop
-loop-less c = search needs
-
 loop-again : tie.Need-loop-again Inv-loop μ-loop
 loop-again c =
     let l = c .before .before .before .before .before .loop in
     let e : 2 * l .h + 2 ≡ 2 * (l .h + 1) = omega arith in
     (search needs, search needs, rw e at (c .before .before .gram-rows .ensures))
-
-mul-i : tie.Need-mul-i Inv-loop μ-loop
-mul-i c = search needs
 
 gram-row-requires : tie.Need-gram-row-requires Inv-loop μ-loop
 gram-row-requires c κs =
@@ -50,17 +41,11 @@ gram-row-requires c κs =
     let e = le-antisymm (l .inv .0) (c .before .before .loop-test .left) in
     (s .pre .0, l .inv .1 ∙ s .pre .1, c .before .if1 .taken, rw e at (l .inv .2))
 
-same-length : tie.Need-same-length Inv-loop μ-loop
-same-length c = search needs
-
 returns : tie.Need-returns Inv-loop μ-loop
 returns c =
     let a = c .before .before .before .before .before .before .before .before .before .args in
     let e : 2 * (a .m / 2) + 1 ≡ a .m = omega (arith, c .before .before .before .before .if1 .taken) in
     rw e at (c .before .before .gram-row .ensures)
-
-same-length-2 : tie.Need-same-length-2 Inv-loop μ-loop
-same-length-2 c = search needs
 
 returns-2 : tie.Need-returns-2 Inv-loop μ-loop
 returns-2 c =
@@ -79,12 +64,12 @@ gram-spec =
     loop-holds
     mul-gram-rows
     gram-rows-requires
-    add-h
-    loop-less
+    (λ c. search needs)
+    (λ c. search needs)
     loop-again
-    mul-i
+    (λ c. search needs)
     gram-row-requires
-    same-length
+    (λ c. search needs)
     returns
-    same-length-2
+    (λ c. search needs)
     returns-2)

@@ -51,12 +51,6 @@ returns-4 c =
       ne-eqb _ _ (c .if4 .taken),
     )
 
-mul-if5 : tie.Need-mul-if5
-mul-if5 c = search needs
-
-mul-if5-2 : tie.Need-mul-if5-2
-mul-if5-2 c = search needs
-
 returns-5 : tie.Need-returns-5
 unfolding gramFactorReply
 returns-5 c =
@@ -79,21 +73,6 @@ returns-6 c =
       eq-eqb _ _ (c .before .if5 .left),
       ne-eqb _ _ (c .if6 .taken),
     )
-
-gram-factor-sized-requires : tie.Need-gram-factor-sized-requires
-gram-factor-sized-requires c κs = search needs
-
-clear-requires : tie.Need-clear-requires
-clear-requires c κs = search needs
-
-same-length : tie.Need-same-length
-same-length c = search needs
-
-same-length-2 : tie.Need-same-length-2
-same-length-2 c = search needs
-
-same-length-3 : tie.Need-same-length-3
-same-length-3 c = search needs
 
 returns-7 : tie.Need-returns-7
 unfolding gramFactorReply
@@ -127,13 +106,13 @@ gram-factor-spec =
     mul-if4
     mul-if4-2
     returns-4
-    mul-if5
-    mul-if5-2
+    (λ c. search needs)
+    (λ c. search needs)
     returns-5
     returns-6
-    gram-factor-sized-requires
-    clear-requires
-    same-length
-    same-length-2
-    same-length-3
+    (λ c κs. search needs)
+    (λ c κs. search needs)
+    (λ c. search needs)
+    (λ c. search needs)
+    (λ c. search needs)
     returns-7)

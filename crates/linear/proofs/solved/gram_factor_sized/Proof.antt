@@ -5,21 +5,6 @@ use Rattle.linear.proofs.SolvedLaws.{gram-factor}
 use Rattle.linear.proofs.solved.gram_factor_sized.Statement.{statement}
 use Rattle.linear.proofs.solved.gram_factor_sized.Tie as tie
 
-gram-requires : tie.Need-gram-requires
-gram-requires c κs = search needs
-
-factor-sized-requires : tie.Need-factor-sized-requires
-factor-sized-requires c κs = search needs
-
-same-length : tie.Need-same-length
-same-length c = search needs
-
-same-length-2 : tie.Need-same-length-2
-same-length-2 c = search needs
-
-same-length-3 : tie.Need-same-length-3
-same-length-3 c = search needs
-
 returns : tie.Need-returns
 returns c =
     let k = c .before .before .before .before in
@@ -34,9 +19,9 @@ pub gram-factor-sized-spec : {M : Type 1} → statement M
 gram-factor-sized-spec =
     tie.close
     (tie.spec
-    gram-requires
-    factor-sized-requires
-    same-length
-    same-length-2
-    same-length-3
+    (λ c κs. search needs)
+    (λ c κs. search needs)
+    (λ c. search needs)
+    (λ c. search needs)
+    (λ c. search needs)
     returns)

@@ -99,9 +99,6 @@ loop-again c =
           (c .before .before .put .ensures) fill,
     )
 
-same-length : tie.Need-same-length Inv-loop μ-loop
-same-length c = search needs
-
 returns : tie.Need-returns Inv-loop μ-loop
 returns c =
     let s = c .before .before .before .before in
@@ -126,5 +123,5 @@ gram-row-spec =
     add-j
     loop-less
     loop-again
-    same-length
+    (λ c. search needs)
     returns)

@@ -126,9 +126,6 @@ loop-again c =
           (c .before .before .put2 .ensures, c .before .before .before .before .before .before .put .ensures) fill,
     )
 
-same-length : tie.Need-same-length Inv-loop μ-loop
-same-length c = search needs
-
 returns : tie.Need-returns Inv-loop μ-loop
 returns c =
     let s = c .before .before .before .before in
@@ -157,5 +154,5 @@ gram-rows-spec =
     add-j
     loop-less
     loop-again
-    same-length
+    (λ c. search needs)
     returns)

@@ -31,12 +31,6 @@ minus-two-requires : tie.Need-minus-two-requires Inv-loop μ-loop
 minus-two-requires c κs =
     omega (arith, c .before .before .before .before .before .before .before .pre, c .before .loop-test .taken)
 
-add-h : tie.Need-add-h Inv-loop μ-loop
-add-h c = search needs
-
-loop-less : tie.Need-loop-less Inv-loop μ-loop
-loop-less c = search needs
-
 loop-again : tie.Need-loop-again Inv-loop μ-loop
 loop-again c =
     let l = c .before .before .before .before .before .loop in
@@ -52,17 +46,8 @@ loop-again c =
           (λ (i : ℕ). listTo f i ++ drop (2 * i) (a .out .now)) e,
     )
 
-mul-i : tie.Need-mul-i Inv-loop μ-loop
-mul-i c = search needs
-
-minus-at-requires : tie.Need-minus-at-requires Inv-loop μ-loop
-minus-at-requires c κs = search needs
-
 put-requires : tie.Need-put-requires Inv-loop μ-loop
 put-requires c κs = tt
-
-same-length : tie.Need-same-length Inv-loop μ-loop
-same-length c = search needs
 
 returns : tie.Need-returns Inv-loop μ-loop
 unfolding minusOf
@@ -78,9 +63,6 @@ returns c =
     let more = listTo-more f (2 * half) (a .out .now) (omega (arith, s .pre, last)) in
     (rw (e, c .before .before .before .minus-at .ensures) at (c .before .before .put .ensures)) ∙ more
     ∙ ap (λ (i : ℕ). listTo f i ++ drop (2 * i) (a .out .now)) last ∙ listTo-all f (a .n) (a .out .now) (s .pre .values)
-
-same-length-2 : tie.Need-same-length-2 Inv-loop μ-loop
-same-length-2 c = search needs
 
 returns-2 : tie.Need-returns-2 Inv-loop μ-loop
 unfolding minusOf
@@ -103,13 +85,13 @@ minus-spec =
     loop-holds
     mul-minus-two
     minus-two-requires
-    add-h
-    loop-less
+    (λ c. search needs)
+    (λ c. search needs)
     loop-again
-    mul-i
-    minus-at-requires
+    (λ c. search needs)
+    (λ c κs. search needs)
     put-requires
-    same-length
+    (λ c. search needs)
     returns
-    same-length-2
+    (λ c. search needs)
     returns-2)

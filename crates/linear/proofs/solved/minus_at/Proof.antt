@@ -4,14 +4,8 @@ use Rattle.linear.proofs.SolvedLaws.{value-at}
 use Rattle.linear.proofs.solved.minus_at.Statement.{statement}
 use Rattle.linear.proofs.solved.minus_at.Tie as tie
 
-at-requires : tie.Need-at-requires
-at-requires c κs = search needs
-
 minus-dot-requires : tie.Need-minus-dot-requires
 minus-dot-requires c κs = tt
-
-choose-requires : tie.Need-choose-requires
-choose-requires c κs = search needs
 
 returns : tie.Need-returns
 returns c =
@@ -20,4 +14,4 @@ returns c =
     (c .before .minus-dot .ensures) (c .before .before .at .ensures)
 
 pub minus-at-spec : {M : Type 1} → statement M
-minus-at-spec = tie.close (tie.spec at-requires minus-dot-requires choose-requires returns)
+minus-at-spec = tie.close (tie.spec (λ c κs. search needs) minus-dot-requires (λ c κs. search needs) returns)

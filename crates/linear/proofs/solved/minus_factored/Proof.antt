@@ -57,9 +57,6 @@ returns-5 c =
       ne-eqb _ _ (c .if5 .taken),
     )
 
-mul-if6 : tie.Need-mul-if6
-mul-if6 c = search needs
-
 returns-6 : tie.Need-returns-6
 unfolding minusFactoredReply
 returns-6 c =
@@ -71,9 +68,6 @@ returns-6 c =
       eq-eqb _ _ (c .before .if5 .left),
       ne-eqb _ _ (c .if6 .taken),
     )
-
-mul-if7 : tie.Need-mul-if7
-mul-if7 c = search needs
 
 returns-7 : tie.Need-returns-7
 unfolding minusFactoredReply
@@ -88,9 +82,6 @@ returns-7 c =
       ne-eqb _ _ (c .if7 .taken),
     )
 
-mul-if8 : tie.Need-mul-if8
-mul-if8 c = search needs
-
 returns-8 : tie.Need-returns-8
 unfolding minusFactoredReply
 returns-8 c =
@@ -104,12 +95,6 @@ returns-8 c =
       eq-eqb _ _ (c .before .if7 .left),
       ne-eqb _ _ (c .if8 .taken),
     )
-
-minus-factored-sized-requires : tie.Need-minus-factored-sized-requires
-minus-factored-sized-requires c κs = search needs
-
-same-length : tie.Need-same-length
-same-length c = search needs
 
 returns-9 : tie.Need-returns-9
 unfolding minusFactoredReply
@@ -139,12 +124,12 @@ minus-factored-spec =
     mul-if4-2
     returns-4
     returns-5
-    mul-if6
+    (λ c. search needs)
     returns-6
-    mul-if7
+    (λ c. search needs)
     returns-7
-    mul-if8
+    (λ c. search needs)
     returns-8
-    minus-factored-sized-requires
-    same-length
+    (λ c κs. search needs)
+    (λ c. search needs)
     returns-9)

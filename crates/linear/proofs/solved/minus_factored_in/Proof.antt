@@ -8,20 +8,8 @@ use Rattle.linear.proofs.SolvedLaws.{minus-factored}
 use Rattle.linear.proofs.solved.minus_factored_in.Statement.{statement}
 use Rattle.linear.proofs.solved.minus_factored_in.Tie as tie
 
-solve-sized-requires : tie.Need-solve-sized-requires
-solve-sized-requires c κs = search needs
-
-minus-requires : tie.Need-minus-requires
-minus-requires c κs = search needs
-
 cleared-requires : tie.Need-cleared-requires
 cleared-requires c κs = tt
-
-same-length : tie.Need-same-length
-same-length c = search needs
-
-same-length-2 : tie.Need-same-length-2
-same-length-2 c = search needs
 
 returns : tie.Need-returns
 returns c =
@@ -40,9 +28,9 @@ pub minus-factored-in-spec : {M : Type 1} → statement M
 minus-factored-in-spec =
     tie.close
     (tie.spec
-    solve-sized-requires
-    minus-requires
+    (λ c κs. search needs)
+    (λ c κs. search needs)
     cleared-requires
-    same-length
-    same-length-2
+    (λ c. search needs)
+    (λ c. search needs)
     returns)

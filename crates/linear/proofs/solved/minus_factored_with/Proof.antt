@@ -6,12 +6,6 @@ use lib.Seq.{length-take-le}
 use Rattle.linear.proofs.solved.minus_factored_with.Statement.{statement}
 use Rattle.linear.proofs.solved.minus_factored_with.Tie as tie
 
-mul-q : tie.Need-mul-q
-mul-q c = search needs
-
-slice-relend-prefix-minus-factored-in : tie.Need-slice-relend-prefix-minus-factored-in
-slice-relend-prefix-minus-factored-in c = search needs
-
 slice-aggregate-minus-factored-in : tie.Need-slice-aggregate-minus-factored-in
 slice-aggregate-minus-factored-in c = sym (length-take-le _ _ (omega arith))
 
@@ -20,12 +14,6 @@ minus-factored-in-requires c κs =
     let p = c .before .before .before .before .before .before .before .before .before .pre in
     (p .0, p .1, length-take-le _ _ (p .2))
 
-same-length : tie.Need-same-length
-same-length c = search needs
-
-same-length-2 : tie.Need-same-length-2
-same-length-2 c = search needs
-
 returns : tie.Need-returns
 returns c = search needs
 
@@ -33,10 +21,10 @@ pub minus-factored-with-spec : {M : Type 1} → statement M
 minus-factored-with-spec =
     tie.close
     (tie.spec
-    mul-q
-    slice-relend-prefix-minus-factored-in
+    (λ c. search needs)
+    (λ c. search needs)
     slice-aggregate-minus-factored-in
     minus-factored-in-requires
-    same-length
-    same-length-2
+    (λ c. search needs)
+    (λ c. search needs)
     returns)

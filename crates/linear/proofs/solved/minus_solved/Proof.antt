@@ -26,9 +26,6 @@ unfolding minusSolvedReply
 returns-3 c =
     rw (le-leb _ _ (c .before .before .if1 .left), le-leb _ _ (c .before .if2 .left), ne-eqb _ _ (c .if3 .taken))
 
-mul-if4 : tie.Need-mul-if4
-mul-if4 c = search needs
-
 returns-4 : tie.Need-returns-4
 unfolding minusSolvedReply
 returns-4 c = rw (
@@ -37,9 +34,6 @@ returns-4 c = rw (
   eq-eqb _ _ (c .before .if3 .left),
   ne-eqb _ _ (c .if4 .taken),
 )
-
-mul-if5 : tie.Need-mul-if5
-mul-if5 c = search needs
 
 returns-5 : tie.Need-returns-5
 unfolding minusSolvedReply
@@ -51,9 +45,6 @@ returns-5 c = rw (
   ne-eqb _ _ (c .if5 .taken),
 )
 
-mul-if6 : tie.Need-mul-if6
-mul-if6 c = search needs
-
 returns-6 : tie.Need-returns-6
 unfolding minusSolvedReply
 returns-6 c = rw (
@@ -64,12 +55,6 @@ returns-6 c = rw (
   eq-eqb _ _ (c .before .if5 .left),
   ne-eqb _ _ (c .if6 .taken),
 )
-
-solved-sized-requires : tie.Need-solved-sized-requires
-solved-sized-requires c κs = search needs
-
-same-length : tie.Need-same-length
-same-length c = search needs
 
 returns-7 : tie.Need-returns-7
 unfolding minusSolvedReply
@@ -93,12 +78,12 @@ minus-solved-spec =
     mul-if3
     mul-if3-2
     returns-3
-    mul-if4
+    (λ c. search needs)
     returns-4
-    mul-if5
+    (λ c. search needs)
     returns-5
-    mul-if6
+    (λ c. search needs)
     returns-6
-    solved-sized-requires
-    same-length
+    (λ c κs. search needs)
+    (λ c. search needs)
     returns-7)

@@ -5,38 +5,14 @@ use Rattle.linear.proofs.SolvedLaws.{value-at, two-stored}
 use Rattle.linear.proofs.solved.minus_two.Statement.{statement}
 use Rattle.linear.proofs.solved.minus_two.Tie as tie
 
-add-two-minus : tie.Need-add-two-minus
-add-two-minus c = search needs
-
-at-requires : tie.Need-at-requires
-at-requires c κs = search needs
-
-add-at : tie.Need-add-at
-add-at c = search needs
-
-at-requires-2 : tie.Need-at-requires-2
-at-requires-2 c κs = search needs
-
 two-minus-requires : tie.Need-two-minus-requires
 two-minus-requires c κs = tt
-
-choose-requires : tie.Need-choose-requires
-choose-requires c κs = search needs
 
 put-requires : tie.Need-put-requires
 put-requires c κs = tt
 
-add-put : tie.Need-add-put
-add-put c = search needs
-
-choose-requires-2 : tie.Need-choose-requires-2
-choose-requires-2 c κs = search needs
-
 put-requires-2 : tie.Need-put-requires-2
 put-requires-2 c κs = tt
-
-same-length : tie.Need-same-length
-same-length c = search needs
 
 returns : tie.Need-returns
 returns c =
@@ -53,15 +29,15 @@ pub minus-two-spec : {M : Type 1} → statement M
 minus-two-spec =
     tie.close
     (tie.spec
-    add-two-minus
-    at-requires
-    add-at
-    at-requires-2
+    (λ c. search needs)
+    (λ c κs. search needs)
+    (λ c. search needs)
+    (λ c κs. search needs)
     two-minus-requires
-    choose-requires
+    (λ c κs. search needs)
     put-requires
-    add-put
-    choose-requires-2
+    (λ c. search needs)
+    (λ c κs. search needs)
     put-requires-2
-    same-length
+    (λ c. search needs)
     returns)

@@ -35,9 +35,6 @@ slice-aggregate-solved-in-2 c =
     let k = c .before .before .before .before in sym
     (length-take-le _ _ (omega (arith, room (k .before .before .before .before .before .before))))
 
-slice-relend-prefix-solved-in-3 : tie.Need-slice-relend-prefix-solved-in-3
-slice-relend-prefix-solved-in-3 c = search needs
-
 slice-aggregate-solved-in-3 : tie.Need-slice-aggregate-solved-in-3
 slice-aggregate-solved-in-3 c = sym (length-take-le _ _ (omega arith))
 
@@ -47,18 +44,6 @@ solved-in-requires c κs =
     let l = length-take-le _ _ (p .2) in
     let left = length-take-le _ _ (p .3) in
     (p .0, length-take-le _ _ (p .1), record { rows = p .0 .rows; entries = l; marks = left })
-
-same-length : tie.Need-same-length
-same-length c = search needs
-
-same-length-2 : tie.Need-same-length-2
-same-length-2 c = search needs
-
-same-length-3 : tie.Need-same-length-3
-same-length-3 c = search needs
-
-same-length-4 : tie.Need-same-length-4
-same-length-4 c = search needs
 
 returns : tie.Need-returns
 returns c = search needs
@@ -73,11 +58,11 @@ solved-cut-spec =
     slice-aggregate-solved-in
     slice-relend-prefix-solved-in-2
     slice-aggregate-solved-in-2
-    slice-relend-prefix-solved-in-3
+    (λ c. search needs)
     slice-aggregate-solved-in-3
     solved-in-requires
-    same-length
-    same-length-2
-    same-length-3
-    same-length-4
+    (λ c. search needs)
+    (λ c. search needs)
+    (λ c. search needs)
+    (λ c. search needs)
     returns)

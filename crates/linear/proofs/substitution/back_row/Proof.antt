@@ -14,33 +14,15 @@ row s = product-small (omega arith) (omega arith)
 below : (s : tie.Start) → (s .args .n - 1 - s .args .t + 1) * s .args .n ≤ 576
 below s = product-small (omega arith) (omega arith)
 
-sub-i : tie.Need-sub-i
-sub-i c = search needs
-
-sub-i-2 : tie.Need-sub-i-2
-sub-i-2 c = search needs
-
-shared-slice-read-if1 : tie.Need-shared-slice-read-if1
-shared-slice-read-if1 c = search needs
-
 returns : tie.Need-returns
 unfolding backStep
 returns c = rw (c .if1 .taken)
-
-add-minus-dot : tie.Need-add-minus-dot
-add-minus-dot c = search needs
 
 mul-minus-dot : tie.Need-mul-minus-dot
 mul-minus-dot c = omega (arith, below (c .before .before .before .before .before .before))
 
 add-minus-dot-2 : tie.Need-add-minus-dot-2
 add-minus-dot-2 c = omega (arith, below (c .before .before .before .before .before .before))
-
-add-minus-dot-3 : tie.Need-add-minus-dot-3
-add-minus-dot-3 c = search needs
-
-at-requires : tie.Need-at-requires
-at-requires c κs = search needs
 
 minus-dot-requires : tie.Need-minus-dot-requires
 minus-dot-requires c κs = tt
@@ -50,18 +32,6 @@ mul-at c = omega (arith, row (c .before .before .before .before .before .before 
 
 add-at : tie.Need-add-at
 add-at c = omega (arith, row (c .before .before .before .before .before .before .before .before .before .before))
-
-at-requires-2 : tie.Need-at-requires-2
-at-requires-2 c κs = search needs
-
-div-requires : tie.Need-div-requires
-div-requires c κs = search needs
-
-store-requires : tie.Need-store-requires
-store-requires c κs = search needs
-
-same-length : tie.Need-same-length
-same-length c = search needs
 
 returns-2 : tie.Need-returns-2
 unfolding backStep
@@ -80,20 +50,20 @@ pub back-row-spec : {M : Type 1} → statement M
 back-row-spec =
     tie.close
     (tie.spec
-    sub-i
-    sub-i-2
-    shared-slice-read-if1
+    (λ c. search needs)
+    (λ c. search needs)
+    (λ c. search needs)
     returns
-    add-minus-dot
+    (λ c. search needs)
     mul-minus-dot
     add-minus-dot-2
-    add-minus-dot-3
-    at-requires
+    (λ c. search needs)
+    (λ c κs. search needs)
     minus-dot-requires
     mul-at
     add-at
-    at-requires-2
-    div-requires
-    store-requires
-    same-length
+    (λ c κs. search needs)
+    (λ c κs. search needs)
+    (λ c κs. search needs)
+    (λ c. search needs)
     returns-2)

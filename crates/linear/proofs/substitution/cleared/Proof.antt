@@ -3,24 +3,13 @@ use borrow.Author.Needs.{needs}
 use Rattle.linear.proofs.substitution.cleared.Statement.{statement}
 use Rattle.linear.proofs.substitution.cleared.Tie as tie
 
-enum-told : tie.Need-enum-told
-enum-told c = search needs
-
-enum-known-d : tie.Need-enum-known-d
-enum-known-d c = search needs
-
-clear-requires : tie.Need-clear-requires
-clear-requires c κs = search needs
-
 returns : tie.Need-returns
 returns c = rw (c .enum-told .given .1)
-
-same-length : tie.Need-same-length
-same-length c = search needs
 
 returns-2 : tie.Need-returns-2
 returns-2 c = rw (c .before .before .before .before .before .d .given .1, c .before .before .clear .ensures)
 
 pub cleared-spec : {M : Type 1} → statement M
 cleared-spec =
-    tie.close (tie.spec enum-told enum-known-d clear-requires returns same-length returns-2)
+    tie.close (tie.spec (λ c. search needs) (λ c. search needs) (λ c κs. search needs) returns (λ c. search needs)
+    returns-2)

@@ -11,9 +11,6 @@ use Rattle.linear.proofs.substitution.forward_row.Tie as tie
 row : (s : tie.Start) → s .args .i * s .args .n ≤ 576
 row s = product-small (omega arith) (omega arith)
 
-shared-slice-read-if1 : tie.Need-shared-slice-read-if1
-shared-slice-read-if1 c = search needs
-
 returns : tie.Need-returns
 unfolding forwardStep
 returns c = rw (c .if1 .taken)
@@ -21,26 +18,11 @@ returns c = rw (c .if1 .taken)
 mul-row : tie.Need-mul-row
 mul-row c = omega (arith, row (c .before .before .before .before .before .before))
 
-at-requires : tie.Need-at-requires
-at-requires c κs = search needs
-
 minus-dot-requires : tie.Need-minus-dot-requires
 minus-dot-requires c κs = tt
 
 add-at : tie.Need-add-at
 add-at c = omega (arith, row (c .before .before .before .before .before .before .before .before .before .before))
-
-at-requires-2 : tie.Need-at-requires-2
-at-requires-2 c κs = search needs
-
-div-requires : tie.Need-div-requires
-div-requires c κs = search needs
-
-store-requires : tie.Need-store-requires
-store-requires c κs = search needs
-
-same-length : tie.Need-same-length
-same-length c = search needs
 
 returns-2 : tie.Need-returns-2
 unfolding forwardStep
@@ -60,14 +42,14 @@ pub forward-row-spec : {M : Type 1} → statement M
 forward-row-spec =
     tie.close
     (tie.spec
-    shared-slice-read-if1
+    (λ c. search needs)
     returns
     mul-row
-    at-requires
+    (λ c κs. search needs)
     minus-dot-requires
     add-at
-    at-requires-2
-    div-requires
-    store-requires
-    same-length
+    (λ c κs. search needs)
+    (λ c κs. search needs)
+    (λ c κs. search needs)
+    (λ c. search needs)
     returns-2)

@@ -26,9 +26,6 @@ unfolding solveReply
 returns-3 c =
     rw (le-leb _ _ (c .before .before .if1 .left), eq-eqb _ _ (c .before .if2 .left), ne-eqb _ _ (c .if3 .taken))
 
-mul-if4 : tie.Need-mul-if4
-mul-if4 c = search needs
-
 returns-4 : tie.Need-returns-4
 unfolding solveReply
 returns-4 c = rw (
@@ -37,9 +34,6 @@ returns-4 c = rw (
   eq-eqb _ _ (c .before .if3 .left),
   ne-eqb _ _ (c .if4 .taken),
 )
-
-mul-if5 : tie.Need-mul-if5
-mul-if5 c = search needs
 
 returns-5 : tie.Need-returns-5
 unfolding solveReply
@@ -51,12 +45,6 @@ returns-5 c =
       eq-eqb _ _ (c .before .if4 .left),
       ne-eqb _ _ (c .if5 .taken),
     )
-
-solve-sized-requires : tie.Need-solve-sized-requires
-solve-sized-requires c κs = search needs
-
-same-length : tie.Need-same-length
-same-length c = search needs
 
 returns-6 : tie.Need-returns-6
 unfolding solveReply
@@ -80,10 +68,10 @@ solve-cholesky-spec =
     mul-if2-2
     returns-2
     returns-3
-    mul-if4
+    (λ c. search needs)
     returns-4
-    mul-if5
+    (λ c. search needs)
     returns-5
-    solve-sized-requires
-    same-length
+    (λ c κs. search needs)
+    (λ c. search needs)
     returns-6)

@@ -5,12 +5,6 @@ use lib.Seq.{length-take-le}
 use Rattle.linear.proofs.substitution.solve_with.Statement.{statement}
 use Rattle.linear.proofs.substitution.solve_with.Tie as tie
 
-mul-m : tie.Need-mul-m
-mul-m c = search needs
-
-slice-relend-prefix-solve-in : tie.Need-slice-relend-prefix-solve-in
-slice-relend-prefix-solve-in c = search needs
-
 slice-aggregate-solve-in : tie.Need-slice-aggregate-solve-in
 slice-aggregate-solve-in c =
     sym (length-take-le _ _ (c .before .before .before .before .before .before .before .pre .2))
@@ -20,12 +14,6 @@ solve-in-requires c κs =
     let s = c .before .before .before .before .before .before .before in
     (s .pre .0, s .pre .1, length-take-le _ _ (s .pre .2))
 
-same-length : tie.Need-same-length
-same-length c = search needs
-
-same-length-2 : tie.Need-same-length-2
-same-length-2 c = search needs
-
 returns : tie.Need-returns
 returns c = search needs
 
@@ -33,10 +21,10 @@ pub solve-with-spec : {M : Type 1} → statement M
 solve-with-spec =
     tie.close
     (tie.spec
-    mul-m
-    slice-relend-prefix-solve-in
+    (λ c. search needs)
+    (λ c. search needs)
     slice-aggregate-solve-in
     solve-in-requires
-    same-length
-    same-length-2
+    (λ c. search needs)
+    (λ c. search needs)
     returns)

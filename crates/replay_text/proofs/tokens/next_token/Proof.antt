@@ -10,24 +10,6 @@ Inv-loop t₀ counter₀ t counter = counter ≤ 1000
 abbrev μ-loop : tie.MeasureT-loop
 μ-loop t₀ counter₀ t counter = 1000 - counter
 
-no-token-requires : tie.Need-no-token-requires Inv-loop μ-loop
-no-token-requires c κs = search needs
-
-loop-holds : tie.Need-loop-holds Inv-loop μ-loop
-loop-holds c = search needs
-
-read-on-requires : tie.Need-read-on-requires Inv-loop μ-loop
-read-on-requires c κs = search needs
-
-add-counter : tie.Need-add-counter Inv-loop μ-loop
-add-counter c = search needs
-
-loop-less : tie.Need-loop-less Inv-loop μ-loop
-loop-less c = search needs
-
-loop-again : tie.Need-loop-again Inv-loop μ-loop
-loop-again c = search needs
-
 returns : tie.Need-returns Inv-loop μ-loop
 returns c = search needs
 
@@ -40,11 +22,11 @@ next-token-spec =
     (tie.spec
     Inv-loop
     μ-loop
-    no-token-requires
-    loop-holds
-    read-on-requires
-    add-counter
-    loop-less
-    loop-again
+    (λ c κs. search needs)
+    (λ c. search needs)
+    (λ c κs. search needs)
+    (λ c. search needs)
+    (λ c. search needs)
+    (λ c. search needs)
     returns
     returns-2)

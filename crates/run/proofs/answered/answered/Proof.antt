@@ -8,33 +8,21 @@ use borrow.Author.Needs.{needs}
 use Rattle.run.proofs.answered.answered.Statement.{statement}
 use Rattle.run.proofs.answered.answered.Tie as tie
 
-enum-told : tie.Need-enum-told
-enum-told c = search needs
-
 started-requires : tie.Need-started-requires
 started-requires c κs =
     let p = c .before .before .before .before .before .pre in
     (p .0, p .1 .0, p .1 .1 .0, p .1 .1 .1 .1 .1 ∙ ap Open (c .before .enum-told .given .1))
-
-same-length : tie.Need-same-length
-same-length c = search needs
 
 returns : tie.Need-returns
 returns c w h =
     let a = c .before .before .before .before .before .before .before .before .args in answered-as (a .st) w
     (c .before .before .before .before .enum-told .given .1) (a .rows .now) (c .before .before .started .ensures w h)
 
-enum-told-2 : tie.Need-enum-told-2
-enum-told-2 c = search needs
-
 land-requires : tie.Need-land-requires
 land-requires c κs =
     let p = c .before .before .before .before .before .pre in
     let underway = trial-underway (p .1 .1 .0) (c .before .enum-told2 .given .1) (p .1 .1 .1 .1 .0) in
     (record { whole-area = p .0; whole-rows = p .1 .0; underway = underway }, p .1 .1 .1 .0)
-
-same-length-2 : tie.Need-same-length-2
-same-length-2 c = search needs
 
 returns-2 : tie.Need-returns-2
 returns-2 c w h =
@@ -45,17 +33,11 @@ returns-2 c w h =
     answered-as (a .st) w e (a .rows .now)
     (c .before .before .land .ensures w (works (a .st) h) (t .standing-whole) (t .trial-whole) (λ f. never (sym f)))
 
-enum-told-3 : tie.Need-enum-told-3
-enum-told-3 c = search needs
-
 land-requires-2 : tie.Need-land-requires-2
 land-requires-2 c κs =
     let p = c .before .before .before .before .before .pre in
     let underway = correction-underway (p .1 .1 .0) (c .before .enum-told3 .given .1) (p .1 .1 .1 .1 .0) in
     (record { whole-area = p .0; whole-rows = p .1 .0; underway = underway }, p .1 .1 .1 .0)
-
-same-length-3 : tie.Need-same-length-3
-same-length-3 c = search needs
 
 returns-3 : tie.Need-returns-3
 returns-3 c w h =
@@ -70,15 +52,15 @@ pub answered-spec : {M : Type 1} → statement M
 answered-spec =
     tie.close
     (tie.spec
-    enum-told
+    (λ c. search needs)
     started-requires
-    same-length
+    (λ c. search needs)
     returns
-    enum-told-2
+    (λ c. search needs)
     land-requires
-    same-length-2
+    (λ c. search needs)
     returns-2
-    enum-told-3
+    (λ c. search needs)
     land-requires-2
-    same-length-3
+    (λ c. search needs)
     returns-3)

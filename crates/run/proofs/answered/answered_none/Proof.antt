@@ -8,23 +8,14 @@ use borrow.Author.Needs.{needs}
 use Rattle.run.proofs.answered.answered_none.Statement.{statement}
 use Rattle.run.proofs.answered.answered_none.Tie as tie
 
-enum-told : tie.Need-enum-told
-enum-told c = search needs
-
 finish-requires : tie.Need-finish-requires
 finish-requires c κs = let p = c .before .before .before .before .pre in (p .0, limits-of (p .1 .0))
-
-same-length : tie.Need-same-length
-same-length c = search needs
 
 returns : tie.Need-returns
 returns c w h =
     let st = c .before .before .before .before .before .before .before .args .st in
     none-as st w (c .before .before .before .before .enum-told .given .1) (c .before .before .finish .ensures w (works
     st h))
-
-enum-told-2 : tie.Need-enum-told-2
-enum-told-2 c = search needs
 
 standing-violation-requires : tie.Need-standing-violation-requires
 standing-violation-requires c κs = let p = c .before .before .before .before .pre in (p .0, rows-of (p .1 .0))
@@ -33,9 +24,6 @@ turn-down-requires : tie.Need-turn-down-requires
 turn-down-requires c κs =
     let p = c .before .before .before .before .before .before .pre in
     (p .0, p .1 .0)
-
-same-length-2 : tie.Need-same-length-2
-same-length-2 c = search needs
 
 returns-2 : tie.Need-returns-2
 returns-2 c w h =
@@ -47,16 +35,10 @@ returns-2 c w h =
     (t .standing-rows)) in
     none-as st w e (c .before .before .turn-down .ensures w known)
 
-enum-told-3 : tie.Need-enum-told-3
-enum-told-3 c = search needs
-
 correction-none-requires : tie.Need-correction-none-requires
 correction-none-requires c κs =
     let p = c .before .before .before .before .pre in
     (p .0, correction-underway (p .1 .0) (c .before .enum-told3 .given .1) (p .1 .1 .0))
-
-same-length-3 : tie.Need-same-length-3
-same-length-3 c = search needs
 
 returns-3 : tie.Need-returns-3
 returns-3 c w h =
@@ -71,16 +53,16 @@ pub answered-none-spec : {M : Type 1} → statement M
 answered-none-spec =
     tie.close
     (tie.spec
-    enum-told
+    (λ c. search needs)
     finish-requires
-    same-length
+    (λ c. search needs)
     returns
-    enum-told-2
+    (λ c. search needs)
     standing-violation-requires
     turn-down-requires
-    same-length-2
+    (λ c. search needs)
     returns-2
-    enum-told-3
+    (λ c. search needs)
     correction-none-requires
-    same-length-3
+    (λ c. search needs)
     returns-3)

@@ -23,14 +23,8 @@ standing-violation-requires c κs =
     let p = c .before .before .before .pre .0 in
     (p .whole-area, rows-of (p .underway .bounded))
 
-enum-known-theta : tie.Need-enum-known-theta
-enum-known-theta c = search needs
-
 land-trial-requires : tie.Need-land-trial-requires
 land-trial-requires c κs = c .before .before .before .before .before .before .before .before .before .pre .0
-
-same-length : tie.Need-same-length
-same-length c = search needs
 
 returns : tie.Need-returns
 returns c w u r t l =
@@ -45,9 +39,6 @@ returns c w u r t l =
 land-correction-requires : tie.Need-land-correction-requires
 land-correction-requires c κs = c .before .before .before .before .before .before .before .before .before .pre
 
-same-length-2 : tie.Need-same-length-2
-same-length-2 c = search needs
-
 returns-2 : tie.Need-returns-2
 returns-2 c w u r t l =
     let s = c .before .before .before .before .before .before .before .before .before .before .before .before in
@@ -59,18 +50,12 @@ returns-2 c w u r t l =
     (unless _ _ left (c .before .before .land-correction .ensures w (measures (s .args .st) u r (sym e ∙ v)) t (l
     left)))
 
-enum-known-e : tie.Need-enum-known-e
-enum-known-e c = search needs
-
 refuse-requires : tie.Need-refuse-requires
 refuse-requires c κs =
     let p = c .before .before .before .before .before .before .before .before .pre in (
       p .0 .whole-area,
       limits-of (p .0 .underway .bounded),
     )
-
-same-length-3 : tie.Need-same-length-3
-same-length-3 c = search needs
 
 returns-3 : tie.Need-returns-3
 returns-3 c w u r t l =
@@ -85,14 +70,14 @@ land-spec =
     tie.close
     (tie.spec
     standing-violation-requires
-    enum-known-theta
+    (λ c. search needs)
     land-trial-requires
-    same-length
+    (λ c. search needs)
     returns
     land-correction-requires
-    same-length-2
+    (λ c. search needs)
     returns-2
-    enum-known-e
+    (λ c. search needs)
     refuse-requires
-    same-length-3
+    (λ c. search needs)
     returns-3)

@@ -7,9 +7,6 @@ use borrow.Author.Needs.{needs}
 use Rattle.run.proofs.answered.started.Statement.{statement}
 use Rattle.run.proofs.answered.started.Tie as tie
 
-landed-counts-requires : tie.Need-landed-counts-requires
-landed-counts-requires c κs = search needs
-
 moving-requires : tie.Need-moving-requires
 moving-requires c κs =
     let b = c .before .before .before .pre .2 in
@@ -25,9 +22,6 @@ standing-violation-requires c κs =
     let p = c .before .before .before .before .before .before .before .before .before .pre in
     (c .before .before .before .write-start .kept .0 ∙ p .0, rows-of (p .2))
 
-with-moving-requires : tie.Need-with-moving-requires
-with-moving-requires c κs = search needs
-
 iterate-requires : tie.Need-iterate-requires
 iterate-requires c κs =
     let p = c .before .before .before .before .before .before .before .before .before .before .before .before .pre in
@@ -36,9 +30,6 @@ iterate-requires c κs =
           .0,
       moved-on _ (p .2),
     )
-
-same-length : tie.Need-same-length
-same-length c = search needs
 
 returns : tie.Need-returns
 returns c w h =
@@ -61,11 +52,11 @@ pub started-spec : {M : Type 1} → statement M
 started-spec =
     tie.close
     (tie.spec
-    landed-counts-requires
+    (λ c κs. search needs)
     moving-requires
     write-start-requires
     standing-violation-requires
-    with-moving-requires
+    (λ c κs. search needs)
     iterate-requires
-    same-length
+    (λ c. search needs)
     returns)

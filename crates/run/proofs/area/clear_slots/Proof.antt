@@ -45,9 +45,6 @@ module _ (k : tie.In-loop Inv-loop μ-loop) where
 loop-holds : tie.Need-loop-holds Inv-loop μ-loop
 loop-holds c = (refl, omega arith, clearing _ _ _ _)
 
-mul-first : tie.Need-mul-first Inv-loop μ-loop
-mul-first c = search needs
-
 shared-slice-read-first : tie.Need-shared-slice-read-first Inv-loop μ-loop
 shared-slice-read-first c = omega (
   arith,
@@ -57,9 +54,6 @@ shared-slice-read-first c = omega (
 
 add-clear-from : tie.Need-add-clear-from Inv-loop μ-loop
 add-clear-from c = omega (arith, room (c .before .before), below (c .before .before) .0, below (c .before .before) .1)
-
-mul-clear-from : tie.Need-mul-clear-from Inv-loop μ-loop
-mul-clear-from c = search needs
 
 shared-slice-read-clear-from : tie.Need-shared-slice-read-clear-from Inv-loop μ-loop
 shared-slice-read-clear-from c = omega (
@@ -81,20 +75,11 @@ clear-from-requires c κs =
       c .before .before .before .before .loop .inv .2 .long,
     )
 
-mul-base : tie.Need-mul-base Inv-loop μ-loop
-mul-base c = search needs
-
 shared-slice-read-base : tie.Need-shared-slice-read-base Inv-loop μ-loop
 shared-slice-read-base c = omega (arith, another (c .before .before .before .before .before .before .before))
 
 add-base : tie.Need-add-base Inv-loop μ-loop
 add-base c = omega (arith, room (c .before .before .before .before .before .before .before))
-
-add-k : tie.Need-add-k Inv-loop μ-loop
-add-k c = search needs
-
-loop-less : tie.Need-loop-less Inv-loop μ-loop
-loop-less c = search needs
 
 loop-again : tie.Need-loop-again Inv-loop μ-loop
 loop-again c =
@@ -106,9 +91,6 @@ loop-again c =
           (i .2) (another (c .before .before .before .before .before .before .before))
           (c .before .before .before .clear-from .ensures),
     )
-
-same-length : tie.Need-same-length Inv-loop μ-loop
-same-length c = search needs
 
 returns : tie.Need-returns Inv-loop μ-loop
 returns c =
@@ -124,18 +106,18 @@ clear-slots-spec =
     Inv-loop
     μ-loop
     loop-holds
-    mul-first
+    (λ c. search needs)
     shared-slice-read-first
     add-clear-from
-    mul-clear-from
+    (λ c. search needs)
     shared-slice-read-clear-from
     sub-clear-from
     clear-from-requires
-    mul-base
+    (λ c. search needs)
     shared-slice-read-base
     add-base
-    add-k
-    loop-less
+    (λ c. search needs)
+    (λ c. search needs)
     loop-again
-    same-length
+    (λ c. search needs)
     returns)

@@ -14,26 +14,8 @@ use borrow.Author.Needs.{needs}
 use Rattle.run.proofs.area.clear_unused.Statement.{statement}
 use Rattle.run.proofs.area.clear_unused.Tie as tie
 
-slot-sizes-requires : tie.Need-slot-sizes-requires
-slot-sizes-requires c κs = search needs
-
-in-order-requires : tie.Need-in-order-requires
-in-order-requires c κs = search needs
-
 used-in-requires : tie.Need-used-in-requires
 used-in-requires c κs = c .before .before .before .before .pre .1
-
-in-order-requires-2 : tie.Need-in-order-requires-2
-in-order-requires-2 c κs = search needs
-
-slice-aggregate-clear-slots : tie.Need-slice-aggregate-clear-slots
-slice-aggregate-clear-slots c = search needs
-
-slice-aggregate-clear-slots-2 : tie.Need-slice-aggregate-clear-slots-2
-slice-aggregate-clear-slots-2 c = search needs
-
-slice-aggregate-clear-slots-3 : tie.Need-slice-aggregate-clear-slots-3
-slice-aggregate-clear-slots-3 c = search needs
 
 clear-slots-requires : tie.Need-clear-slots-requires
 clear-slots-requires c κs =
@@ -44,12 +26,6 @@ clear-slots-requires c κs =
     let used = c .before .before .before .before .in-order2 .ensures
     ∙ ap (λ (x : Slots ℕ). inOrder x) (c .before .before .before .before .before .used-in .ensures) in
     rw (sizes, used) (unused-fit (s .args .st) (s .pre .1) (s .args .area .now) (s .pre .0))
-
-spare-at-requires : tie.Need-spare-at-requires
-spare-at-requires c κs = search needs
-
-area-length-requires : tie.Need-area-length-requires
-area-length-requires c κs = search needs
 
 sub-clear-from : tie.Need-sub-clear-from
 sub-clear-from c = omega (
@@ -73,9 +49,6 @@ clear-from-requires c κs =
       c .before .before .before .before .before .before .before .before .before .before .before .before .before .before
           .before .before .pre .0,
     )
-
-same-length : tie.Need-same-length
-same-length c = search needs
 
 returns : tie.Need-returns
 returns c =
@@ -109,17 +82,17 @@ pub clear-unused-spec : {M : Type 1} → statement M
 clear-unused-spec =
     tie.close
     (tie.spec
-    slot-sizes-requires
-    in-order-requires
+    (λ c κs. search needs)
+    (λ c κs. search needs)
     used-in-requires
-    in-order-requires-2
-    slice-aggregate-clear-slots
-    slice-aggregate-clear-slots-2
-    slice-aggregate-clear-slots-3
+    (λ c κs. search needs)
+    (λ c. search needs)
+    (λ c. search needs)
+    (λ c. search needs)
     clear-slots-requires
-    spare-at-requires
-    area-length-requires
+    (λ c κs. search needs)
+    (λ c κs. search needs)
     sub-clear-from
     clear-from-requires
-    same-length
+    (λ c. search needs)
     returns)

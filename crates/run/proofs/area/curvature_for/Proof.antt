@@ -27,12 +27,6 @@ mul-entries-2 : tie.Need-mul-entries-2
 mul-entries-2 c =
     let p = c .before .before in omega (arith, curvature-fits (p .args .z) (p .args .z .n) (p .pre .1))
 
-places-requires : tie.Need-places-requires
-places-requires c κs = search needs
-
-spare-at-requires : tie.Need-spare-at-requires
-spare-at-requires c κs = search needs
-
 add-result : tie.Need-add-result
 add-result c =
     let p = c .before .before .before .before .before in
@@ -53,12 +47,6 @@ mul-result c =
       curvature-inside (p .args .z) (p .args .plain) (p .args .area .now) (p .args .z .n) (p .pre .0) (p .pre .1),
     )
 
-sub-result : tie.Need-sub-result
-sub-result c = search needs
-
-part-result-start : tie.Need-part-result-start
-part-result-start c = search needs
-
 part-result-end : tie.Need-part-result-end
 part-result-end c =
     let p = c .before .before .before .before .before in
@@ -78,11 +66,11 @@ curvature-for-spec =
     (tie.spec
     mul-entries
     mul-entries-2
-    places-requires
-    spare-at-requires
+    (λ c κs. search needs)
+    (λ c κs. search needs)
     add-result
     mul-result
-    sub-result
-    part-result-start
+    (λ c. search needs)
+    (λ c. search needs)
     part-result-end
     returns)

@@ -11,30 +11,6 @@ use Rattle.run.proofs.area.keep_standing.Tie as tie
 numbers-in-requires : tie.Need-numbers-in-requires
 numbers-in-requires c κs = c .before .pre .1
 
-slot-sizes-requires : tie.Need-slot-sizes-requires
-slot-sizes-requires c κs = search needs
-
-in-order-requires : tie.Need-in-order-requires
-in-order-requires c κs = search needs
-
-standing-alone-requires : tie.Need-standing-alone-requires
-standing-alone-requires c κs = search needs
-
-in-order-requires-2 : tie.Need-in-order-requires-2
-in-order-requires-2 c κs = search needs
-
-in-order-requires-3 : tie.Need-in-order-requires-3
-in-order-requires-3 c κs = search needs
-
-slice-aggregate-clear-slots : tie.Need-slice-aggregate-clear-slots
-slice-aggregate-clear-slots c = search needs
-
-slice-aggregate-clear-slots-2 : tie.Need-slice-aggregate-clear-slots-2
-slice-aggregate-clear-slots-2 c = search needs
-
-slice-aggregate-clear-slots-3 : tie.Need-slice-aggregate-clear-slots-3
-slice-aggregate-clear-slots-3 c = search needs
-
 clear-slots-requires : tie.Need-clear-slots-requires
 clear-slots-requires c κs =
     let s = c .before .before .before .before .before .before .before .before .before .before .before in
@@ -48,9 +24,6 @@ clear-slots-requires c κs =
     ∙ ap (λ (x : Slots ℕ). standingAlone x) all) in
     let to = c .before .before .before .before .in-order3 .ensures ∙ ap (λ (x : Slots ℕ). inOrder x) all in
     rw (sizes, from, to) (alone-fit (s .args .st) (s .pre .1) (s .args .area .now) (s .pre .0))
-
-same-length : tie.Need-same-length
-same-length c = search needs
 
 returns : tie.Need-returns
 returns c w u =
@@ -75,14 +48,14 @@ keep-standing-spec =
     tie.close
     (tie.spec
     numbers-in-requires
-    slot-sizes-requires
-    in-order-requires
-    standing-alone-requires
-    in-order-requires-2
-    in-order-requires-3
-    slice-aggregate-clear-slots
-    slice-aggregate-clear-slots-2
-    slice-aggregate-clear-slots-3
+    (λ c κs. search needs)
+    (λ c κs. search needs)
+    (λ c κs. search needs)
+    (λ c κs. search needs)
+    (λ c κs. search needs)
+    (λ c. search needs)
+    (λ c. search needs)
+    (λ c. search needs)
     clear-slots-requires
-    same-length
+    (λ c. search needs)
     returns)

@@ -7,9 +7,6 @@ use borrow.Author.Needs.{needs}
 use Rattle.run.proofs.area.numbers_in.Statement.{statement}
 use Rattle.run.proofs.area.numbers_in.Tie as tie
 
-standing-counts-requires : tie.Need-standing-counts-requires
-standing-counts-requires c κs = search needs
-
 mul-point : tie.Need-mul-point
 mul-point c =
     omega (
@@ -21,14 +18,8 @@ mul-point c =
 row-numbers-requires : tie.Need-row-numbers-requires
 row-numbers-requires c κs = rw (c .before .standing-counts .ensures) (c .before .before .pre .few)
 
-landed-counts-requires : tie.Need-landed-counts-requires
-landed-counts-requires c κs = search needs
-
 row-numbers-requires-2 : tie.Need-row-numbers-requires-2
 row-numbers-requires-2 c κs = rw (c .landed-counts .ensures) (c .before .before .before .before .pre .few)
-
-mul-t7 : tie.Need-mul-t7
-mul-t7 c = search needs
 
 mul-t8 : tie.Need-mul-t8
 mul-t8 c =
@@ -44,12 +35,6 @@ mul-t9 c =
     rw (ap (λ (k : RowCounts). k .n) (c .before .before .before .before .before .before .standing-counts .ensures))
     (omega (arith, mul-le-mul {n₁ = z .n} {m₁ = z .n} {n₂ = 12} {m₂ = 12} f f))
 
-pairs-in-requires : tie.Need-pairs-in-requires
-pairs-in-requires c κs = search needs
-
-mul-t11 : tie.Need-mul-t11
-mul-t11 c = search needs
-
 returns : tie.Need-returns
 returns c =
     rw (
@@ -64,14 +49,14 @@ pub numbers-in-spec : {M : Type 1} → statement M
 numbers-in-spec =
     tie.close
     (tie.spec
-    standing-counts-requires
+    (λ c κs. search needs)
     mul-point
     row-numbers-requires
-    landed-counts-requires
+    (λ c κs. search needs)
     row-numbers-requires-2
-    mul-t7
+    (λ c. search needs)
     mul-t8
     mul-t9
-    pairs-in-requires
-    mul-t11
+    (λ c κs. search needs)
+    (λ c. search needs)
     returns)

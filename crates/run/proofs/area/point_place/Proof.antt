@@ -7,15 +7,6 @@ use borrow.Author.Needs.{needs}
 use Rattle.run.proofs.area.point_place.Statement.{statement}
 use Rattle.run.proofs.area.point_place.Tie as tie
 
-places-requires : tie.Need-places-requires
-places-requires c κs = search needs
-
-enum-told : tie.Need-enum-told
-enum-told c = search needs
-
-enum-told-2 : tie.Need-enum-told-2
-enum-told-2 c = search needs
-
 returns : tie.Need-returns
 returns c =
     each-same (c .before .before .places .ensures) .asked
@@ -27,4 +18,4 @@ returns-2 c =
     ∙ ap (λ (p : Phase). pointAt (c .before .before .before .args .st .sizes) p) (sym (c .enum-told2 .given .1))
 
 pub point-place-spec : {M : Type 1} → statement M
-point-place-spec = tie.close (tie.spec places-requires enum-told enum-told-2 returns returns-2)
+point-place-spec = tie.close (tie.spec (λ c κs. search needs) (λ c. search needs) (λ c. search needs) returns returns-2)

@@ -5,12 +5,6 @@ use borrow.Author.Needs.{needs}
 use Rattle.run.proofs.area.row_numbers.Statement.{statement}
 use Rattle.run.proofs.area.row_numbers.Tie as tie
 
-add-result : tie.Need-add-result
-add-result c = search needs
-
-add-result-2 : tie.Need-add-result-2
-add-result-2 c = search needs
-
 mul-result : tie.Need-mul-result
 mul-result c =
     let p = c .before .before .pre in
@@ -30,8 +24,8 @@ pub row-numbers-spec : {M : Type 1} → statement M
 row-numbers-spec =
     tie.close
     (tie.spec
-    add-result
-    add-result-2
+    (λ c. search needs)
+    (λ c. search needs)
     mul-result
     mul-result-2
     returns)

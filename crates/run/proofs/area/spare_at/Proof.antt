@@ -5,9 +5,6 @@ use borrow.Author.Needs.{needs}
 use Rattle.run.proofs.area.spare_at.Statement.{statement}
 use Rattle.run.proofs.area.spare_at.Tie as tie
 
-slot-sizes-requires : tie.Need-slot-sizes-requires
-slot-sizes-requires c κs = search needs
-
 add-points : tie.Need-add-points
 add-points c =
     let e = each-same (c .before .slot-sizes .ensures) in
@@ -65,7 +62,7 @@ pub spare-at-spec : {M : Type 1} → statement M
 spare-at-spec =
     tie.close
     (tie.spec
-    slot-sizes-requires
+    (λ c κs. search needs)
     add-points
     add-points-2
     add-rows

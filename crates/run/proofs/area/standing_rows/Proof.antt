@@ -8,9 +8,6 @@ use borrow.Author.Needs.{needs}
 use Rattle.run.proofs.area.standing_rows.Statement.{statement}
 use Rattle.run.proofs.area.standing_rows.Tie as tie
 
-places-requires : tie.Need-places-requires
-places-requires c κs = search needs
-
 row-numbers-requires : tie.Need-row-numbers-requires
 row-numbers-requires c κs = c .before .before .pre .1
 
@@ -38,12 +35,6 @@ mul-result c =
           (lit< tt) (rows-fit (p .args .z) (p .args .c) (p .pre .1)),
     )
 
-sub-result : tie.Need-sub-result
-sub-result c = search needs
-
-part-result-start : tie.Need-part-result-start
-part-result-start c = search needs
-
 part-result-end : tie.Need-part-result-end
 part-result-end c =
     let p = c .before .before .before in
@@ -65,11 +56,11 @@ pub standing-rows-spec : {M : Type 1} → statement M
 standing-rows-spec =
     tie.close
     (tie.spec
-    places-requires
+    (λ c κs. search needs)
     row-numbers-requires
     add-result
     mul-result
-    sub-result
-    part-result-start
+    (λ c. search needs)
+    (λ c. search needs)
     part-result-end
     returns)

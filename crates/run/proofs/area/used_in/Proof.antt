@@ -6,18 +6,6 @@ use borrow.Author.Needs.{needs}
 use Rattle.run.proofs.area.used_in.Statement.{statement}
 use Rattle.run.proofs.area.used_in.Tie as tie
 
-numbers-in-requires : tie.Need-numbers-in-requires
-numbers-in-requires c κs = search needs
-
-standing-alone-requires : tie.Need-standing-alone-requires
-standing-alone-requires c κs = search needs
-
-enum-known-phase : tie.Need-enum-known-phase
-enum-known-phase c = search needs
-
-enum-told : tie.Need-enum-told
-enum-told c = search needs
-
 returns : tie.Need-returns
 returns c =
     let a = each-same (c .before .before .before .before .before .before .numbers-in .ensures) in
@@ -35,9 +23,6 @@ returns c =
       filter = b .filter;
     }))
 
-enum-told-2 : tie.Need-enum-told-2
-enum-told-2 c = search needs
-
 returns-2 : tie.Need-returns-2
 returns-2 c =
     let a = each-same (c .before .before .before .before .before .before .numbers-in .ensures) in
@@ -54,16 +39,10 @@ returns-2 c =
       filter = a .filter;
     }))
 
-enum-told-3 : tie.Need-enum-told-3
-enum-told-3 c = search needs
-
 returns-3 : tie.Need-returns-3
 returns-3 c =
     rw (c .before .before .before .phase .given .1 ∙ ap Open (c .enum-told3 .given .1))
     (c .before .before .before .before .before .before .numbers-in .ensures)
-
-enum-told-4 : tie.Need-enum-told-4
-enum-told-4 c = search needs
 
 returns-4 : tie.Need-returns-4
 returns-4 c =
@@ -86,14 +65,14 @@ pub used-in-spec : {M : Type 1} → statement M
 used-in-spec =
     tie.close
     (tie.spec
-    numbers-in-requires
-    standing-alone-requires
-    enum-known-phase
-    enum-told
+    (λ c κs. search needs)
+    (λ c κs. search needs)
+    (λ c. search needs)
+    (λ c. search needs)
     returns
-    enum-told-2
+    (λ c. search needs)
     returns-2
-    enum-told-3
+    (λ c. search needs)
     returns-3
-    enum-told-4
+    (λ c. search needs)
     returns-4)

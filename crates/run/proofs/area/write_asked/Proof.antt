@@ -12,12 +12,6 @@ use borrow.Author.Needs.{needs}
 use Rattle.run.proofs.area.write_asked.Statement.{statement}
 use Rattle.run.proofs.area.write_asked.Tie as tie
 
-places-requires : tie.Need-places-requires
-places-requires c κs = search needs
-
-mul-write : tie.Need-mul-write
-mul-write c = search needs
-
 slice-aggregate-write : tie.Need-slice-aggregate-write
 slice-aggregate-write c =
     let s = c .before .before .before .before .before .before in
@@ -32,9 +26,6 @@ write-requires c κs =
     place-room (s .args .z) (indices .asked) (lit< tt) (each-same (c .before .before .places .ensures) .asked)
     (omega (arith, long, s .pre .1)) (s .pre .0)
 
-same-length : tie.Need-same-length
-same-length c = search needs
-
 returns : tie.Need-returns
 returns c =
     let s = c .before .before .before .before .before .before .before .before .before in
@@ -45,4 +36,5 @@ returns c =
 pub write-asked-spec : {M : Type 1} → statement M
 write-asked-spec =
     tie.close
-    (tie.spec places-requires mul-write slice-aggregate-write write-requires same-length returns)
+    (tie.spec (λ c κs. search needs) (λ c. search needs) slice-aggregate-write write-requires (λ c. search needs)
+    returns)

@@ -14,12 +14,6 @@ use borrow.Author.Needs.{needs}
 use Rattle.run.proofs.area.write_begun.Statement.{statement}
 use Rattle.run.proofs.area.write_begun.Tie as tie
 
-places-requires : tie.Need-places-requires
-places-requires c κs = search needs
-
-clear-requires : tie.Need-clear-requires
-clear-requires c κs = search needs
-
 write-requires : tie.Need-write-requires
 write-requires c κs =
     let s = c .before .before .before .before .before .before .before .before in
@@ -39,9 +33,6 @@ write-requires-2 c κs =
           .clear .kept,
       s .pre .0,
     ))
-
-same-length : tie.Need-same-length
-same-length c = search needs
 
 returns : tie.Need-returns
 returns c =
@@ -63,4 +54,4 @@ returns c =
 pub write-begun-spec : {M : Type 1} → statement M
 write-begun-spec =
     tie.close
-    (tie.spec places-requires clear-requires write-requires write-requires-2 same-length returns)
+    (tie.spec (λ c κs. search needs) (λ c κs. search needs) write-requires write-requires-2 (λ c. search needs) returns)

@@ -14,9 +14,6 @@ use borrow.Author.Needs.{needs}
 use Rattle.run.proofs.area.write_landed.Statement.{statement}
 use Rattle.run.proofs.area.write_landed.Tie as tie
 
-places-requires : tie.Need-places-requires
-places-requires c κs = search needs
-
 mul-copy : tie.Need-mul-copy
 mul-copy c = omega (arith, c .before .before .before .before .before .pre .1 .few .few-variables)
 
@@ -39,9 +36,6 @@ write-requires c κs =
     (omega (arith, s .pre .2, rows-fit (s .args .st) (s .pre .1)))
     (omega (arith, c .before .before .before .copy .kept, s .pre .0))
 
-same-length : tie.Need-same-length
-same-length c = search needs
-
 returns : tie.Need-returns
 returns c w u t =
     let s = c .before .before .before .before .before .before .before .before .before .before .before .before in
@@ -58,4 +52,4 @@ returns c w u t =
 
 pub write-landed-spec : {M : Type 1} → statement M
 write-landed-spec =
-    tie.close (tie.spec places-requires mul-copy copy-requires write-requires same-length returns)
+    tie.close (tie.spec (λ c κs. search needs) mul-copy copy-requires write-requires (λ c. search needs) returns)

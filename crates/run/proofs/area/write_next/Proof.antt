@@ -14,24 +14,12 @@ use Rattle.run.proofs.area.write_next.Tie as tie
 standing-point-requires : tie.Need-standing-point-requires
 standing-point-requires c κs = c .before .before .before .pre
 
-slice-aggregate-moved : tie.Need-slice-aggregate-moved
-slice-aggregate-moved c = search needs
-
-moved-requires : tie.Need-moved-requires
-moved-requires c κs = search needs
-
-slice-aggregate-write-asked : tie.Need-slice-aggregate-write-asked
-slice-aggregate-write-asked c = search needs
-
 write-asked-requires : tie.Need-write-asked-requires
 write-asked-requires c κs = (
   c .before .before .before .before .before .before .before .before .before .pre .0,
   c .before .before .before .before .before .before .before .before .before .pre .1,
   search needs,
 )
-
-same-length : tie.Need-same-length
-same-length c = search needs
 
 returns : tie.Need-returns
 returns c =
@@ -48,9 +36,9 @@ write-next-spec =
     tie.close
     (tie.spec
     standing-point-requires
-    slice-aggregate-moved
-    moved-requires
-    slice-aggregate-write-asked
+    (λ c. search needs)
+    (λ c κs. search needs)
+    (λ c. search needs)
     write-asked-requires
-    same-length
+    (λ c. search needs)
     returns)

@@ -15,9 +15,6 @@ use borrow.Author.Needs.{needs}
 use Rattle.run.proofs.area.write_start.Statement.{statement}
 use Rattle.run.proofs.area.write_start.Tie as tie
 
-places-requires : tie.Need-places-requires
-places-requires c κs = search needs
-
 mul-clear-from : tie.Need-mul-clear-from
 mul-clear-from c = omega (arith, c .before .before .before .before .before .pre .1 .few .few-variables)
 
@@ -34,9 +31,6 @@ write-requires c κs =
     (each-same (c .before .before .before .before .before .before .places .ensures) .standing-rows)
     (omega (arith, s .pre .2, rows-fit (s .args .st) (s .pre .1)))
     (omega (arith, c .before .before .before .clear-from .kept, s .pre .0))
-
-same-length : tie.Need-same-length
-same-length c = search needs
 
 returns : tie.Need-returns
 returns c w u =
@@ -55,9 +49,9 @@ pub write-start-spec : {M : Type 1} → statement M
 write-start-spec =
     tie.close
     (tie.spec
-    places-requires
+    (λ c κs. search needs)
     mul-clear-from
     clear-from-requires
     write-requires
-    same-length
+    (λ c. search needs)
     returns)

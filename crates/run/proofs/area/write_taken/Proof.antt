@@ -16,9 +16,6 @@ use borrow.Author.Needs.{needs}
 use Rattle.run.proofs.area.write_taken.Statement.{statement}
 use Rattle.run.proofs.area.write_taken.Tie as tie
 
-places-requires : tie.Need-places-requires
-places-requires c κs = search needs
-
 numbers-in-requires : tie.Need-numbers-in-requires
 numbers-in-requires c κs = c .before .before .before .pre .1
 
@@ -66,9 +63,6 @@ write-requires c κs =
       s .pre .0,
     ))
 
-pair-numbers-requires : tie.Need-pair-numbers-requires
-pair-numbers-requires c κs = search needs
-
 add-write : tie.Need-add-write
 add-write c =
     let s = c .before .before .before .before .before .before .before .before .before .before .before .before .before
@@ -82,9 +76,6 @@ add-write c =
       slot-room (s .args .st .sizes) (indices .filter) (lit< tt),
       s .pre .2,
     )
-
-slice-aggregate-write : tie.Need-slice-aggregate-write
-slice-aggregate-write c = search needs
 
 write-requires-2 : tie.Need-write-requires-2
 write-requires-2 c κs =
@@ -106,9 +97,6 @@ write-requires-2 c κs =
           .before .copy .kept,
       s .pre .0,
     )
-
-same-length : tie.Need-same-length
-same-length c = search needs
 
 returns : tie.Need-returns
 returns c w u whole landed =
@@ -144,14 +132,14 @@ pub write-taken-spec : {M : Type 1} → statement M
 write-taken-spec =
     tie.close
     (tie.spec
-    places-requires
+    (λ c κs. search needs)
     numbers-in-requires
     copy-requires
     copy-requires-2
     write-requires
-    pair-numbers-requires
+    (λ c κs. search needs)
     add-write
-    slice-aggregate-write
+    (λ c. search needs)
     write-requires-2
-    same-length
+    (λ c. search needs)
     returns)

@@ -17,9 +17,6 @@ use borrow.Author.Needs.{needs}
 use Rattle.run.proofs.area.write_trial.Statement.{statement}
 use Rattle.run.proofs.area.write_trial.Tie as tie
 
-places-requires : tie.Need-places-requires
-places-requires c κs = search needs
-
 numbers-in-requires : tie.Need-numbers-in-requires
 numbers-in-requires c κs = c .before .before .before .before .pre .1
 
@@ -136,9 +133,6 @@ write-requires-2 c κs =
       s .pre .0,
     ))
 
-same-length : tie.Need-same-length
-same-length c = search needs
-
 returns : tie.Need-returns
 returns c w u whole =
     let s = c .before .before .before .before .before .before .before .before .before .before .before .before .before
@@ -174,7 +168,7 @@ pub write-trial-spec : {M : Type 1} → statement M
 write-trial-spec =
     tie.close
     (tie.spec
-    places-requires
+    (λ c κs. search needs)
     numbers-in-requires
     write-next-requires
     clear-from-requires
@@ -183,5 +177,5 @@ write-trial-spec =
     write-requires
     slice-aggregate-write-2
     write-requires-2
-    same-length
+    (λ c. search needs)
     returns)

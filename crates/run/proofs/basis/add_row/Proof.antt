@@ -8,21 +8,6 @@ use borrow.Author.Needs.{needs}
 use Rattle.run.proofs.basis.add_row.Statement.{statement}
 use Rattle.run.proofs.basis.add_row.Tie as tie
 
-slice-aggregate-row-of : tie.Need-slice-aggregate-row-of
-slice-aggregate-row-of c = search needs
-
-row-of-requires : tie.Need-row-of-requires
-row-of-requires c κs = search needs
-
-slice-aggregate-parts-out : tie.Need-slice-aggregate-parts-out
-slice-aggregate-parts-out c = search needs
-
-parts-out-requires : tie.Need-parts-out-requires
-parts-out-requires c κs = search needs
-
-slice-aggregate-norm-of : tie.Need-slice-aggregate-norm-of
-slice-aggregate-norm-of c = search needs
-
 norm-of-requires : tie.Need-norm-of-requires
 norm-of-requires c κs =
     let p =
@@ -34,18 +19,6 @@ norm-of-requires c κs =
       omega (arith, p .variables),
       omega (arith, c .before .before .before .before .parts-out .kept .1 .1 .1 .0, l, p .variables),
     )
-
-enum-known-l : tie.Need-enum-known-l
-enum-known-l c = search needs
-
-sharpen-requires : tie.Need-sharpen-requires
-sharpen-requires c κs = search needs
-
-slice-aggregate-unit : tie.Need-slice-aggregate-unit
-slice-aggregate-unit c = search needs
-
-mul-unit : tie.Need-mul-unit
-mul-unit c = search needs
 
 unit-requires : tie.Need-unit-requires
 unit-requires c κs =
@@ -70,9 +43,6 @@ add-put c =
     .before .before .pre in
     omega (arith, p .independent, p .row)
 
-put-requires : tie.Need-put-requires
-put-requires c κs = search needs
-
 gram-row-requires : tie.Need-gram-row-requires
 gram-row-requires c κs =
     let p =
@@ -88,18 +58,6 @@ add-ranked c =
     .before .before .before .before .before .before .before .before .before .before .before .before
     .before .before .before .before .before .before .before .before .before .before .pre in
     omega (arith, p .independent, p .row)
-
-ranked-requires : tie.Need-ranked-requires
-ranked-requires c κs = search needs
-
-same-length : tie.Need-same-length
-same-length c = search needs
-
-same-length-2 : tie.Need-same-length-2
-same-length-2 c = search needs
-
-same-length-3 : tie.Need-same-length-3
-same-length-3 c = search needs
 
 returns : tie.Need-returns
 unfolding ofBits
@@ -132,15 +90,6 @@ returns c =
     (c .before .before .before .before .before .before .before .before .before .before .before .before .unit
     .ensures) (c .before .before .before .before .before .before .before .before .put .ensures) (g .ensures)
 
-enum-known-e : tie.Need-enum-known-e
-enum-known-e c = search needs
-
-same-length-4 : tie.Need-same-length-4
-same-length-4 c = search needs
-
-same-length-5 : tie.Need-same-length-5
-same-length-5 c = search needs
-
 returns-2 : tie.Need-returns-2
 unfolding ofBits
 returns-2 c =
@@ -160,28 +109,28 @@ pub add-row-spec : {M : Type 1} → statement M
 add-row-spec =
     tie.close
     (tie.spec
-    slice-aggregate-row-of
-    row-of-requires
-    slice-aggregate-parts-out
-    parts-out-requires
-    slice-aggregate-norm-of
+    (λ c. search needs)
+    (λ c κs. search needs)
+    (λ c. search needs)
+    (λ c κs. search needs)
+    (λ c. search needs)
     norm-of-requires
-    enum-known-l
-    sharpen-requires
-    slice-aggregate-unit
-    mul-unit
+    (λ c. search needs)
+    (λ c κs. search needs)
+    (λ c. search needs)
+    (λ c. search needs)
     unit-requires
     mul-put
     add-put
-    put-requires
+    (λ c κs. search needs)
     gram-row-requires
     add-ranked
-    ranked-requires
-    same-length
-    same-length-2
-    same-length-3
+    (λ c κs. search needs)
+    (λ c. search needs)
+    (λ c. search needs)
+    (λ c. search needs)
     returns
-    enum-known-e
-    same-length-4
-    same-length-5
+    (λ c. search needs)
+    (λ c. search needs)
+    (λ c. search needs)
     returns-2)

@@ -67,12 +67,6 @@ next-row-requires c κs =
       inv .order-length ∙ l,
     )
 
-enum-known-s : tie.Need-enum-known-s Inv-loop μ-loop
-enum-known-s c = search needs
-
-enum-known-e : tie.Need-enum-known-e Inv-loop μ-loop
-enum-known-e c = search needs
-
 same-length : tie.Need-same-length Inv-loop μ-loop
 same-length c =
     c .before .before .before .before .before .before .before .before .before .before .before .before
@@ -122,12 +116,6 @@ returns c =
     rows-refused P b (l .i) q gram coefficients dependent order (n .result) (l .inv .rows) (n .ensures)
     (c .before .before .before .before .before .before .before .before .before .before .before .before .before
     .before .before .before .before .before .loop-test .taken) (c .before .e .given .1)
-
-add-i : tie.Need-add-i Inv-loop μ-loop
-add-i c = search needs
-
-loop-less : tie.Need-loop-less Inv-loop μ-loop
-loop-less c = search needs
 
 loop-again : tie.Need-loop-again Inv-loop μ-loop
 loop-again c =
@@ -188,15 +176,15 @@ basis-spec =
     loop-holds
     slice-aggregate-next-row
     next-row-requires
-    enum-known-s
-    enum-known-e
+    (λ c. search needs)
+    (λ c. search needs)
     same-length
     same-length-2
     same-length-3
     same-length-4
     returns
-    add-i
-    loop-less
+    (λ c. search needs)
+    (λ c. search needs)
     loop-again
     same-length-5
     same-length-6

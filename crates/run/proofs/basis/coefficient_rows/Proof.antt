@@ -54,16 +54,10 @@ coefficient-at-requires c κs =
       omega (arith, s .pre .1 .0, packed-column (s .args .m) (s .args .r) (c .before .loop-test .taken)),
     )
 
-put-requires : tie.Need-put-requires Inv-loop μ-loop
-put-requires c κs = search needs
-
 add-p : tie.Need-add-p Inv-loop μ-loop
 add-p c =
     let s = c .before .before .before .before .before .before .before .before .before .before in
     omega (arith, c .before .before .before .before .before .loop-test .taken, few (s .pre .0) (s .pre .1 .0))
-
-loop-less : tie.Need-loop-less Inv-loop μ-loop
-loop-less c = search needs
 
 loop-again : tie.Need-loop-again Inv-loop μ-loop
 loop-again c =
@@ -81,9 +75,6 @@ loop-again c =
           (c .before .before .before .before .before .before .loop .p) (a .rows .now)
           (omega (arith, s .pre .1 .1, c .before .before .before .before .before .loop-test .taken)),
     )
-
-same-length : tie.Need-same-length Inv-loop μ-loop
-same-length c = search needs
 
 returns : tie.Need-returns Inv-loop μ-loop
 returns c =
@@ -104,9 +95,9 @@ coefficient-rows-spec =
     div-coefficient-at
     rem-coefficient-at
     coefficient-at-requires
-    put-requires
+    (λ c κs. search needs)
     add-p
-    loop-less
+    (λ c. search needs)
     loop-again
-    same-length
+    (λ c. search needs)
     returns)

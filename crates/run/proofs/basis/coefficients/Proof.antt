@@ -24,9 +24,6 @@ room s = omega (arith, few (few-vectors s) (few-vectors s))
 short : (s : tie.Start) → 2 * s .args .passed .r ≤ 24
 short s = omega (arith, few-vectors s)
 
-mul-e : tie.Need-mul-e
-mul-e c = search needs
-
 mul-s : tie.Need-mul-s
 mul-s c = omega (arith, room (c .before .before .before .before))
 
@@ -41,9 +38,6 @@ slice-aggregate-pack c = sym (length-take-le _ _ (room (c .before .before .befor
 
 pack-requires : tie.Need-pack-requires
 pack-requires c κs = let s = (c .before .before .before .before .before) in (few-vectors s, length-take-le _ _ (room s))
-
-array-borrow-prefix-b : tie.Need-array-borrow-prefix-b
-array-borrow-prefix-b c = search needs
 
 slice-aggregate-projections : tie.Need-slice-aggregate-projections
 slice-aggregate-projections c =
@@ -67,9 +61,6 @@ slice-aggregate-solve-cholesky c =
     (room (c .before .before .before .before .before .before .before .before .before .before .before))
     (c .before .before .before .before .before .pack .kept .1 .1 .0)))
 
-array-share-prefix-none : tie.Need-array-share-prefix-none
-array-share-prefix-none c = search needs
-
 slice-aggregate-solve-cholesky-2 : tie.Need-slice-aggregate-solve-cholesky-2
 slice-aggregate-solve-cholesky-2 c =
     sym (length-take-le _ _
@@ -90,9 +81,6 @@ slice-aggregate-solve-cholesky-3 c =
     (c .before .before .before .before .before .before .before .before .before .before .before .before
     .before)) (c .before .before .before .before .projections .kept .1 .1 .1 .1 .1 .0)))
 
-slice-relend-prefix-solve-cholesky : tie.Need-slice-relend-prefix-solve-cholesky
-slice-relend-prefix-solve-cholesky c = search needs
-
 slice-aggregate-solve-cholesky-4 : tie.Need-slice-aggregate-solve-cholesky-4
 slice-aggregate-solve-cholesky-4 c =
     let s =
@@ -102,9 +90,6 @@ slice-aggregate-solve-cholesky-4 c =
 
 solve-cholesky-requires : tie.Need-solve-cholesky-requires
 solve-cholesky-requires c κs = tt
-
-same-length : tie.Need-same-length
-same-length c = search needs
 
 returns : tie.Need-returns
 unfolding coefficientsIn
@@ -139,23 +124,23 @@ pub coefficients-spec : {M : Type 1} → statement M
 coefficients-spec =
     tie.close
     (tie.spec
-    mul-e
+    (λ c. search needs)
     mul-s
     mul-s-2
     array-borrow-prefix-l
     slice-aggregate-pack
     pack-requires
-    array-borrow-prefix-b
+    (λ c. search needs)
     slice-aggregate-projections
     projections-requires
     array-share-prefix-l
     slice-aggregate-solve-cholesky
-    array-share-prefix-none
+    (λ c. search needs)
     slice-aggregate-solve-cholesky-2
     array-share-prefix-b
     slice-aggregate-solve-cholesky-3
-    slice-relend-prefix-solve-cholesky
+    (λ c. search needs)
     slice-aggregate-solve-cholesky-4
     solve-cholesky-requires
-    same-length
+    (λ c. search needs)
     returns)

@@ -62,12 +62,6 @@ mul-s c = omega (arith, room (c .before .before .before .before .before .before)
 mul-s-2 : tie.Need-mul-s-2
 mul-s-2 c = omega (arith, room (c .before .before .before .before .before .before))
 
-mul-u : tie.Need-mul-u
-mul-u c = search needs
-
-mul-w : tie.Need-mul-w
-mul-w c = search needs
-
 array-borrow-prefix-rows : tie.Need-array-borrow-prefix-rows
 array-borrow-prefix-rows c = room (c .before .before .before .before .before .before)
 
@@ -79,9 +73,6 @@ coefficient-rows-requires : tie.Need-coefficient-rows-requires
 coefficient-rows-requires c κs =
     let s = (c .before .before .before .before .before .before .before) in
     let p = s .pre in (p .few .rows, (few-independent s, length-take-le _ _ (room s)))
-
-array-borrow-prefix-rhs : tie.Need-array-borrow-prefix-rhs
-array-borrow-prefix-rhs c = search needs
 
 slice-aggregate-sides : tie.Need-slice-aggregate-sides
 slice-aggregate-sides c =
@@ -121,9 +112,6 @@ slice-aggregate-least-squares-2 c =
     (c .before .before .before .before .before .before .before .before .before .before .before .before .before
     .before)) (c .before .before .before .sides .kept .1 .1 .1 .1 .1 .0)))
 
-array-borrow-prefix-y : tie.Need-array-borrow-prefix-y
-array-borrow-prefix-y c = search needs
-
 slice-aggregate-least-squares-3 : tie.Need-slice-aggregate-least-squares-3
 slice-aggregate-least-squares-3 c =
     sym (length-take-le _ _
@@ -149,9 +137,6 @@ slice-aggregate-sharp c =
     (c .before .before .before .before .before .before .before .before .before .before .before .before .before
     .before .before .before .before .before)) (c .before .before .least-squares .kept .1 .1 .1 .1 .0)))
 
-array-borrow-prefix-weights : tie.Need-array-borrow-prefix-weights
-array-borrow-prefix-weights c = search needs
-
 slice-aggregate-sharp-2 : tie.Need-slice-aggregate-sharp-2
 slice-aggregate-sharp-2 c =
     sym (length-take-le _ _
@@ -161,9 +146,6 @@ slice-aggregate-sharp-2 c =
 
 sharp-requires : tie.Need-sharp-requires
 sharp-requires c κs = tt
-
-clear-requires : tie.Need-clear-requires
-clear-requires c κs = search needs
 
 array-share-prefix-weights : tie.Need-array-share-prefix-weights
 array-share-prefix-weights c =
@@ -188,9 +170,6 @@ combine-requires c κs =
     (c .before .before .before .before .before .before .before .before .before .before .before .before .before
     .before .before .before .before .before .before .before .before .before .before .before .before .before
     .before) in (omega (arith, p .pre .few .variables), omega (arith, few-independent p))
-
-same-length : tie.Need-same-length
-same-length c = search needs
 
 returns : tie.Need-returns
 returns c =
@@ -232,29 +211,29 @@ correction-spec =
     (tie.spec
     mul-s
     mul-s-2
-    mul-u
-    mul-w
+    (λ c. search needs)
+    (λ c. search needs)
     array-borrow-prefix-rows
     slice-aggregate-coefficient-rows
     coefficient-rows-requires
-    array-borrow-prefix-rhs
+    (λ c. search needs)
     slice-aggregate-sides
     sides-requires
     array-share-prefix-rows
     slice-aggregate-least-squares
     array-share-prefix-rhs
     slice-aggregate-least-squares-2
-    array-borrow-prefix-y
+    (λ c. search needs)
     slice-aggregate-least-squares-3
     least-squares-requires
     array-share-prefix-y
     slice-aggregate-sharp
-    array-borrow-prefix-weights
+    (λ c. search needs)
     slice-aggregate-sharp-2
     sharp-requires
-    clear-requires
+    (λ c κs. search needs)
     array-share-prefix-weights
     slice-aggregate-combine
     combine-requires
-    same-length
+    (λ c. search needs)
     returns)

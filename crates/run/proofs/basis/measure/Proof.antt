@@ -16,27 +16,6 @@ use borrow.Author.Needs.{needs}
 use Rattle.run.proofs.basis.measure.Statement.{statement}
 use Rattle.run.proofs.basis.measure.Tie as tie
 
-coefficients-requires : tie.Need-coefficients-requires
-coefficients-requires c κs = search needs
-
-enum-told : tie.Need-enum-told
-enum-told c = search needs
-
-slice-aggregate-outside : tie.Need-slice-aggregate-outside
-slice-aggregate-outside c = search needs
-
-outside-requires : tie.Need-outside-requires
-outside-requires c κs = search needs
-
-slice-aggregate-norm-of : tie.Need-slice-aggregate-norm-of
-slice-aggregate-norm-of c = search needs
-
-norm-of-requires : tie.Need-norm-of-requires
-norm-of-requires c κs = search needs
-
-same-length : tie.Need-same-length
-same-length c = search needs
-
 returns : tie.Need-returns
 returns c =
     let k = c .before .before .before .before .before .before .before .before .before .before in
@@ -56,12 +35,6 @@ returns c =
     (l ∙ left-take (a .passed .k) (a .passed .r) (a .passed .m) (a .wide .now) (a .q .now) x m)
     ∙ sym (bind-ok _ (sym e))
 
-enum-known-e : tie.Need-enum-known-e
-enum-known-e c = search needs
-
-same-length-2 : tie.Need-same-length-2
-same-length-2 c = search needs
-
 returns-2 : tie.Need-returns-2
 unfolding bind
 returns-2 c =
@@ -72,14 +45,14 @@ pub measure-spec : {M : Type 1} → statement M
 measure-spec =
     tie.close
     (tie.spec
-    coefficients-requires
-    enum-told
-    slice-aggregate-outside
-    outside-requires
-    slice-aggregate-norm-of
-    norm-of-requires
-    same-length
+    (λ c κs. search needs)
+    (λ c. search needs)
+    (λ c. search needs)
+    (λ c κs. search needs)
+    (λ c. search needs)
+    (λ c κs. search needs)
+    (λ c. search needs)
     returns
-    enum-known-e
-    same-length-2
+    (λ c. search needs)
+    (λ c. search needs)
     returns-2)

@@ -9,21 +9,6 @@ use borrow.Author.Needs.{needs}
 use Rattle.run.proofs.basis.multipliers.Statement.{statement}
 use Rattle.run.proofs.basis.multipliers.Tie as tie
 
-slice-aggregate-multipliers-by-row : tie.Need-slice-aggregate-multipliers-by-row
-slice-aggregate-multipliers-by-row c = search needs
-
-multipliers-by-row-requires : tie.Need-multipliers-by-row-requires
-multipliers-by-row-requires c κs = search needs
-
-slice-aggregate-spread : tie.Need-slice-aggregate-spread
-slice-aggregate-spread c = search needs
-
-spread-requires : tie.Need-spread-requires
-spread-requires c κs = search needs
-
-same-length : tie.Need-same-length
-same-length c = search needs
-
 returns : tie.Need-returns
 unfolding multiplierStep ofBits
 returns c =
@@ -36,9 +21,9 @@ pub multipliers-spec : {M : Type 1} → statement M
 multipliers-spec =
     tie.close
     (tie.spec
-    slice-aggregate-multipliers-by-row
-    multipliers-by-row-requires
-    slice-aggregate-spread
-    spread-requires
-    same-length
+    (λ c. search needs)
+    (λ c κs. search needs)
+    (λ c. search needs)
+    (λ c κs. search needs)
+    (λ c. search needs)
     returns)

@@ -25,29 +25,11 @@ loop-holds : tie.Need-loop-holds Inv-loop μ-loop
 unfolding foldR
 loop-holds c = search needs
 
-multiplier-requires : tie.Need-multiplier-requires Inv-loop μ-loop
-multiplier-requires c κs = search needs
-
-enum-told : tie.Need-enum-told Inv-loop μ-loop
-enum-told c = search needs
-
-enum-known-e : tie.Need-enum-known-e Inv-loop μ-loop
-enum-known-e c = search needs
-
-same-length : tie.Need-same-length Inv-loop μ-loop
-same-length c = search needs
-
 returns : tie.Need-returns Inv-loop μ-loop
 returns c =
     broke-off _ _ _ (c .before .before .before .before .before .before .before .loop-test .taken)
     (c .before .before .before .before .before .before .before .before .loop .inv .2)
     (c .before .before .before .before .before .multiplier .ensures) (c .before .e .given .1)
-
-add-u : tie.Need-add-u Inv-loop μ-loop
-add-u c = search needs
-
-loop-less : tie.Need-loop-less Inv-loop μ-loop
-loop-less c = search needs
 
 loop-again : tie.Need-loop-again Inv-loop μ-loop
 loop-again c = (
@@ -56,9 +38,6 @@ loop-again c = (
   went-on _ _ (c .before .before .before .before .before .before .before .loop .inv .2)
       (c .before .before .before .before .multiplier .ensures) (c .enum-told .given .1),
 )
-
-same-length-2 : tie.Need-same-length-2 Inv-loop μ-loop
-same-length-2 c = search needs
 
 returns-2 : tie.Need-returns-2 Inv-loop μ-loop
 returns-2 c = sym (rw (le-antisymm (c .before .loop .inv .0) (c .loop-test .left)) at (c .before .loop .inv .2))
@@ -70,13 +49,13 @@ multipliers-by-row-spec =
     Inv-loop
     μ-loop
     loop-holds
-    multiplier-requires
-    enum-told
-    enum-known-e
-    same-length
+    (λ c κs. search needs)
+    (λ c. search needs)
+    (λ c. search needs)
+    (λ c. search needs)
     returns
-    add-u
-    loop-less
+    (λ c. search needs)
+    (λ c. search needs)
     loop-again
-    same-length-2
+    (λ c. search needs)
     returns-2)

@@ -26,30 +26,15 @@ loop-holds : tie.Need-loop-holds Inv-loop μ-loop
 unfolding fillTo
 loop-holds c = search needs
 
-mul-two-outside : tie.Need-mul-two-outside Inv-loop μ-loop
-mul-two-outside c = search needs
-
 two-outside-requires : tie.Need-two-outside-requires Inv-loop μ-loop
 two-outside-requires c κs =
     let h = c .before .before .before .before .before .before .before .pre in
     (h .1, omega (arith, h .0, c .before .loop-test .taken))
 
-add-h : tie.Need-add-h Inv-loop μ-loop
-add-h c = search needs
-
-loop-less : tie.Need-loop-less Inv-loop μ-loop
-loop-less c = search needs
-
 loop-again : tie.Need-loop-again Inv-loop μ-loop
 loop-again c =
     let l = c .before .before .before .before .before .loop in
     (search needs, search needs, fill-first-two _ _ (l .h) (l .inv .2) (c .before .before .two-outside .ensures))
-
-mul-if1 : tie.Need-mul-if1 Inv-loop μ-loop
-mul-if1 c = search needs
-
-same-length : tie.Need-same-length Inv-loop μ-loop
-same-length c = search needs
 
 returns : tie.Need-returns Inv-loop μ-loop
 returns c =
@@ -58,26 +43,8 @@ returns c =
     let e : 2 * l .h ≡ a .k = omega (arith, l .inv .0, c .before .loop-test .left, c .if1 .taken) in
     rw e at (l .inv .2)
 
-mul-p : tie.Need-mul-p Inv-loop μ-loop
-mul-p c = search needs
-
-mul-at : tie.Need-mul-at Inv-loop μ-loop
-mul-at c = search needs
-
-add-at : tie.Need-add-at Inv-loop μ-loop
-add-at c = search needs
-
-at-requires : tie.Need-at-requires Inv-loop μ-loop
-at-requires c κs = search needs
-
 minus-dot-requires : tie.Need-minus-dot-requires Inv-loop μ-loop
 minus-dot-requires c κs = tt
-
-put-requires : tie.Need-put-requires Inv-loop μ-loop
-put-requires c κs = search needs
-
-same-length-2 : tie.Need-same-length-2 Inv-loop μ-loop
-same-length-2 c = search needs
 
 returns-2 : tie.Need-returns-2 Inv-loop μ-loop
 returns-2 c =
@@ -99,19 +66,19 @@ outside-spec =
     Inv-loop
     μ-loop
     loop-holds
-    mul-two-outside
+    (λ c. search needs)
     two-outside-requires
-    add-h
-    loop-less
+    (λ c. search needs)
+    (λ c. search needs)
     loop-again
-    mul-if1
-    same-length
+    (λ c. search needs)
+    (λ c. search needs)
     returns
-    mul-p
-    mul-at
-    add-at
-    at-requires
+    (λ c. search needs)
+    (λ c. search needs)
+    (λ c. search needs)
+    (λ c κs. search needs)
     minus-dot-requires
-    put-requires
-    same-length-2
+    (λ c κs. search needs)
+    (λ c. search needs)
     returns-2)

@@ -54,19 +54,10 @@ add-at c =
       packed-column (s .args .r) (s .args .r) (c .before .loop-test .taken),
     )
 
-at-requires : tie.Need-at-requires Inv-loop μ-loop
-at-requires c κs = search needs
-
-put-requires : tie.Need-put-requires Inv-loop μ-loop
-put-requires c κs = search needs
-
 add-p : tie.Need-add-p Inv-loop μ-loop
 add-p c =
     let s = c .before .before .before .before .before .before .before .before .before in
     omega (arith, c .before .before .before .before .before .loop-test .taken, few (s .pre .0) (s .pre .0))
-
-loop-less : tie.Need-loop-less Inv-loop μ-loop
-loop-less c = search needs
 
 loop-again : tie.Need-loop-again Inv-loop μ-loop
 loop-again c =
@@ -84,9 +75,6 @@ loop-again c =
           ∙ listTo-more f (c .before .before .before .before .before .before .loop .p) (a .to .now)
           (omega (arith, s .pre .1, c .before .before .before .before .before .loop-test .taken)),
     )
-
-same-length : tie.Need-same-length Inv-loop μ-loop
-same-length c = search needs
 
 returns : tie.Need-returns Inv-loop μ-loop
 returns c =
@@ -107,10 +95,10 @@ pack-spec =
     mul-at
     rem-at
     add-at
-    at-requires
-    put-requires
+    (λ c κs. search needs)
+    (λ c κs. search needs)
     add-p
-    loop-less
+    (λ c. search needs)
     loop-again
-    same-length
+    (λ c. search needs)
     returns)

@@ -24,23 +24,8 @@ abbrev μ-loop : tie.MeasureT-loop
 loop-holds : tie.Need-loop-holds Inv-loop μ-loop
 loop-holds c = (search needs, search needs, sym (listTo-none _ _))
 
-mul-row-dot : tie.Need-mul-row-dot Inv-loop μ-loop
-mul-row-dot c = search needs
-
-mul-row-dot-2 : tie.Need-mul-row-dot-2 Inv-loop μ-loop
-mul-row-dot-2 c = search needs
-
 row-dot-requires : tie.Need-row-dot-requires Inv-loop μ-loop
 row-dot-requires c κs = tt
-
-put-requires : tie.Need-put-requires Inv-loop μ-loop
-put-requires c κs = search needs
-
-add-j : tie.Need-add-j Inv-loop μ-loop
-add-j c = search needs
-
-loop-less : tie.Need-loop-less Inv-loop μ-loop
-loop-less c = search needs
 
 loop-again : tie.Need-loop-again Inv-loop μ-loop
 loop-again c =
@@ -59,9 +44,6 @@ loop-again c =
           (omega (arith, s .pre .1 .1, c .before .before .before .before .before .loop-test .taken)),
     )
 
-same-length : tie.Need-same-length Inv-loop μ-loop
-same-length c = search needs
-
 returns : tie.Need-returns Inv-loop μ-loop
 returns c =
     let s = c .before .before .before .before .before in
@@ -76,12 +58,12 @@ projections-spec =
     Inv-loop
     μ-loop
     loop-holds
-    mul-row-dot
-    mul-row-dot-2
+    (λ c. search needs)
+    (λ c. search needs)
     row-dot-requires
-    put-requires
-    add-j
-    loop-less
+    (λ c κs. search needs)
+    (λ c. search needs)
+    (λ c. search needs)
     loop-again
-    same-length
+    (λ c. search needs)
     returns)

@@ -3,17 +3,11 @@ use borrow.Author.Needs.{needs}
 use Rattle.run.proofs.basis.ranked.Statement.{statement}
 use Rattle.run.proofs.basis.ranked.Tie as tie
 
-enum-told : tie.Need-enum-told
-enum-told c = search needs
-
 returns : tie.Need-returns
 returns c = λ q gram coefficients dependent order. rw (c .enum-told .given .1)
-
-enum-known-d : tie.Need-enum-known-d
-enum-known-d c = search needs
 
 returns-2 : tie.Need-returns-2
 returns-2 c = λ q gram coefficients dependent order. rw (c .before .d .given .1)
 
 pub ranked-spec : {M : Type 1} → statement M
-ranked-spec = tie.close (tie.spec enum-told returns enum-known-d returns-2)
+ranked-spec = tie.close (tie.spec (λ c. search needs) returns (λ c. search needs) returns-2)

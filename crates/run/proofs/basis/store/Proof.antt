@@ -5,18 +5,6 @@ use borrow.Author.Needs.{needs}
 use Rattle.run.proofs.basis.store.Statement.{statement}
 use Rattle.run.proofs.basis.store.Tie as tie
 
-enum-known-q : tie.Need-enum-known-q
-enum-known-q c = search needs
-
-put-requires : tie.Need-put-requires
-put-requires c κs = search needs
-
-enum-known-q-2 : tie.Need-enum-known-q-2
-enum-known-q-2 c = search needs
-
-same-length : tie.Need-same-length
-same-length c = search needs
-
 returns : tie.Need-returns
 returns c = rw (c .before .before .before .before .before .q .given .1) (ap ok (c .before .before .put .ensures))
 
@@ -25,4 +13,5 @@ returns-2 c = rw (c .before .q2 .given .1)
 
 pub store-spec : {M : Type 1} → statement M
 store-spec =
-    tie.close (tie.spec enum-known-q put-requires enum-known-q-2 same-length returns returns-2)
+    tie.close (tie.spec (λ c. search needs) (λ c κs. search needs) (λ c. search needs) (λ c. search needs) returns
+    returns-2)

@@ -6,21 +6,6 @@ use borrow.Author.Needs.{needs}
 use Rattle.run.proofs.basis.store_chosen.Statement.{statement}
 use Rattle.run.proofs.basis.store_chosen.Tie as tie
 
-enum-known-q : tie.Need-enum-known-q
-enum-known-q c = search needs
-
-choose-requires : tie.Need-choose-requires
-choose-requires c κs = search needs
-
-put-requires : tie.Need-put-requires
-put-requires c κs = search needs
-
-enum-known-q-2 : tie.Need-enum-known-q-2
-enum-known-q-2 c = search needs
-
-same-length : tie.Need-same-length
-same-length c = search needs
-
 returns : tie.Need-returns
 unfolding bind
 returns c =
@@ -37,10 +22,10 @@ pub store-chosen-spec : {M : Type 1} → statement M
 store-chosen-spec =
     tie.close
     (tie.spec
-    enum-known-q
-    choose-requires
-    put-requires
-    enum-known-q-2
-    same-length
+    (λ c. search needs)
+    (λ c κs. search needs)
+    (λ c κs. search needs)
+    (λ c. search needs)
+    (λ c. search needs)
     returns
     returns-2)

@@ -6,44 +6,14 @@ use Rattle.run.proofs.BasisLaws.{outside-exchanged}
 use Rattle.run.proofs.basis.two_outside.Statement.{statement}
 use Rattle.run.proofs.basis.two_outside.Tie as tie
 
-mul-at : tie.Need-mul-at
-mul-at c = search needs
-
-add-at : tie.Need-add-at
-add-at c = search needs
-
-at-requires : tie.Need-at-requires
-at-requires c κs = search needs
-
-mul-at-2 : tie.Need-mul-at-2
-mul-at-2 c = search needs
-
-add-at-2 : tie.Need-add-at-2
-add-at-2 c = search needs
-
-add-at-3 : tie.Need-add-at-3
-add-at-3 c = search needs
-
-at-requires-2 : tie.Need-at-requires-2
-at-requires-2 c κs = search needs
-
-add-two-minus : tie.Need-add-two-minus
-add-two-minus c = search needs
-
 two-minus-requires : tie.Need-two-minus-requires
 two-minus-requires c κs = tt
 
 put-requires : tie.Need-put-requires
 put-requires c κs = tt
 
-add-put : tie.Need-add-put
-add-put c = search needs
-
 put-requires-2 : tie.Need-put-requires-2
 put-requires-2 c κs = tt
-
-same-length : tie.Need-same-length
-same-length c = search needs
 
 returns : tie.Need-returns
 returns c =
@@ -60,17 +30,17 @@ pub two-outside-spec : {M : Type 1} → statement M
 two-outside-spec =
     tie.close
     (tie.spec
-    mul-at
-    add-at
-    at-requires
-    mul-at-2
-    add-at-2
-    add-at-3
-    at-requires-2
-    add-two-minus
+    (λ c. search needs)
+    (λ c. search needs)
+    (λ c κs. search needs)
+    (λ c. search needs)
+    (λ c. search needs)
+    (λ c. search needs)
+    (λ c κs. search needs)
+    (λ c. search needs)
     two-minus-requires
     put-requires
-    add-put
+    (λ c. search needs)
     put-requires-2
-    same-length
+    (λ c. search needs)
     returns)

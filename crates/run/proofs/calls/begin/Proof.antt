@@ -25,12 +25,6 @@ begun : {z : Sizes} {mu max : Scalar} {st : State} {a : List Float} (start : Lis
     → afterCall (record { state = st; event = event.Question 0 kind.Start 0 }) a ≡ begunOf z start max
 begun start es em ea = rw (es, em, ea)
 
-refusal-requires : tie.Need-refusal-requires
-refusal-requires c κs = search needs
-
-not-begun-requires : tie.Need-not-begun-requires
-not-begun-requires c κs = search needs
-
 returns : tie.Need-returns
 returns c =
     let a = c .before .before .before .before .before .args in
@@ -43,15 +37,6 @@ write-begun-requires c κs =
     let a = c .before .before .before .before .before .args in
     begin-lengths (record { n = a .n; m = a .m; s = a .s; limit = a .limit }) (now (a .start)) (a .max-step)
     (now (a .area)) (c .before .before .refusal .ensures) (c .before .if1 .left)
-
-first-damping-requires : tie.Need-first-damping-requires
-first-damping-requires c κs = search needs
-
-state-with-requires : tie.Need-state-with-requires
-state-with-requires c κs = search needs
-
-same-length : tie.Need-same-length
-same-length c = search needs
 
 returns-2 : tie.Need-returns-2
 returns-2 c =
@@ -67,11 +52,11 @@ pub begin-spec : {M : Type 1} → statement M
 begin-spec =
     tie.close
     (tie.spec
-    refusal-requires
-    not-begun-requires
+    (λ c κs. search needs)
+    (λ c κs. search needs)
     returns
     write-begun-requires
-    first-damping-requires
-    state-with-requires
-    same-length
+    (λ c κs. search needs)
+    (λ c κs. search needs)
+    (λ c. search needs)
     returns-2)

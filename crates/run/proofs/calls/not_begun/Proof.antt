@@ -8,9 +8,6 @@ use Rattle.run.specs.declared.state.State.{State}
 use Rattle.run.proofs.calls.not_begun.Statement.{statement}
 use Rattle.run.proofs.calls.not_begun.Tie as tie
 
-state-with-requires : tie.Need-state-with-requires
-state-with-requires c κs = search needs
-
 returns : tie.Need-returns
 unfolding ofBits
 returns c =
@@ -18,4 +15,4 @@ returns c =
     (c .state-with .ensures)
 
 pub not-begun-spec : {M : Type 1} → statement M
-not-begun-spec = tie.close (tie.spec state-with-requires returns)
+not-begun-spec = tie.close (tie.spec (λ c κs. search needs) returns)

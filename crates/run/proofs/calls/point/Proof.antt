@@ -32,22 +32,10 @@ module _ (k : tie.Else2) where
       point-inside (a .st .sizes) (a .st .phase) (now (a .area)) area-fits
       (bounds (a .st) (run-fits (k .before .before)) .sizes .n)
 
-valid-requires : tie.Need-valid-requires
-valid-requires c κs = search needs
-
-slice-aggregate-result : tie.Need-slice-aggregate-result
-slice-aggregate-result c = search needs
-
 returns : tie.Need-returns
 returns c =
     point-none (c .before .before .before .before .args .st) (now (c .before .before .before .before .args .area))
     (rw (sym (c .before .before .valid .ensures) ∙ not-true _ (c .before .if1 .taken)))
-
-area-length-requires : tie.Need-area-length-requires
-area-length-requires c κs = search needs
-
-slice-aggregate-result-2 : tie.Need-slice-aggregate-result-2
-slice-aggregate-result-2 c = search needs
 
 returns-2 : tie.Need-returns-2
 returns-2 c =
@@ -58,9 +46,6 @@ returns-2 c =
       compared-other (c .before .before .area-length .ensures)
           (c .before .if2 .taken),
     ))
-
-point-place-requires : tie.Need-point-place-requires
-point-place-requires c κs = search needs
 
 mul-result : tie.Need-mul-result
 mul-result c = omega (arith, inside (c .before .before), area-fits (c .before .before))
@@ -76,12 +61,6 @@ mul-result-2 c = omega (
   c .before .point-place .ensures,
 )
 
-sub-result : tie.Need-sub-result
-sub-result c = search needs
-
-part-result-start : tie.Need-part-result-start
-part-result-start c = search needs
-
 part-result-end : tie.Need-part-result-end
 part-result-end c = omega (arith, inside (c .before .before), c .before .point-place .ensures)
 
@@ -96,17 +75,17 @@ pub point-spec : {M : Type 1} → statement M
 point-spec =
     tie.close
     (tie.spec
-    valid-requires
-    slice-aggregate-result
+    (λ c κs. search needs)
+    (λ c. search needs)
     returns
-    area-length-requires
-    slice-aggregate-result-2
+    (λ c κs. search needs)
+    (λ c. search needs)
     returns-2
-    point-place-requires
+    (λ c κs. search needs)
     mul-result
     add-result
     mul-result-2
-    sub-result
-    part-result-start
+    (λ c. search needs)
+    (λ c. search needs)
     part-result-end
     returns-3)

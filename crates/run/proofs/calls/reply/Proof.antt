@@ -11,15 +11,6 @@ use borrow.Author.Needs.{needs}
 use Rattle.run.proofs.calls.reply.Statement.{statement}
 use Rattle.run.proofs.calls.reply.Tie as tie
 
-check-rows-requires : tie.Need-check-rows-requires
-check-rows-requires c κs = search needs
-
-enum-known-kind : tie.Need-enum-known-kind
-enum-known-kind c = search needs
-
-enum-known-number : tie.Need-enum-known-number
-enum-known-number c = search needs
-
 returns : tie.Need-returns
 returns c =
     let a = c .before .before .before .before .before .before .args in
@@ -53,9 +44,6 @@ answered-requires c κs =
       ),
     )
 
-same-length : tie.Need-same-length
-same-length c = search needs
-
 returns-2 : tie.Need-returns-2
 returns-2 c =
     let read = c .before .before .before .before .before .before .before .before .before in
@@ -70,11 +58,11 @@ pub reply-spec : {M : Type 1} → statement M
 reply-spec =
     tie.close
     (tie.spec
-    check-rows-requires
-    enum-known-kind
-    enum-known-number
+    (λ c κs. search needs)
+    (λ c. search needs)
+    (λ c. search needs)
     returns
     clear-unused-requires
     answered-requires
-    same-length
+    (λ c. search needs)
     returns-2)

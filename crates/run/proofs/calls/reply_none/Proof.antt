@@ -11,15 +11,6 @@ use borrow.Author.Needs.{needs}
 use Rattle.run.proofs.calls.reply_none.Statement.{statement}
 use Rattle.run.proofs.calls.reply_none.Tie as tie
 
-check-requires : tie.Need-check-requires
-check-requires c κs = search needs
-
-enum-known-kind : tie.Need-enum-known-kind
-enum-known-kind c = search needs
-
-enum-known-number : tie.Need-enum-known-number
-enum-known-number c = search needs
-
 returns : tie.Need-returns
 returns c =
     let a = c .before .before .before .before .before .args in
@@ -46,9 +37,6 @@ answered-none-requires c κs =
       (reply-bounded (a .st) _ (r .run) (r .opened), (reply-phase (a .st) _ (r .run) (r .opened), r .opened)),
     )
 
-same-length : tie.Need-same-length
-same-length c = search needs
-
 returns-2 : tie.Need-returns-2
 returns-2 c =
     let read = c .before .before .before .before .before .before .before .before .before in
@@ -63,11 +51,11 @@ pub reply-none-spec : {M : Type 1} → statement M
 reply-none-spec =
     tie.close
     (tie.spec
-    check-requires
-    enum-known-kind
-    enum-known-number
+    (λ c κs. search needs)
+    (λ c. search needs)
+    (λ c. search needs)
     returns
     clear-unused-requires
     answered-none-requires
-    same-length
+    (λ c. search needs)
     returns-2)

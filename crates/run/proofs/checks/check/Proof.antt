@@ -9,18 +9,9 @@ use Rattle.run.proofs.CheckLaws.{compared-same, compared-other}
 use Rattle.run.proofs.checks.check.Statement.{statement}
 use Rattle.run.proofs.checks.check.Tie as tie
 
-valid-requires : tie.Need-valid-requires
-valid-requires c κs = search needs
-
 returns : tie.Need-returns
 unfolding checkOf
 returns c = rw (sym (c .before .valid .ensures) ∙ not-true _ (c .if1 .taken))
-
-enum-known-phase : tie.Need-enum-known-phase
-enum-known-phase c = search needs
-
-enum-told : tie.Need-enum-told
-enum-told c = search needs
 
 returns-2 : tie.Need-returns-2
 unfolding checkOf
@@ -30,9 +21,6 @@ returns-2 c =
           ∙ not-false _ (c .before .before .if1 .left),
       c .enum-told .given .1,
     )
-
-area-length-requires : tie.Need-area-length-requires
-area-length-requires c κs = search needs
 
 -- a run that passed
 run-fits : (k : tie.Else1) → valid (k .before .before .args .st) ≡ true
@@ -62,11 +50,11 @@ pub check-spec : {M : Type 1} → statement M
 check-spec =
     tie.close
     (tie.spec
-    valid-requires
+    (λ c κs. search needs)
     returns
-    enum-known-phase
-    enum-told
+    (λ c. search needs)
+    (λ c. search needs)
     returns-2
-    area-length-requires
+    (λ c κs. search needs)
     returns-3
     returns-4)

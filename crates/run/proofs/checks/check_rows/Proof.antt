@@ -15,21 +15,9 @@ use borrow.Author.Needs.{needs}
 use Rattle.run.proofs.checks.check_rows.Statement.{statement}
 use Rattle.run.proofs.checks.check_rows.Tie as tie
 
-check-requires : tie.Need-check-requires
-check-requires c κs = search needs
-
-enum-told : tie.Need-enum-told
-enum-told c = search needs
-
-enum-told-2 : tie.Need-enum-told-2
-enum-told-2 c = search needs
-
 returns : tie.Need-returns
 unfolding checkRowsOf
 returns c = rw (← c .before .before .check .ensures, c .enum-told2 .given .1)
-
-landed-counts-requires : tie.Need-landed-counts-requires
-landed-counts-requires c κs = search needs
 
 -- the counts of the answer are those of a run that is accepted
 few : (k : tie.After-landed-counts) → FewRows (k .landed-counts .result)
@@ -67,9 +55,6 @@ returns-2 c =
       ne-eqb _ _ other,
     )
 
-all-in-domain-requires : tie.Need-all-in-domain-requires
-all-in-domain-requires c κs = search needs
-
 returns-3 : tie.Need-returns-3
 unfolding checkRowsOf
 returns-3 c =
@@ -105,6 +90,7 @@ returns-4 c =
 pub check-rows-spec : {M : Type 1} → statement M
 check-rows-spec =
     tie.close
-    (tie.spec check-requires enum-told enum-told-2 returns landed-counts-requires add-count add-count-2 mul-count
+    (tie.spec (λ c κs. search needs) (λ c. search needs) (λ c. search needs) returns (λ c κs. search needs) add-count
+    add-count-2 mul-count
     mul-if1 returns-2
-    all-in-domain-requires returns-3 returns-4)
+    (λ c κs. search needs) returns-3 returns-4)

@@ -7,9 +7,6 @@ use Rattle.run.proofs.checks.counts_fit.Tie as tie
 returns : tie.Need-returns
 returns c = rw (lt-leb _ _ (c .if1 .taken))
 
-most-turn-downs-requires : tie.Need-most-turn-downs-requires
-most-turn-downs-requires c κs = search needs
-
 returns-2 : tie.Need-returns-2
 returns-2 c =
     rw (
@@ -17,9 +14,6 @@ returns-2 c =
       ← c .before .before .most-turn-downs .ensures,
       lt-leb _ _ (c .if2 .taken),
     )
-
-most-questions-requires : tie.Need-most-questions-requires
-most-questions-requires c κs = search needs
 
 returns-3 : tie.Need-returns-3
 returns-3 c =
@@ -46,8 +40,8 @@ counts-fit-spec =
     tie.close
     (tie.spec
     returns
-    most-turn-downs-requires
+    (λ c κs. search needs)
     returns-2
-    most-questions-requires
+    (λ c κs. search needs)
     returns-3
     returns-4)

@@ -6,14 +6,8 @@ use borrow.Author.Tests.{not-true, not-false}
 use Rattle.run.proofs.checks.is_positive.Statement.{statement}
 use Rattle.run.proofs.checks.is_positive.Tie as tie
 
-is-finite-requires : tie.Need-is-finite-requires
-is-finite-requires c κs = search needs
-
 returns : tie.Need-returns
 returns c = rw (sym (c .before .is-finite .ensures) ∙ not-true _ (c .if1 .taken))
-
-definitely-greater-requires : tie.Need-definitely-greater-requires
-definitely-greater-requires c κs = search needs
 
 returns-2 : tie.Need-returns-2
 unfolding ofBits
@@ -37,4 +31,4 @@ returns-3 c =
 
 pub is-positive-spec : {M : Type 1} → statement M
 is-positive-spec =
-    tie.close (tie.spec is-finite-requires returns definitely-greater-requires returns-2 returns-3)
+    tie.close (tie.spec (λ c κs. search needs) returns (λ c κs. search needs) returns-2 returns-3)

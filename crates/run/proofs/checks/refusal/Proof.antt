@@ -24,9 +24,6 @@ inside : (k : tie.Else4) → let a = k .before .before .before .before .before .
     in allInDomain (a .start .now) (a .z .n) ≡ true
 inside k = sym (k .before .all-in-domain .ensures) ∙ not-false _ (k .if4 .left)
 
-sizes-fit-requires : tie.Need-sizes-fit-requires
-sizes-fit-requires c κs = search needs
-
 returns : tie.Need-returns
 returns c = rw (sym (c .before .sizes-fit .ensures) ∙ not-true _ (c .if1 .taken))
 
@@ -36,9 +33,6 @@ mul-if2 c = let b = size-bounds (c .before .before .before .before .args .z) (si
 returns-2 : tie.Need-returns-2
 returns-2 c = rw (sized (c .before .before), ne-eqb _ _ (c .if2 .taken))
 
-area-length-requires : tie.Need-area-length-requires
-area-length-requires c κs = search needs
-
 returns-3 : tie.Need-returns-3
 returns-3 c =
     rw (
@@ -46,9 +40,6 @@ returns-3 c =
       eq-eqb _ _ (c .before .before .if2 .left),
       compared-other (c .before .area-length .ensures) (c .if3 .taken),
     )
-
-all-in-domain-requires : tie.Need-all-in-domain-requires
-all-in-domain-requires c κs = search needs
 
 returns-4 : tie.Need-returns-4
 returns-4 c =
@@ -59,9 +50,6 @@ returns-4 c =
       sym (c .before .all-in-domain .ensures) ∙ not-true _ (c .if4 .taken),
     )
 
-in-domain-requires : tie.Need-in-domain-requires
-in-domain-requires c κs = search needs
-
 returns-5 : tie.Need-returns-5
 returns-5 c =
     rw (
@@ -71,9 +59,6 @@ returns-5 c =
       inside (c .before .before),
       sym (c .before .in-domain .ensures) ∙ not-true _ (c .if5 .taken),
     )
-
-definitely-greater-requires : tie.Need-definitely-greater-requires
-definitely-greater-requires c κs = search needs
 
 returns-6 : tie.Need-returns-6
 unfolding ofBits
@@ -103,16 +88,16 @@ pub refusal-spec : {M : Type 1} → statement M
 refusal-spec =
     tie.close
     (tie.spec
-    sizes-fit-requires
+    (λ c κs. search needs)
     returns
     mul-if2
     returns-2
-    area-length-requires
+    (λ c κs. search needs)
     returns-3
-    all-in-domain-requires
+    (λ c κs. search needs)
     returns-4
-    in-domain-requires
+    (λ c κs. search needs)
     returns-5
-    definitely-greater-requires
+    (λ c κs. search needs)
     returns-6
     returns-7)

@@ -9,9 +9,6 @@ use Rattle.run.proofs.CheckLaws.{size-bounds, not-positive, past-start,
 use Rattle.run.proofs.checks.valid.Statement.{statement}
 use Rattle.run.proofs.checks.valid.Tie as tie
 
-sizes-fit-requires : tie.Need-sizes-fit-requires
-sizes-fit-requires c κs = search needs
-
 returns : tie.Need-returns
 unfolding valid
 returns c = rw (sym (c .before .sizes-fit .ensures) ∙ not-true _ (c .if1 .taken))
@@ -30,12 +27,6 @@ returns-2 c =
       sym (c .before .counts-fit .ensures) ∙ not-true _ (c .if2 .taken),
     )
 
-enum-known-phase : tie.Need-enum-known-phase
-enum-known-phase c = search needs
-
-enum-told : tie.Need-enum-told
-enum-told c = search needs
-
 returns-3 : tie.Need-returns-3
 returns-3 c =
     let st = c .before .before .before .before .before .before .args .st in
@@ -44,9 +35,6 @@ returns-3 c =
     ∙ not-false _ (c .before .before .before .before .if1 .left))
     (sym (c .before .before .before .counts-fit .ensures) ∙ not-false _ (c .before .before .if2 .left))
     (ap (phaseFits st) (sym (c .enum-told .given .1)))
-
-is-positive-requires : tie.Need-is-positive-requires
-is-positive-requires c κs = search needs
 
 returns-4 : tie.Need-returns-4
 returns-4 c =
@@ -59,9 +47,6 @@ returns-4 c =
     (not-positive st (c .before .before .before .phase .given .0 .0)
     (sym (c .before .is-positive .ensures) ∙ not-true _ (c .if3 .taken))
     ∙ ap (phaseFits st) (sym (c .before .before .before .phase .given .1)))
-
-enum-told-2 : tie.Need-enum-told-2
-enum-told-2 c = search needs
 
 returns-5 : tie.Need-returns-5
 returns-5 c =
@@ -93,15 +78,15 @@ pub valid-spec : {M : Type 1} → statement M
 valid-spec =
     tie.close
     (tie.spec
-    sizes-fit-requires
+    (λ c κs. search needs)
     returns
     counts-fit-requires
     returns-2
-    enum-known-phase
-    enum-told
+    (λ c. search needs)
+    (λ c. search needs)
     returns-3
-    is-positive-requires
+    (λ c κs. search needs)
     returns-4
-    enum-told-2
+    (λ c. search needs)
     returns-5
     returns-6)

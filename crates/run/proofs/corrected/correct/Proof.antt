@@ -19,12 +19,6 @@ use Rattle.run.proofs.corrected.correct.Tie as tie
 marks : (s : tie.Start) → length (s .args .st .moving) ≡ 12
 marks s = marks-count (s .args .st .moving) (s .good .0 .1 .1 .1 .1 .1 .1 .1 .1 .1 .0 .1 .0 .1)
 
-landed-counts-requires : tie.Need-landed-counts-requires
-landed-counts-requires c κs = search needs
-
-landed-counts-requires-2 : tie.Need-landed-counts-requires-2
-landed-counts-requires-2 c κs = search needs
-
 landed-rows-requires : tie.Need-landed-rows-requires
 landed-rows-requires c κs =
     let p = c .before .before .before .before .before .pre in
@@ -37,9 +31,6 @@ landed-point-requires : tie.Need-landed-point-requires
 landed-point-requires c κs =
     let p = c .before .before .before .before .before .before .before .pre in
     (p .0, p .1 .bounded .few-variables)
-
-slice-aggregate-shift-from-2 : tie.Need-slice-aggregate-shift-from-2
-slice-aggregate-shift-from-2 c = search needs
 
 shift-from-requires : tie.Need-shift-from-requires
 shift-from-requires c κs =
@@ -66,19 +57,10 @@ leads k w h =
     (k .before .before .before .before .landed-rows .ensures) (k .before .before .landed-point .ensures) (k .shift-from
     .ensures)
 
-enum-told : tie.Need-enum-told
-enum-told c = search needs
-
-enum-told-2 : tie.Need-enum-told-2
-enum-told-2 c = search needs
-
 judge-landed-requires : tie.Need-judge-landed-requires
 judge-landed-requires c κs =
     c .before .before .before .before .before .before .before .before .before .before .before .before .before .before
     .pre
-
-same-length : tie.Need-same-length
-same-length c = search needs
 
 returns : tie.Need-returns
 returns c w h =
@@ -89,17 +71,11 @@ returns c w h =
     .enum-told2 .given .1))
     (c .before .before .judge-landed .ensures w h)
 
-enum-known-shifted : tie.Need-enum-known-shifted
-enum-known-shifted c = search needs
-
 refuse-requires : tie.Need-refuse-requires
 refuse-requires c κs =
     let p = c .before .before .before .before .before .before .before .before .before .before .before .before .before
     .before .before .pre in
     (p .0, limits-of (p .1 .bounded))
-
-same-length-2 : tie.Need-same-length-2
-same-length-2 c = search needs
 
 returns-2 : tie.Need-returns-2
 returns-2 c w h =
@@ -109,9 +85,6 @@ returns-2 c w h =
     (ap (λ (r : Shifted). shiftedOf r (k .shift-from .last .1 .1 .1 .1 .0)) (c .before .before .before .before .before
     .shifted .given .1))
     (c .before .before .refuse .ensures w (h .from-standing .within))
-
-slice-aggregate-write-asked : tie.Need-slice-aggregate-write-asked
-slice-aggregate-write-asked c = search needs
 
 write-asked-requires : tie.Need-write-asked-requires
 write-asked-requires c κs =
@@ -123,9 +96,6 @@ ask-requires : tie.Need-ask-requires
 ask-requires c κs =
     c .before .before .before .before .before .before .before .before .before .before .before .before .before .before
     .before .before .before .before .pre .1 .bounded .few-questions
-
-same-length-3 : tie.Need-same-length-3
-same-length-3 c = search needs
 
 returns-3 : tie.Need-returns-3
 returns-3 c w h =
@@ -144,24 +114,24 @@ pub correct-spec : {M : Type 1} → statement M
 correct-spec =
     tie.close
     (tie.spec
-    landed-counts-requires
-    landed-counts-requires-2
+    (λ c κs. search needs)
+    (λ c κs. search needs)
     landed-rows-requires
     slice-aggregate-shift-from
     landed-point-requires
-    slice-aggregate-shift-from-2
+    (λ c. search needs)
     shift-from-requires
-    enum-told
-    enum-told-2
+    (λ c. search needs)
+    (λ c. search needs)
     judge-landed-requires
-    same-length
+    (λ c. search needs)
     returns
-    enum-known-shifted
+    (λ c. search needs)
     refuse-requires
-    same-length-2
+    (λ c. search needs)
     returns-2
-    slice-aggregate-write-asked
+    (λ c. search needs)
     write-asked-requires
     ask-requires
-    same-length-3
+    (λ c. search needs)
     returns-3)

@@ -9,9 +9,6 @@ use Rattle.run.proofs.corrected.correct_or_judge.Tie as tie
 correct-requires : tie.Need-correct-requires
 correct-requires c κs = c .before .before .before .pre
 
-same-length : tie.Need-same-length
-same-length c = search needs
-
 returns : tie.Need-returns
 returns c w h =
     let a = c .before .before .before .before .before .before .args in
@@ -20,9 +17,6 @@ returns c w h =
 
 judge-landed-requires : tie.Need-judge-landed-requires
 judge-landed-requires c κs = c .before .before .before .pre
-
-same-length-2 : tie.Need-same-length-2
-same-length-2 c = search needs
 
 returns-2 : tie.Need-returns-2
 returns-2 c w h =
@@ -35,8 +29,8 @@ correct-or-judge-spec =
     tie.close
     (tie.spec
     correct-requires
-    same-length
+    (λ c. search needs)
     returns
     judge-landed-requires
-    same-length-2
+    (λ c. search needs)
     returns-2)

@@ -11,9 +11,6 @@ use Rattle.run.proofs.corrected.correction_none.Tie as tie
 standing-violation-requires : tie.Need-standing-violation-requires
 standing-violation-requires c κs = let p = c .before .before .pre in (p .0, rows-of (p .1 .bounded))
 
-enum-known-theta : tie.Need-enum-known-theta
-enum-known-theta c = search needs
-
 landed-violation-requires : tie.Need-landed-violation-requires
 landed-violation-requires c κs =
     let p = c .before .before .before .before .before .before .before .pre in
@@ -21,9 +18,6 @@ landed-violation-requires c κs =
 
 judge-landed-requires : tie.Need-judge-landed-requires
 judge-landed-requires c κs = c .before .before .before .before .before .before .before .before .before .pre
-
-same-length : tie.Need-same-length
-same-length c = search needs
 
 returns : tie.Need-returns
 returns c w u s t l =
@@ -36,15 +30,9 @@ returns c w u s t l =
     .holds) (l .landed-rows)) in
     or-next st w (judge st w) (sym v ∙ e) (c .before .before .judge-landed .ensures w known)
 
-enum-known-e : tie.Need-enum-known-e
-enum-known-e c = search needs
-
 refuse-requires : tie.Need-refuse-requires
 refuse-requires c κs =
     let p = c .before .before .before .before .before .before .before .pre in (p .0, limits-of (p .1 .bounded))
-
-same-length-2 : tie.Need-same-length-2
-same-length-2 c = search needs
 
 returns-2 : tie.Need-returns-2
 returns-2 c w u s t l =
@@ -59,12 +47,12 @@ correction-none-spec =
     tie.close
     (tie.spec
     standing-violation-requires
-    enum-known-theta
+    (λ c. search needs)
     landed-violation-requires
     judge-landed-requires
-    same-length
+    (λ c. search needs)
     returns
-    enum-known-e
+    (λ c. search needs)
     refuse-requires
-    same-length-2
+    (λ c. search needs)
     returns-2)

@@ -7,31 +7,16 @@ use borrow.Author.Needs.{needs}
 use Rattle.run.proofs.corrected.is_nearer.Statement.{statement}
 use Rattle.run.proofs.corrected.is_nearer.Tie as tie
 
-enum-known-new : tie.Need-enum-known-new
-enum-known-new c = search needs
-
-enum-known-old : tie.Need-enum-known-old
-enum-known-old c = search needs
-
-definitely-less-requires : tie.Need-definitely-less-requires
-definitely-less-requires c κs = search needs
-
 returns : tie.Need-returns
 returns c =
     ap ok (c .definitely-less .ensures)
     ∙ sym (bind-ok _ (ap resultOf (c .before .before .before .before .before .new .given .1)) ∙ bind-ok _ (ap resultOf
     (c .before .before .old .given .1)))
 
-enum-known-old-2 : tie.Need-enum-known-old-2
-enum-known-old-2 c = search needs
-
 returns-2 : tie.Need-returns-2
 returns-2 c =
     sym (bind-ok _ (ap resultOf (c .before .before .before .before .new .given .1)) ∙ bind-refused _
     (ap resultOf (c .before .old2 .given .1)))
-
-enum-known-new-2 : tie.Need-enum-known-new-2
-enum-known-new-2 c = search needs
 
 returns-3 : tie.Need-returns-3
 returns-3 c = sym (bind-refused _ (ap resultOf (c .before .new2 .given .1)))
@@ -40,11 +25,11 @@ pub is-nearer-spec : {M : Type 1} → statement M
 is-nearer-spec =
     tie.close
     (tie.spec
-    enum-known-new
-    enum-known-old
-    definitely-less-requires
+    (λ c. search needs)
+    (λ c. search needs)
+    (λ c κs. search needs)
     returns
-    enum-known-old-2
+    (λ c. search needs)
     returns-2
-    enum-known-new-2
+    (λ c. search needs)
     returns-3)

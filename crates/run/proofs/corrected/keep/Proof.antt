@@ -22,9 +22,6 @@ use Rattle.run.proofs.corrected.keep.Tie as tie
 marks : (s : tie.Start) → length (s .args .st .moving) ≡ 12
 marks s = marks-count (s .args .st .moving) (s .good .0 .1 .1 .1 .1 .1 .1 .1 .1 .1 .0 .1 .0 .1)
 
-landed-counts-requires : tie.Need-landed-counts-requires
-landed-counts-requires c κs = search needs
-
 landed-rows-requires : tie.Need-landed-rows-requires
 landed-rows-requires c κs =
     let p = c .before .before .before .before .before .pre .0 in
@@ -32,9 +29,6 @@ landed-rows-requires c κs =
 
 slice-aggregate-shift : tie.Need-slice-aggregate-shift
 slice-aggregate-shift c = sym (marks (c .before .before .before .before .before .before .before))
-
-slice-aggregate-shift-2 : tie.Need-slice-aggregate-shift-2
-slice-aggregate-shift-2 c = search needs
 
 shift-requires : tie.Need-shift-requires
 shift-requires c κs =
@@ -44,20 +38,11 @@ shift-requires c κs =
       refl,
     )
 
-enum-told : tie.Need-enum-told
-enum-told c = search needs
-
-enum-known-shift : tie.Need-enum-known-shift
-enum-known-shift c = search needs
-
 refuse-requires : tie.Need-refuse-requires
 refuse-requires c κs =
     let p = c .before .before .before .before .before .before .before .before .before .before .before .before .before
     .before
     .pre in (p .0 .whole-area, limits-of (p .0 .underway .bounded))
-
-same-length : tie.Need-same-length
-same-length c = search needs
 
 returns : tie.Need-returns
 returns c w h t l v =
@@ -69,9 +54,6 @@ returns c w h t l v =
     .before .before .before .landed-rows .ensures) (x .ensures))
     (ap (λ (r : Done). doneOf r (x .last .1 .1 .1 .0)) (c .before .before .before .before .before .shift2 .given .1))
     (c .before .before .refuse .ensures w (h .within))
-
-places-requires : tie.Need-places-requires
-places-requires c κs = search needs
 
 -- the step is in the area
 inside :
@@ -94,20 +76,8 @@ add-shifted-step c = omega (arith, inside c)
 mul-shifted-step-2 : tie.Need-mul-shifted-step-2
 mul-shifted-step-2 c = omega (arith, inside c)
 
-sub-shifted-step : tie.Need-sub-shifted-step
-sub-shifted-step c = search needs
-
-part-shifted-step-start : tie.Need-part-shifted-step-start
-part-shifted-step-start c = search needs
-
 part-shifted-step-end : tie.Need-part-shifted-step-end
 part-shifted-step-end c = inside c
-
-slice-aggregate-shifted-step : tie.Need-slice-aggregate-shifted-step
-slice-aggregate-shifted-step c = search needs
-
-shifted-step-requires : tie.Need-shifted-step-requires
-shifted-step-requires c κs = search needs
 
 -- the area is as long with the step in its place
 stays-long :
@@ -137,9 +107,6 @@ add-corrections c =
       c .before .before .before .before .before .before .before .before .before .before .before .before
           .before .before .before .before .before .before .before .before .before .before .before .pre .1,
     )
-
-with-landed-number-requires : tie.Need-with-landed-number-requires
-with-landed-number-requires c κs = search needs
 
 correct-or-judge-requires : tie.Need-correct-or-judge-requires
 correct-or-judge-requires c κs =
@@ -187,28 +154,28 @@ pub keep-spec : {M : Type 1} → statement M
 keep-spec =
     tie.close
     (tie.spec
-    landed-counts-requires
+    (λ c κs. search needs)
     landed-rows-requires
     slice-aggregate-shift
-    slice-aggregate-shift-2
+    (λ c. search needs)
     shift-requires
-    enum-told
-    enum-known-shift
+    (λ c. search needs)
+    (λ c. search needs)
     refuse-requires
-    same-length
+    (λ c. search needs)
     returns
-    places-requires
+    (λ c κs. search needs)
     mul-shifted-step
     add-shifted-step
     mul-shifted-step-2
-    sub-shifted-step
-    part-shifted-step-start
+    (λ c. search needs)
+    (λ c. search needs)
     part-shifted-step-end
-    slice-aggregate-shifted-step
-    shifted-step-requires
+    (λ c. search needs)
+    (λ c κs. search needs)
     write-landed-requires
     add-corrections
-    with-landed-number-requires
+    (λ c κs. search needs)
     correct-or-judge-requires
     same-length-2
     returns-2)

@@ -25,9 +25,6 @@ next s w kept =
     let a = s .args in
     pick kept (keep (a .st) w (a .rows .now) (a .theta)) (judge (a .st) w (a .theta))
 
-landed-counts-requires : tie.Need-landed-counts-requires
-landed-counts-requires c κs = search needs
-
 violation-requires : tie.Need-violation-requires
 violation-requires c κs =
     let p = c .before .before .before .pre in
@@ -40,9 +37,6 @@ landed-violation-requires c κs =
     let p = c .before .before .before .before .before .pre .0 in
     (p .whole-area, rows-of (p .underway .bounded))
 
-is-nearer-requires : tie.Need-is-nearer-requires
-is-nearer-requires c κs = search needs
-
 -- the violations that were worked out
 new-is :
     (k : tie.After-violation) →
@@ -51,15 +45,9 @@ new-is :
     .now) .constraints)
 new-is k = rw (k .before .landed-counts .ensures) at (k .violation .ensures)
 
-enum-known-kept : tie.Need-enum-known-kept
-enum-known-kept c = search needs
-
 keep-requires : tie.Need-keep-requires
 keep-requires c κs =
     c .before .before .before .before .before .before .before .before .before .before .before .before .pre
-
-same-length : tie.Need-same-length
-same-length c = search needs
 
 returns : tie.Need-returns
 returns c w h t l =
@@ -80,9 +68,6 @@ judge-landed-requires c κs =
     let p = c .before .before .before .before .before .before .before .before .before .before .before .before .pre in
     (p .0 .whole-area, p .0 .underway)
 
-same-length-2 : tie.Need-same-length-2
-same-length-2 c = search needs
-
 returns-2 : tie.Need-returns-2
 returns-2 c w h t l =
     let k = c .before .before .before .before .before .before .before .before .before .before .before in
@@ -99,16 +84,10 @@ returns-2 c w h t l =
     (c .before .before .judge-landed .ensures w (compares (a .st) (h .within) (h .standing-whole) t l (h .standing-is)
     old))))
 
-enum-known-e : tie.Need-enum-known-e
-enum-known-e c = search needs
-
 refuse-requires : tie.Need-refuse-requires
 refuse-requires c κs =
     let p = c .before .before .before .before .before .before .before .before .before .before .before .pre in
     (p .0 .whole-area, limits-of (p .0 .underway .bounded))
-
-same-length-3 : tie.Need-same-length-3
-same-length-3 c = search needs
 
 returns-3 : tie.Need-returns-3
 returns-3 c w h t l =
@@ -126,18 +105,18 @@ pub land-correction-spec : {M : Type 1} → statement M
 land-correction-spec =
     tie.close
     (tie.spec
-    landed-counts-requires
+    (λ c κs. search needs)
     violation-requires
     landed-violation-requires
-    is-nearer-requires
-    enum-known-kept
+    (λ c κs. search needs)
+    (λ c. search needs)
     keep-requires
-    same-length
+    (λ c. search needs)
     returns
     judge-landed-requires
-    same-length-2
+    (λ c. search needs)
     returns-2
-    enum-known-e
+    (λ c. search needs)
     refuse-requires
-    same-length-3
+    (λ c. search needs)
     returns-3)

@@ -14,19 +14,10 @@ write-landed-requires c κs =
     let p = c .before .before .before .pre in
     (p .whole-area, limits-of (p .underway .bounded), p .whole-rows)
 
-with-landed-number-requires : tie.Need-with-landed-number-requires
-with-landed-number-requires c κs = search needs
-
 landed-violation-requires : tie.Need-landed-violation-requires
 landed-violation-requires c κs =
     let p = c .before .before .before .before .before .before .before .before .pre in
     (c .before .before .before .before .write-landed .kept .0 ∙ p .whole-area, rows-of (p .underway .bounded))
-
-enum-known-landed : tie.Need-enum-known-landed
-enum-known-landed c = search needs
-
-definitely-greater-requires : tie.Need-definitely-greater-requires
-definitely-greater-requires c κs = search needs
 
 correct-or-judge-requires : tie.Need-correct-or-judge-requires
 correct-or-judge-requires c κs =
@@ -37,9 +28,6 @@ correct-or-judge-requires c κs =
           .whole-area,
       landed-again 0 (omega arith) (p .underway),
     )
-
-same-length : tie.Need-same-length
-same-length c = search needs
 
 returns : tie.Need-returns
 returns c w h t =
@@ -59,9 +47,6 @@ returns c w h t =
     .ensures)
     (c .before .before .correct-or-judge .ensures x (judges-as n known))
 
-enum-known-landed-2 : tie.Need-enum-known-landed-2
-enum-known-landed-2 c = search needs
-
 refuse-requires : tie.Need-refuse-requires
 refuse-requires c κs =
     let p = c .before .before .before .before .before .before .before .before .before .before .before .before .before
@@ -70,9 +55,6 @@ refuse-requires c κs =
       c .before .before .before .before .before .before .before .before .before .write-landed .kept .0 ∙ p .whole-area,
       limits-of (p .underway .bounded),
     )
-
-same-length-2 : tie.Need-same-length-2
-same-length-2 c = search needs
 
 returns-2 : tie.Need-returns-2
 returns-2 c w h t =
@@ -95,14 +77,14 @@ land-trial-spec =
     tie.close
     (tie.spec
     write-landed-requires
-    with-landed-number-requires
+    (λ c κs. search needs)
     landed-violation-requires
-    enum-known-landed
-    definitely-greater-requires
+    (λ c. search needs)
+    (λ c κs. search needs)
     correct-or-judge-requires
-    same-length
+    (λ c. search needs)
     returns
-    enum-known-landed-2
+    (λ c. search needs)
     refuse-requires
-    same-length-2
+    (λ c. search needs)
     returns-2)

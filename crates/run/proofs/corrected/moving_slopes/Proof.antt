@@ -31,9 +31,6 @@ room s = few (s .pre .0 .few .few-constraints) (s .pre .0 .few .few-variables)
 some-variable : (s : tie.Start Inv-loop μ-loop) (p : ℕ) → p < s .args .c .m * s .args .c .n → 0 < s .args .c .n
 some-variable s p h = rows-positive (s .args .c .m) (s .args .c .n) {p = p} h
 
-constraints-requires : tie.Need-constraints-requires Inv-loop μ-loop
-constraints-requires c κs = search needs
-
 mul-q : tie.Need-mul-q Inv-loop μ-loop
 mul-q c = omega (arith, room (c .before .before .before .before .before))
 
@@ -71,12 +68,6 @@ shared-slice-read-choose-if c =
           (c .before .before .before .before .loop .p) (c .before .before .before .loop-test .taken)),
     )
 
-choose-if-requires : tie.Need-choose-if-requires Inv-loop μ-loop
-choose-if-requires c κs = search needs
-
-put-requires : tie.Need-put-requires Inv-loop μ-loop
-put-requires c κs = search needs
-
 add-p : tie.Need-add-p Inv-loop μ-loop
 add-p c =
     omega (
@@ -85,9 +76,6 @@ add-p c =
           (c .before .before .before .before .before .before .before .before .before .before .before .before .before
           .before),
     )
-
-loop-less : tie.Need-loop-less Inv-loop μ-loop
-loop-less c = search needs
 
 loop-again : tie.Need-loop-again Inv-loop μ-loop
 loop-again c =
@@ -105,9 +93,6 @@ loop-again c =
     (omega arith) in
     (search needs, search needs, e ∙ more)
 
-same-length : tie.Need-same-length Inv-loop μ-loop
-same-length c = search needs
-
 returns : tie.Need-returns Inv-loop μ-loop
 returns c =
     let a = c .before .before .before .before .before .before .before .args in
@@ -124,7 +109,7 @@ moving-slopes-spec =
     (tie.spec
     Inv-loop
     μ-loop
-    constraints-requires
+    (λ c κs. search needs)
     mul-q
     loop-holds
     div-slope-of
@@ -132,10 +117,10 @@ moving-slopes-spec =
     slope-of-requires
     rem-choose-if
     shared-slice-read-choose-if
-    choose-if-requires
-    put-requires
+    (λ c κs. search needs)
+    (λ c κs. search needs)
     add-p
-    loop-less
+    (λ c. search needs)
     loop-again
-    same-length
+    (λ c. search needs)
     returns)

@@ -23,9 +23,6 @@ Inv-loop n from to₀ i₀ to i = (i ≤ n) × (length to ≡ 24) × (to ≡ fil
 abbrev μ-loop : tie.MeasureT-loop
 μ-loop n from to₀ i₀ to i = n - i
 
-clear-requires : tie.Need-clear-requires Inv-loop μ-loop
-clear-requires c κs = search needs
-
 loop-holds : tie.Need-loop-holds Inv-loop μ-loop
 loop-holds c = (
   search needs,
@@ -33,21 +30,6 @@ loop-holds c = (
   rw (c .before .before .before .before .before .before .pre)
       at (c .before .before .clear .ensures) ∙ sym (fill-none _ _),
 )
-
-at-requires : tie.Need-at-requires Inv-loop μ-loop
-at-requires c κs = search needs
-
-sharpen-requires : tie.Need-sharpen-requires Inv-loop μ-loop
-sharpen-requires c κs = search needs
-
-put-requires : tie.Need-put-requires Inv-loop μ-loop
-put-requires c κs = search needs
-
-add-i : tie.Need-add-i Inv-loop μ-loop
-add-i c = search needs
-
-loop-less : tie.Need-loop-less Inv-loop μ-loop
-loop-less c = search needs
 
 loop-again : tie.Need-loop-again Inv-loop μ-loop
 loop-again c = (
@@ -62,9 +44,6 @@ loop-again c = (
       ∙ ap (λ (v : Scalar). sharpen v) (c .before .before .before .before .before .at .ensures)),
 )
 
-same-length : tie.Need-same-length Inv-loop μ-loop
-same-length c = search needs
-
 returns : tie.Need-returns Inv-loop μ-loop
 returns c = rw (le-antisymm (c .before .loop .inv .0) (c .loop-test .left)) at (c .before .loop .inv .2)
 
@@ -74,13 +53,13 @@ sharpened-spec =
     (tie.spec
     Inv-loop
     μ-loop
-    clear-requires
+    (λ c κs. search needs)
     loop-holds
-    at-requires
-    sharpen-requires
-    put-requires
-    add-i
-    loop-less
+    (λ c κs. search needs)
+    (λ c κs. search needs)
+    (λ c κs. search needs)
+    (λ c. search needs)
+    (λ c. search needs)
     loop-again
-    same-length
+    (λ c. search needs)
     returns)

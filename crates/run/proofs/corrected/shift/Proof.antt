@@ -122,9 +122,6 @@ sharpened-requires c κs =
     c .before .before .before .before .before .before .before .before .before .before .before .before .before .before
     .before .before .before .before .pre .1
 
-same-length : tie.Need-same-length
-same-length c = search needs
-
 returns : tie.Need-returns
 unfolding ofBits
 returns c =
@@ -182,5 +179,5 @@ shift-spec =
     array-share-prefix-out
     slice-aggregate-sharpened
     sharpened-requires
-    same-length
+    (λ c. search needs)
     returns)

@@ -7,14 +7,8 @@ use borrow.Author.Needs.{needs}
 use Rattle.run.proofs.corrected.shift_from.Statement.{statement}
 use Rattle.run.proofs.corrected.shift_from.Tie as tie
 
-slice-aggregate-shift : tie.Need-slice-aggregate-shift
-slice-aggregate-shift c = search needs
-
 shift-requires : tie.Need-shift-requires
 shift-requires c κs = (c .before .before .before .before .before .pre .0, refl)
-
-enum-known-e : tie.Need-enum-known-e
-enum-known-e c = search needs
 
 returns : tie.Need-returns
 returns c =
@@ -22,30 +16,12 @@ returns c =
     shift-refused (a .moving .now) (constraintsOf (a .c) (a .xs .now)) (a .landed .now) _
     (c .before .e .given .1) (c .before .before .before .before .shift .ensures)
 
-enum-told : tie.Need-enum-told
-enum-told c = search needs
-
-slice-aggregate-by : tie.Need-slice-aggregate-by
-slice-aggregate-by c = search needs
-
-all-finite-requires : tie.Need-all-finite-requires
-all-finite-requires c κs = search needs
-
 returns-2 : tie.Need-returns-2
 returns-2 c =
     let a = c .before .before .before .before .before .before .before .before .before .before .before .before .args in
     not-finite (a .moving .now) (constraintsOf (a .c) (a .xs .now)) (a .landed .now) _
     (c .before .before .before .enum-told .given .1) (c .before .before .before .before .before .before .shift .ensures)
     (c .before .all-finite .ensures) (not-true _ (c .if1 .taken))
-
-moved-requires : tie.Need-moved-requires
-moved-requires c κs = search needs
-
-same-requires : tie.Need-same-requires
-same-requires c κs = search needs
-
-same-length : tie.Need-same-length
-same-length c = search needs
 
 returns-3 : tie.Need-returns-3
 returns-3 c =
@@ -57,9 +33,6 @@ returns-3 c =
     .ensures) (c .before .before .before .before .before .before .before .before .all-finite .ensures)
     (c .before .before .before .before .before .moved .ensures) (c .before .same .ensures)
     (not-false _ (c .before .before .before .before .before .before .before .if1 .left)) (c .if2 .taken)
-
-same-length-2 : tie.Need-same-length-2
-same-length-2 c = search needs
 
 returns-4 : tie.Need-returns-4
 returns-4 c =
@@ -76,17 +49,17 @@ pub shift-from-spec : {M : Type 1} → statement M
 shift-from-spec =
     tie.close
     (tie.spec
-    slice-aggregate-shift
+    (λ c. search needs)
     shift-requires
-    enum-known-e
+    (λ c. search needs)
     returns
-    enum-told
-    slice-aggregate-by
-    all-finite-requires
+    (λ c. search needs)
+    (λ c. search needs)
+    (λ c κs. search needs)
     returns-2
-    moved-requires
-    same-requires
-    same-length
+    (λ c κs. search needs)
+    (λ c κs. search needs)
+    (λ c. search needs)
     returns-3
-    same-length-2
+    (λ c. search needs)
     returns-4)

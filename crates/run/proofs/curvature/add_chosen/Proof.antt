@@ -17,24 +17,6 @@ added :
     w ≡ chooseOf s → t ≡ put b p w → t ≡ put b p (chooseOf (addOf (at b p) v))
 added b p v ea es ew et = rw (et, ew, es, ea)
 
-enum-known-q : tie.Need-enum-known-q
-enum-known-q c = search needs
-
-at-requires : tie.Need-at-requires
-at-requires c κs = search needs
-
-add-requires : tie.Need-add-requires
-add-requires c κs = search needs
-
-choose-requires : tie.Need-choose-requires
-choose-requires c κs = search needs
-
-put-requires : tie.Need-put-requires
-put-requires c κs = search needs
-
-same-length : tie.Need-same-length
-same-length c = search needs
-
 returns : tie.Need-returns
 returns c =
     let a = c .before .before .before .before .before .before .before .before .before .before .before .before .args in
@@ -43,9 +25,6 @@ returns c =
     (c .before .before .before .before .add .ensures .value) (c .before .before .before .choose .ensures)
     (c .before .before .put .ensures)))
 
-enum-known-q-2 : tie.Need-enum-known-q-2
-enum-known-q-2 c = search needs
-
 returns-2 : tie.Need-returns-2
 returns-2 c = rw (c .before .q2 .given .1)
 
@@ -53,12 +32,12 @@ pub add-chosen-spec : {M : Type 1} → statement M
 add-chosen-spec =
     tie.close
     (tie.spec
-    enum-known-q
-    at-requires
-    add-requires
-    choose-requires
-    put-requires
-    same-length
+    (λ c. search needs)
+    (λ c κs. search needs)
+    (λ c κs. search needs)
+    (λ c κs. search needs)
+    (λ c κs. search needs)
+    (λ c. search needs)
     returns
-    enum-known-q-2
+    (λ c. search needs)
     returns-2)

@@ -23,15 +23,6 @@ mul-q c = omega (arith, room (c .before .before .before))
 mul-q-2 : tie.Need-mul-q-2
 mul-q-2 c = omega (arith, room (c .before .before .before))
 
-mul-k : tie.Need-mul-k
-mul-k c = search needs
-
-mul-w : tie.Need-mul-w
-mul-w c = search needs
-
-constraints-requires : tie.Need-constraints-requires
-constraints-requires c κs = search needs
-
 array-borrow-prefix-jc : tie.Need-array-borrow-prefix-jc
 array-borrow-prefix-jc c = room (c .before .before .before .before)
 
@@ -54,15 +45,9 @@ slice-aggregate-slopes c =
     (room (c .before .before .before .before .before .before .before .before))
     (c .before .before .chosen-slopes .kept .1 .1 .0)))
 
-array-borrow-prefix-rhs : tie.Need-array-borrow-prefix-rhs
-array-borrow-prefix-rhs c = search needs
-
 slice-aggregate-products : tie.Need-slice-aggregate-products
 slice-aggregate-products c =
     sym (length-take-le _ _ (high (c .before .before .before .before .before .before .before .before .before)))
-
-products-requires : tie.Need-products-requires
-products-requires c κs = search needs
 
 array-share-prefix-rhs : tie.Need-array-share-prefix-rhs
 array-share-prefix-rhs c =
@@ -84,9 +69,6 @@ slice-aggregate-minus-solved-2 c =
 
 minus-solved-requires : tie.Need-minus-solved-requires
 minus-solved-requires c κs = tt
-
-same-length : tie.Need-same-length
-same-length c = search needs
 
 returns : tie.Need-returns
 returns c =
@@ -116,20 +98,20 @@ along-constraints-spec =
     (tie.spec
     mul-q
     mul-q-2
-    mul-k
-    mul-w
-    constraints-requires
+    (λ c. search needs)
+    (λ c. search needs)
+    (λ c κs. search needs)
     array-borrow-prefix-jc
     slice-aggregate-chosen-slopes
     chosen-slopes-requires
     array-share-prefix-jc
     slice-aggregate-slopes
-    array-borrow-prefix-rhs
+    (λ c. search needs)
     slice-aggregate-products
-    products-requires
+    (λ c κs. search needs)
     array-share-prefix-rhs
     slice-aggregate-minus-solved
     slice-aggregate-minus-solved-2
     minus-solved-requires
-    same-length
+    (λ c. search needs)
     returns)

@@ -14,20 +14,8 @@ use Rattle.run.proofs.curvature.along_factored.Tie as tie
 high : (s : tie.Start) → 2 * s .args .c .m ≤ 24
 high s = omega (arith, s .pre .few .few-constraints)
 
-mul-k : tie.Need-mul-k
-mul-k c = search needs
-
-mul-w : tie.Need-mul-w
-mul-w c = search needs
-
-array-borrow-prefix-rhs : tie.Need-array-borrow-prefix-rhs
-array-borrow-prefix-rhs c = search needs
-
 slice-aggregate-products : tie.Need-slice-aggregate-products
 slice-aggregate-products c = sym (length-take-le _ _ (high (c .before .before .before .before .before .before)))
-
-products-requires : tie.Need-products-requires
-products-requires c κs = search needs
 
 array-share-prefix-rhs : tie.Need-array-share-prefix-rhs
 array-share-prefix-rhs c =
@@ -48,9 +36,6 @@ slice-aggregate-minus-factored-2 c =
 minus-factored-requires : tie.Need-minus-factored-requires
 minus-factored-requires c κs = tt
 
-same-length : tie.Need-same-length
-same-length c = search needs
-
 returns : tie.Need-returns
 returns c = λ xs f.
     let s = c .before .before .before .before .before .before .before .before .before .before .before .before .before
@@ -67,14 +52,14 @@ pub along-factored-spec : {M : Type 1} → statement M
 along-factored-spec =
     tie.close
     (tie.spec
-    mul-k
-    mul-w
-    array-borrow-prefix-rhs
+    (λ c. search needs)
+    (λ c. search needs)
+    (λ c. search needs)
     slice-aggregate-products
-    products-requires
+    (λ c κs. search needs)
     array-share-prefix-rhs
     slice-aggregate-minus-factored
     slice-aggregate-minus-factored-2
     minus-factored-requires
-    same-length
+    (λ c. search needs)
     returns)

@@ -16,12 +16,6 @@ module _ (v : Scalar) {s : Bool} (es : s ≡ isSharp v) where
       {d : Bool} → not s ≡ false → d ≡ definitelyNotEqual v zeroS → d ≡ (not (isSharp v) || definitelyNotEqual v zeroS)
   second e ed = rw (← es, e) ed
 
-is-sharp-requires : tie.Need-is-sharp-requires
-is-sharp-requires c κs = search needs
-
-definitely-not-equal-requires : tie.Need-definitely-not-equal-requires
-definitely-not-equal-requires c κs = search needs
-
 returns : tie.Need-returns
 unfolding ofBits
 returns c = first (c .before .before .args .v) (c .before .is-sharp .ensures) (c .if1 .taken)
@@ -33,4 +27,4 @@ returns-2 c =
     (c .definitely-not-equal .ensures)
 
 pub bends-spec : {M : Type 1} → statement M
-bends-spec = tie.close (tie.spec is-sharp-requires definitely-not-equal-requires returns returns-2)
+bends-spec = tie.close (tie.spec (λ c κs. search needs) (λ c κs. search needs) returns returns-2)

@@ -6,30 +6,9 @@ use borrow.Author.Needs.{needs}
 use Rattle.run.proofs.curvature.corrected_by.Statement.{statement}
 use Rattle.run.proofs.curvature.corrected_by.Tie as tie
 
-slice-aggregate-less-chosen : tie.Need-slice-aggregate-less-chosen
-slice-aggregate-less-chosen c = search needs
-
 less-chosen-requires : tie.Need-less-chosen-requires
 unfolding ofBits
 less-chosen-requires c κs = refl
-
-slice-aggregate-less : tie.Need-slice-aggregate-less
-slice-aggregate-less c = search needs
-
-dot-of-requires : tie.Need-dot-of-requires
-dot-of-requires c κs = search needs
-
-choose-requires : tie.Need-choose-requires
-choose-requires c κs = search needs
-
-definitely-not-equal-requires : tie.Need-definitely-not-equal-requires
-definitely-not-equal-requires c κs = search needs
-
-rank-one-requires : tie.Need-rank-one-requires
-rank-one-requires c κs = search needs
-
-same-length : tie.Need-same-length
-same-length c = search needs
 
 returns : tie.Need-returns
 unfolding ofBits
@@ -56,13 +35,13 @@ pub corrected-by-spec : {M : Type 1} → statement M
 corrected-by-spec =
     tie.close
     (tie.spec
-    slice-aggregate-less-chosen
+    (λ c. search needs)
     less-chosen-requires
-    slice-aggregate-less
-    dot-of-requires
-    choose-requires
-    definitely-not-equal-requires
-    rank-one-requires
-    same-length
+    (λ c. search needs)
+    (λ c κs. search needs)
+    (λ c κs. search needs)
+    (λ c κs. search needs)
+    (λ c κs. search needs)
+    (λ c. search needs)
     returns
     returns-2)

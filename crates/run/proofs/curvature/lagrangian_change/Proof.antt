@@ -24,17 +24,8 @@ Inv-loop c xs next lambda y₀ n values j₀ y j =
 abbrev μ-loop : tie.MeasureT-loop
 μ-loop c xs next lambda y₀ n values j₀ y j = n - j
 
-sum-requires : tie.Need-sum-requires Inv-loop μ-loop
-sum-requires c κs = search needs
-
-slice-aggregate-chosen-values : tie.Need-slice-aggregate-chosen-values Inv-loop μ-loop
-slice-aggregate-chosen-values c = search needs
-
 chosen-values-requires : tie.Need-chosen-values-requires Inv-loop μ-loop
 chosen-values-requires c κs = tt
-
-slice-aggregate-values : tie.Need-slice-aggregate-values Inv-loop μ-loop
-slice-aggregate-values c = search needs
 
 loop-holds : tie.Need-loop-holds Inv-loop μ-loop
 loop-holds c = (
@@ -49,23 +40,11 @@ lagrangian-change-at-requires c κs =
     let p = c .before .before .before .before .before .before .before .before .before .before .before .before .pre .0 in
     (p, omega (arith, p .few-variables, c .before .loop-test .taken))
 
-put-requires : tie.Need-put-requires Inv-loop μ-loop
-put-requires c κs = search needs
-
-add-j : tie.Need-add-j Inv-loop μ-loop
-add-j c = search needs
-
-loop-less : tie.Need-loop-less Inv-loop μ-loop
-loop-less c = search needs
-
 loop-again : tie.Need-loop-again Inv-loop μ-loop
 loop-again c =
     let l = c .before .before .before .before .before .before .loop in
     let filled = fill-first _ _ (l .j) (l .inv .2) (c .before .before .before .lagrangian-change-at .ensures) in
     (search needs, search needs, c .before .before .put .ensures ∙ filled)
-
-same-length : tie.Need-same-length Inv-loop μ-loop
-same-length c = search needs
 
 returns : tie.Need-returns Inv-loop μ-loop
 unfolding ofBits
@@ -82,15 +61,15 @@ lagrangian-change-spec =
     (tie.spec
     Inv-loop
     μ-loop
-    sum-requires
-    slice-aggregate-chosen-values
+    (λ c κs. search needs)
+    (λ c. search needs)
     chosen-values-requires
-    slice-aggregate-values
+    (λ c. search needs)
     loop-holds
     lagrangian-change-at-requires
-    put-requires
-    add-j
-    loop-less
+    (λ c κs. search needs)
+    (λ c. search needs)
+    (λ c. search needs)
     loop-again
-    same-length
+    (λ c. search needs)
     returns)

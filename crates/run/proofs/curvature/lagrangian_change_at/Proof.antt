@@ -32,12 +32,6 @@ held-small s q = let f = s .pre .0 in rw q (constraints-small f)
 summed-small : (s : tie.Start) {e : RowSet} → e ≡ sumSet (s .args .c) → Small e
 summed-small s q = let f = s .pre .0 in rw q (sum-small f)
 
-constraints-requires : tie.Need-constraints-requires
-constraints-requires c κs = search needs
-
-sum-requires : tie.Need-sum-requires
-sum-requires c κs = search needs
-
 transposed-at-requires : tie.Need-transposed-at-requires
 transposed-at-requires c κs =
     let s = c .before .before .before .before .before .before in
@@ -48,24 +42,15 @@ transposed-at-requires-2 c κs =
     let s = c .before .before .before .before .before .before .before in
     (held-small s (c .before .before .constraints .ensures), s .pre .1)
 
-sub-requires : tie.Need-sub-requires
-sub-requires c κs = search needs
-
 transposed-at-requires-3 : tie.Need-transposed-at-requires-3
 transposed-at-requires-3 c κs =
     let s = c .before .before .before .before .before .before .before .before .before in
     (summed-small s (c .before .before .before .sum .ensures), s .pre .1)
 
-add-requires : tie.Need-add-requires
-add-requires c κs = search needs
-
 transposed-at-requires-4 : tie.Need-transposed-at-requires-4
 transposed-at-requires-4 c κs =
     let s = c .before .before .before .before .before .before .before .before .before .before .before in
     (summed-small s (c .before .before .before .before .before .sum .ensures), s .pre .1)
-
-sub-requires-2 : tie.Need-sub-requires-2
-sub-requires-2 c κs = search needs
 
 returns : tie.Need-returns
 returns c =
@@ -84,13 +69,13 @@ pub lagrangian-change-at-spec : {M : Type 1} → statement M
 lagrangian-change-at-spec =
     tie.close
     (tie.spec
-    constraints-requires
-    sum-requires
+    (λ c κs. search needs)
+    (λ c κs. search needs)
     transposed-at-requires
     transposed-at-requires-2
-    sub-requires
+    (λ c κs. search needs)
     transposed-at-requires-3
-    add-requires
+    (λ c κs. search needs)
     transposed-at-requires-4
-    sub-requires-2
+    (λ c κs. search needs)
     returns)

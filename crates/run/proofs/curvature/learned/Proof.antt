@@ -38,12 +38,6 @@ loop-holds : tie.Need-loop-holds Inv-loop μ-loop
 unfolding anyTo
 loop-holds c = (search needs, refl)
 
-at-requires : tie.Need-at-requires Inv-loop μ-loop
-at-requires c κs = search needs
-
-bends-requires : tie.Need-bends-requires Inv-loop μ-loop
-bends-requires c κs = search needs
-
 returns : tie.Need-returns Inv-loop μ-loop
 unfolding learnedOf
 returns c =
@@ -61,9 +55,6 @@ add-p c =
           (c .before .before .before .before .before .before .pre),
       c .before .before .before .loop-test .taken,
     )
-
-loop-less : tie.Need-loop-less Inv-loop μ-loop
-loop-less c = search needs
 
 loop-again : tie.Need-loop-again Inv-loop μ-loop
 loop-again c =
@@ -84,10 +75,10 @@ learned-spec =
     μ-loop
     mul-q
     loop-holds
-    at-requires
-    bends-requires
+    (λ c κs. search needs)
+    (λ c κs. search needs)
     returns
     add-p
-    loop-less
+    (λ c. search needs)
     loop-again
     returns-2)

@@ -39,15 +39,6 @@ mul-row-dot c = omega (
 row-dot-requires : tie.Need-row-dot-requires Inv-loop μ-loop
 row-dot-requires c κs = tt
 
-put-requires : tie.Need-put-requires Inv-loop μ-loop
-put-requires c κs = search needs
-
-add-i : tie.Need-add-i Inv-loop μ-loop
-add-i c = search needs
-
-loop-less : tie.Need-loop-less Inv-loop μ-loop
-loop-less c = search needs
-
 loop-again : tie.Need-loop-again Inv-loop μ-loop
 loop-again c = let a = c .before .before .before .before .before .before .before .before .before .before .args in (
   search needs,
@@ -56,9 +47,6 @@ loop-again c = let a = c .before .before .before .before .before .before .before
       (a .v .now)) (c .before .before .before .before .before .before .loop .i) (c .before .before .before .before
       .before .before .loop .inv .2) (rw along-start at (c .before .before .before .row-dot .ensures)),
 )
-
-same-length : tie.Need-same-length Inv-loop μ-loop
-same-length c = search needs
 
 returns : tie.Need-returns Inv-loop μ-loop
 returns c = rw (le-antisymm (c .before .loop .inv .0) (c .loop-test .left)) at (c .before .loop .inv .2)
@@ -72,9 +60,9 @@ products-spec =
     loop-holds
     mul-row-dot
     row-dot-requires
-    put-requires
-    add-i
-    loop-less
+    (λ c κs. search needs)
+    (λ c. search needs)
+    (λ c. search needs)
     loop-again
-    same-length
+    (λ c. search needs)
     returns)

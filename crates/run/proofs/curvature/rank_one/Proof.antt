@@ -28,9 +28,6 @@ abbrev μ-loop : tie.MeasureT-loop
 mul-q : tie.Need-mul-q Inv-loop μ-loop
 mul-q c = omega (arith, few (c .before .before .pre) (c .before .before .pre))
 
-inverse-requires : tie.Need-inverse-requires Inv-loop μ-loop
-inverse-requires c κs = search needs
-
 loop-holds : tie.Need-loop-holds Inv-loop μ-loop
 unfolding foldR
 loop-holds c = (search needs, search needs, λ vs e. refl)
@@ -39,15 +36,6 @@ rank-one-at-requires : tie.Need-rank-one-at-requires Inv-loop μ-loop
 rank-one-at-requires c κs =
     square-positive (c .before .before .before .before .before .before .args .n) {p = c .before .before .loop .p}
     (c .before .loop-test .taken)
-
-enum-told : tie.Need-enum-told Inv-loop μ-loop
-enum-told c = search needs
-
-enum-known-e : tie.Need-enum-known-e Inv-loop μ-loop
-enum-known-e c = search needs
-
-same-length : tie.Need-same-length Inv-loop μ-loop
-same-length c = search needs
 
 returns : tie.Need-returns Inv-loop μ-loop
 unfolding rankOneOf
@@ -64,9 +52,6 @@ add-p c =
     let h = c .before .before .before .before .before .before .before .before .before .before .before .pre in omega
     (arith, few h h, c .before .before .before .before .before .before .loop-test .taken)
 
-loop-less : tie.Need-loop-less Inv-loop μ-loop
-loop-less c = search needs
-
 loop-again : tie.Need-loop-again Inv-loop μ-loop
 loop-again c = (
   search needs,
@@ -75,9 +60,6 @@ loop-again c = (
       went-on _ _ (c .before .before .before .before .before .before .before .loop .inv .2 vs e)
       (c .before .before .before .before .rank-one-at .ensures vs e) (c .enum-told .given .1),
 )
-
-same-length-2 : tie.Need-same-length-2 Inv-loop μ-loop
-same-length-2 c = search needs
 
 returns-2 : tie.Need-returns-2 Inv-loop μ-loop
 unfolding rankOneOf
@@ -93,15 +75,15 @@ rank-one-spec =
     Inv-loop
     μ-loop
     mul-q
-    inverse-requires
+    (λ c κs. search needs)
     loop-holds
     rank-one-at-requires
-    enum-told
-    enum-known-e
-    same-length
+    (λ c. search needs)
+    (λ c. search needs)
+    (λ c. search needs)
     returns
     add-p
-    loop-less
+    (λ c. search needs)
     loop-again
-    same-length-2
+    (λ c. search needs)
     returns-2)

@@ -21,30 +21,6 @@ step :
 unfolding rankOneStep
 step n v vs b p ex ew ey eq er = rw (er, eq, ey, ex, ew)
 
-div-at : tie.Need-div-at
-div-at c = search needs
-
-at-requires : tie.Need-at-requires
-at-requires c κs = search needs
-
-rem-at : tie.Need-rem-at
-rem-at c = search needs
-
-at-requires-2 : tie.Need-at-requires-2
-at-requires-2 c κs = search needs
-
-mul-requires : tie.Need-mul-requires
-mul-requires c κs = search needs
-
-quotient-requires : tie.Need-quotient-requires
-quotient-requires c κs = search needs
-
-add-chosen-requires : tie.Need-add-chosen-requires
-add-chosen-requires c κs = search needs
-
-same-length : tie.Need-same-length
-same-length c = search needs
-
 returns : tie.Need-returns
 returns c = λ vs e.
     let a = c .before .before .before .before .before .before .before .before .before .before .args in
@@ -58,12 +34,12 @@ pub rank-one-at-spec : {M : Type 1} → statement M
 rank-one-at-spec =
     tie.close
     (tie.spec
-    div-at
-    at-requires
-    rem-at
-    at-requires-2
-    mul-requires
-    quotient-requires
-    add-chosen-requires
-    same-length
+    (λ c. search needs)
+    (λ c κs. search needs)
+    (λ c. search needs)
+    (λ c κs. search needs)
+    (λ c κs. search needs)
+    (λ c κs. search needs)
+    (λ c κs. search needs)
+    (λ c. search needs)
     returns)

@@ -32,15 +32,9 @@ mul-e c = omega (arith, square (c .before .before .before .before .before))
 mul-e-2 : tie.Need-mul-e-2
 mul-e-2 c = omega (arith, square (c .before .before .before .before .before))
 
-slice-aggregate-lagrangian-change : tie.Need-slice-aggregate-lagrangian-change
-slice-aggregate-lagrangian-change c = search needs
-
 lagrangian-change-requires : tie.Need-lagrangian-change-requires
 unfolding ofBits
 lagrangian-change-requires c κs = (c .before .before .before .before .before .before .pre .0, refl)
-
-constraints-requires : tie.Need-constraints-requires
-constraints-requires c κs = search needs
 
 array-borrow-prefix-jc : tie.Need-array-borrow-prefix-jc
 array-borrow-prefix-jc c = room (c .before .before .before .before .before .before .before .before .before)
@@ -103,12 +97,6 @@ slice-aggregate-gram-factor-4 c =
 
 gram-factor-requires : tie.Need-gram-factor-requires
 gram-factor-requires c κs = tt
-
-enum-told : tie.Need-enum-told
-enum-told c = search needs
-
-enum-told-2 : tie.Need-enum-told-2
-enum-told-2 c = search needs
 
 returns : tie.Need-returns
 returns c =
@@ -174,9 +162,6 @@ slice-aggregate-update-factored-3 c =
     .few-constraints in
     sym (length-take-le _ _ (front-room _ (k .last .1 .1 .1 .1 .1 .0) _ few-m (k .kept .1 .1 .1 .1 .1 .0)))
 
-slice-aggregate-update-factored-4 : tie.Need-slice-aggregate-update-factored-4
-slice-aggregate-update-factored-4 c = search needs
-
 update-factored-requires : tie.Need-update-factored-requires
 update-factored-requires c κs =
     let p = c .before .before .before .before .before .before .before .before .before .before .before .before .before
@@ -189,9 +174,6 @@ update-factored-requires c κs =
           .before .before .before .before .before .before .before .lagrangian-change .kept .1 .1 .1 .1 .0;
       step-is = p .1;
     }
-
-same-length : tie.Need-same-length
-same-length c = search needs
 
 returns-2 : tie.Need-returns-2
 returns-2 c =
@@ -232,9 +214,9 @@ update-curvature-spec =
     mul-q-2
     mul-e
     mul-e-2
-    slice-aggregate-lagrangian-change
+    (λ c. search needs)
     lagrangian-change-requires
-    constraints-requires
+    (λ c κs. search needs)
     array-borrow-prefix-jc
     slice-aggregate-chosen-slopes
     chosen-slopes-requires
@@ -247,8 +229,8 @@ update-curvature-spec =
     array-borrow-prefix-left-out
     slice-aggregate-gram-factor-4
     gram-factor-requires
-    enum-told
-    enum-told-2
+    (λ c. search needs)
+    (λ c. search needs)
     returns
     array-share-prefix-jc-2
     slice-aggregate-update-factored
@@ -256,7 +238,7 @@ update-curvature-spec =
     slice-aggregate-update-factored-2
     array-share-prefix-left-out
     slice-aggregate-update-factored-3
-    slice-aggregate-update-factored-4
+    (λ c. search needs)
     update-factored-requires
-    same-length
+    (λ c. search needs)
     returns-2)

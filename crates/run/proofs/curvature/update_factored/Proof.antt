@@ -12,12 +12,6 @@ use Rattle.run.proofs.curvature.update_factored.Tie as tie
 short : (s : tie.Start) → 2 * s .args .c .n ≤ 24
 short s = omega (arith, s .pre .few .few-variables)
 
-mul-w : tie.Need-mul-w
-mul-w c = search needs
-
-array-borrow-prefix-s-along : tie.Need-array-borrow-prefix-s-along
-array-borrow-prefix-s-along c = search needs
-
 slice-aggregate-along-factored : tie.Need-slice-aggregate-along-factored
 slice-aggregate-along-factored c =
     sym (length-take-le _ _ (short (c .before .before .before .before .before .before .before .before)))
@@ -31,12 +25,6 @@ along-factored-requires c κs =
       enough = omega (arith, p .few .few-variables, p .step-is);
       values = length-take-le _ _ (short s);
     }
-
-enum-told : tie.Need-enum-told
-enum-told c = search needs
-
-enum-told-2 : tie.Need-enum-told-2
-enum-told-2 c = search needs
 
 returns : tie.Need-returns
 returns c xs f = handed-on _ _ _ (c .enum-told2 .given .1) (c .before .before .before .along-factored .ensures xs f)
@@ -64,9 +52,6 @@ updated-requires c κs =
     .pre in
     (p .few, p .y-is)
 
-same-length : tie.Need-same-length
-same-length c = search needs
-
 returns-2 : tie.Need-returns-2
 returns-2 c xs f =
     let k = c .before .before .before .before .before .before .before .before .along-factored in
@@ -80,15 +65,15 @@ pub update-factored-spec : {M : Type 1} → statement M
 update-factored-spec =
     tie.close
     (tie.spec
-    mul-w
-    array-borrow-prefix-s-along
+    (λ c. search needs)
+    (λ c. search needs)
     slice-aggregate-along-factored
     along-factored-requires
-    enum-told
-    enum-told-2
+    (λ c. search needs)
+    (λ c. search needs)
     returns
     array-share-prefix-s-along
     slice-aggregate-updated
     updated-requires
-    same-length
+    (λ c. search needs)
     returns-2)

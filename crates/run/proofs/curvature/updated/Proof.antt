@@ -16,33 +16,6 @@ use Rattle.run.proofs.curvature.updated.Tie as tie
 short : (s : tie.Start) → 2 * s .args .c .n ≤ 24
 short s = omega (arith, s .pre .0 .few-variables)
 
-mul-w : tie.Need-mul-w
-mul-w c = search needs
-
-slice-aggregate-products : tie.Need-slice-aggregate-products
-slice-aggregate-products c = search needs
-
-products-requires : tie.Need-products-requires
-products-requires c κs = search needs
-
-slice-aggregate-bent : tie.Need-slice-aggregate-bent
-slice-aggregate-bent c = search needs
-
-dot-of-requires : tie.Need-dot-of-requires
-dot-of-requires c κs = search needs
-
-dot-of-requires-2 : tie.Need-dot-of-requires-2
-dot-of-requires-2 c κs = search needs
-
-sub-requires : tie.Need-sub-requires
-sub-requires c κs = search needs
-
-definitely-not-equal-requires : tie.Need-definitely-not-equal-requires
-definitely-not-equal-requires c κs = search needs
-
-same-length : tie.Need-same-length
-same-length c = search needs
-
 returns : tie.Need-returns
 unfolding ofBits
 returns c = λ xs f.
@@ -52,9 +25,6 @@ returns c = λ xs f.
     (c .before .before .before .before .before .before .before .products .ensures)
     (c .before .before .before .before .dot-of .ensures) (c .before .before .before .dot-of2 .ensures)
     (c .before .before .sub .ensures .value) (c .before .definitely-not-equal .ensures) (not-true _ (c .if1 .taken))
-
-array-borrow-prefix-y-along : tie.Need-array-borrow-prefix-y-along
-array-borrow-prefix-y-along c = search needs
 
 slice-aggregate-along-factored : tie.Need-slice-aggregate-along-factored
 slice-aggregate-along-factored c =
@@ -71,15 +41,6 @@ along-factored-requires c κs =
       enough = omega (arith, p .0 .few-variables, p .1);
       values = length-take-le _ _ (short s);
     }
-
-enum-told : tie.Need-enum-told
-enum-told c = search needs
-
-enum-told-2 : tie.Need-enum-told-2
-enum-told-2 c = search needs
-
-same-length-2 : tie.Need-same-length-2
-same-length-2 c = search needs
 
 returns-2 : tie.Need-returns-2
 unfolding ofBits
@@ -116,9 +77,6 @@ corrected-by-requires c κs =
     c .before .before .before .before .before .before .before .before .before .before .before .before .before .before
     .before .before .before .before .before .before .before .before .before .pre .0 .few-variables
 
-same-length-3 : tie.Need-same-length-3
-same-length-3 c = search needs
-
 returns-3 : tie.Need-returns-3
 unfolding ofBits
 returns-3 c = λ xs f.
@@ -149,25 +107,25 @@ pub updated-spec : {M : Type 1} → statement M
 updated-spec =
     tie.close
     (tie.spec
-    mul-w
-    slice-aggregate-products
-    products-requires
-    slice-aggregate-bent
-    dot-of-requires
-    dot-of-requires-2
-    sub-requires
-    definitely-not-equal-requires
-    same-length
+    (λ c. search needs)
+    (λ c. search needs)
+    (λ c κs. search needs)
+    (λ c. search needs)
+    (λ c κs. search needs)
+    (λ c κs. search needs)
+    (λ c κs. search needs)
+    (λ c κs. search needs)
+    (λ c. search needs)
     returns
-    array-borrow-prefix-y-along
+    (λ c. search needs)
     slice-aggregate-along-factored
     along-factored-requires
-    enum-told
-    enum-told-2
-    same-length-2
+    (λ c. search needs)
+    (λ c. search needs)
+    (λ c. search needs)
     returns-2
     array-share-prefix-y-along
     slice-aggregate-corrected-by
     corrected-by-requires
-    same-length-3
+    (λ c. search needs)
     returns-3)

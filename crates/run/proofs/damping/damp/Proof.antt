@@ -19,21 +19,6 @@ module _ (k : tie.After-is-finite) where
   tested : k .is-finite .result ≡ isFinite (quadrupled (k .before .before .before .before .before .args .x .mu))
   tested = k .is-finite .ensures ∙ ap isFinite quadruple
 
-degenerate-requires : tie.Need-degenerate-requires
-degenerate-requires c κs = search needs
-
-mul-requires : tie.Need-mul-requires
-mul-requires c κs = search needs
-
-sharpen-requires : tie.Need-sharpen-requires
-sharpen-requires c κs = search needs
-
-add-t8 : tie.Need-add-t8
-add-t8 c = search needs
-
-is-finite-requires : tie.Need-is-finite-requires
-is-finite-requires c κs = search needs
-
 returns : tie.Need-returns
 returns c = let k = c .before in rw (← tested k, c .if1 .taken, quadruple k)
 
@@ -44,10 +29,10 @@ pub damp-spec : {M : Type 1} → statement M
 damp-spec =
     tie.close
     (tie.spec
-    degenerate-requires
-    mul-requires
-    sharpen-requires
-    add-t8
-    is-finite-requires
+    (λ c κs. search needs)
+    (λ c κs. search needs)
+    (λ c κs. search needs)
+    (λ c. search needs)
+    (λ c κs. search needs)
     returns
     returns-2)

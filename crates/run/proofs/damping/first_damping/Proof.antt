@@ -5,14 +5,8 @@ use borrow.Author.Needs.{needs}
 use Rattle.run.proofs.damping.first_damping.Statement.{statement}
 use Rattle.run.proofs.damping.first_damping.Tie as tie
 
-from-ratio-requires : tie.Need-from-ratio-requires
-from-ratio-requires c κs = search needs
-
-or-zero-requires : tie.Need-or-zero-requires
-or-zero-requires c κs = search needs
-
 returns : tie.Need-returns
 returns c = c .or-zero .ensures ∙ ap orZero (c .before .from-ratio .ensures)
 
 pub first-damping-spec : {M : Type 1} → statement M
-first-damping-spec = tie.close (tie.spec from-ratio-requires or-zero-requires returns)
+first-damping-spec = tie.close (tie.spec (λ c κs. search needs) (λ c κs. search needs) returns)

@@ -14,12 +14,6 @@ tested : (k : tie.After-definitely-greater) →
 unfolding ofBits
 tested k = k .definitely-greater .ensures ∙ ap (λ (x : Scalar). definitelyGreater x zeroS) (k .before .sharpen .ensures)
 
-sharpen-requires : tie.Need-sharpen-requires
-sharpen-requires c κs = search needs
-
-definitely-greater-requires : tie.Need-definitely-greater-requires
-definitely-greater-requires c κs = search needs
-
 returns : tie.Need-returns
 returns c = c .before .before .sharpen .ensures ∙ sym (pick-yes _ _ (sym (tested (c .before)) ∙ c .if1 .taken))
 
@@ -28,4 +22,4 @@ returns-2 c =
     sym (pick-no (sharpen (c .before .before .before .args .third)) _ (sym (tested (c .before)) ∙ c .if1 .left))
 
 pub shrunk-spec : {M : Type 1} → statement M
-shrunk-spec = tie.close (tie.spec sharpen-requires definitely-greater-requires returns returns-2)
+shrunk-spec = tie.close (tie.spec (λ c κs. search needs) (λ c κs. search needs) returns returns-2)

@@ -18,12 +18,6 @@ within s = withRadius (rejectedFor (s .args .st .search) (s .args .why)) (s .arg
 damp-requires : tie.Need-damp-requires
 damp-requires c κs = omega (arith, c .before .pre .1 .few-turned)
 
-enum-known-y : tie.Need-enum-known-y
-enum-known-y c = search needs
-
-with-search-requires : tie.Need-with-search-requires
-with-search-requires c κs = search needs
-
 search-requires : tie.Need-search-requires
 unfolding within
 search-requires c κs =
@@ -37,9 +31,6 @@ search-requires c κs =
           ∙ c .before .before .before .before .before .damp .ensures),
     )
 
-same-length : tie.Need-same-length
-same-length c = search needs
-
 returns : tie.Need-returns
 unfolding within
 returns c w h =
@@ -49,19 +40,10 @@ returns c w h =
     ∙ c .before .before .before .before .before .before .before .before .damp .ensures) t
     (c .before .before .search .ensures w (seeks-as t h))
 
-enum-known-y-2 : tie.Need-enum-known-y-2
-enum-known-y-2 c = search needs
-
-with-search-requires-2 : tie.Need-with-search-requires-2
-with-search-requires-2 c κs = search needs
-
 finish-requires : tie.Need-finish-requires
 finish-requires c κs =
     let p = c .before .before .before .before .before .before .before .pre in
     rw (c .before .with-search2 .ensures) (p .0, limits-of (p .1))
-
-same-length-2 : tie.Need-same-length-2
-same-length-2 c = search needs
 
 returns-2 : tie.Need-returns-2
 unfolding within
@@ -78,13 +60,13 @@ grow-spec =
     tie.close
     (tie.spec
     damp-requires
-    enum-known-y
-    with-search-requires
+    (λ c. search needs)
+    (λ c κs. search needs)
     search-requires
-    same-length
+    (λ c. search needs)
     returns
-    enum-known-y-2
-    with-search-requires-2
+    (λ c. search needs)
+    (λ c κs. search needs)
     finish-requires
-    same-length-2
+    (λ c. search needs)
     returns-2)

@@ -13,9 +13,6 @@ returns-2 c =
     let a = c .before .before .before .args in
     rw (not-false (a .first) (c .before .before .if1 .left), not-true (a .j .undecided) (c .if2 .taken))
 
-was-taken-requires : tie.Need-was-taken-requires
-was-taken-requires c κs = search needs
-
 returns-3 : tie.Need-returns-3
 returns-3 c =
     let a = c .before .before .before .before .before .args in
@@ -43,6 +40,6 @@ is-stuck-spec =
     (tie.spec
     returns
     returns-2
-    was-taken-requires
+    (λ c κs. search needs)
     returns-3
     returns-4)

@@ -6,12 +6,6 @@ use borrow.Author.Needs.{needs}
 use Rattle.run.proofs.decide.judge_in.Statement.{statement}
 use Rattle.run.proofs.decide.judge_in.Tie as tie
 
-pairs-in-requires : tie.Need-pairs-in-requires
-pairs-in-requires c κs = search needs
-
-row-counts-requires : tie.Need-row-counts-requires
-row-counts-requires c κs = search needs
-
 standing-rows-requires : tie.Need-standing-rows-requires
 standing-rows-requires c κs =
     let p = c .before .before .before .before .pre in
@@ -64,8 +58,8 @@ pub judge-in-spec : {M : Type 1} → statement M
 judge-in-spec =
     tie.close
     (tie.spec
-    pairs-in-requires
-    row-counts-requires
+    (λ c κs. search needs)
+    (λ c κs. search needs)
     standing-rows-requires
     landed-rows-requires
     filter-requires

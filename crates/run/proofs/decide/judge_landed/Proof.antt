@@ -10,14 +10,8 @@ use Rattle.run.proofs.decide.judge_landed.Tie as tie
 judge-in-requires : tie.Need-judge-in-requires
 judge-in-requires c κs = c .before .before .pre
 
-enum-known-j : tie.Need-enum-known-j
-enum-known-j c = search needs
-
 decide-requires : tie.Need-decide-requires
 decide-requires c κs = c .before .before .before .before .before .before .before .pre
-
-same-length : tie.Need-same-length
-same-length c = search needs
 
 returns : tie.Need-returns
 returns c w h =
@@ -26,15 +20,9 @@ returns c w h =
     (c .before .before .before .before .before .j .given .1) in
     judge-known (a .st) w (a .theta) e (c .before .before .decide .ensures w h)
 
-enum-known-e : tie.Need-enum-known-e
-enum-known-e c = search needs
-
 refuse-requires : tie.Need-refuse-requires
 refuse-requires c κs =
     let p = c .before .before .before .before .before .before .before .pre in (p .0, limits-of (p .1 .bounded))
-
-same-length-2 : tie.Need-same-length-2
-same-length-2 c = search needs
 
 returns-2 : tie.Need-returns-2
 returns-2 c w h =
@@ -48,11 +36,11 @@ judge-landed-spec =
     tie.close
     (tie.spec
     judge-in-requires
-    enum-known-j
+    (λ c. search needs)
     decide-requires
-    same-length
+    (λ c. search needs)
     returns
-    enum-known-e
+    (λ c. search needs)
     refuse-requires
-    same-length-2
+    (λ c. search needs)
     returns-2)

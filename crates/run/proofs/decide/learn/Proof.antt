@@ -16,9 +16,6 @@ before-long : (s : tie.Start)
     ≡ numbersIn (s .args .st) .curvature
 before-long s = curvature-length (s .args .st) (s .args .area .now) (s .pre .1 .few-variables) (s .pre .0)
 
-row-counts-requires : tie.Need-row-counts-requires
-row-counts-requires c κs = search needs
-
 curvature-for-requires : tie.Need-curvature-for-requires
 curvature-for-requires c κs = let p = c .before .before .before .before .before .pre in (p .0, p .1 .few-variables)
 
@@ -64,9 +61,6 @@ update-curvature-requires c κs =
       omega (arith, step-part (s .args .st .sizes) (s .args .area .now) (few .few-variables) (s .pre .0)),
     )
 
-same-length : tie.Need-same-length
-same-length c = search needs
-
 returns : tie.Need-returns
 returns c w t =
     let s = c .before .before .before .before .before .before .before .before .before .before .before .before .before
@@ -86,7 +80,7 @@ pub learn-spec : {M : Type 1} → statement M
 learn-spec =
     tie.close
     (tie.spec
-    row-counts-requires
+    (λ c κs. search needs)
     curvature-for-requires
     write-requires
     step-requires
@@ -94,5 +88,5 @@ learn-spec =
     landed-rows-requires
     multipliers-requires
     update-curvature-requires
-    same-length
+    (λ c. search needs)
     returns)

@@ -9,15 +9,6 @@ use borrow.Author.Needs.{needs}
 use Rattle.run.proofs.decide.linear_of.Statement.{statement}
 use Rattle.run.proofs.decide.linear_of.Tie as tie
 
-definitely-greater-requires : tie.Need-definitely-greater-requires
-definitely-greater-requires c κs = search needs
-
-enum-known-landed : tie.Need-enum-known-landed
-enum-known-landed c = search needs
-
-held-requires : tie.Need-held-requires
-held-requires c κs = search needs
-
 returns : tie.Need-returns
 unfolding ofBits
 returns c w v =
@@ -26,9 +17,6 @@ returns c w v =
     ∙ linear-known (a .st) w (a .theta) v (sym (c .before .before .before .before .before .definitely-greater .ensures)
     ∙ c .before .before .before .before .if1 .taken)
     (ap resultOf (c .before .before .landed .given .1))
-
-enum-known-landed-2 : tie.Need-enum-known-landed-2
-enum-known-landed-2 c = search needs
 
 returns-2 : tie.Need-returns-2
 unfolding ofBits
@@ -46,10 +34,10 @@ pub linear-of-spec : {M : Type 1} → statement M
 linear-of-spec =
     tie.close
     (tie.spec
-    definitely-greater-requires
-    enum-known-landed
-    held-requires
+    (λ c κs. search needs)
+    (λ c. search needs)
+    (λ c κs. search needs)
     returns
-    enum-known-landed-2
+    (λ c. search needs)
     returns-2
     returns-3)

@@ -9,11 +9,8 @@ returns c = rw (c .if1 .taken)
 curvature-for-requires : tie.Need-curvature-for-requires
 curvature-for-requires c κs = let p = c .before .before .pre in (p .1, p .0)
 
-learned-requires : tie.Need-learned-requires
-learned-requires c κs = search needs
-
 returns-2 : tie.Need-returns-2
 returns-2 c = rw (c .before .before .if1 .left, ← c .before .curvature-for .ensures) (c .learned .ensures)
 
 pub may-retry-spec : {M : Type 1} → statement M
-may-retry-spec = tie.close (tie.spec returns curvature-for-requires learned-requires returns-2)
+may-retry-spec = tie.close (tie.spec returns curvature-for-requires (λ c κs. search needs) returns-2)

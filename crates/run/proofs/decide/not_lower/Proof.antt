@@ -55,14 +55,8 @@ retry-read st h e = sym (rw (read-curvature (h .within .holds) (h .standing-whol
 may-retry-requires : tie.Need-may-retry-requires
 may-retry-requires c κs = let p = c .before .before .pre in (p .1 .few-variables, p .0)
 
-reject-requires : tie.Need-reject-requires
-reject-requires c κs = search needs
-
 add-turned-down : tie.Need-add-turned-down
 add-turned-down c = omega (arith, c .before .before .before .before .before .before .pre .1 .few-turned)
-
-with-search-requires : tie.Need-with-search-requires
-with-search-requires c κs = search needs
 
 search-requires : tie.Need-search-requires
 search-requires c κs =
@@ -74,9 +68,6 @@ search-requires c κs =
           (b .damping),
     )
 
-same-length : tie.Need-same-length
-same-length c = search needs
-
 returns : tie.Need-returns
 returns c w h =
     let st = c .before .before .before .before .before .before .before .before .before .before .before .args .st in
@@ -85,12 +76,6 @@ returns c w h =
     .ensures) ∙ c .before .before .before .before .before .before .before .if1 .taken) refl refl
     (again st (c .before .before .before .before .before .before .reject .ensures) t) (c .before .before .search
     .ensures w (seeks-as t h))
-
-turn-down-requires : tie.Need-turn-down-requires
-turn-down-requires c κs = search needs
-
-same-length-2 : tie.Need-same-length-2
-same-length-2 c = search needs
 
 returns-2 : tie.Need-returns-2
 returns-2 c w h =
@@ -103,12 +88,12 @@ not-lower-spec =
     tie.close
     (tie.spec
     may-retry-requires
-    reject-requires
+    (λ c κs. search needs)
     add-turned-down
-    with-search-requires
+    (λ c κs. search needs)
     search-requires
-    same-length
+    (λ c. search needs)
     returns
-    turn-down-requires
-    same-length-2
+    (λ c κs. search needs)
+    (λ c. search needs)
     returns-2)

@@ -25,27 +25,6 @@ divided k =
     let mu = k .before .before .before .before .before .before .before .args .st .search .mu in
     k .div .ensures .value ∙ ap (λ (x : Scalar). divOf mu x) (k .before .degenerate .ensures)
 
-linear-of-requires : tie.Need-linear-of-requires
-linear-of-requires c κs = search needs
-
-enum-known-linear : tie.Need-enum-known-linear
-enum-known-linear c = search needs
-
-degenerate-requires : tie.Need-degenerate-requires
-degenerate-requires c κs = search needs
-
-div-requires : tie.Need-div-requires
-div-requires c κs = search needs
-
-enum-known-third : tie.Need-enum-known-third
-enum-known-third c = search needs
-
-shrunk-requires : tie.Need-shrunk-requires
-shrunk-requires c κs = search needs
-
-radius-after-requires : tie.Need-radius-after-requires
-radius-after-requires c κs = search needs
-
 take-with-requires : tie.Need-take-with-requires
 take-with-requires c κs =
     let s = c .before .before .before .before .before .before .before .before .before .before .before .before .before in
@@ -56,9 +35,6 @@ take-with-requires c κs =
     let u = s .pre .1 in
     let positive = shrunk-positive mu _ (yes (g .0 .1), yes (g .1 .0 .1)) (u .bounded .damping) third in
     (s .pre .0, u, subst (λ (x : Scalar). isPositive x ≡ true) (sym (c .before .before .shrunk .ensures)) positive)
-
-same-length : tie.Need-same-length
-same-length c = search needs
 
 returns : tie.Need-returns
 returns c w h =
@@ -76,16 +52,10 @@ returns c w h =
     .0) third (c .before .before .before .before .before .shrunk .ensures)
     (c .before .before .before .before .radius-after .ensures) (c .before .before .take-with .ensures w h))
 
-enum-known-e : tie.Need-enum-known-e
-enum-known-e c = search needs
-
 refuse-requires : tie.Need-refuse-requires
 refuse-requires c κs =
     let p = c .before .before .before .before .before .before .before .before .before .before .before .pre in
     (p .0, limits-of (p .1 .bounded))
-
-same-length-2 : tie.Need-same-length-2
-same-length-2 c = search needs
 
 returns-2 : tie.Need-returns-2
 returns-2 c w h =
@@ -101,16 +71,10 @@ returns-2 c w h =
     (c .before .before .before .before .before .before .before .before .before .before .linear .given .0 .0) third
     (c .before .before .refuse .ensures w (h .from-standing .within)))
 
-enum-known-e-2 : tie.Need-enum-known-e-2
-enum-known-e-2 c = search needs
-
 refuse-requires-2 : tie.Need-refuse-requires-2
 refuse-requires-2 c κs =
     let p = c .before .before .before .before .before .before .pre in
     (p .0, limits-of (p .1 .bounded))
-
-same-length-3 : tie.Need-same-length-3
-same-length-3 c = search needs
 
 returns-3 : tie.Need-returns-3
 returns-3 c w h =
@@ -123,21 +87,21 @@ pub take-spec : {M : Type 1} → statement M
 take-spec =
     tie.close
     (tie.spec
-    linear-of-requires
-    enum-known-linear
-    degenerate-requires
-    div-requires
-    enum-known-third
-    shrunk-requires
-    radius-after-requires
+    (λ c κs. search needs)
+    (λ c. search needs)
+    (λ c κs. search needs)
+    (λ c κs. search needs)
+    (λ c. search needs)
+    (λ c κs. search needs)
+    (λ c κs. search needs)
     take-with-requires
-    same-length
+    (λ c. search needs)
     returns
-    enum-known-e
+    (λ c. search needs)
     refuse-requires
-    same-length-2
+    (λ c. search needs)
     returns-2
-    enum-known-e-2
+    (λ c. search needs)
     refuse-requires-2
-    same-length-3
+    (λ c. search needs)
     returns-3)

@@ -38,19 +38,10 @@ learn-requires c κs =
     let s = c .before .before .before in
     (s .pre .0, rows-of (s .pre .1 .bounded), length-take-le _ _ (fits s))
 
-enum-told : tie.Need-enum-told
-enum-told c = search needs
-
-enum-known-e : tie.Need-enum-known-e
-enum-known-e c = search needs
-
 refuse-requires : tie.Need-refuse-requires
 refuse-requires c κs =
     let p = c .before .before .before .before .before .before .before .before .before .pre in
     (p .0, limits-of (p .1 .bounded))
-
-same-length : tie.Need-same-length
-same-length c = search needs
 
 returns : tie.Need-returns
 returns c w h =
@@ -60,9 +51,6 @@ returns c w h =
     ∙ ap (λ (d : Done). doneOf d (l .last .1 .1 .0)) (c .before .before .before .before .before .e .given .1) in
     learned-refused (a .st) w (a .theta) (a .span) (a .mu) (a .radius) e
     (c .before .before .refuse .ensures w (h .from-standing .within))
-
-standing-counts-requires : tie.Need-standing-counts-requires
-standing-counts-requires c κs = search needs
 
 standing-rows-requires : tie.Need-standing-rows-requires
 standing-rows-requires c κs =
@@ -114,9 +102,6 @@ iterate-requires c κs =
     rw (c .before .standing-on .ensures)
     (long ∙ s .pre .0, stood (a .span) (a .mu) (a .radius) (s .pre .1) (s .pre .2))
 
-same-length-2 : tie.Need-same-length-2
-same-length-2 c = search needs
-
 returns-2 : tie.Need-returns-2
 returns-2 c w h =
     let s = c .before .before .before .before .before .before .before .before .before .before .before .before .before
@@ -153,12 +138,12 @@ take-with-spec =
     array-borrow-prefix-entries
     slice-aggregate-learn
     learn-requires
-    enum-told
-    enum-known-e
+    (λ c. search needs)
+    (λ c. search needs)
     refuse-requires
-    same-length
+    (λ c. search needs)
     returns
-    standing-counts-requires
+    (λ c κs. search needs)
     standing-rows-requires
     sum-squared-requires
     array-share-prefix-entries
@@ -166,5 +151,5 @@ take-with-spec =
     write-taken-requires
     standing-on-requires
     iterate-requires
-    same-length-2
+    (λ c. search needs)
     returns-2)

@@ -21,23 +21,8 @@ divided k e =
     ap (λ (x : Scalar). divOf (k .before .before .before .args .st .trial .tried) x)
     (sym (k .before .degenerate .ensures)) ∙ sym (k .div .ensures .value) ∙ ap resultOf e
 
-degenerate-requires : tie.Need-degenerate-requires
-degenerate-requires c κs = search needs
-
-div-requires : tie.Need-div-requires
-div-requires c κs = search needs
-
-enum-known-q : tie.Need-enum-known-q
-enum-known-q c = search needs
-
-sharpen-requires : tie.Need-sharpen-requires
-sharpen-requires c κs = search needs
-
 grow-requires : tie.Need-grow-requires
 grow-requires c κs = c .before .before .before .before .before .before .before .before .pre
-
-same-length : tie.Need-same-length
-same-length c = search needs
 
 returns : tie.Need-returns
 returns c w h =
@@ -46,22 +31,10 @@ returns c w h =
     (c .before .before .before .before .before .before .q .given .1)) (c .before .before .before .sharpen .ensures) refl
     refl (c .before .before .grow .ensures w h)
 
-enum-known-e : tie.Need-enum-known-e
-enum-known-e c = search needs
-
-reject-requires : tie.Need-reject-requires
-reject-requires c κs = search needs
-
-with-search-requires : tie.Need-with-search-requires
-with-search-requires c κs = search needs
-
 refuse-requires : tie.Need-refuse-requires
 refuse-requires c κs =
     let p = c .before .before .before .before .before .before .before .before .before .pre in
     rw (c .before .with-search .ensures) (p .0, limits-of (p .1))
-
-same-length-2 : tie.Need-same-length-2
-same-length-2 c = search needs
 
 returns-2 : tie.Need-returns-2
 returns-2 c w h =
@@ -76,16 +49,16 @@ pub turn-down-spec : {M : Type 1} → statement M
 turn-down-spec =
     tie.close
     (tie.spec
-    degenerate-requires
-    div-requires
-    enum-known-q
-    sharpen-requires
+    (λ c κs. search needs)
+    (λ c κs. search needs)
+    (λ c. search needs)
+    (λ c κs. search needs)
     grow-requires
-    same-length
+    (λ c. search needs)
     returns
-    enum-known-e
-    reject-requires
-    with-search-requires
+    (λ c. search needs)
+    (λ c κs. search needs)
+    (λ c κs. search needs)
     refuse-requires
-    same-length-2
+    (λ c. search needs)
     returns-2)

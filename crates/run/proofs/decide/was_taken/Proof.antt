@@ -3,12 +3,6 @@ use borrow.Author.Needs.{needs}
 use Rattle.run.proofs.decide.was_taken.Statement.{statement}
 use Rattle.run.proofs.decide.was_taken.Tie as tie
 
-enum-told : tie.Need-enum-told
-enum-told c = search needs
-
-enum-told-2 : tie.Need-enum-told-2
-enum-told-2 c = search needs
-
 returns : tie.Need-returns
 returns c = rw (c .enum-told .given .1)
 
@@ -19,7 +13,7 @@ pub was-taken-spec : {M : Type 1} → statement M
 was-taken-spec =
     tie.close
     (tie.spec
-    enum-told
-    enum-told-2
+    (λ c. search needs)
+    (λ c. search needs)
     returns
     returns-2)

@@ -4,15 +4,6 @@ use borrow.Author.Needs.{needs}
 use Rattle.run.proofs.endings.finish.Statement.{statement}
 use Rattle.run.proofs.endings.finish.Tie as tie
 
-keep-standing-requires : tie.Need-keep-standing-requires
-keep-standing-requires c κs = search needs
-
-with-phase-requires : tie.Need-with-phase-requires
-with-phase-requires c κs = search needs
-
-same-length : tie.Need-same-length
-same-length c = search needs
-
 returns : tie.Need-returns
 returns c w h =
     record {
@@ -22,4 +13,4 @@ returns c w h =
     }
 
 pub finish-spec : {M : Type 1} → statement M
-finish-spec = tie.close (tie.spec keep-standing-requires with-phase-requires same-length returns)
+finish-spec = tie.close (tie.spec (λ c κs. search needs) (λ c κs. search needs) (λ c. search needs) returns)

@@ -5,18 +5,6 @@ use borrow.Author.Needs.{needs}
 use Rattle.run.proofs.endings.refuse.Statement.{statement}
 use Rattle.run.proofs.endings.refuse.Tie as tie
 
-keep-standing-requires : tie.Need-keep-standing-requires
-keep-standing-requires c κs = search needs
-
-with-phase-requires : tie.Need-with-phase-requires
-with-phase-requires c κs = search needs
-
-number-of-requires : tie.Need-number-of-requires
-number-of-requires c κs = search needs
-
-same-length : tie.Need-same-length
-same-length c = search needs
-
 returns : tie.Need-returns
 returns c w h =
     record {
@@ -28,4 +16,4 @@ returns c w h =
 pub refuse-spec : {M : Type 1} → statement M
 refuse-spec =
     tie.close
-    (tie.spec keep-standing-requires with-phase-requires number-of-requires same-length returns)
+    (tie.spec (λ c κs. search needs) (λ c κs. search needs) (λ c κs. search needs) (λ c. search needs) returns)

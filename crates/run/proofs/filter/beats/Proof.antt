@@ -21,21 +21,12 @@ loop-holds : tie.Need-loop-holds Inv-loop μ-loop
 unfolding beatsTo allTo
 loop-holds c = (search needs, refl)
 
-beats-pair-requires : tie.Need-beats-pair-requires Inv-loop μ-loop
-beats-pair-requires c κs = search needs
-
 returns : tie.Need-returns Inv-loop μ-loop
 unfolding beatsTo
 returns c =
     let l = c .before .before .before .loop in
     sym (all-broke _ (l .i) _ (c .before .before .loop-test .taken) (l .inv .1) (sym (c .before .beats-pair .ensures)
     ∙ not-true _ (c .if1 .taken)))
-
-add-i : tie.Need-add-i Inv-loop μ-loop
-add-i c = search needs
-
-loop-less : tie.Need-loop-less Inv-loop μ-loop
-loop-less c = search needs
 
 loop-again : tie.Need-loop-again Inv-loop μ-loop
 unfolding beatsTo
@@ -53,9 +44,9 @@ beats-spec =
     Inv-loop
     μ-loop
     loop-holds
-    beats-pair-requires
+    (λ c κs. search needs)
     returns
-    add-i
-    loop-less
+    (λ c. search needs)
+    (λ c. search needs)
     loop-again
     returns-2)

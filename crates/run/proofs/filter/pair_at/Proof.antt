@@ -12,23 +12,9 @@ paired :
     _≡_ {A = Pair} (record { f = x; violation = y }) (record { f = p; violation = q })
 paired e h = rw (e, h)
 
-mul-at : tie.Need-mul-at
-mul-at c = search needs
-
-at-requires : tie.Need-at-requires
-at-requires c κs = search needs
-
-mul-at-2 : tie.Need-mul-at-2
-mul-at-2 c = search needs
-
-add-at : tie.Need-add-at
-add-at c = search needs
-
-at-requires-2 : tie.Need-at-requires-2
-at-requires-2 c κs = search needs
-
 returns : tie.Need-returns
 returns c = paired (c .before .at .ensures) (c .at2 .ensures)
 
 pub pair-at-spec : {M : Type 1} → statement M
-pair-at-spec = tie.close (tie.spec mul-at at-requires mul-at-2 add-at at-requires-2 returns)
+pair-at-spec = tie.close (tie.spec (λ c. search needs) (λ c κs. search needs) (λ c. search needs) (λ c. search needs)
+    (λ c κs. search needs) returns)

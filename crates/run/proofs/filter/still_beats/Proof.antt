@@ -8,9 +8,6 @@ use Rattle.run.proofs.filter.still_beats.Tie as tie
 returns : tie.Need-returns
 returns c = rw (not-true (c .before .args .so-far) (c .if1 .taken))
 
-definitely-less-requires : tie.Need-definitely-less-requires
-definitely-less-requires c κs = search needs
-
 returns-2 : tie.Need-returns-2
 unfolding beatsPair
 returns-2 c =
@@ -19,9 +16,6 @@ returns-2 c =
       ← c .before .definitely-less .ensures,
       c .if2 .taken,
     )
-
-definitely-less-requires-2 : tie.Need-definitely-less-requires-2
-definitely-less-requires-2 c κs = search needs
 
 returns-3 : tie.Need-returns-3
 unfolding beatsPair
@@ -35,4 +29,4 @@ returns-3 c =
 pub still-beats-spec : {M : Type 1} → statement M
 still-beats-spec =
     tie.close
-    (tie.spec returns definitely-less-requires returns-2 definitely-less-requires-2 returns-3)
+    (tie.spec returns (λ c κs. search needs) returns-2 (λ c κs. search needs) returns-3)

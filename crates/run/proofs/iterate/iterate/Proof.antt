@@ -10,20 +10,11 @@ use Rattle.run.proofs.iterate.iterate.Tie as tie
 finish-requires : tie.Need-finish-requires
 finish-requires c κs = let p = c .before .before .before .before .pre in (p .0, limits-of (p .1))
 
-same-length : tie.Need-same-length
-same-length c = search needs
-
 returns : tie.Need-returns
 unfolding iterate
 returns c w h =
     when _ _ (le-leb _ _ (c .before .before .before .before .if1 .taken))
     (c .before .before .finish .ensures w (h .within))
-
-search-requires : tie.Need-search-requires
-search-requires c κs = search needs
-
-same-length-2 : tie.Need-same-length-2
-same-length-2 c = search needs
 
 returns-2 : tie.Need-returns-2
 unfolding iterate
@@ -33,4 +24,4 @@ returns-2 c w h =
 pub iterate-spec : {M : Type 1} → statement M
 iterate-spec =
     tie.close
-    (tie.spec finish-requires same-length returns search-requires same-length-2 returns-2)
+    (tie.spec finish-requires (λ c. search needs) returns (λ c κs. search needs) (λ c. search needs) returns-2)

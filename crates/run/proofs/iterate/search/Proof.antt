@@ -5,31 +5,16 @@ use borrow.Author.Needs.{needs}
 use Rattle.run.proofs.iterate.search.Statement.{statement}
 use Rattle.run.proofs.iterate.search.Tie as tie
 
-slice-aggregate-seek-standing : tie.Need-slice-aggregate-seek-standing
-slice-aggregate-seek-standing c = search needs
-
-slice-aggregate-seek-standing-2 : tie.Need-slice-aggregate-seek-standing-2
-slice-aggregate-seek-standing-2 c = search needs
-
 seek-standing-requires : tie.Need-seek-standing-requires
 seek-standing-requires c κs =
     let p = c .before .before .before .before .pre in
     (p .0, p .1, record { delta-length = refl; lambda-length = refl })
-
-slice-aggregate-left-at : tie.Need-slice-aggregate-left-at
-slice-aggregate-left-at c = search needs
-
-slice-aggregate-left-at-2 : tie.Need-slice-aggregate-left-at-2
-slice-aggregate-left-at-2 c = search needs
 
 left-at-requires : tie.Need-left-at-requires
 left-at-requires c κs =
     let p = c .before .before .before .before .before .before .before .before .before .before .pre in
     let k = c .before .before .before .before .before .seek-standing .kept .1 .1 .1 in
     (p .0, p .1, record { delta-length = k .0; lambda-length = k .1 .0 })
-
-same-length : tie.Need-same-length
-same-length c = search needs
 
 returns : tie.Need-returns
 returns c w h =
@@ -41,11 +26,11 @@ pub search-spec : {M : Type 1} → statement M
 search-spec =
     tie.close
     (tie.spec
-    slice-aggregate-seek-standing
-    slice-aggregate-seek-standing-2
+    (λ c. search needs)
+    (λ c. search needs)
     seek-standing-requires
-    slice-aggregate-left-at
-    slice-aggregate-left-at-2
+    (λ c. search needs)
+    (λ c. search needs)
     left-at-requires
-    same-length
+    (λ c. search needs)
     returns)

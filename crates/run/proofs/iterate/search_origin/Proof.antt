@@ -3,9 +3,6 @@ use borrow.Author.Needs.{needs}
 use Rattle.run.proofs.iterate.search_origin.Statement.{statement}
 use Rattle.run.proofs.iterate.search_origin.Tie as tie
 
-standing-counts-requires : tie.Need-standing-counts-requires
-standing-counts-requires c κs = search needs
-
 standing-rows-requires : tie.Need-standing-rows-requires
 standing-rows-requires c κs =
     let p = c .before .before .before .pre in (p .0, rw (c .before .standing-counts .ensures) (p .1))
@@ -24,4 +21,4 @@ returns c =
 
 pub search-origin-spec : {M : Type 1} → statement M
 search-origin-spec =
-    tie.close (tie.spec standing-counts-requires standing-rows-requires sum-squared-requires returns)
+    tie.close (tie.spec (λ c κs. search needs) standing-rows-requires sum-squared-requires returns)

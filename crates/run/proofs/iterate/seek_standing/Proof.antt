@@ -14,9 +14,6 @@ use Rattle.run.proofs.iterate.seek_standing.Tie as tie
 few : (s : tie.Start) → FewRows (standingCounts (s .args .st))
 few s = rows-of (s .pre .1)
 
-enum-known-standing : tie.Need-enum-known-standing
-enum-known-standing c = search needs
-
 search-origin-requires : tie.Need-search-origin-requires
 search-origin-requires c κs = let s = c .before .before .before .before .before .before .before in (s .pre .0, few s)
 
@@ -26,12 +23,6 @@ seek-requires c κs =
     let b = s .pre .1 in
     rw (c .before .before .search-origin .ensures)
     ((few s, s .pre .0, b .few-variables, s .pre .2), (b .few-turned, b .damping))
-
-same-length : tie.Need-same-length
-same-length c = search needs
-
-same-length-2 : tie.Need-same-length-2
-same-length-2 c = search needs
 
 returns : tie.Need-returns
 returns c w h =
@@ -44,9 +35,6 @@ returns c w h =
     (s .pre .1 .few-variables) (c .before .before .before .before .before .before .before .search-origin .ensures)
     (k .ensures)
 
-enum-known-standing-2 : tie.Need-enum-known-standing-2
-enum-known-standing-2 c = search needs
-
 returns-2 : tie.Need-returns-2
 returns-2 c w h =
     let st = c .before .before .before .before .before .before .before .args .st in
@@ -56,11 +44,11 @@ pub seek-standing-spec : {M : Type 1} → statement M
 seek-standing-spec =
     tie.close
     (tie.spec
-    enum-known-standing
+    (λ c. search needs)
     search-origin-requires
     seek-requires
-    same-length
-    same-length-2
+    (λ c. search needs)
+    (λ c. search needs)
     returns
-    enum-known-standing-2
+    (λ c. search needs)
     returns-2)

@@ -6,18 +6,6 @@ use borrow.Author.Needs.{needs}
 use Rattle.run.proofs.judgement.contracts.Statement.{statement}
 use Rattle.run.proofs.judgement.contracts.Tie as tie
 
-enum-told : tie.Need-enum-told
-enum-told c = search needs
-
-enum-known-last : tie.Need-enum-known-last
-enum-known-last c = search needs
-
-mul-requires : tie.Need-mul-requires
-mul-requires c κs = search needs
-
-definitely-less-requires : tie.Need-definitely-less-requires
-definitely-less-requires c κs = search needs
-
 returns : tie.Need-returns
 returns c = search needs
 
@@ -31,9 +19,9 @@ pub contracts-spec : {M : Type 1} → statement M
 contracts-spec =
     tie.close
     (tie.spec
-    enum-told
-    enum-known-last
-    mul-requires
-    definitely-less-requires
+    (λ c. search needs)
+    (λ c. search needs)
+    (λ c κs. search needs)
+    (λ c κs. search needs)
     returns
     returns-2)

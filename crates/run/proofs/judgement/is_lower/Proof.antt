@@ -4,15 +4,9 @@ use borrow.Author.Needs.{needs}
 use Rattle.run.proofs.judgement.is_lower.Statement.{statement}
 use Rattle.run.proofs.judgement.is_lower.Tie as tie
 
-definitely-greater-requires : tie.Need-definitely-greater-requires
-definitely-greater-requires c κs = search needs
-
 returns : tie.Need-returns
 unfolding ofBits
 returns c = rw (← c .before .definitely-greater .ensures, c .if1 .taken)
-
-definitely-greater-requires-2 : tie.Need-definitely-greater-requires-2
-definitely-greater-requires-2 c κs = search needs
 
 returns-2 : tie.Need-returns-2
 unfolding ofBits
@@ -38,8 +32,8 @@ pub is-lower-spec : {M : Type 1} → statement M
 is-lower-spec =
     tie.close
     (tie.spec
-    definitely-greater-requires
+    (λ c κs. search needs)
     returns
-    definitely-greater-requires-2
+    (λ c κs. search needs)
     returns-2
     returns-3)

@@ -23,22 +23,10 @@ equal :
     r ≡ judgedBy x′ fall (beatsTo filter f′ theta count) length last
 equal fall theta length filter count last ex ef er = rw (er, ex, ef)
 
-norm-of-requires : tie.Need-norm-of-requires
-norm-of-requires c κs = search needs
-
-enum-known-e : tie.Need-enum-known-e
-enum-known-e c = search needs
-
 returns : tie.Need-returns
 unfolding judgeOf
 returns c v =
     sym (bind-refused _ (sym (c .before .before .before .norm-of .ensures) ∙ ap resultOf (c .before .e .given .1)))
-
-enum-known-length : tie.Need-enum-known-length
-enum-known-length c = search needs
-
-enum-known-landed : tie.Need-enum-known-landed
-enum-known-landed c = search needs
 
 returns-2 : tie.Need-returns-2
 unfolding judgeOf
@@ -48,23 +36,11 @@ returns-2 c v =
     let g = sym v ∙ ap resultOf (c .before .landed .given .1) in
     sym (bind-ok _ f ∙ bind-refused _ g)
 
-enum-known-landed-2 : tie.Need-enum-known-landed-2
-enum-known-landed-2 c = search needs
-
-sum-requires : tie.Need-sum-requires
-sum-requires c κs = search needs
-
 sum-change-requires : tie.Need-sum-change-requires
 sum-change-requires c κs =
     let p = c .before .before .before .before .before .before .before .before .before .before .before .before .pre
     .counts in
     rw (c .sum .ensures) (sum-small p)
-
-sum-squared-requires : tie.Need-sum-squared-requires
-sum-squared-requires c κs = search needs
-
-judged-by-requires : tie.Need-judged-by-requires
-judged-by-requires c κs = search needs
 
 returns-3 : tie.Need-returns-3
 unfolding judgeOf
@@ -86,15 +62,15 @@ pub judge-spec : {M : Type 1} → statement M
 judge-spec =
     tie.close
     (tie.spec
-    norm-of-requires
-    enum-known-e
+    (λ c κs. search needs)
+    (λ c. search needs)
     returns
-    enum-known-length
-    enum-known-landed
+    (λ c. search needs)
+    (λ c. search needs)
     returns-2
-    enum-known-landed-2
-    sum-requires
+    (λ c. search needs)
+    (λ c κs. search needs)
     sum-change-requires
-    sum-squared-requires
-    judged-by-requires
+    (λ c κs. search needs)
+    (λ c κs. search needs)
     returns-3)

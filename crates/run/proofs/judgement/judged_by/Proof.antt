@@ -23,21 +23,6 @@ module _ (length : Scalar) (last : Last) where
       (judgedBy x y b length last)
   answers x y b ep eq es = rw (ep, eq, es)
 
-beats-as-pairs-requires : tie.Need-beats-as-pairs-requires
-beats-as-pairs-requires c κs = search needs
-
-sub-requires : tie.Need-sub-requires
-sub-requires c κs = search needs
-
-is-lower-requires : tie.Need-is-lower-requires
-is-lower-requires c κs = search needs
-
-is-undecided-requires : tie.Need-is-undecided-requires
-is-undecided-requires c κs = search needs
-
-contracts-requires : tie.Need-contracts-requires
-contracts-requires c κs = search needs
-
 returns : tie.Need-returns
 returns c =
     let a = c .before .before .before .before .before .before .args in
@@ -51,9 +36,9 @@ pub judged-by-spec : {M : Type 1} → statement M
 judged-by-spec =
     tie.close
     (tie.spec
-    beats-as-pairs-requires
-    sub-requires
-    is-lower-requires
-    is-undecided-requires
-    contracts-requires
+    (λ c κs. search needs)
+    (λ c κs. search needs)
+    (λ c κs. search needs)
+    (λ c κs. search needs)
+    (λ c κs. search needs)
     returns)

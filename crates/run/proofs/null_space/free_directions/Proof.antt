@@ -28,12 +28,6 @@ Inv-loop k r q z₀ left₀ most count₀ z left count = Rest k r q z₀ most z 
 abbrev μ-loop : tie.MeasureT-loop
 μ-loop k r q z₀ left₀ most count₀ z left count = most - count
 
-less-requires : tie.Need-less-requires Inv-loop μ-loop
-less-requires c κs = search needs
-
-slice-aggregate-remainders : tie.Need-slice-aggregate-remainders Inv-loop μ-loop
-slice-aggregate-remainders c = search needs
-
 remainders-requires : tie.Need-remainders-requires Inv-loop μ-loop
 unfolding ofBits
 remainders-requires c κs = let p = c .before .before .before .before .pre in (p .0, (p .1 .0, refl))
@@ -60,12 +54,6 @@ take-longest-requires c κs =
     let p = c .before .before .before .before .before .before .before .before .before .before .pre in
     (p .0, (c .before .before .loop-test .taken, c .before .before .before .loop .inv .few))
 
-enum-told : tie.Need-enum-told Inv-loop μ-loop
-enum-told c = search needs
-
-enum-told-2 : tie.Need-enum-told-2 Inv-loop μ-loop
-enum-told-2 c = search needs
-
 same-length : tie.Need-same-length Inv-loop μ-loop
 same-length c =
     c .before .before .before .before .before .take-longest .kept .1 .1 .1 .0
@@ -76,9 +64,6 @@ returns c =
     let e = rw (c .enum-told2 .given .1) at (c .before .before .before .before .before .take-longest .ensures) in
     e ∙ c .before .before .before .before .before .before .before .before .before .loop .inv .directions
 
-enum-known-e : tie.Need-enum-known-e Inv-loop μ-loop
-enum-known-e c = search needs
-
 same-length-2 : tie.Need-same-length-2 Inv-loop μ-loop
 same-length-2 c =
     c .before .before .before .before .before .before .take-longest .kept .1 .1 .1 .0
@@ -88,12 +73,6 @@ returns-2 : tie.Need-returns-2 Inv-loop μ-loop
 returns-2 c =
     let e = rw (c .before .e .given .1) at (c .before .before .before .before .before .before .take-longest .ensures) in
     e ∙ c .before .before .before .before .before .before .before .before .before .before .loop .inv .directions
-
-add-count : tie.Need-add-count Inv-loop μ-loop
-add-count c = search needs
-
-loop-less : tie.Need-loop-less Inv-loop μ-loop
-loop-less c = search needs
 
 loop-again : tie.Need-loop-again Inv-loop μ-loop
 loop-again c =
@@ -123,21 +102,21 @@ free-directions-spec =
     (tie.spec
     Inv-loop
     μ-loop
-    less-requires
-    slice-aggregate-remainders
+    (λ c κs. search needs)
+    (λ c. search needs)
     remainders-requires
     loop-holds
     slice-aggregate-take-longest
     take-longest-requires
-    enum-told
-    enum-told-2
+    (λ c. search needs)
+    (λ c. search needs)
     same-length
     returns
-    enum-known-e
+    (λ c. search needs)
     same-length-2
     returns-2
-    add-count
-    loop-less
+    (λ c. search needs)
+    (λ c. search needs)
     loop-again
     same-length-3
     returns-3)

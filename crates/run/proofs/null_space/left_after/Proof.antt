@@ -19,22 +19,10 @@ loop-holds : tie.Need-loop-holds Inv-loop μ-loop
 unfolding leftAfter
 loop-holds c = search needs
 
-part-off-requires : tie.Need-part-off-requires Inv-loop μ-loop
-part-off-requires c κs = search needs
-
-add-t : tie.Need-add-t Inv-loop μ-loop
-add-t c = search needs
-
-loop-less : tie.Need-loop-less Inv-loop μ-loop
-loop-less c = search needs
-
 loop-again : tie.Need-loop-again Inv-loop μ-loop
 loop-again c =
     let l = c .before .before .before .before .before .loop in
     (search needs, search needs, c .before .before .part-off .ensures ∙ after-turn _ _ _ _ (l .t) (l .inv .2))
-
-same-length : tie.Need-same-length Inv-loop μ-loop
-same-length c = search needs
 
 returns : tie.Need-returns Inv-loop μ-loop
 returns c = rw (le-antisymm (c .before .loop .inv .0) (c .loop-test .left)) at (c .before .loop .inv .2)
@@ -46,9 +34,9 @@ left-after-spec =
     Inv-loop
     μ-loop
     loop-holds
-    part-off-requires
-    add-t
-    loop-less
+    (λ c κs. search needs)
+    (λ c. search needs)
+    (λ c. search needs)
     loop-again
-    same-length
+    (λ c. search needs)
     returns)

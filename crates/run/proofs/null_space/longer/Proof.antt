@@ -3,9 +3,6 @@ use borrow.Author.Needs.{needs}
 use Rattle.run.proofs.null_space.longer.Statement.{statement}
 use Rattle.run.proofs.null_space.longer.Tie as tie
 
-definitely-greater-requires : tie.Need-definitely-greater-requires
-definitely-greater-requires c κs = search needs
-
 returns : tie.Need-returns
 returns c = rw (← c .before .definitely-greater .ensures, c .if1 .taken)
 
@@ -13,4 +10,4 @@ returns-2 : tie.Need-returns-2
 returns-2 c = rw (← c .before .definitely-greater .ensures, c .if1 .left)
 
 pub longer-spec : {M : Type 1} → statement M
-longer-spec = tie.close (tie.spec definitely-greater-requires returns returns-2)
+longer-spec = tie.close (tie.spec (λ c κs. search needs) returns returns-2)

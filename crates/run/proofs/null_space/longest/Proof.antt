@@ -15,24 +15,9 @@ Inv-loop k left best₀ p₀ best p = (1 ≤ p) × (p ≤ 1 + (k - 1)) × (best 
 abbrev μ-loop : tie.MeasureT-loop
 μ-loop k left best₀ p₀ best p = k - p
 
-square-requires : tie.Need-square-requires Inv-loop μ-loop
-square-requires c κs = search needs
-
 loop-holds : tie.Need-loop-holds Inv-loop μ-loop
 unfolding longestTo
 loop-holds c = (omega arith, omega arith, rw (c .square .ensures))
-
-square-requires-2 : tie.Need-square-requires-2 Inv-loop μ-loop
-square-requires-2 c κs = search needs
-
-longer-requires : tie.Need-longer-requires Inv-loop μ-loop
-longer-requires c κs = search needs
-
-add-p : tie.Need-add-p Inv-loop μ-loop
-add-p c = search needs
-
-loop-less : tie.Need-loop-less Inv-loop μ-loop
-loop-less c = search needs
 
 loop-again : tie.Need-loop-again Inv-loop μ-loop
 loop-again c =
@@ -55,11 +40,11 @@ longest-spec =
     (tie.spec
     Inv-loop
     μ-loop
-    square-requires
+    (λ c κs. search needs)
     loop-holds
-    square-requires-2
-    longer-requires
-    add-p
-    loop-less
+    (λ c κs. search needs)
+    (λ c κs. search needs)
+    (λ c. search needs)
+    (λ c. search needs)
     loop-again
     returns)

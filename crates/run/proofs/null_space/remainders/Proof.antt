@@ -23,17 +23,11 @@ loop-holds : tie.Need-loop-holds Inv-loop μ-loop
 unfolding remaindersTo
 loop-holds c = (search needs, search needs, c .before .before .pre .1 .1)
 
-mul-p : tie.Need-mul-p Inv-loop μ-loop
-mul-p c = search needs
-
 mul-put : tie.Need-mul-put Inv-loop μ-loop
 mul-put c = omega (arith, c .before .before .before .before .before .pre .0, c .before .loop-test .taken)
 
 add-put : tie.Need-add-put Inv-loop μ-loop
 add-put c = omega (arith, c .before .before .before .before .before .pre .0, c .before .loop-test .taken)
-
-put-requires : tie.Need-put-requires Inv-loop μ-loop
-put-requires c κs = search needs
 
 add-put-2 : tie.Need-add-put-2 Inv-loop μ-loop
 add-put-2 c = omega (
@@ -63,9 +57,6 @@ add-put-4 c = omega (
   c .before .before .before .before .before .loop-test .taken,
 )
 
-put-requires-2 : tie.Need-put-requires-2 Inv-loop μ-loop
-put-requires-2 c κs = search needs
-
 two-left-after-requires : tie.Need-two-left-after-requires Inv-loop μ-loop
 two-left-after-requires c κs = let h = c .before .before .before .before .before .before .before .before .before
     .before .before .before .before .pre in (
@@ -80,12 +71,6 @@ two-left-after-requires c κs = let h = c .before .before .before .before .befor
         ),
       ),
     )
-
-add-h : tie.Need-add-h Inv-loop μ-loop
-add-h c = search needs
-
-loop-less : tie.Need-loop-less Inv-loop μ-loop
-loop-less c = search needs
 
 loop-again : tie.Need-loop-again Inv-loop μ-loop
 unfolding ofBits
@@ -102,12 +87,6 @@ loop-again c =
           (c .before .before .two-left-after .ensures),
     )
 
-mul-if1 : tie.Need-mul-if1 Inv-loop μ-loop
-mul-if1 c = search needs
-
-same-length : tie.Need-same-length Inv-loop μ-loop
-same-length c = search needs
-
 returns : tie.Need-returns Inv-loop μ-loop
 returns c =
     let l = c .before .before .loop in
@@ -115,25 +94,16 @@ returns c =
     (arith, l .inv .0, c .before .loop-test .left, c .if1 .taken) in
     rw e at (l .inv .2)
 
-mul-p-2 : tie.Need-mul-p-2 Inv-loop μ-loop
-mul-p-2 c = search needs
-
 mul-put-3 : tie.Need-mul-put-3 Inv-loop μ-loop
 mul-put-3 c = omega (arith, c .before .before .before .before .before .before .pre .0)
 
 add-put-5 : tie.Need-add-put-5 Inv-loop μ-loop
 add-put-5 c = omega (arith, c .before .before .before .before .before .before .pre .0)
 
-put-requires-3 : tie.Need-put-requires-3 Inv-loop μ-loop
-put-requires-3 c κs = search needs
-
 left-after-requires : tie.Need-left-after-requires Inv-loop μ-loop
 left-after-requires c κs =
     let h = c .before .before .before .before .before .before .before .before .before .before .pre in
     (h .0, (h .1 .0, omega (arith, h .0, c .before .before .before .before .before .if1 .left)))
-
-same-length-2 : tie.Need-same-length-2 Inv-loop μ-loop
-same-length-2 c = search needs
 
 returns-2 : tie.Need-returns-2 Inv-loop μ-loop
 unfolding ofBits
@@ -155,26 +125,26 @@ remainders-spec =
     Inv-loop
     μ-loop
     loop-holds
-    mul-p
+    (λ c. search needs)
     mul-put
     add-put
-    put-requires
+    (λ c κs. search needs)
     add-put-2
     mul-put-2
     add-put-3
     add-put-4
-    put-requires-2
+    (λ c κs. search needs)
     two-left-after-requires
-    add-h
-    loop-less
+    (λ c. search needs)
+    (λ c. search needs)
     loop-again
-    mul-if1
-    same-length
+    (λ c. search needs)
+    (λ c. search needs)
     returns
-    mul-p-2
+    (λ c. search needs)
     mul-put-3
     add-put-5
-    put-requires-3
+    (λ c κs. search needs)
     left-after-requires
-    same-length-2
+    (λ c. search needs)
     returns-2)

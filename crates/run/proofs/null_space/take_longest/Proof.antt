@@ -24,26 +24,8 @@ near k =
       longest-low (s .args .k) (s .args .left .now) (s .args .k - 1),
     )
 
-longest-requires : tie.Need-longest-requires
-longest-requires c κs = search needs
-
-sqrt-requires : tie.Need-sqrt-requires
-sqrt-requires c κs = search needs
-
-enum-known-l : tie.Need-enum-known-l
-enum-known-l c = search needs
-
-sharpen-requires : tie.Need-sharpen-requires
-sharpen-requires c κs = search needs
-
-definitely-greater-requires : tie.Need-definitely-greater-requires
-definitely-greater-requires c κs = search needs
-
 mul-unit : tie.Need-mul-unit
 mul-unit c = omega (arith, near (c .before .before .before .before .before .before .before .before .before))
-
-mul-unit-2 : tie.Need-mul-unit-2
-mul-unit-2 c = search needs
 
 unit-requires : tie.Need-unit-requires
 unit-requires c κs = (
@@ -61,15 +43,6 @@ unit-requires c κs = (
     ),
   ),
 )
-
-add-if2 : tie.Need-add-if2
-add-if2 c = search needs
-
-same-length : tie.Need-same-length
-same-length c = search needs
-
-same-length-2 : tie.Need-same-length-2
-same-length-2 c = search needs
 
 returns : tie.Need-returns
 unfolding ofBits
@@ -89,15 +62,6 @@ returns c =
     (c .before .before .before .before .before .before .before .before .definitely-greater .ensures)
     (c .before .before .before .before .before .before .before .if1 .taken)
     (c .before .before .before .unit .ensures) _ (omega (arith, c .if2 .taken))
-
-without-requires : tie.Need-without-requires
-without-requires c κs = search needs
-
-same-length-3 : tie.Need-same-length-3
-same-length-3 c = search needs
-
-same-length-4 : tie.Need-same-length-4
-same-length-4 c = search needs
 
 returns-2 : tie.Need-returns-2
 unfolding ofBits
@@ -123,9 +87,6 @@ returns-2 c =
     .taken) (c .before .before .before .before .before .before .before .before .unit .ensures)
     (c .before .before .without .ensures)
 
-same-length-5 : tie.Need-same-length-5
-same-length-5 c = search needs
-
 returns-3 : tie.Need-returns-3
 unfolding ofBits
 returns-3 c =
@@ -138,12 +99,6 @@ returns-3 c =
     (longest-place _ _ _ b) (longest-root _ _ _ b r) (c .before .before .sharpen .ensures)
     (c .before .definitely-greater .ensures) (c .if1 .left)
 
-enum-known-e : tie.Need-enum-known-e
-enum-known-e c = search needs
-
-same-length-6 : tie.Need-same-length-6
-same-length-6 c = search needs
-
 returns-4 : tie.Need-returns-4
 returns-4 c =
     let b = c .before .before .before .before .longest .ensures in
@@ -155,24 +110,24 @@ pub take-longest-spec : {M : Type 1} → statement M
 take-longest-spec =
     tie.close
     (tie.spec
-    longest-requires
-    sqrt-requires
-    enum-known-l
-    sharpen-requires
-    definitely-greater-requires
+    (λ c κs. search needs)
+    (λ c κs. search needs)
+    (λ c. search needs)
+    (λ c κs. search needs)
+    (λ c κs. search needs)
     mul-unit
-    mul-unit-2
+    (λ c. search needs)
     unit-requires
-    add-if2
-    same-length
-    same-length-2
+    (λ c. search needs)
+    (λ c. search needs)
+    (λ c. search needs)
     returns
-    without-requires
-    same-length-3
-    same-length-4
+    (λ c κs. search needs)
+    (λ c. search needs)
+    (λ c. search needs)
     returns-2
-    same-length-5
+    (λ c. search needs)
     returns-3
-    enum-known-e
-    same-length-6
+    (λ c. search needs)
+    (λ c. search needs)
     returns-4)

@@ -20,15 +20,6 @@ loop-holds : tie.Need-loop-holds Inv-loop μ-loop
 unfolding leftAfter
 loop-holds c = search needs
 
-two-parts-off-requires : tie.Need-two-parts-off-requires Inv-loop μ-loop
-two-parts-off-requires c κs = search needs
-
-add-t : tie.Need-add-t Inv-loop μ-loop
-add-t c = search needs
-
-loop-less : tie.Need-loop-less Inv-loop μ-loop
-loop-less c = search needs
-
 loop-again : tie.Need-loop-again Inv-loop μ-loop
 loop-again c =
     let l = c .before .before .before .before .before .loop in (
@@ -37,9 +28,6 @@ loop-again c =
       two-after _ _ _ _ (l .t) (c .before .before .before .before .before .before .before
           .before .pre .0) (l .inv .2) (c .before .before .two-parts-off .ensures),
     )
-
-same-length : tie.Need-same-length Inv-loop μ-loop
-same-length c = search needs
 
 returns : tie.Need-returns Inv-loop μ-loop
 returns c = rw (le-antisymm (c .before .loop .inv .0) (c .loop-test .left)) at (c .before .loop .inv .2)
@@ -51,9 +39,9 @@ two-left-after-spec =
     Inv-loop
     μ-loop
     loop-holds
-    two-parts-off-requires
-    add-t
-    loop-less
+    (λ c κs. search needs)
+    (λ c. search needs)
+    (λ c. search needs)
     loop-again
-    same-length
+    (λ c. search needs)
     returns)

@@ -22,30 +22,15 @@ loop-holds : tie.Need-loop-holds Inv-loop μ-loop
 unfolding withoutTo
 loop-holds c = search needs
 
-mul-two-parts-off : tie.Need-mul-two-parts-off Inv-loop μ-loop
-mul-two-parts-off c = search needs
-
 two-parts-off-requires : tie.Need-two-parts-off-requires Inv-loop μ-loop
 two-parts-off-requires c κs =
     let h = c .before .before .before .before .before .pre in
     (h .0, (h .1, omega (arith, h .0, c .before .loop-test .taken)))
 
-add-h : tie.Need-add-h Inv-loop μ-loop
-add-h c = search needs
-
-loop-less : tie.Need-loop-less Inv-loop μ-loop
-loop-less c = search needs
-
 loop-again : tie.Need-loop-again Inv-loop μ-loop
 loop-again c =
     let l = c .before .before .before .before .before .loop in
     (search needs, search needs, without-two _ _ _ _ (l .h) (l .inv .2) (c .before .before .two-parts-off .ensures))
-
-mul-if1 : tie.Need-mul-if1 Inv-loop μ-loop
-mul-if1 c = search needs
-
-same-length : tie.Need-same-length Inv-loop μ-loop
-same-length c = search needs
 
 returns : tie.Need-returns Inv-loop μ-loop
 returns c =
@@ -54,16 +39,10 @@ returns c =
     (arith, l .inv .0, c .before .loop-test .left, c .if1 .taken) in
     rw e at (l .inv .2)
 
-mul-part-off : tie.Need-mul-part-off Inv-loop μ-loop
-mul-part-off c = search needs
-
 part-off-requires : tie.Need-part-off-requires Inv-loop μ-loop
 part-off-requires c κs =
     let h = c .before .before .before .before .before .before .pre in
     (h .0, (h .1, omega (arith, h .0, c .before .if1 .left)))
-
-same-length-2 : tie.Need-same-length-2 Inv-loop μ-loop
-same-length-2 c = search needs
 
 returns-2 : tie.Need-returns-2 Inv-loop μ-loop
 returns-2 c =
@@ -81,15 +60,15 @@ without-spec =
     Inv-loop
     μ-loop
     loop-holds
-    mul-two-parts-off
+    (λ c. search needs)
     two-parts-off-requires
-    add-h
-    loop-less
+    (λ c. search needs)
+    (λ c. search needs)
     loop-again
-    mul-if1
-    same-length
+    (λ c. search needs)
+    (λ c. search needs)
     returns
-    mul-part-off
+    (λ c. search needs)
     part-off-requires
-    same-length-2
+    (λ c. search needs)
     returns-2)

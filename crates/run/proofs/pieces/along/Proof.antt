@@ -10,18 +10,6 @@ use borrow.Author.Needs.{needs}
 use Rattle.run.proofs.pieces.along.Statement.{statement}
 use Rattle.run.proofs.pieces.along.Tie as tie
 
-sized-requires : tie.Need-sized-requires
-sized-requires c κs = search needs
-
-wants-requires : tie.Need-wants-requires
-wants-requires c κs = search needs
-
-enum-told : tie.Need-enum-told
-enum-told c = search needs
-
-enum-told-2 : tie.Need-enum-told-2
-enum-told-2 c = search needs
-
 returns : tie.Need-returns
 unfolding alongReply
 returns c =
@@ -55,12 +43,6 @@ along-constraints-requires c κs =
       values = c .before .if1 .left;
     }
 
-cleared-requires : tie.Need-cleared-requires
-cleared-requires c κs = search needs
-
-same-length : tie.Need-same-length
-same-length c = search needs
-
 returns-3 : tie.Need-returns-3
 unfolding alongReply
 returns-3 c =
@@ -82,14 +64,14 @@ pub along-spec : {M : Type 1} → statement M
 along-spec =
     tie.close
     (tie.spec
-    sized-requires
-    wants-requires
-    enum-told
-    enum-told-2
+    (λ c κs. search needs)
+    (λ c κs. search needs)
+    (λ c. search needs)
+    (λ c. search needs)
     returns
     mul-if1
     returns-2
     along-constraints-requires
-    cleared-requires
-    same-length
+    (λ c κs. search needs)
+    (λ c. search needs)
     returns-3)

@@ -16,15 +16,6 @@ returns-2 : tie.Need-returns-2
 unfolding cutReply
 returns-2 c = rw (le-leb _ _ (c .before .if1 .left), ne-eqb _ _ (c .if2 .taken))
 
-cut-within-requires : tie.Need-cut-within-requires
-cut-within-requires c κs = search needs
-
-cleared-requires : tie.Need-cleared-requires
-cleared-requires c κs = search needs
-
-same-length : tie.Need-same-length
-same-length c = search needs
-
 returns-3 : tie.Need-returns-3
 unfolding cutReply
 returns-3 c =
@@ -39,4 +30,5 @@ returns-3 c =
     ) (rw size at (c .before .before .cleared .ensures))
 
 pub cut-spec : {M : Type 1} → statement M
-cut-spec = tie.close (tie.spec returns returns-2 cut-within-requires cleared-requires same-length returns-3)
+cut-spec = tie.close (tie.spec returns returns-2 (λ c κs. search needs) (λ c κs. search needs) (λ c. search needs)
+    returns-3)

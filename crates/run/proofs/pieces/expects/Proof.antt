@@ -5,18 +5,9 @@ use borrow.Author.Needs.{needs}
 use Rattle.run.proofs.pieces.expects.Statement.{statement}
 use Rattle.run.proofs.pieces.expects.Tie as tie
 
-fits-requires : tie.Need-fits-requires
-fits-requires c κs = search needs
-
-enum-known-e : tie.Need-enum-known-e
-enum-known-e c = search needs
-
 returns : tie.Need-returns
 unfolding expectsReply
 returns c = rw (← c .before .before .before .fits2 .ensures, c .before .e .given .1)
-
-enum-told : tie.Need-enum-told
-enum-told c = search needs
 
 expects-requires : tie.Need-expects-requires
 expects-requires c κs =
@@ -27,4 +18,5 @@ unfolding expectsReply
 returns-2 c = rw (← c .before .before .before .fits2 .ensures, c .before .enum-told .given .1) (c .expects .ensures)
 
 pub expects-spec : {M : Type 1} → statement M
-expects-spec = tie.close (tie.spec fits-requires enum-known-e returns enum-told expects-requires returns-2)
+expects-spec = tie.close (tie.spec (λ c κs. search needs) (λ c. search needs) returns (λ c. search needs)
+    expects-requires returns-2)

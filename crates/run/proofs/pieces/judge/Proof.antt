@@ -11,15 +11,6 @@ returns : tie.Need-returns
 unfolding judgeReply
 returns c = rw (lt-leb _ _ (c .if1 .taken))
 
-fits-requires : tie.Need-fits-requires
-fits-requires c κs = search needs
-
-wants-requires : tie.Need-wants-requires
-wants-requires c κs = search needs
-
-enum-known-e : tie.Need-enum-known-e
-enum-known-e c = search needs
-
 returns-2 : tie.Need-returns-2
 unfolding judgeReply
 returns-2 c =
@@ -29,9 +20,6 @@ returns-2 c =
       ← c .before .before .before .wants .ensures,
       c .before .e .given .1,
     )
-
-enum-told : tie.Need-enum-told
-enum-told c = search needs
 
 violation-requires : tie.Need-violation-requires
 violation-requires c κs =
@@ -66,11 +54,11 @@ judge-spec =
     tie.close
     (tie.spec
     returns
-    fits-requires
-    wants-requires
-    enum-known-e
+    (λ c κs. search needs)
+    (λ c κs. search needs)
+    (λ c. search needs)
     returns-2
-    enum-told
+    (λ c. search needs)
     violation-requires
     judge-requires
     returns-3)

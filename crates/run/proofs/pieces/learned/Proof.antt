@@ -15,13 +15,10 @@ returns-2 : tie.Need-returns-2
 unfolding learnedReply
 returns-2 c = rw (le-leb _ _ (c .before .if1 .left), ne-eqb _ _ (c .if2 .taken))
 
-learned-requires : tie.Need-learned-requires
-learned-requires c κs = search needs
-
 returns-3 : tie.Need-returns-3
 unfolding learnedReply
 returns-3 c =
     rw (le-leb _ _ (c .before .before .if1 .left), eq-eqb _ _ (c .before .if2 .left)) (ap ok (c .learned .ensures))
 
 pub learned-spec : {M : Type 1} → statement M
-learned-spec = tie.close (tie.spec returns returns-2 learned-requires returns-3)
+learned-spec = tie.close (tie.spec returns returns-2 (λ c κs. search needs) returns-3)

@@ -16,18 +16,6 @@ Inv-loop xs marks₀ fit found j₀ marks j = (j ≤ 12) × (length marks ≡ le
 abbrev μ-loop : tie.MeasureT-loop
 μ-loop xs marks₀ fit found j₀ marks j = 12 - j
 
-sized-requires : tie.Need-sized-requires Inv-loop μ-loop
-sized-requires c κs = search needs
-
-wants-requires : tie.Need-wants-requires Inv-loop μ-loop
-wants-requires c κs = search needs
-
-enum-told : tie.Need-enum-told Inv-loop μ-loop
-enum-told c = search needs
-
-enum-told-2 : tie.Need-enum-told-2 Inv-loop μ-loop
-enum-told-2 c = search needs
-
 returns : tie.Need-returns Inv-loop μ-loop
 unfolding movingReply
 returns c =
@@ -47,20 +35,11 @@ loop-holds c = (
       (c .before .before .before .before .before .before .before .args .marks .now),
 )
 
-array-read-marks : tie.Need-array-read-marks Inv-loop μ-loop
-array-read-marks c = search needs
-
 slice-write-marks : tie.Need-slice-write-marks Inv-loop μ-loop
 slice-write-marks c =
     let p = wants-passed _ _ _ (finished (c .before .before .before .enum-told .given .1))
     (c .before .before .before .before .before .wants .ensures) in
     omega (arith, p .1, c .before .loop .inv .1, c .loop-test .taken)
-
-add-j : tie.Need-add-j Inv-loop μ-loop
-add-j c = search needs
-
-loop-less : tie.Need-loop-less Inv-loop μ-loop
-loop-less c = search needs
 
 loop-again : tie.Need-loop-again Inv-loop μ-loop
 loop-again c =
@@ -71,9 +50,6 @@ loop-again c =
       copied-more (c .before .before .moving .result) (c .before .loop .marks)
           (omega (arith, p .1, c .before .loop .inv .1, c .loop-test .taken)) (c .before .loop .inv .2),
     )
-
-same-length : tie.Need-same-length Inv-loop μ-loop
-same-length c = search needs
 
 returns-2 : tie.Need-returns-2 Inv-loop μ-loop
 unfolding movingReply
@@ -98,17 +74,17 @@ moving-spec =
     (tie.spec
     Inv-loop
     μ-loop
-    sized-requires
-    wants-requires
-    enum-told
-    enum-told-2
+    (λ c κs. search needs)
+    (λ c κs. search needs)
+    (λ c. search needs)
+    (λ c. search needs)
     returns
     moving-requires
     loop-holds
-    array-read-marks
+    (λ c. search needs)
     slice-write-marks
-    add-j
-    loop-less
+    (λ c. search needs)
+    (λ c. search needs)
     loop-again
-    same-length
+    (λ c. search needs)
     returns-2)

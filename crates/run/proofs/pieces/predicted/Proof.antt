@@ -6,15 +6,6 @@ use borrow.Author.Needs.{needs}
 use Rattle.run.proofs.pieces.predicted.Statement.{statement}
 use Rattle.run.proofs.pieces.predicted.Tie as tie
 
-sized-requires : tie.Need-sized-requires
-sized-requires c κs = search needs
-
-wants-requires : tie.Need-wants-requires
-wants-requires c κs = search needs
-
-enum-known-e : tie.Need-enum-known-e
-enum-known-e c = search needs
-
 returns : tie.Need-returns
 unfolding predictedReply
 returns c =
@@ -23,9 +14,6 @@ returns c =
       ← c .before .before .before .wants .ensures,
       c .before .e .given .1,
     )
-
-enum-told : tie.Need-enum-told
-enum-told c = search needs
 
 predicted-requires : tie.Need-predicted-requires
 predicted-requires c κs =
@@ -44,4 +32,5 @@ returns-2 c =
 
 pub predicted-spec : {M : Type 1} → statement M
 predicted-spec =
-    tie.close (tie.spec sized-requires wants-requires enum-known-e returns enum-told predicted-requires returns-2)
+    tie.close (tie.spec (λ c κs. search needs) (λ c κs. search needs) (λ c. search needs) returns (λ c. search needs)
+    predicted-requires returns-2)

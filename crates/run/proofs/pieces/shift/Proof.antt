@@ -8,15 +8,6 @@ use borrow.Author.Needs.{needs}
 use Rattle.run.proofs.pieces.shift.Statement.{statement}
 use Rattle.run.proofs.pieces.shift.Tie as tie
 
-fits-requires : tie.Need-fits-requires
-fits-requires c κs = search needs
-
-enum-told : tie.Need-enum-told
-enum-told c = search needs
-
-enum-told-2 : tie.Need-enum-told-2
-enum-told-2 c = search needs
-
 returns : tie.Need-returns
 unfolding shiftReply
 returns c = rw (← c .before .before .fits2 .ensures, c .enum-told2 .given .1)
@@ -26,12 +17,6 @@ shift-requires c κs =
     let p = fits-passed (finished (c .before .enum-told .given .1)) (c .before .before .before .fits2 .ensures) in
     let z = p .sized .counts in
     (record { few = z; marks = p .first }, p .second)
-
-cleared-requires : tie.Need-cleared-requires
-cleared-requires c κs = search needs
-
-same-length : tie.Need-same-length
-same-length c = search needs
 
 returns-2 : tie.Need-returns-2
 unfolding shiftReply
@@ -52,11 +37,11 @@ pub shift-spec : {M : Type 1} → statement M
 shift-spec =
     tie.close
     (tie.spec
-    fits-requires
-    enum-told
-    enum-told-2
+    (λ c κs. search needs)
+    (λ c. search needs)
+    (λ c. search needs)
     returns
     shift-requires
-    cleared-requires
-    same-length
+    (λ c κs. search needs)
+    (λ c. search needs)
     returns-2)

@@ -20,9 +20,6 @@ sizes c = record { n = c .n; m = c .m; s = c .s; limit = 0 }
 passed : (c : RowCounts) {b : Bool} → b ≡ sizesFit (sizes c) → not b ≡ false → SizeBounds (sizes c)
 passed c e h = size-bounds (sizes c) (sym e ∙ not-false _ h)
 
-sizes-fit-requires : tie.Need-sizes-fit-requires
-sizes-fit-requires c κs = search needs
-
 returns : tie.Need-returns
 returns c =
     let a = c .before .before .args in
@@ -70,7 +67,7 @@ pub sized-spec : {M : Type 1} → statement M
 sized-spec =
     tie.close
     (tie.spec
-    sizes-fit-requires
+    (λ c κs. search needs)
     returns
     add-if2
     add-if2-2

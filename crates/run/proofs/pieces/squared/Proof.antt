@@ -10,15 +10,6 @@ use borrow.Author.Needs.{needs}
 use Rattle.run.proofs.pieces.squared.Statement.{statement}
 use Rattle.run.proofs.pieces.squared.Tie as tie
 
-variables-read-requires : tie.Need-variables-read-requires
-variables-read-requires c κs = search needs
-
-fits-requires : tie.Need-fits-requires
-fits-requires c κs = search needs
-
-enum-known-e : tie.Need-enum-known-e
-enum-known-e c = search needs
-
 returns : tie.Need-returns
 unfolding squaredReply
 returns c =
@@ -27,9 +18,6 @@ returns c =
       ← c .before .before .before .fits2 .ensures,
       c .before .e .given .1,
     )
-
-enum-told : tie.Need-enum-told
-enum-told c = search needs
 
 sum-requires : tie.Need-sum-requires
 sum-requires c κs =
@@ -58,11 +46,11 @@ pub squared-spec : {M : Type 1} → statement M
 squared-spec =
     tie.close
     (tie.spec
-    variables-read-requires
-    fits-requires
-    enum-known-e
+    (λ c κs. search needs)
+    (λ c κs. search needs)
+    (λ c. search needs)
     returns
-    enum-told
+    (λ c. search needs)
     sum-requires
     squared-requires
     returns-2)

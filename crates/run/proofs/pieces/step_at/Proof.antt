@@ -9,18 +9,6 @@ use borrow.Author.Needs.{needs}
 use Rattle.run.proofs.pieces.step_at.Statement.{statement}
 use Rattle.run.proofs.pieces.step_at.Tie as tie
 
-fits-requires : tie.Need-fits-requires
-fits-requires c κs = search needs
-
-wants-requires : tie.Need-wants-requires
-wants-requires c κs = search needs
-
-wants-requires-2 : tie.Need-wants-requires-2
-wants-requires-2 c κs = search needs
-
-enum-known-e : tie.Need-enum-known-e
-enum-known-e c = search needs
-
 returns : tie.Need-returns
 unfolding stepReply
 returns c =
@@ -31,9 +19,6 @@ returns c =
       c .before .e .given .1,
     )
 
-enum-told : tie.Need-enum-told
-enum-told c = search needs
-
 step-requires : tie.Need-step-requires
 step-requires c κs =
     let p = wants-passed _ _ _ (finished (c .before .before .enum-told .given .1))
@@ -41,15 +26,6 @@ step-requires c κs =
     let q = wants-passed _ _ _ (p .0) (c .before .before .before .before .before .wants .ensures) in
     let r = fits-passed (q .0) (c .before .before .before .before .before .before .fits2 .ensures) in
     (r .sized .counts, r .second, record { delta-length = q .1; lambda-length = p .1 })
-
-enum-told-2 : tie.Need-enum-told-2
-enum-told-2 c = search needs
-
-same-length : tie.Need-same-length
-same-length c = search needs
-
-same-length-2 : tie.Need-same-length-2
-same-length-2 c = search needs
 
 returns-2 : tie.Need-returns-2
 unfolding stepReply
@@ -64,18 +40,6 @@ returns-2 c =
       ← k .ensures,
       c .enum-told2 .given .1,
     )
-
-clear-requires : tie.Need-clear-requires
-clear-requires c κs = search needs
-
-clear-requires-2 : tie.Need-clear-requires-2
-clear-requires-2 c κs = search needs
-
-same-length-3 : tie.Need-same-length-3
-same-length-3 c = search needs
-
-same-length-4 : tie.Need-same-length-4
-same-length-4 c = search needs
 
 returns-3 : tie.Need-returns-3
 unfolding stepReply
@@ -105,19 +69,19 @@ pub step-at-spec : {M : Type 1} → statement M
 step-at-spec =
     tie.close
     (tie.spec
-    fits-requires
-    wants-requires
-    wants-requires-2
-    enum-known-e
+    (λ c κs. search needs)
+    (λ c κs. search needs)
+    (λ c κs. search needs)
+    (λ c. search needs)
     returns
-    enum-told
+    (λ c. search needs)
     step-requires
-    enum-told-2
-    same-length
-    same-length-2
+    (λ c. search needs)
+    (λ c. search needs)
+    (λ c. search needs)
     returns-2
-    clear-requires
-    clear-requires-2
-    same-length-3
-    same-length-4
+    (λ c κs. search needs)
+    (λ c κs. search needs)
+    (λ c. search needs)
+    (λ c. search needs)
     returns-3)

@@ -23,21 +23,9 @@ Inv-loop c xs w out₀ fit n j₀ out j =
 abbrev μ-loop : tie.MeasureT-loop
 μ-loop c xs w out₀ fit n j₀ out j = n - j
 
-fits-requires : tie.Need-fits-requires Inv-loop μ-loop
-fits-requires c κs = search needs
-
-enum-told : tie.Need-enum-told Inv-loop μ-loop
-enum-told c = search needs
-
-enum-told-2 : tie.Need-enum-told-2 Inv-loop μ-loop
-enum-told-2 c = search needs
-
 returns : tie.Need-returns Inv-loop μ-loop
 unfolding transposedReply
 returns c = rw (← c .before .before .fits2 .ensures, c .enum-told2 .given .1)
-
-clear-requires : tie.Need-clear-requires Inv-loop μ-loop
-clear-requires c κs = search needs
 
 loop-holds : tie.Need-loop-holds Inv-loop μ-loop
 unfolding fillTo
@@ -61,15 +49,6 @@ transposed-at-requires c κs =
       omega (arith, z .counts .few-variables, c .before .before .loop-test .taken),
     )
 
-put-requires : tie.Need-put-requires Inv-loop μ-loop
-put-requires c κs = search needs
-
-add-j : tie.Need-add-j Inv-loop μ-loop
-add-j c = search needs
-
-loop-less : tie.Need-loop-less Inv-loop μ-loop
-loop-less c = search needs
-
 loop-again : tie.Need-loop-again Inv-loop μ-loop
 loop-again c =
     let l = c .before .before .before .before .before .before .before .loop in
@@ -82,9 +61,6 @@ loop-again c =
           ∙ ap (λ e. transposedAt (rowsIn (a .xs .now) e) (a .w .now) (l .j))
           (c .before .before .before .before .sum .ensures)),
     )
-
-same-length : tie.Need-same-length Inv-loop μ-loop
-same-length c = search needs
 
 returns-2 : tie.Need-returns-2 Inv-loop μ-loop
 unfolding transposedReply
@@ -102,17 +78,17 @@ transposed-spec =
     (tie.spec
     Inv-loop
     μ-loop
-    fits-requires
-    enum-told
-    enum-told-2
+    (λ c κs. search needs)
+    (λ c. search needs)
+    (λ c. search needs)
     returns
-    clear-requires
+    (λ c κs. search needs)
     loop-holds
     sum-requires
     transposed-at-requires
-    put-requires
-    add-j
-    loop-less
+    (λ c κs. search needs)
+    (λ c. search needs)
+    (λ c. search needs)
     loop-again
-    same-length
+    (λ c. search needs)
     returns-2)

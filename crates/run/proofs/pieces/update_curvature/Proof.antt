@@ -8,21 +8,6 @@ use borrow.Author.Needs.{needs}
 use Rattle.run.proofs.pieces.update_curvature.Statement.{statement}
 use Rattle.run.proofs.pieces.update_curvature.Tie as tie
 
-fits-requires : tie.Need-fits-requires
-fits-requires c κs = search needs
-
-wants-requires : tie.Need-wants-requires
-wants-requires c κs = search needs
-
-wants-requires-2 : tie.Need-wants-requires-2
-wants-requires-2 c κs = search needs
-
-enum-told : tie.Need-enum-told
-enum-told c = search needs
-
-enum-told-2 : tie.Need-enum-told-2
-enum-told-2 c = search needs
-
 returns : tie.Need-returns
 unfolding updateReply
 returns c =
@@ -40,12 +25,6 @@ update-curvature-requires c κs =
     let q = wants-passed _ _ _ (p .0) (c .before .before .before .before .wants .ensures) in
     let z = fits-passed (q .0) (c .before .before .before .before .before .fits2 .ensures) .sized in
     (z .counts, omega (arith, q .1, z .counts .few-variables))
-
-cleared-requires : tie.Need-cleared-requires
-cleared-requires c κs = search needs
-
-same-length : tie.Need-same-length
-same-length c = search needs
 
 returns-2 : tie.Need-returns-2
 unfolding updateReply
@@ -75,13 +54,13 @@ pub update-curvature-spec : {M : Type 1} → statement M
 update-curvature-spec =
     tie.close
     (tie.spec
-    fits-requires
-    wants-requires
-    wants-requires-2
-    enum-told
-    enum-told-2
+    (λ c κs. search needs)
+    (λ c κs. search needs)
+    (λ c κs. search needs)
+    (λ c. search needs)
+    (λ c. search needs)
     returns
     update-curvature-requires
-    cleared-requires
-    same-length
+    (λ c κs. search needs)
+    (λ c. search needs)
     returns-2)

@@ -6,15 +6,9 @@ use Rattle.run.specs.Pieces.{wantsOf}
 use Rattle.run.proofs.pieces.wants.Statement.{statement}
 use Rattle.run.proofs.pieces.wants.Tie as tie
 
-enum-told : tie.Need-enum-told
-enum-told c = search needs
-
 returns : tie.Need-returns
 unfolding wantsOf bind
 returns c = rw (c .before .enum-told .given .1, ne-eqb _ _ (c .if1 .taken))
-
-enum-known-before : tie.Need-enum-known-before
-enum-known-before c = search needs
 
 returns-2 : tie.Need-returns-2
 unfolding wantsOf bind
@@ -25,4 +19,4 @@ unfolding wantsOf bind
 returns-3 c = rw (c .before .before2 .given .1)
 
 pub wants-spec : {M : Type 1} → statement M
-wants-spec = tie.close (tie.spec enum-told returns enum-known-before returns-2 returns-3)
+wants-spec = tie.close (tie.spec (λ c. search needs) returns (λ c. search needs) returns-2 returns-3)

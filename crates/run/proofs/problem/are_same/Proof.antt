@@ -5,12 +5,6 @@ use Rattle.run.proofs.Symmetry.{same-ends}
 use Rattle.run.proofs.problem.are_same.Statement.{statement}
 use Rattle.run.proofs.problem.are_same.Tie as tie
 
-is-same-requires : tie.Need-is-same-requires
-is-same-requires c κs = search needs
-
-is-same-requires-2 : tie.Need-is-same-requires-2
-is-same-requires-2 c κs = search needs
-
 returns : tie.Need-returns
 returns c = λ e.
     let a = c .before .before .before .args in
@@ -20,4 +14,4 @@ returns-2 : tie.Need-returns-2
 returns-2 c = λ e. never e
 
 pub are-same-spec : {M : Type 1} → statement M
-are-same-spec = tie.close (tie.spec is-same-requires is-same-requires-2 returns returns-2)
+are-same-spec = tie.close (tie.spec (λ c κs. search needs) (λ c κs. search needs) returns returns-2)

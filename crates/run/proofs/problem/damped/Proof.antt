@@ -24,22 +24,10 @@ loop-holds : tie.Need-loop-holds Inv-loop μ-loop
 unfolding fillRows
 loop-holds c = (search needs, search needs, c .before .before .pre .2)
 
-damped-row-requires : tie.Need-damped-row-requires Inv-loop μ-loop
-damped-row-requires c κs = search needs
-
-add-i : tie.Need-add-i Inv-loop μ-loop
-add-i c = search needs
-
-loop-less : tie.Need-loop-less Inv-loop μ-loop
-loop-less c = search needs
-
 loop-again : tie.Need-loop-again Inv-loop μ-loop
 loop-again c =
     let l = c .before .before .before .before .before .loop in
     (search needs, search needs, c .before .before .damped-row .ensures ∙ fill-rows-turn _ _ _ (l .i) (l .inv .2))
-
-same-length : tie.Need-same-length Inv-loop μ-loop
-same-length c = search needs
 
 returns : tie.Need-returns Inv-loop μ-loop
 returns c =
@@ -54,9 +42,9 @@ damped-spec =
     Inv-loop
     μ-loop
     loop-holds
-    damped-row-requires
-    add-i
-    loop-less
+    (λ c κs. search needs)
+    (λ c. search needs)
+    (λ c. search needs)
     loop-again
-    same-length
+    (λ c. search needs)
     returns)

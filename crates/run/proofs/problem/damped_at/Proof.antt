@@ -4,15 +4,6 @@ use borrow.Author.Needs.{needs}
 use Rattle.run.proofs.problem.damped_at.Statement.{statement}
 use Rattle.run.proofs.problem.damped_at.Tie as tie
 
-mul-requires : tie.Need-mul-requires
-mul-requires c κs = search needs
-
-add-requires : tie.Need-add-requires
-add-requires c κs = search needs
-
-choose-requires : tie.Need-choose-requires
-choose-requires c κs = search needs
-
 returns : tie.Need-returns
 returns c =
     damped-on _ _ _ _ _ (c .before .before .before .if1 .taken) (c .before .before .mul .ensures .value)
@@ -25,8 +16,8 @@ pub damped-at-spec : {M : Type 1} → statement M
 damped-at-spec =
     tie.close
     (tie.spec
-    mul-requires
-    add-requires
-    choose-requires
+    (λ c κs. search needs)
+    (λ c κs. search needs)
+    (λ c κs. search needs)
     returns
     returns-2)

@@ -24,9 +24,6 @@ Inv-loop xs e index k undamped₀ r p₀ undamped p =
 abbrev μ-loop : tie.MeasureT-loop
 μ-loop xs e index k undamped₀ r p₀ undamped p = k - p
 
-slice-aggregate-chosen-values : tie.Need-slice-aggregate-chosen-values Inv-loop μ-loop
-slice-aggregate-chosen-values c = search needs
-
 chosen-values-requires : tie.Need-chosen-values-requires Inv-loop μ-loop
 chosen-values-requires c κs = tt
 
@@ -34,34 +31,10 @@ loop-holds : tie.Need-loop-holds Inv-loop μ-loop
 unfolding fillTo
 loop-holds c = search needs
 
-add-put : tie.Need-add-put Inv-loop μ-loop
-add-put c = search needs
-
-slice-aggregate-transposed-at : tie.Need-slice-aggregate-transposed-at Inv-loop μ-loop
-slice-aggregate-transposed-at c = search needs
-
-mul-transposed-at : tie.Need-mul-transposed-at Inv-loop μ-loop
-mul-transposed-at c = search needs
-
-shared-slice-read-transposed-at : tie.Need-shared-slice-read-transposed-at Inv-loop μ-loop
-shared-slice-read-transposed-at c = search needs
-
 transposed-at-requires : tie.Need-transposed-at-requires Inv-loop μ-loop
 transposed-at-requires c κs =
     let s = c .before .before .before .before .before .before .before .before .before .before .before in
     (s .pre .0, s .pre .1 .near (c .before .before .before .before .loop .p))
-
-choose-requires : tie.Need-choose-requires Inv-loop μ-loop
-choose-requires c κs = search needs
-
-put-requires : tie.Need-put-requires Inv-loop μ-loop
-put-requires c κs = search needs
-
-add-p : tie.Need-add-p Inv-loop μ-loop
-add-p c = search needs
-
-loop-less : tie.Need-loop-less Inv-loop μ-loop
-loop-less c = search needs
 
 loop-again : tie.Need-loop-again Inv-loop μ-loop
 unfolding transposedAt
@@ -81,9 +54,6 @@ loop-again c =
           ∙ ap chooseOf (c .before .before .before .before .transposed-at .ensures)),
     )
 
-same-length : tie.Need-same-length Inv-loop μ-loop
-same-length c = search needs
-
 returns : tie.Need-returns Inv-loop μ-loop
 unfolding ofBits
 returns c =
@@ -96,18 +66,18 @@ gradient-spec =
     (tie.spec
     Inv-loop
     μ-loop
-    slice-aggregate-chosen-values
+    (λ c. search needs)
     chosen-values-requires
     loop-holds
-    add-put
-    slice-aggregate-transposed-at
-    mul-transposed-at
-    shared-slice-read-transposed-at
+    (λ c. search needs)
+    (λ c. search needs)
+    (λ c. search needs)
+    (λ c. search needs)
     transposed-at-requires
-    choose-requires
-    put-requires
-    add-p
-    loop-less
+    (λ c κs. search needs)
+    (λ c κs. search needs)
+    (λ c. search needs)
+    (λ c. search needs)
     loop-again
-    same-length
+    (λ c. search needs)
     returns)

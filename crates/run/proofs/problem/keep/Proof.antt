@@ -23,9 +23,6 @@ loop-holds : tie.Need-loop-holds Inv-loop μ-loop
 unfolding keptTo
 loop-holds c = (search needs, search needs, search needs, ap (keptBy 0) (c .before .before .pre .2))
 
-shared-slice-read-keep-next : tie.Need-shared-slice-read-keep-next Inv-loop μ-loop
-shared-slice-read-keep-next c = search needs
-
 keep-next-requires : tie.Need-keep-next-requires Inv-loop μ-loop
 keep-next-requires c κs =
     let s = c .before .before .before .before .before .before in
@@ -40,12 +37,6 @@ keep-next-requires c κs =
       ),
       omega (arith, c .before .before .loop-test .taken, c .before .before .before .loop .inv .1, s .pre .0),
     )
-
-add-i : tie.Need-add-i Inv-loop μ-loop
-add-i c = search needs
-
-loop-less : tie.Need-loop-less Inv-loop μ-loop
-loop-less c = search needs
 
 loop-again : tie.Need-loop-again Inv-loop μ-loop
 loop-again c =
@@ -62,9 +53,6 @@ loop-again c =
       keep-turn (a .moving .now) (l .i) (l .inv .3) (c .before .before .keep-next .ensures),
     )
 
-same-length : tie.Need-same-length Inv-loop μ-loop
-same-length c = search needs
-
 returns : tie.Need-returns Inv-loop μ-loop
 returns c = rw (le-antisymm (c .before .loop .inv .0) (c .loop-test .left)) at (c .before .loop .inv .3)
 
@@ -75,10 +63,10 @@ keep-spec =
     Inv-loop
     μ-loop
     loop-holds
-    shared-slice-read-keep-next
+    (λ c. search needs)
     keep-next-requires
-    add-i
-    loop-less
+    (λ c. search needs)
+    (λ c. search needs)
     loop-again
-    same-length
+    (λ c. search needs)
     returns)

@@ -3,18 +3,6 @@ use borrow.Author.Needs.{needs}
 use Rattle.run.proofs.problem.keep_next.Statement.{statement}
 use Rattle.run.proofs.problem.keep_next.Tie as tie
 
-mul-index : tie.Need-mul-index
-mul-index c = search needs
-
-slice-write-index : tie.Need-slice-write-index
-slice-write-index c = search needs
-
-add-result : tie.Need-add-result
-add-result c = search needs
-
-same-length : tie.Need-same-length
-same-length c = search needs
-
 returns : tie.Need-returns
 returns c = rw (c .if1 .taken)
 
@@ -23,4 +11,5 @@ returns-2 c = rw (c .if1 .left)
 
 pub keep-next-spec : {M : Type 1} → statement M
 keep-next-spec =
-    tie.close (tie.spec mul-index slice-write-index add-result same-length returns returns-2)
+    tie.close (tie.spec (λ c. search needs) (λ c. search needs) (λ c. search needs) (λ c. search needs) returns
+    returns-2)

@@ -3,12 +3,6 @@ use borrow.Author.Needs.{needs}
 use Rattle.run.proofs.problem.kept_slope.Statement.{statement}
 use Rattle.run.proofs.problem.kept_slope.Tie as tie
 
-slope-of-requires : tie.Need-slope-of-requires
-slope-of-requires c κs = search needs
-
-choose-requires : tie.Need-choose-requires
-choose-requires c κs = search needs
-
 returns : tie.Need-returns
 returns c = rw (c .before .if1 .taken, ← c .before .before .slope-of .ensures) (c .choose .ensures)
 
@@ -16,4 +10,4 @@ returns-2 : tie.Need-returns-2
 returns-2 c = rw (c .if1 .left) (c .before .slope-of .ensures)
 
 pub kept-slope-spec : {M : Type 1} → statement M
-kept-slope-spec = tie.close (tie.spec slope-of-requires choose-requires returns returns-2)
+kept-slope-spec = tie.close (tie.spec (λ c κs. search needs) (λ c κs. search needs) returns returns-2)

@@ -20,17 +20,11 @@ sum-requires : tie.Need-sum-requires
 sum-requires c κs =
     c .before .before .before .before .before .before .pre .0 .0
 
-constraints-requires : tie.Need-constraints-requires
-constraints-requires c κs = search needs
-
 slopes-requires : tie.Need-slopes-requires
 slopes-requires c κs =
     let p = c .before .before .before .before .before .before .before .before .before .before .pre .0 in
     let near = constraints-small (p .0) in
     (subst Small (sym (c .before .before .constraints .ensures)) near, p .1 .few, p .1 .long)
-
-slice-aggregate-squeeze : tie.Need-slice-aggregate-squeeze
-slice-aggregate-squeeze c = search needs
 
 squeeze-requires : tie.Need-squeeze-requires
 squeeze-requires c κs =
@@ -38,17 +32,11 @@ squeeze-requires c κs =
     .before .before .before .pre .0 .1 in
     (sum-near (c .before .before .before .before .before .before .before .before .before), p .few, p .long)
 
-slice-aggregate-fill-undamped : tie.Need-slice-aggregate-fill-undamped
-slice-aggregate-fill-undamped c = search needs
-
 fill-undamped-requires : tie.Need-fill-undamped-requires
 fill-undamped-requires c κs =
     let p = c .before .before .before .before .before .before .before .before .before .before .before .before .before
     .before .before .before .before .before .before .before .pre in
     (p .0 .1 .few, p .0 .1 .long, p .1 .2)
-
-slice-aggregate-scalings : tie.Need-slice-aggregate-scalings
-slice-aggregate-scalings c = search needs
 
 scalings-requires : tie.Need-scalings-requires
 scalings-requires c κs =
@@ -64,15 +52,6 @@ gradient-requires c κs = (
       .before .before .before .before .before .before .before .before .before .before .before .before .before .before
       .before .before .pre .0 .1,
 )
-
-same-length : tie.Need-same-length
-same-length c = search needs
-
-same-length-2 : tie.Need-same-length-2
-same-length-2 c = search needs
-
-same-length-3 : tie.Need-same-length-3
-same-length-3 c = search needs
 
 returns : tie.Need-returns
 unfolding ofBits
@@ -108,16 +87,16 @@ problem-spec =
     tie.close
     (tie.spec
     sum-requires
-    constraints-requires
+    (λ c κs. search needs)
     slopes-requires
-    slice-aggregate-squeeze
+    (λ c. search needs)
     squeeze-requires
-    slice-aggregate-fill-undamped
+    (λ c. search needs)
     fill-undamped-requires
-    slice-aggregate-scalings
+    (λ c. search needs)
     scalings-requires
     gradient-requires
-    same-length
-    same-length-2
-    same-length-3
+    (λ c. search needs)
+    (λ c. search needs)
+    (λ c. search needs)
     returns)

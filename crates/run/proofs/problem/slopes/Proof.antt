@@ -5,21 +5,6 @@ use Rattle.run.proofs.ProblemLaws.{squeezed-plain}
 use Rattle.run.proofs.problem.slopes.Statement.{statement}
 use Rattle.run.proofs.problem.slopes.Tie as tie
 
-squeeze-requires : tie.Need-squeeze-requires
-squeeze-requires c κs = search needs
-
-mul-chosen : tie.Need-mul-chosen
-mul-chosen c = search needs
-
-chosen-requires : tie.Need-chosen-requires
-chosen-requires c κs = search needs
-
-same-length : tie.Need-same-length
-same-length c = search needs
-
-same-length-2 : tie.Need-same-length-2
-same-length-2 c = search needs
-
 returns : tie.Need-returns
 returns c =
     let d = c .before .before in
@@ -29,9 +14,9 @@ pub slopes-spec : {M : Type 1} → statement M
 slopes-spec =
     tie.close
     (tie.spec
-    squeeze-requires
-    mul-chosen
-    chosen-requires
-    same-length
-    same-length-2
+    (λ c κs. search needs)
+    (λ c. search needs)
+    (λ c κs. search needs)
+    (λ c. search needs)
+    (λ c. search needs)
     returns)

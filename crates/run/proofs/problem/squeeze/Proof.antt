@@ -49,9 +49,6 @@ add-i c =
       c .before .before .before .before .before .before .before .before .before .pre .0 .few-rows,
     )
 
-loop-less : tie.Need-loop-less Inv-loop μ-loop
-loop-less c = search needs
-
 loop-again : tie.Need-loop-again Inv-loop μ-loop
 loop-again c =
     let a = c .before .before .before .before .before .before .before .before .before .args in
@@ -63,14 +60,12 @@ loop-again c =
       c .before .before .squeeze-row .ensures ∙ fill-rows-turn (a .to .now) f (a .k) (l .i) (l .inv .2),
     )
 
-same-length : tie.Need-same-length Inv-loop μ-loop
-same-length c = search needs
-
 returns : tie.Need-returns Inv-loop μ-loop
 unfolding squeezedAs
 returns c = rw (le-antisymm (c .before .loop .inv .0) (c .loop-test .left)) at (c .before .loop .inv .2)
 
 pub squeeze-spec : {M : Type 1} → statement M
 squeeze-spec =
-    tie.close (tie.spec Inv-loop μ-loop loop-holds mul-squeeze-row squeeze-row-requires add-i loop-less loop-again
-    same-length returns)
+    tie.close (tie.spec Inv-loop μ-loop loop-holds mul-squeeze-row squeeze-row-requires add-i (λ c. search needs)
+    loop-again
+    (λ c. search needs) returns)

@@ -24,28 +24,10 @@ loop-holds : tie.Need-loop-holds Inv-loop μ-loop
 unfolding fillTo
 loop-holds c = search needs
 
-add-put : tie.Need-add-put Inv-loop μ-loop
-add-put c = search needs
-
-mul-kept-slope : tie.Need-mul-kept-slope Inv-loop μ-loop
-mul-kept-slope c = search needs
-
-shared-slice-read-kept-slope : tie.Need-shared-slice-read-kept-slope Inv-loop μ-loop
-shared-slice-read-kept-slope c = search needs
-
 kept-slope-requires : tie.Need-kept-slope-requires Inv-loop μ-loop
 kept-slope-requires c κs =
     let p = c .before .before .before .before .before .before .before .pre in
     (p .0, p .1)
-
-put-requires : tie.Need-put-requires Inv-loop μ-loop
-put-requires c κs = search needs
-
-add-p : tie.Need-add-p Inv-loop μ-loop
-add-p c = search needs
-
-loop-less : tie.Need-loop-less Inv-loop μ-loop
-loop-less c = search needs
 
 loop-again : tie.Need-loop-again Inv-loop μ-loop
 loop-again c =
@@ -59,9 +41,6 @@ loop-again c =
           .kept-slope .ensures),
     )
 
-same-length : tie.Need-same-length Inv-loop μ-loop
-same-length c = search needs
-
 returns : tie.Need-returns Inv-loop μ-loop
 returns c = rw (le-antisymm (c .before .loop .inv .0) (c .loop-test .left)) at (c .before .loop .inv .2)
 
@@ -72,13 +51,13 @@ squeeze-row-spec =
     Inv-loop
     μ-loop
     loop-holds
-    add-put
-    mul-kept-slope
-    shared-slice-read-kept-slope
+    (λ c. search needs)
+    (λ c. search needs)
+    (λ c. search needs)
     kept-slope-requires
-    put-requires
-    add-p
-    loop-less
+    (λ c κs. search needs)
+    (λ c. search needs)
+    (λ c. search needs)
     loop-again
-    same-length
+    (λ c. search needs)
     returns)

@@ -10,9 +10,6 @@ plus-dot-requires c κs = tt
 returns : tie.Need-returns
 returns c = undamped-on _ _ _ _ _ (c .before .plus-dot .ensures) (c .if1 .taken)
 
-choose-requires : tie.Need-choose-requires
-choose-requires c κs = search needs
-
 returns-2 : tie.Need-returns-2
 returns-2 c = undamped-off _ _ _ _ _ (c .before .before .plus-dot .ensures) (c .before .if1 .left) (c .choose .ensures)
 
@@ -22,5 +19,5 @@ undamped-at-spec =
     (tie.spec
     plus-dot-requires
     returns
-    choose-requires
+    (λ c κs. search needs)
     returns-2)

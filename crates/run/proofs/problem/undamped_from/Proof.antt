@@ -7,18 +7,6 @@ use Rattle.run.proofs.Symmetry.{undamped-across}
 use Rattle.run.proofs.problem.undamped_from.Statement.{statement}
 use Rattle.run.proofs.problem.undamped_from.Tie as tie
 
-is-mirrored-requires : tie.Need-is-mirrored-requires
-is-mirrored-requires c κs = search needs
-
-mul-at : tie.Need-mul-at
-mul-at c = search needs
-
-add-at : tie.Need-add-at
-add-at c = search needs
-
-at-requires : tie.Need-at-requires
-at-requires c κs = search needs
-
 returns : tie.Need-returns
 returns c =
     let a = c .before .before .before .before .before .args in
@@ -29,9 +17,6 @@ returns c =
     ∙ ap (λ (z : Scalar). undampedAt (a .jr .now) (a .s) z (a .j) (a .i)) (sym (m .1))
     ∙ undamped-across (a .jr .now) (a .s) (a .b) (a .i) (a .j) (m .0)
 
-undamped-at-requires : tie.Need-undamped-at-requires
-undamped-at-requires c κs = search needs
-
 returns-2 : tie.Need-returns-2
 returns-2 c = c .undamped-at .ensures
 
@@ -39,10 +24,10 @@ pub undamped-from-spec : {M : Type 1} → statement M
 undamped-from-spec =
     tie.close
     (tie.spec
-    is-mirrored-requires
-    mul-at
-    add-at
-    at-requires
+    (λ c κs. search needs)
+    (λ c. search needs)
+    (λ c. search needs)
+    (λ c κs. search needs)
     returns
-    undamped-at-requires
+    (λ c κs. search needs)
     returns-2)

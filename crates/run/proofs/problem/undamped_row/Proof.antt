@@ -20,21 +20,9 @@ Inv-loop n index k jr s b h₀ i row j₀ h j =
 abbrev μ-loop : tie.MeasureT-loop
 μ-loop n index k jr s b h₀ i row j₀ h j = k - j
 
-mul-row : tie.Need-mul-row Inv-loop μ-loop
-mul-row c = search needs
-
-shared-slice-read-row : tie.Need-shared-slice-read-row Inv-loop μ-loop
-shared-slice-read-row c = search needs
-
 loop-holds : tie.Need-loop-holds Inv-loop μ-loop
 unfolding fillTo
 loop-holds c = search needs
-
-mul-column : tie.Need-mul-column Inv-loop μ-loop
-mul-column c = search needs
-
-shared-slice-read-column : tie.Need-shared-slice-read-column Inv-loop μ-loop
-shared-slice-read-column c = search needs
 
 along-requires : tie.Need-along-requires Inv-loop μ-loop
 along-requires c κs = tt
@@ -59,21 +47,6 @@ undamped-from-requires c κs =
           ∙ ap (λ (z : Scalar). undampedAt (a .jr .now) (a .s) z (l .j) (a .i)) (sym e),
     )
 
-mul-put : tie.Need-mul-put Inv-loop μ-loop
-mul-put c = search needs
-
-add-put : tie.Need-add-put Inv-loop μ-loop
-add-put c = search needs
-
-put-requires : tie.Need-put-requires Inv-loop μ-loop
-put-requires c κs = search needs
-
-add-j : tie.Need-add-j Inv-loop μ-loop
-add-j c = search needs
-
-loop-less : tie.Need-loop-less Inv-loop μ-loop
-loop-less c = search needs
-
 loop-again : tie.Need-loop-again Inv-loop μ-loop
 loop-again c =
     let a = c .before .before .before .before .before .before .before .before .before .before .before .before .before
@@ -92,9 +65,6 @@ loop-again c =
           (l .inv .2) e,
     )
 
-same-length : tie.Need-same-length Inv-loop μ-loop
-same-length c = search needs
-
 returns : tie.Need-returns Inv-loop μ-loop
 returns c = rw (le-antisymm (c .before .loop .inv .0) (c .loop-test .left)) at (c .before .loop .inv .2)
 
@@ -104,19 +74,19 @@ undamped-row-spec =
     (tie.spec
     Inv-loop
     μ-loop
-    mul-row
-    shared-slice-read-row
+    (λ c. search needs)
+    (λ c. search needs)
     loop-holds
-    mul-column
-    shared-slice-read-column
+    (λ c. search needs)
+    (λ c. search needs)
     along-requires
     along-requires-2
     undamped-from-requires
-    mul-put
-    add-put
-    put-requires
-    add-j
-    loop-less
+    (λ c. search needs)
+    (λ c. search needs)
+    (λ c κs. search needs)
+    (λ c. search needs)
+    (λ c. search needs)
     loop-again
-    same-length
+    (λ c. search needs)
     returns)

@@ -4,12 +4,6 @@ use Rattle.linear.specs.Results.{bind}
 use Rattle.run.proofs.proposal.asked.Statement.{statement}
 use Rattle.run.proofs.proposal.asked.Tie as tie
 
-enum-known-length : tie.Need-enum-known-length
-enum-known-length c = search needs
-
-enum-known-length-2 : tie.Need-enum-known-length-2
-enum-known-length-2 c = search needs
-
 returns : tie.Need-returns
 unfolding bind
 returns c delta lambda next = rw (c .before .length .given .1)
@@ -19,4 +13,4 @@ unfolding bind
 returns-2 c delta lambda next = rw (c .before .length2 .given .1)
 
 pub asked-spec : {M : Type 1} → statement M
-asked-spec = tie.close (tie.spec enum-known-length enum-known-length-2 returns returns-2)
+asked-spec = tie.close (tie.spec (λ c. search needs) (λ c. search needs) returns returns-2)

@@ -42,35 +42,14 @@ module _ (k : tie.After-definitely-greater) where
       ∙ ap (λ (x : Scalar). subOf x (k .before .before .curvature-along .result)) fall
       ∙ ap (λ (x : Scalar). subOf (subOf (a .point .f) sum-left) x) (k .before .before .curvature-along .ensures))
 
-sum-requires : tie.Need-sum-requires
-sum-requires c κs = search needs
-
 squared-requires : tie.Need-squared-requires
 squared-requires c κs =
     let f = c .before .before .before .before .before .pre in
     rw (c .sum .ensures) (sum-small f)
 
-sub-requires : tie.Need-sub-requires
-sub-requires c κs = search needs
-
-curvature-along-requires : tie.Need-curvature-along-requires
-curvature-along-requires c κs = search needs
-
-sub-requires-2 : tie.Need-sub-requires-2
-sub-requires-2 c κs = search needs
-
-definitely-greater-requires : tie.Need-definitely-greater-requires
-definitely-greater-requires c κs = search needs
-
 returns : tie.Need-returns
 unfolding expectsOf
 returns c = rw (← dropped (c .before), c .if1 .taken)
-
-predicted-requires : tie.Need-predicted-requires
-predicted-requires c κs = search needs
-
-falls-requires : tie.Need-falls-requires
-falls-requires c κs = search needs
 
 returns-2 : tie.Need-returns-2
 unfolding expectsOf
@@ -82,13 +61,13 @@ pub expects-spec : {M : Type 1} → statement M
 expects-spec =
     tie.close
     (tie.spec
-    sum-requires
+    (λ c κs. search needs)
     squared-requires
-    sub-requires
-    curvature-along-requires
-    sub-requires-2
-    definitely-greater-requires
+    (λ c κs. search needs)
+    (λ c κs. search needs)
+    (λ c κs. search needs)
+    (λ c κs. search needs)
     returns
-    predicted-requires
-    falls-requires
+    (λ c κs. search needs)
+    (λ c κs. search needs)
     returns-2)

@@ -9,18 +9,6 @@ use borrow.Author.Needs.{needs}
 use Rattle.run.proofs.proposal.falls.Statement.{statement}
 use Rattle.run.proofs.proposal.falls.Tie as tie
 
-enum-known-predicted : tie.Need-enum-known-predicted
-enum-known-predicted c = search needs
-
-sub-requires : tie.Need-sub-requires
-sub-requires c κs = search needs
-
-definitely-greater-requires : tie.Need-definitely-greater-requires
-definitely-greater-requires c κs = search needs
-
-enum-known-predicted-2 : tie.Need-enum-known-predicted-2
-enum-known-predicted-2 c = search needs
-
 returns : tie.Need-returns
 unfolding bind ofBits
 returns c =
@@ -35,9 +23,9 @@ pub falls-spec : {M : Type 1} → statement M
 falls-spec =
     tie.close
     (tie.spec
-    enum-known-predicted
-    sub-requires
-    definitely-greater-requires
-    enum-known-predicted-2
+    (λ c. search needs)
+    (λ c κs. search needs)
+    (λ c κs. search needs)
+    (λ c. search needs)
     returns
     returns-2)

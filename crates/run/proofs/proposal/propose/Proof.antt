@@ -73,9 +73,6 @@ damped-step-requires c κs =
     let p = s .pre in
     (p .0 .0 .few-variables, marks s, p .1 .sizes, p .0 .3)
 
-enum-known-r : tie.Need-enum-known-r
-enum-known-r c = search needs
-
 standing-rows-requires : tie.Need-standing-rows-requires
 standing-rows-requires c κs =
     let p =
@@ -92,9 +89,6 @@ expects-requires : tie.Need-expects-requires
 expects-requires c κs =
     c .before .before .before .before .before .before .before .before .before .before .before .before .before .before
     .before .before .before .before .before .before .before .before .pre .0 .0
-
-enum-known-drop : tie.Need-enum-known-drop
-enum-known-drop c = search needs
 
 standing-point-requires : tie.Need-standing-point-requires
 standing-point-requires c κs =
@@ -113,12 +107,6 @@ within-requires c κs =
     c .before .before .before .before .before .before .before .before .before .before .before .before .before .before
     .before .before .before .before .damped-step .kept .1 .1 .1 .1 .1 .1 .0 in
     (p .0, k ∙ p .3 .delta-length)
-
-same-length : tie.Need-same-length
-same-length c = search needs
-
-same-length-2 : tie.Need-same-length-2
-same-length-2 c = search needs
 
 returns : tie.Need-returns
 returns c =
@@ -142,12 +130,6 @@ returns c =
     ∙ sym (proposal-by (from k) (mu k) (radius k) (found x) (stepped k _ (r .1))
     ∙ proposed-drop (from k) (mu k) (radius k) x e)
 
-same-length-3 : tie.Need-same-length-3
-same-length-3 c = search needs
-
-same-length-4 : tie.Need-same-length-4
-same-length-4 c = search needs
-
 returns-2 : tie.Need-returns-2
 returns-2 c =
     let k =
@@ -160,15 +142,6 @@ returns-2 c =
     sym (proposal-by (from k) (mu k) (radius k) (found x) (stepped k _ (r .1))
     ∙ proposed-not (from k) (mu k) (radius k) x e)
 
-enum-known-e : tie.Need-enum-known-e
-enum-known-e c = search needs
-
-same-length-5 : tie.Need-same-length-5
-same-length-5 c = search needs
-
-same-length-6 : tie.Need-same-length-6
-same-length-6 c = search needs
-
 returns-3 : tie.Need-returns-3
 returns-3 c =
     let k =
@@ -180,28 +153,10 @@ returns-3 c =
     ∙ proposed-refused (from k) (mu k) (radius k) x (expected (c .before .before .before)
     ∙ ap truthOf (c .before .e .given .1)))
 
-enum-told : tie.Need-enum-told
-enum-told c = search needs
-
-same-length-7 : tie.Need-same-length-7
-same-length-7 c = search needs
-
-same-length-8 : tie.Need-same-length-8
-same-length-8 c = search needs
-
 returns-4 : tie.Need-returns-4
 returns-4 c =
     let k = c .before .before .before .before .before .before in
     sym (proposal-by (from k) (mu k) (radius k) notPositive (stepped k _ (c .enum-told .given .1)))
-
-enum-known-e-2 : tie.Need-enum-known-e-2
-enum-known-e-2 c = search needs
-
-same-length-9 : tie.Need-same-length-9
-same-length-9 c = search needs
-
-same-length-10 : tie.Need-same-length-10
-same-length-10 c = search needs
 
 returns-5 : tie.Need-returns-5
 returns-5 c =
@@ -214,28 +169,28 @@ propose-spec =
     (tie.spec
     slice-aggregate-damped-step
     damped-step-requires
-    enum-known-r
+    (λ c. search needs)
     standing-rows-requires
     curvature-for-requires
     expects-requires
-    enum-known-drop
+    (λ c. search needs)
     standing-point-requires
     within-requires
-    same-length
-    same-length-2
+    (λ c. search needs)
+    (λ c. search needs)
     returns
-    same-length-3
-    same-length-4
+    (λ c. search needs)
+    (λ c. search needs)
     returns-2
-    enum-known-e
-    same-length-5
-    same-length-6
+    (λ c. search needs)
+    (λ c. search needs)
+    (λ c. search needs)
     returns-3
-    enum-told
-    same-length-7
-    same-length-8
+    (λ c. search needs)
+    (λ c. search needs)
+    (λ c. search needs)
     returns-4
-    enum-known-e-2
-    same-length-9
-    same-length-10
+    (λ c. search needs)
+    (λ c. search needs)
+    (λ c. search needs)
     returns-5)

@@ -34,14 +34,8 @@ module _ (k : tie.After-expects) where
       (k .before .before .before .before .before .before .before .before .before .before .before .args .shrink)) lambda
   cut-is lambda = ap (λ (d : List Float). shortenedOf from d lambda) (k .before .before .before .before .cut .ensures)
 
-cut-requires : tie.Need-cut-requires
-cut-requires c κs = search needs
-
 expects-requires : tie.Need-expects-requires
 expects-requires c κs = c .before .before .before .before .before .before .before .before .before .before .pre .0
-
-enum-known-drop : tie.Need-enum-known-drop
-enum-known-drop c = search needs
 
 trial-requires : tie.Need-trial-requires
 trial-requires c κs =
@@ -49,9 +43,6 @@ trial-requires c κs =
     .before .before .before .pre in
     let k = c .before .before .before .before .before .before .before .before .before .cut .kept in
     (p .0, omega (arith, k, p .1))
-
-same-length : tie.Need-same-length
-same-length c = search needs
 
 returns : tie.Need-returns
 returns c lambda =
@@ -63,21 +54,12 @@ returns c lambda =
     ∙ sym (shortened-drop (from k) (cut k) lambda e)
     ∙ cut-is k lambda
 
-same-length-2 : tie.Need-same-length-2
-same-length-2 c = search needs
-
 returns-2 : tie.Need-returns-2
 returns-2 c lambda =
     let k = c .before .before .before .before in
     sym (shortened-not (from k) (cut k) lambda
     (expected k ∙ ap truthOf (c .before .before .drop .given .1) ∙ ap ok (c .if1 .left)))
     ∙ cut-is k lambda
-
-enum-known-e : tie.Need-enum-known-e
-enum-known-e c = search needs
-
-same-length-3 : tie.Need-same-length-3
-same-length-3 c = search needs
 
 returns-3 : tie.Need-returns-3
 returns-3 c lambda =
@@ -89,14 +71,14 @@ pub shortened-spec : {M : Type 1} → statement M
 shortened-spec =
     tie.close
     (tie.spec
-    cut-requires
+    (λ c κs. search needs)
     expects-requires
-    enum-known-drop
+    (λ c. search needs)
     trial-requires
-    same-length
+    (λ c. search needs)
     returns
-    same-length-2
+    (λ c. search needs)
     returns-2
-    enum-known-e
-    same-length-3
+    (λ c. search needs)
+    (λ c. search needs)
     returns-3)

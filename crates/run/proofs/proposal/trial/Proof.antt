@@ -30,21 +30,6 @@ loop-holds : tie.Need-loop-holds Inv-loop μ-loop
 unfolding fillTo
 loop-holds c = (omega arith, refl, refl)
 
-at-requires : tie.Need-at-requires Inv-loop μ-loop
-at-requires c κs = search needs
-
-choose-if-requires : tie.Need-choose-if-requires Inv-loop μ-loop
-choose-if-requires c κs = search needs
-
-put-requires : tie.Need-put-requires Inv-loop μ-loop
-put-requires c κs = search needs
-
-add-i : tie.Need-add-i Inv-loop μ-loop
-add-i c = search needs
-
-loop-less : tie.Need-loop-less Inv-loop μ-loop
-loop-less c = search needs
-
 loop-again : tie.Need-loop-again Inv-loop μ-loop
 loop-again c =
     let l = c .before .before .before .before .before .before .before .before .loop in
@@ -65,9 +50,6 @@ tried-requires c κs =
     let p = c .before .before .before .before .before .before .pre in
     (p .0, c .before .before .loop .inv .1 ∙ p .1)
 
-same-length : tie.Need-same-length Inv-loop μ-loop
-same-length c = search needs
-
 returns : tie.Need-returns Inv-loop μ-loop
 returns c lambda =
     let s = c .before .before .before .before .before .before .before in
@@ -86,12 +68,12 @@ trial-spec =
     Inv-loop
     μ-loop
     loop-holds
-    at-requires
-    choose-if-requires
-    put-requires
-    add-i
-    loop-less
+    (λ c κs. search needs)
+    (λ c κs. search needs)
+    (λ c κs. search needs)
+    (λ c. search needs)
+    (λ c. search needs)
     loop-again
     tried-requires
-    same-length
+    (λ c. search needs)
     returns)

@@ -26,36 +26,12 @@ module _ (k : tie.After-predicted) where
       (k .before .before .before .before .before .before .before .args .delta .now)
   next-is = k .before .before .moved .ensures
 
-slice-aggregate-moved : tie.Need-slice-aggregate-moved
-slice-aggregate-moved c = search needs
-
-moved-requires : tie.Need-moved-requires
-moved-requires c κs = search needs
-
-predicted-requires : tie.Need-predicted-requires
-predicted-requires c κs = search needs
-
-enum-known-p : tie.Need-enum-known-p
-enum-known-p c = search needs
-
-slice-aggregate-same : tie.Need-slice-aggregate-same
-slice-aggregate-same c = search needs
-
-same-requires : tie.Need-same-requires
-same-requires c κs = search needs
-
 returns : tie.Need-returns
 returns c lambda =
     let k = c .before .before .before .before .before .before in
     sym (tried-same (from k) _ _ lambda (next-is k) {p = c .before .before .before .before .p .given .0 .0}
     (sym (k .predicted .ensures) ∙ rw (c .before .before .before .before .p .given .1)) (sym (c .before .same .ensures)
     ∙ c .if1 .taken))
-
-norm-of-requires : tie.Need-norm-of-requires
-norm-of-requires c κs = search needs
-
-asked-requires : tie.Need-asked-requires
-asked-requires c κs = search needs
 
 returns-2 : tie.Need-returns-2
 unfolding bind
@@ -67,9 +43,6 @@ returns-2 c lambda =
     (sym (c .before .before .before .same .ensures) ∙ c .before .before .if1 .left)
     ∙ rw (← c .before .norm-of .ensures) (sym (c .asked .ensures _ _ _)))
 
-enum-known-e : tie.Need-enum-known-e
-enum-known-e c = search needs
-
 returns-3 : tie.Need-returns-3
 returns-3 c lambda =
     let k = c .before .before .before in
@@ -79,15 +52,15 @@ pub tried-spec : {M : Type 1} → statement M
 tried-spec =
     tie.close
     (tie.spec
-    slice-aggregate-moved
-    moved-requires
-    predicted-requires
-    enum-known-p
-    slice-aggregate-same
-    same-requires
+    (λ c. search needs)
+    (λ c κs. search needs)
+    (λ c κs. search needs)
+    (λ c. search needs)
+    (λ c. search needs)
+    (λ c κs. search needs)
     returns
-    norm-of-requires
-    asked-requires
+    (λ c κs. search needs)
+    (λ c κs. search needs)
     returns-2
-    enum-known-e
+    (λ c. search needs)
     returns-3)

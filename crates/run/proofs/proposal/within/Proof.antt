@@ -32,23 +32,11 @@ module _ (k : tie.After-norm-of) where
   long : normOf (at raw) (from .n) ≡ resultOf (k .norm-of .result)
   long = sym (k .norm-of .ensures)
 
-norm-of-requires : tie.Need-norm-of-requires
-norm-of-requires c κs = search needs
-
-enum-known-length : tie.Need-enum-known-length
-enum-known-length c = search needs
-
-definitely-greater-requires : tie.Need-definitely-greater-requires
-definitely-greater-requires c κs = search needs
-
 trial-requires : tie.Need-trial-requires
 trial-requires c κs =
     let p =
     c .before .before .before .before .before .before .before .before .before .before .before .before .before .pre in
     (p .0, p .1)
-
-same-length : tie.Need-same-length
-same-length c = search needs
 
 returns : tie.Need-returns
 returns c lambda =
@@ -60,19 +48,10 @@ returns c lambda =
     (sym (c .before .before .before .before .before .definitely-greater .ensures)
     ∙ not-true _ (c .before .before .before .before .if1 .taken)))
 
-div-requires : tie.Need-div-requires
-div-requires c κs = search needs
-
-enum-known-shrink : tie.Need-enum-known-shrink
-enum-known-shrink c = search needs
-
 shortened-requires : tie.Need-shortened-requires
 shortened-requires c κs =
     c .before .before .before .before .before .before .before .before .before .before .before .before .before .before
     .before .before .before .pre
-
-same-length-2 : tie.Need-same-length-2
-same-length-2 c = search needs
 
 returns-2 : tie.Need-returns-2
 returns-2 c lambda =
@@ -87,12 +66,6 @@ returns-2 c lambda =
     ∙ sym (within-cut (from k) (radius k) (raw k) lambda (l .0 .0) (long k ∙ ap resultOf (l .1)) greater
     ∙ bind-ok _ shrink)
 
-enum-known-e : tie.Need-enum-known-e
-enum-known-e c = search needs
-
-same-length-3 : tie.Need-same-length-3
-same-length-3 c = search needs
-
 returns-3 : tie.Need-returns-3
 returns-3 c lambda =
     let k = c .before .before .before .before .before .before .before .before .before in
@@ -103,12 +76,6 @@ returns-3 c lambda =
     sym (within-cut (from k) (radius k) (raw k) lambda (l .0 .0) (long k ∙ ap resultOf (l .1)) greater
     ∙ bind-refused _ e)
 
-enum-known-e-2 : tie.Need-enum-known-e-2
-enum-known-e-2 c = search needs
-
-same-length-4 : tie.Need-same-length-4
-same-length-4 c = search needs
-
 returns-4 : tie.Need-returns-4
 returns-4 c lambda =
     let k = c .before .before .before in
@@ -118,20 +85,20 @@ pub within-spec : {M : Type 1} → statement M
 within-spec =
     tie.close
     (tie.spec
-    norm-of-requires
-    enum-known-length
-    definitely-greater-requires
+    (λ c κs. search needs)
+    (λ c. search needs)
+    (λ c κs. search needs)
     trial-requires
-    same-length
+    (λ c. search needs)
     returns
-    div-requires
-    enum-known-shrink
+    (λ c κs. search needs)
+    (λ c. search needs)
     shortened-requires
-    same-length-2
+    (λ c. search needs)
     returns-2
-    enum-known-e
-    same-length-3
+    (λ c. search needs)
+    (λ c. search needs)
     returns-3
-    enum-known-e-2
-    same-length-4
+    (λ c. search needs)
+    (λ c. search needs)
     returns-4)

@@ -14,26 +14,11 @@ use Rattle.run.proofs.radius.cut_within.Tie as tie
 norm-of-requires : tie.Need-norm-of-requires
 norm-of-requires c κs = let p = c .before .before .pre in (omega (arith, p .0), omega (arith, p .0, p .1))
 
-enum-known-e : tie.Need-enum-known-e
-enum-known-e c = search needs
-
-same-length : tie.Need-same-length
-same-length c = search needs
-
 returns : tie.Need-returns
 returns c =
     let a = c .before .before .before .before .before .before .args in
     sym (cut-refused (a .n) (a .radius) (a .delta .now) (sym (c .before .before .before .norm-of .ensures)
     ∙ ap resultOf (c .before .e .given .1)))
-
-enum-known-length : tie.Need-enum-known-length
-enum-known-length c = search needs
-
-definitely-greater-requires : tie.Need-definitely-greater-requires
-definitely-greater-requires c κs = search needs
-
-same-length-2 : tie.Need-same-length-2
-same-length-2 c = search needs
 
 returns-2 : tie.Need-returns-2
 returns-2 c =
@@ -42,15 +27,6 @@ returns-2 c =
     (sym (c .before .before .before .before .before .norm-of .ensures)
     ∙ ap resultOf (c .before .before .before .length .given .1)) (sym (c .before .definitely-greater .ensures)
     ∙ not-true _ (c .if1 .taken)))
-
-div-requires : tie.Need-div-requires
-div-requires c κs = search needs
-
-enum-known-e-2 : tie.Need-enum-known-e-2
-enum-known-e-2 c = search needs
-
-same-length-3 : tie.Need-same-length-3
-same-length-3 c = search needs
 
 returns-3 : tie.Need-returns-3
 returns-3 c =
@@ -63,15 +39,6 @@ returns-3 c =
     ∙ not-false _ (c .before .before .before .before .if1 .left))
     ∙ bind-refused _ (sym (c .before .before .before .div .ensures .value)
     ∙ ap scalar.resultOf (c .before .e2 .given .1)))
-
-enum-known-shrink : tie.Need-enum-known-shrink
-enum-known-shrink c = search needs
-
-cut-requires : tie.Need-cut-requires
-cut-requires c κs = search needs
-
-same-length-4 : tie.Need-same-length-4
-same-length-4 c = search needs
 
 returns-4 : tie.Need-returns-4
 returns-4 c =
@@ -94,18 +61,18 @@ cut-within-spec =
     tie.close
     (tie.spec
     norm-of-requires
-    enum-known-e
-    same-length
+    (λ c. search needs)
+    (λ c. search needs)
     returns
-    enum-known-length
-    definitely-greater-requires
-    same-length-2
+    (λ c. search needs)
+    (λ c κs. search needs)
+    (λ c. search needs)
     returns-2
-    div-requires
-    enum-known-e-2
-    same-length-3
+    (λ c κs. search needs)
+    (λ c. search needs)
+    (λ c. search needs)
     returns-3
-    enum-known-shrink
-    cut-requires
-    same-length-4
+    (λ c. search needs)
+    (λ c κs. search needs)
+    (λ c. search needs)
     returns-4)

@@ -9,21 +9,12 @@ use borrow.Author.Needs.{needs}
 use Rattle.run.proofs.radius.radius_after.Statement.{statement}
 use Rattle.run.proofs.radius.radius_after.Tie as tie
 
-mul-requires : tie.Need-mul-requires
-mul-requires c κs = search needs
-
-definitely-greater-requires : tie.Need-definitely-greater-requires
-definitely-greater-requires c κs = search needs
-
 returns : tie.Need-returns
 unfolding ofBits
 returns c =
     let a = c .before .before .before .args in
     reach-near (a .length) (a .radius) (a .max) (c .before .before .mul .ensures .value) (a .linear)
     (c .before .definitely-greater .ensures) (not-true _ (c .if1 .taken))
-
-upper-requires : tie.Need-upper-requires
-upper-requires c κs = search needs
 
 returns-2 : tie.Need-returns-2
 unfolding ofBits
@@ -34,12 +25,6 @@ returns-2 c =
     (sym (c .before .if2 .taken)) ∙ reach-far (a .length) (a .radius) (a .max)
     (c .before .before .before .before .mul .ensures .value) (a .linear)
     (c .before .before .before .definitely-greater .ensures) (not-false _ (c .before .before .if1 .left))
-
-definitely-less-requires : tie.Need-definitely-less-requires
-definitely-less-requires c κs = search needs
-
-upper-requires-2 : tie.Need-upper-requires-2
-upper-requires-2 c κs = search needs
 
 returns-3 : tie.Need-returns-3
 unfolding ofBits
@@ -70,12 +55,12 @@ pub radius-after-spec : {M : Type 1} → statement M
 radius-after-spec =
     tie.close
     (tie.spec
-    mul-requires
-    definitely-greater-requires
+    (λ c κs. search needs)
+    (λ c κs. search needs)
     returns
-    upper-requires
+    (λ c κs. search needs)
     returns-2
-    definitely-less-requires
-    upper-requires-2
+    (λ c κs. search needs)
+    (λ c κs. search needs)
     returns-3
     returns-4)

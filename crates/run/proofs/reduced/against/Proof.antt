@@ -28,26 +28,8 @@ abbrev μ-loop : tie.MeasureT-loop
 loop-holds : tie.Need-loop-holds Inv-loop μ-loop
 loop-holds c = (search needs, search needs, sym (listTo-none _ _))
 
-mul-row-dot : tie.Need-mul-row-dot Inv-loop μ-loop
-mul-row-dot c = search needs
-
 row-dot-requires : tie.Need-row-dot-requires Inv-loop μ-loop
 row-dot-requires c κs = tt
-
-neg-requires : tie.Need-neg-requires Inv-loop μ-loop
-neg-requires c κs = search needs
-
-choose-requires : tie.Need-choose-requires Inv-loop μ-loop
-choose-requires c κs = search needs
-
-put-requires : tie.Need-put-requires Inv-loop μ-loop
-put-requires c κs = search needs
-
-add-t : tie.Need-add-t Inv-loop μ-loop
-add-t c = search needs
-
-loop-less : tie.Need-loop-less Inv-loop μ-loop
-loop-less c = search needs
 
 loop-again : tie.Need-loop-again Inv-loop μ-loop
 loop-again c =
@@ -72,9 +54,6 @@ loop-again c =
           )),
     )
 
-same-length : tie.Need-same-length Inv-loop μ-loop
-same-length c = search needs
-
 returns : tie.Need-returns Inv-loop μ-loop
 returns c =
     let a = c .before .before .before .before .before .args in
@@ -89,13 +68,13 @@ against-spec =
     Inv-loop
     μ-loop
     loop-holds
-    mul-row-dot
+    (λ c. search needs)
     row-dot-requires
-    neg-requires
-    choose-requires
-    put-requires
-    add-t
-    loop-less
+    (λ c κs. search needs)
+    (λ c κs. search needs)
+    (λ c κs. search needs)
+    (λ c. search needs)
+    (λ c. search needs)
     loop-again
-    same-length
+    (λ c. search needs)
     returns)

@@ -13,21 +13,9 @@ use Rattle.run.proofs.reduced.free_part.Tie as tie
 short : (s : tie.Start) → 2 * s .args .count ≤ 24
 short s = omega (arith, s .pre .1)
 
-mul-q : tie.Need-mul-q
-mul-q c = search needs
-
-slice-aggregate-force : tie.Need-slice-aggregate-force
-slice-aggregate-force c = search needs
-
 force-requires : tie.Need-force-requires
 unfolding ofBits
 force-requires c κs = (c .before .before .before .before .before .before .pre .0, refl)
-
-slice-aggregate-weigh : tie.Need-slice-aggregate-weigh
-slice-aggregate-weigh c = search needs
-
-array-borrow-prefix-w : tie.Need-array-borrow-prefix-w
-array-borrow-prefix-w c = search needs
 
 slice-aggregate-weigh-2 : tie.Need-slice-aggregate-weigh-2
 slice-aggregate-weigh-2 c =
@@ -37,12 +25,6 @@ weigh-requires : tie.Need-weigh-requires
 weigh-requires c κs =
     let s = c .before .before .before .before .before .before .before .before .before .before in
     (s .pre .0, (s .pre .1, length-take-le _ _ (short s)))
-
-enum-told : tie.Need-enum-told
-enum-told c = search needs
-
-same-length : tie.Need-same-length
-same-length c = search needs
 
 returns : tie.Need-returns
 returns c =
@@ -65,12 +47,6 @@ slice-aggregate-combine c =
     (c .before .before .before .before .before .before .before .before .before .before .before .before .before
     .before .before)) (c .before .before .before .before .weigh .kept .1 .1 .1 .1 .1 .0)))
 
-combine-requires : tie.Need-combine-requires
-combine-requires c κs = search needs
-
-same-length-2 : tie.Need-same-length-2
-same-length-2 c = search needs
-
 returns-2 : tie.Need-returns-2
 returns-2 c =
     parted-with _ _ _ _ _ _
@@ -89,18 +65,18 @@ pub free-part-spec : {M : Type 1} → statement M
 free-part-spec =
     tie.close
     (tie.spec
-    mul-q
-    slice-aggregate-force
+    (λ c. search needs)
+    (λ c. search needs)
     force-requires
-    slice-aggregate-weigh
-    array-borrow-prefix-w
+    (λ c. search needs)
+    (λ c. search needs)
     slice-aggregate-weigh-2
     weigh-requires
-    enum-told
-    same-length
+    (λ c. search needs)
+    (λ c. search needs)
     returns
     array-share-prefix-w
     slice-aggregate-combine
-    combine-requires
-    same-length-2
+    (λ c κs. search needs)
+    (λ c. search needs)
     returns-2)

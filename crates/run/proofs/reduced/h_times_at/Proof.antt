@@ -3,17 +3,8 @@ use borrow.Author.Needs.{needs}
 use Rattle.run.proofs.reduced.h_times_at.Statement.{statement}
 use Rattle.run.proofs.reduced.h_times_at.Tie as tie
 
-mul-row-dot : tie.Need-mul-row-dot
-mul-row-dot c = search needs
-
-row-dot-requires : tie.Need-row-dot-requires
-row-dot-requires c κs = search needs
-
-choose-requires : tie.Need-choose-requires
-choose-requires c κs = search needs
-
 returns : tie.Need-returns
 returns c = rw (← c .before .row-dot .ensures) (c .choose .ensures)
 
 pub h-times-at-spec : {M : Type 1} → statement M
-h-times-at-spec = tie.close (tie.spec mul-row-dot row-dot-requires choose-requires returns)
+h-times-at-spec = tie.close (tie.spec (λ c. search needs) (λ c κs. search needs) (λ c κs. search needs) returns)

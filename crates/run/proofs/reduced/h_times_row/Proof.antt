@@ -25,30 +25,15 @@ loop-holds : tie.Need-loop-holds Inv-loop μ-loop
 unfolding fillTo
 loop-holds c = search needs
 
-mul-two-bent : tie.Need-mul-two-h-times Inv-loop μ-loop
-mul-two-bent c = search needs
-
 two-h-times-requires : tie.Need-two-h-times-requires Inv-loop μ-loop
 two-h-times-requires c κs =
     let h = c .before .before .before .before .before .before .pre in
     (h .1, omega (arith, h .0, c .before .loop-test .taken))
 
-add-p : tie.Need-add-p Inv-loop μ-loop
-add-p c = search needs
-
-loop-less : tie.Need-loop-less Inv-loop μ-loop
-loop-less c = search needs
-
 loop-again : tie.Need-loop-again Inv-loop μ-loop
 loop-again c =
     let l = c .before .before .before .before .before .loop in
     (search needs, search needs, fill-two _ _ _ (l .p) (l .inv .2) (c .before .before .two-h-times .ensures))
-
-mul-if1 : tie.Need-mul-if1 Inv-loop μ-loop
-mul-if1 c = search needs
-
-same-length : tie.Need-same-length Inv-loop μ-loop
-same-length c = search needs
 
 returns : tie.Need-returns Inv-loop μ-loop
 returns c =
@@ -57,27 +42,12 @@ returns c =
     (arith, l .inv .0, c .before .loop-test .left, c .if1 .taken) in
     rw e at (l .inv .2)
 
-mul-i : tie.Need-mul-i Inv-loop μ-loop
-mul-i c = search needs
-
-mul-put : tie.Need-mul-put Inv-loop μ-loop
-mul-put c = search needs
-
 add-put : tie.Need-add-put Inv-loop μ-loop
 add-put c = let h = c .before .before .before .before .before .before .before .pre in omega (arith, h .0, h .1)
-
-mul-bent-at : tie.Need-mul-h-times-at Inv-loop μ-loop
-mul-bent-at c = search needs
 
 h-times-at-requires : tie.Need-h-times-at-requires Inv-loop μ-loop
 h-times-at-requires c κs =
     omega (arith, c .before .before .before .before .before .before .before .pre .0, c .before .if1 .left)
-
-put-requires : tie.Need-put-requires Inv-loop μ-loop
-put-requires c κs = search needs
-
-same-length-2 : tie.Need-same-length-2 Inv-loop μ-loop
-same-length-2 c = search needs
 
 returns-2 : tie.Need-returns-2 Inv-loop μ-loop
 returns-2 c =
@@ -96,19 +66,19 @@ h-times-row-spec =
     Inv-loop
     μ-loop
     loop-holds
-    mul-two-bent
+    (λ c. search needs)
     two-h-times-requires
-    add-p
-    loop-less
+    (λ c. search needs)
+    (λ c. search needs)
     loop-again
-    mul-if1
-    same-length
+    (λ c. search needs)
+    (λ c. search needs)
     returns
-    mul-i
-    mul-put
+    (λ c. search needs)
+    (λ c. search needs)
     add-put
-    mul-bent-at
+    (λ c. search needs)
     h-times-at-requires
-    put-requires
-    same-length-2
+    (λ c κs. search needs)
+    (λ c. search needs)
     returns-2)

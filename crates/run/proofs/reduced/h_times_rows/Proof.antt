@@ -22,26 +22,15 @@ loop-holds : tie.Need-loop-holds Inv-loop μ-loop
 unfolding fillRows
 loop-holds c = (search needs, search needs, c .before .before .before .pre .1 .1)
 
-h-times-row-requires : tie.Need-h-times-row-requires Inv-loop μ-loop
-h-times-row-requires c κs = search needs
-
-add-t : tie.Need-add-t Inv-loop μ-loop
-add-t c = search needs
-
-loop-less : tie.Need-loop-less Inv-loop μ-loop
-loop-less c = search needs
-
 loop-again : tie.Need-loop-again Inv-loop μ-loop
 loop-again c =
     let l = c .before .before .before .before .before .loop in
     (search needs, search needs, c .before .before .h-times-row .ensures ∙ fill-rows-turn _ _ _ (l .t) (l .inv .2))
-
-same-length : tie.Need-same-length Inv-loop μ-loop
-same-length c = search needs
 
 returns : tie.Need-returns Inv-loop μ-loop
 returns c = rw (le-antisymm (c .before .loop .inv .0) (c .loop-test .left)) at (c .before .loop .inv .2)
 
 pub h-times-rows-spec : {M : Type 1} → statement M
 h-times-rows-spec =
-    tie.close (tie.spec Inv-loop μ-loop loop-holds h-times-row-requires add-t loop-less loop-again same-length returns)
+    tie.close (tie.spec Inv-loop μ-loop loop-holds (λ c κs. search needs) (λ c. search needs) (λ c. search needs)
+    loop-again (λ c. search needs) returns)

@@ -51,15 +51,6 @@ reduced-at-requires c κs =
     let p = c .before .before .before .before .before .before .pre in
     (le-trans (place-row t) (p .0), le-trans (place-column t) (p .0))
 
-put-requires : tie.Need-put-requires Inv-loop μ-loop
-put-requires c κs = search needs
-
-add-p : tie.Need-add-p Inv-loop μ-loop
-add-p c = search needs
-
-loop-less : tie.Need-loop-less Inv-loop μ-loop
-loop-less c = search needs
-
 loop-again : tie.Need-loop-again Inv-loop μ-loop
 loop-again c =
     let l = c .before .before .before .before .before .before .loop in
@@ -68,9 +59,6 @@ loop-again c =
     let f : ℕ → Scalar = λ j. lowerAt (a .k) (a .z .now) (a .hz .now) (j / a .count) (j % a .count) in
     let e = rw (l .inv .2, c .before .before .before .reduced-at .ensures) at (c .before .before .put .ensures) in
     (search needs, search needs, e ∙ listTo-more f (l .p) (a .out .now) (omega (arith, s .pre)))
-
-same-length : tie.Need-same-length Inv-loop μ-loop
-same-length c = search needs
 
 returns : tie.Need-returns Inv-loop μ-loop
 returns c =
@@ -91,9 +79,9 @@ reduced-spec =
     div-reduced-at
     rem-reduced-at
     reduced-at-requires
-    put-requires
-    add-p
-    loop-less
+    (λ c κs. search needs)
+    (λ c. search needs)
+    (λ c. search needs)
     loop-again
-    same-length
+    (λ c. search needs)
     returns)

@@ -10,21 +10,13 @@ returns : tie.Need-returns
 unfolding lowerAt ofBits
 returns c = rw (lt-ltb _ _ (c .if1 .taken))
 
-mul-row-dot : tie.Need-mul-row-dot
-mul-row-dot c = search needs
-
-mul-row-dot-2 : tie.Need-mul-row-dot-2
-mul-row-dot-2 c = search needs
-
 row-dot-requires : tie.Need-row-dot-requires
 row-dot-requires c κs = tt
-
-choose-requires : tie.Need-choose-requires
-choose-requires c κs = search needs
 
 returns-2 : tie.Need-returns-2
 unfolding lowerAt
 returns-2 c = rw (le-ltb _ _ (c .before .before .if1 .left)) (rw (c .before .row-dot .ensures) at (c .choose .ensures))
 
 pub reduced-at-spec : {M : Type 1} → statement M
-reduced-at-spec = tie.close (tie.spec returns mul-row-dot mul-row-dot-2 row-dot-requires choose-requires returns-2)
+reduced-at-spec = tie.close (tie.spec returns (λ c. search needs) (λ c. search needs) row-dot-requires
+    (λ c κs. search needs) returns-2)

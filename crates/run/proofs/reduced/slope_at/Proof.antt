@@ -4,18 +4,9 @@ use Rattle.linear.proofs.Sums.{along-start}
 use Rattle.run.proofs.reduced.slope_at.Statement.{statement}
 use Rattle.run.proofs.reduced.slope_at.Tie as tie
 
-at-requires : tie.Need-at-requires
-at-requires c κs = search needs
-
-h-times-at-requires : tie.Need-h-times-at-requires
-h-times-at-requires c κs = search needs
-
-add-requires : tie.Need-add-requires
-add-requires c κs = search needs
-
 returns : tie.Need-returns
 returns c =
     rw (← c .before .before .at .ensures, ← rw along-start at (c .before .h-times-at .ensures)) (c .add .ensures .value)
 
 pub slope-at-spec : {M : Type 1} → statement M
-slope-at-spec = tie.close (tie.spec at-requires h-times-at-requires add-requires returns)
+slope-at-spec = tie.close (tie.spec (λ c κs. search needs) (λ c κs. search needs) (λ c κs. search needs) returns)

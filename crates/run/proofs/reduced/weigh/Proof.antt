@@ -21,15 +21,9 @@ mul-e c = omega (arith, room (c .before .before .before .before))
 mul-e-2 : tie.Need-mul-e-2
 mul-e-2 c = omega (arith, room (c .before .before .before .before))
 
-slice-aggregate-bent-rows : tie.Need-slice-aggregate-h-times-rows
-slice-aggregate-bent-rows c = search needs
-
 h-times-rows-requires : tie.Need-h-times-rows-requires
 unfolding ofBits
 h-times-rows-requires c κs = let p = c .before .before .before .before .before .pre in (p .0, (p .1 .0, refl))
-
-slice-aggregate-reduced : tie.Need-slice-aggregate-reduced
-slice-aggregate-reduced c = search needs
 
 array-borrow-prefix-a : tie.Need-array-borrow-prefix-a
 array-borrow-prefix-a c = room (c .before .before .before .before .before .before .before .before)
@@ -77,9 +71,6 @@ weights-for-requires c κs =
       ),
     )
 
-same-length : tie.Need-same-length
-same-length c = search needs
-
 returns : tie.Need-returns
 returns c =
     weighed-front _ _ _ _ _
@@ -102,9 +93,9 @@ weigh-spec =
     (tie.spec
     mul-e
     mul-e-2
-    slice-aggregate-bent-rows
+    (λ c. search needs)
     h-times-rows-requires
-    slice-aggregate-reduced
+    (λ c. search needs)
     array-borrow-prefix-a
     slice-aggregate-reduced-2
     reduced-requires
@@ -112,5 +103,5 @@ weigh-spec =
     array-share-prefix-a
     slice-aggregate-weights-for
     weights-for-requires
-    same-length
+    (λ c. search needs)
     returns)

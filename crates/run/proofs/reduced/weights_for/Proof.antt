@@ -56,9 +56,6 @@ done k =
     (g .1 .0 ∙ length-take-le _ _ (p .0)) (p .1 .1) (length-take-le _ _ (short s))
     (front-kept _ (f .0) _ (room s) (g .0)) (front-kept _ (f .1 .0) _ (p .0) (g .1 .0)) (k .solve-cholesky .ensures)
 
-mul-q : tie.Need-mul-q
-mul-q c = search needs
-
 mul-e : tie.Need-mul-e
 mul-e c = omega (arith, room (c .before .before))
 
@@ -71,26 +68,17 @@ array-borrow-prefix-l c = room (c .before .before)
 slice-aggregate-cholesky : tie.Need-slice-aggregate-cholesky
 slice-aggregate-cholesky c = sym (length-take-le _ _ (room (c .before .before .before)))
 
-array-borrow-prefix-left-out : tie.Need-array-borrow-prefix-left-out
-array-borrow-prefix-left-out c = search needs
-
 slice-aggregate-cholesky-2 : tie.Need-slice-aggregate-cholesky-2
 slice-aggregate-cholesky-2 c = sym (length-take-le _ _ (c .before .before .before .before .pre .0))
 
 cholesky-requires : tie.Need-cholesky-requires
 cholesky-requires c κs = tt
 
-enum-known-e : tie.Need-enum-known-e
-enum-known-e c = search needs
-
 returns : tie.Need-returns
 returns c =
     let a = c .before .before .before .before .before .before .before .before .before .before .args in
     unfactored (a .t) (a .a .now) (a .w .now) _ (c .before .e .given .1)
     (ended (c .before .before .before .before .before))
-
-enum-told : tie.Need-enum-told
-enum-told c = search needs
 
 array-share-prefix-left-out : tie.Need-array-share-prefix-left-out
 array-share-prefix-left-out c =
@@ -104,9 +92,6 @@ slice-aggregate-marks c =
     (front-room _ (c .before .before .before .before .before .cholesky .last .1 .1 .1 .0) _
     (c .before .before .before .before .before .before .before .before .before .before .pre .0)
     (c .before .before .before .before .before .cholesky .kept .1 .1 .1 .0)))
-
-any-requires : tie.Need-any-requires
-any-requires c κs = search needs
 
 returns-2 : tie.Need-returns-2
 returns-2 c =
@@ -134,9 +119,6 @@ slice-aggregate-solve-cholesky c =
     (c .before .before .before .before .before .before .before .before .before .before .before .before
     .before)) (c .before .before .before .before .before .before .before .before .cholesky .kept .1 .1 .0)))
 
-array-borrow-prefix-x : tie.Need-array-borrow-prefix-x
-array-borrow-prefix-x c = search needs
-
 slice-aggregate-solve-cholesky-2 : tie.Need-slice-aggregate-solve-cholesky-2
 slice-aggregate-solve-cholesky-2 c =
     sym (length-take-le _ _
@@ -146,12 +128,6 @@ slice-aggregate-solve-cholesky-2 c =
 
 solve-cholesky-requires : tie.Need-solve-cholesky-requires
 solve-cholesky-requires c κs = tt
-
-enum-known-e-2 : tie.Need-enum-known-e-2
-enum-known-e-2 c = search needs
-
-same-length : tie.Need-same-length
-same-length c = search needs
 
 returns-3 : tie.Need-returns-3
 returns-3 c =
@@ -177,9 +153,6 @@ returns-3 c =
     (c .before .before .before .before .before .before .before .before .if1 .left)
     (done (c .before .before .before .before)) (c .before .e2 .given .1)
 
-enum-told-2 : tie.Need-enum-told-2
-enum-told-2 c = search needs
-
 array-share-prefix-x : tie.Need-array-share-prefix-x
 array-share-prefix-x c =
     front-room _ (c .before .before .before .solve-cholesky .last .1 .1 .1 .1 .0) _
@@ -198,9 +171,6 @@ slice-aggregate-sharp c =
 
 sharp-requires : tie.Need-sharp-requires
 sharp-requires c κs = tt
-
-same-length-2 : tie.Need-same-length-2
-same-length-2 c = search needs
 
 returns-4 : tie.Need-returns-4
 returns-4 c =
@@ -239,32 +209,32 @@ pub weights-for-spec : {M : Type 1} → statement M
 weights-for-spec =
     tie.close
     (tie.spec
-    mul-q
+    (λ c. search needs)
     mul-e
     mul-e-2
     array-borrow-prefix-l
     slice-aggregate-cholesky
-    array-borrow-prefix-left-out
+    (λ c. search needs)
     slice-aggregate-cholesky-2
     cholesky-requires
-    enum-known-e
+    (λ c. search needs)
     returns
-    enum-told
+    (λ c. search needs)
     array-share-prefix-left-out
     slice-aggregate-marks
-    any-requires
+    (λ c κs. search needs)
     returns-2
     array-share-prefix-l
     slice-aggregate-solve-cholesky
-    array-borrow-prefix-x
+    (λ c. search needs)
     slice-aggregate-solve-cholesky-2
     solve-cholesky-requires
-    enum-known-e-2
-    same-length
+    (λ c. search needs)
+    (λ c. search needs)
     returns-3
-    enum-told-2
+    (λ c. search needs)
     array-share-prefix-x
     slice-aggregate-sharp
     sharp-requires
-    same-length-2
+    (λ c. search needs)
     returns-4)

@@ -57,12 +57,6 @@ slope-of-requires c κs = (
   ),
 )
 
-choose-requires : tie.Need-choose-requires Inv-loop μ-loop
-choose-requires c κs = search needs
-
-put-requires : tie.Need-put-requires Inv-loop μ-loop
-put-requires c κs = search needs
-
 add-p : tie.Need-add-p Inv-loop μ-loop
 add-p c =
     omega (
@@ -70,9 +64,6 @@ add-p c =
       room (c .before .before .before .before .before .before .before .before .before .before .before),
       c .before .before .before .before .before .before .loop-test .taken,
     )
-
-loop-less : tie.Need-loop-less Inv-loop μ-loop
-loop-less c = search needs
 
 loop-again : tie.Need-loop-again Inv-loop μ-loop
 loop-again c =
@@ -86,9 +77,6 @@ loop-again c =
       c .before .before .put .ensures
           ∙ fill-first _ (λ j. chooseOf (at (a .xs .now) (a .e .slopes + j))) (l .p) (l .inv .2) v,
     )
-
-same-length : tie.Need-same-length Inv-loop μ-loop
-same-length c = search needs
 
 returns : tie.Need-returns Inv-loop μ-loop
 returns c = rw (le-antisymm (c .before .loop .inv .0) (c .loop-test .left)) at (c .before .loop .inv .2)
@@ -104,10 +92,10 @@ chosen-slopes-spec =
     div-slope-of
     rem-slope-of
     slope-of-requires
-    choose-requires
-    put-requires
+    (λ c κs. search needs)
+    (λ c κs. search needs)
     add-p
-    loop-less
+    (λ c. search needs)
     loop-again
-    same-length
+    (λ c. search needs)
     returns)

@@ -28,21 +28,12 @@ slope-of-requires : tie.Need-slope-of-requires Inv-loop μ-loop
 slope-of-requires c κs =
     (c .before .before .before .pre .0, omega (arith, c .before .before .before .pre .0 .few-rows, c .loop-test .taken))
 
-definitely-not-equal-requires : tie.Need-definitely-not-equal-requires Inv-loop μ-loop
-definitely-not-equal-requires c κs = search needs
-
 returns : tie.Need-returns Inv-loop μ-loop
 unfolding dependsOn ofBits
 returns c =
     let l = c .before .before .before .before .loop in
     sym (any-broke _ (l .i) _ (c .before .before .before .loop-test .taken) (l .inv .1)
     (rw (← c .before .before .slope-of .ensures, ← c .before .definitely-not-equal .ensures) (c .if1 .taken)))
-
-add-i : tie.Need-add-i Inv-loop μ-loop
-add-i c = search needs
-
-loop-less : tie.Need-loop-less Inv-loop μ-loop
-loop-less c = search needs
 
 loop-again : tie.Need-loop-again Inv-loop μ-loop
 unfolding ofBits
@@ -65,9 +56,9 @@ depends-on-spec =
     μ-loop
     loop-holds
     slope-of-requires
-    definitely-not-equal-requires
+    (λ c κs. search needs)
     returns
-    add-i
-    loop-less
+    (λ c. search needs)
+    (λ c. search needs)
     loop-again
     returns-2)

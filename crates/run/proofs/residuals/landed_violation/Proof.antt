@@ -11,9 +11,6 @@ use borrow.Author.Needs.{needs}
 use Rattle.run.proofs.residuals.landed_violation.Statement.{statement}
 use Rattle.run.proofs.residuals.landed_violation.Tie as tie
 
-landed-counts-requires : tie.Need-landed-counts-requires
-landed-counts-requires c κs = search needs
-
 landed-rows-requires : tie.Need-landed-rows-requires
 landed-rows-requires c κs =
     let p = c .before .before .pre in (p .0, rw (c .landed-counts .ensures) (p .1))
@@ -39,4 +36,4 @@ returns c w h e =
 
 pub landed-violation-spec : {M : Type 1} → statement M
 landed-violation-spec =
-    tie.close (tie.spec landed-counts-requires landed-rows-requires violation-requires returns)
+    tie.close (tie.spec (λ c κs. search needs) landed-rows-requires violation-requires returns)

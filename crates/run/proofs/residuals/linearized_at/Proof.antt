@@ -27,22 +27,10 @@ unfolding linearizedAt
 added e delta d i es ey ex er =
     rw (er, ex, ey, es, along-behind (e .list) (e .slopes) (i * e .n) 1 refl, along-start delta)
 
-slopes-of-requires : tie.Need-slopes-of-requires
-slopes-of-requires c κs = search needs
-
 mul-row-dot : tie.Need-mul-row-dot
 mul-row-dot c =
     let h = c .before .before .before .before .pre in
     omega (arith, row-near (h .1) (h .0 .few-variables))
-
-row-dot-requires : tie.Need-row-dot-requires
-row-dot-requires c κs = search needs
-
-value-of-requires : tie.Need-value-of-requires
-value-of-requires c κs = search needs
-
-add-requires : tie.Need-add-requires
-add-requires c κs = search needs
 
 returns : tie.Need-returns
 returns c =
@@ -51,4 +39,5 @@ returns c =
 
 pub linearized-at-spec : {M : Type 1} → statement M
 linearized-at-spec =
-    tie.close (tie.spec slopes-of-requires mul-row-dot row-dot-requires value-of-requires add-requires returns)
+    tie.close (tie.spec (λ c κs. search needs) mul-row-dot (λ c κs. search needs) (λ c κs. search needs)
+    (λ c κs. search needs) returns)

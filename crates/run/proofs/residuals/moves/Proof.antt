@@ -7,9 +7,6 @@ use borrow.Author.Needs.{needs}
 use Rattle.run.proofs.residuals.moves.Statement.{statement}
 use Rattle.run.proofs.residuals.moves.Tie as tie
 
-sum-requires : tie.Need-sum-requires
-sum-requires c κs = search needs
-
 depends-on-requires : tie.Need-depends-on-requires
 depends-on-requires c κs =
     let p = c .before .before .pre in (rw (c .sum .ensures) (sum-small (p .0)), p .1)
@@ -20,9 +17,6 @@ returns c =
     let e = c .before .depends-on .ensures ∙ ap (λ k. dependsOn (rowsIn (a .xs .now) k) (a .j))
     (c .before .before .sum .ensures) in
     rw (← e, c .if1 .taken)
-
-constraints-requires : tie.Need-constraints-requires
-constraints-requires c κs = search needs
 
 depends-on-requires-2 : tie.Need-depends-on-requires-2
 depends-on-requires-2 c κs =
@@ -41,9 +35,9 @@ pub moves-spec : {M : Type 1} → statement M
 moves-spec =
     tie.close
     (tie.spec
-    sum-requires
+    (λ c κs. search needs)
     depends-on-requires
     returns
-    constraints-requires
+    (λ c κs. search needs)
     depends-on-requires-2
     returns-2)

@@ -11,18 +11,9 @@ use borrow.Author.Needs.{needs}
 use Rattle.run.proofs.residuals.predicted.Statement.{statement}
 use Rattle.run.proofs.residuals.predicted.Tie as tie
 
-constraints-requires : tie.Need-constraints-requires
-constraints-requires c κs = search needs
-
-slice-aggregate-linearized : tie.Need-slice-aggregate-linearized
-slice-aggregate-linearized c = search needs
-
 linearized-requires : tie.Need-linearized-requires
 linearized-requires c κs =
     rw (c .before .constraints .ensures) (constraints-small (c .before .before .before .before .pre))
-
-slice-aggregate-norm-of : tie.Need-slice-aggregate-norm-of
-slice-aggregate-norm-of c = search needs
 
 norm-of-requires : tie.Need-norm-of-requires
 norm-of-requires c κs =
@@ -46,9 +37,9 @@ pub predicted-spec : {M : Type 1} → statement M
 predicted-spec =
     tie.close
     (tie.spec
-    constraints-requires
-    slice-aggregate-linearized
+    (λ c κs. search needs)
+    (λ c. search needs)
     linearized-requires
-    slice-aggregate-norm-of
+    (λ c. search needs)
     norm-of-requires
     returns)

@@ -11,21 +11,6 @@ use Rattle.run.proofs.VectorLaws.{squares-fill}
 use Rattle.run.proofs.residuals.squared.Statement.{statement}
 use Rattle.run.proofs.residuals.squared.Tie as tie
 
-slice-aggregate-linearized : tie.Need-slice-aggregate-linearized
-slice-aggregate-linearized c = search needs
-
-linearized-requires : tie.Need-linearized-requires
-linearized-requires c κs = search needs
-
-slice-aggregate-row-dot : tie.Need-slice-aggregate-row-dot
-slice-aggregate-row-dot c = search needs
-
-slice-aggregate-row-dot-2 : tie.Need-slice-aggregate-row-dot-2
-slice-aggregate-row-dot-2 c = search needs
-
-row-dot-requires : tie.Need-row-dot-requires
-row-dot-requires c κs = search needs
-
 returns : tie.Need-returns
 unfolding squaredOf ofBits
 returns c =
@@ -40,9 +25,9 @@ pub squared-spec : {M : Type 1} → statement M
 squared-spec =
     tie.close
     (tie.spec
-    slice-aggregate-linearized
-    linearized-requires
-    slice-aggregate-row-dot
-    slice-aggregate-row-dot-2
-    row-dot-requires
+    (λ c. search needs)
+    (λ c κs. search needs)
+    (λ c. search needs)
+    (λ c. search needs)
+    (λ c κs. search needs)
     returns)

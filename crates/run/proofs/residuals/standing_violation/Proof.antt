@@ -11,9 +11,6 @@ use borrow.Author.Needs.{needs}
 use Rattle.run.proofs.residuals.standing_violation.Statement.{statement}
 use Rattle.run.proofs.residuals.standing_violation.Tie as tie
 
-standing-counts-requires : tie.Need-standing-counts-requires
-standing-counts-requires c κs = search needs
-
 standing-rows-requires : tie.Need-standing-rows-requires
 standing-rows-requires c κs =
     let p = c .before .before .pre in (p .0, rw (c .standing-counts .ensures) (p .1))
@@ -39,4 +36,4 @@ returns c w h e =
 
 pub standing-violation-spec : {M : Type 1} → statement M
 standing-violation-spec =
-    tie.close (tie.spec standing-counts-requires standing-rows-requires violation-requires returns)
+    tie.close (tie.spec (λ c κs. search needs) standing-rows-requires violation-requires returns)

@@ -7,9 +7,6 @@ use borrow.Author.Needs.{needs}
 use Rattle.run.proofs.residuals.sum_squared.Statement.{statement}
 use Rattle.run.proofs.residuals.sum_squared.Tie as tie
 
-sum-requires : tie.Need-sum-requires
-sum-requires c κs = search needs
-
 squared-requires : tie.Need-squared-requires
 squared-requires c κs =
     rw (c .sum .ensures) (sum-small (c .before .before .pre))
@@ -21,4 +18,4 @@ returns c =
     (c .before .before .before .args .xs .now) 0) (c .before .sum .ensures)
 
 pub sum-squared-spec : {M : Type 1} → statement M
-sum-squared-spec = tie.close (tie.spec sum-requires squared-requires returns)
+sum-squared-spec = tie.close (tie.spec (λ c κs. search needs) squared-requires returns)

@@ -21,15 +21,9 @@ summed : (e : Rows) (w : List Float) (j : ℕ) {slopes : List Float} {r : Scalar
 unfolding transposedAt
 summed e w j es er = rw (er, es, along-behind (e .list) (e .slopes) j (e .n) refl, along-start w)
 
-slopes-of-requires : tie.Need-slopes-of-requires
-slopes-of-requires c κs = search needs
-
-plus-dot-requires : tie.Need-plus-dot-requires
-plus-dot-requires c κs = search needs
-
 returns : tie.Need-returns
 unfolding ofBits
 returns c = summed _ _ _ (c .before .slopes-of .ensures) (c .plus-dot .ensures)
 
 pub transposed-at-spec : {M : Type 1} → statement M
-transposed-at-spec = tie.close (tie.spec slopes-of-requires plus-dot-requires returns)
+transposed-at-spec = tie.close (tie.spec (λ c κs. search needs) (λ c κs. search needs) returns)

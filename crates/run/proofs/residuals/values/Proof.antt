@@ -24,15 +24,6 @@ loop-holds c = (search needs, refl, refl)
 value-of-requires : tie.Need-value-of-requires Inv-loop μ-loop
 value-of-requires c κs = tt
 
-put-requires : tie.Need-put-requires Inv-loop μ-loop
-put-requires c κs = search needs
-
-add-i : tie.Need-add-i Inv-loop μ-loop
-add-i c = search needs
-
-loop-less : tie.Need-loop-less Inv-loop μ-loop
-loop-less c = search needs
-
 loop-again : tie.Need-loop-again Inv-loop μ-loop
 loop-again c =
     let a = c .before .before .before .before .before .before .before .before .before .args in
@@ -42,9 +33,6 @@ loop-again c =
       c .before .before .put .ensures ∙ fill-first _ (valueAt (rowsIn (a .xs .now) (a .e)))
           (l .i) (l .inv .2) (c .before .before .before .value-of .ensures),
     )
-
-same-length : tie.Need-same-length Inv-loop μ-loop
-same-length c = search needs
 
 returns : tie.Need-returns Inv-loop μ-loop
 returns c = rw (le-antisymm (c .before .loop .inv .0) (c .loop-test .left)) at (c .before .loop .inv .2)
@@ -57,9 +45,9 @@ values-spec =
     μ-loop
     loop-holds
     value-of-requires
-    put-requires
-    add-i
-    loop-less
+    (λ c κs. search needs)
+    (λ c. search needs)
+    (λ c. search needs)
     loop-again
-    same-length
+    (λ c. search needs)
     returns)

@@ -10,17 +10,8 @@ use borrow.Author.Needs.{needs}
 use Rattle.run.proofs.residuals.violation.Statement.{statement}
 use Rattle.run.proofs.residuals.violation.Tie as tie
 
-constraints-requires : tie.Need-constraints-requires
-constraints-requires c κs = search needs
-
-slice-aggregate-values : tie.Need-slice-aggregate-values
-slice-aggregate-values c = search needs
-
 values-requires : tie.Need-values-requires
 values-requires c κs = tt
-
-slice-aggregate-norm-of : tie.Need-slice-aggregate-norm-of
-slice-aggregate-norm-of c = search needs
 
 norm-of-requires : tie.Need-norm-of-requires
 norm-of-requires c κs =
@@ -43,9 +34,9 @@ pub violation-spec : {M : Type 1} → statement M
 violation-spec =
     tie.close
     (tie.spec
-    constraints-requires
-    slice-aggregate-values
+    (λ c κs. search needs)
+    (λ c. search needs)
     values-requires
-    slice-aggregate-norm-of
+    (λ c. search needs)
     norm-of-requires
     returns)

@@ -10,9 +10,6 @@ use Rattle.run.proofs.rows.sum.Tie as tie
 near : (s : tie.Start) → s .args .c .m * (s .args .c .n + 1) ≤ 156
 near s = few-rows {m = s .args .c .m} {n = s .args .c .n} (s .pre .few-constraints) (s .pre .few-variables)
 
-add-values : tie.Need-add-values
-add-values c = search needs
-
 mul-values : tie.Need-mul-values
 mul-values c = omega (arith, near (c .before .before))
 
@@ -23,4 +20,4 @@ returns : tie.Need-returns
 returns c = search needs
 
 pub sum-spec : {M : Type 1} → statement M
-sum-spec = tie.close (tie.spec add-values mul-values add-t3 returns)
+sum-spec = tie.close (tie.spec (λ c. search needs) mul-values add-t3 returns)

@@ -8,17 +8,11 @@ use Rattle.run.proofs.search.damp_or_leave.Tie as tie
 damp-requires : tie.Need-damp-requires
 damp-requires c κs = c .pre
 
-enum-known-y : tie.Need-enum-known-y
-enum-known-y c = search needs
-
 returns : tie.Need-returns
 returns c = ap turnOf (sym (c .before .y .given .1) ∙ c .before .before .before .damp .ensures)
-
-enum-known-y-2 : tie.Need-enum-known-y-2
-enum-known-y-2 c = search needs
 
 returns-2 : tie.Need-returns-2
 returns-2 c = ap turnOf (sym (c .before .y2 .given .1) ∙ c .before .before .before .damp .ensures)
 
 pub damp-or-leave-spec : {M : Type 1} → statement M
-damp-or-leave-spec = tie.close (tie.spec damp-requires enum-known-y returns enum-known-y-2 returns-2)
+damp-or-leave-spec = tie.close (tie.spec damp-requires (λ c. search needs) returns (λ c. search needs) returns-2)

@@ -9,37 +9,19 @@ use borrow.Author.Needs.{needs}
 use Rattle.run.proofs.search.follow.Statement.{statement}
 use Rattle.run.proofs.search.follow.Tie as tie
 
-enum-known-p : tie.Need-enum-known-p
-enum-known-p c = search needs
-
 returns : tie.Need-returns
 returns c on delta lambda next = rw (c .before .p .given .1)
 
-enum-told : tie.Need-enum-told
-enum-told c = search needs
-
 returns-2 : tie.Need-returns-2
 returns-2 c on delta lambda next = rw (c .enum-told .given .1)
-
-enum-known-p-2 : tie.Need-enum-known-p-2
-enum-known-p-2 c = search needs
-
-flat-requires : tie.Need-flat-requires
-flat-requires c κs = search needs
 
 returns-3 : tie.Need-returns-3
 returns-3 c on delta lambda next =
     rw (c .before .before .p2 .given .1) (ap (λ (s : Stop). stops (c .before .before .before .before .args .x) s)
     (c .flat .ensures))
 
-enum-known-p-3 : tie.Need-enum-known-p-3
-enum-known-p-3 c = search needs
-
 returns-4 : tie.Need-returns-4
 returns-4 c on delta lambda next = rw (c .before .p3 .given .1)
-
-enum-told-2 : tie.Need-enum-told-2
-enum-told-2 c = search needs
 
 damp-or-leave-requires : tie.Need-damp-or-leave-requires
 damp-or-leave-requires c κs = c .before .before .pre
@@ -49,9 +31,6 @@ returns-5 c on delta lambda next =
     let a = c .before .before .before .args in
     rw (c .before .enum-told2 .given .1) (damped-turn (rejectedFor (withRadius (a .x) (a .max)) why.Unresolved)
     (c .damp-or-leave .ensures) on delta lambda next)
-
-enum-told-3 : tie.Need-enum-told-3
-enum-told-3 c = search needs
 
 damp-or-leave-requires-2 : tie.Need-damp-or-leave-requires-2
 damp-or-leave-requires-2 c κs = c .before .before .pre
@@ -65,18 +44,18 @@ pub follow-spec : {M : Type 1} → statement M
 follow-spec =
     tie.close
     (tie.spec
-    enum-known-p
+    (λ c. search needs)
     returns
-    enum-told
+    (λ c. search needs)
     returns-2
-    enum-known-p-2
-    flat-requires
+    (λ c. search needs)
+    (λ c κs. search needs)
     returns-3
-    enum-known-p-3
+    (λ c. search needs)
     returns-4
-    enum-told-2
+    (λ c. search needs)
     damp-or-leave-requires
     returns-5
-    enum-told-3
+    (λ c. search needs)
     damp-or-leave-requires-2
     returns-6)

@@ -23,23 +23,11 @@ curvature-for-requires c κs =
 slice-aggregate-prepare : tie.Need-slice-aggregate-prepare
 slice-aggregate-prepare c = sym (marks (c .before .before .before .before .before .before .before .before .before))
 
-slice-aggregate-prepare-2 : tie.Need-slice-aggregate-prepare-2
-slice-aggregate-prepare-2 c = search needs
-
-slice-aggregate-prepare-3 : tie.Need-slice-aggregate-prepare-3
-slice-aggregate-prepare-3 c = search needs
-
 prepare-requires : tie.Need-prepare-requires
 unfolding ofBits
 prepare-requires c κs =
     let s = c .before .before .before .before .before .before .before .before .before .before .before in
     (s .pre .0 .0, marks s, refl, refl)
-
-slice-aggregate-seek-from : tie.Need-slice-aggregate-seek-from
-slice-aggregate-seek-from c = search needs
-
-slice-aggregate-seek-from-2 : tie.Need-slice-aggregate-seek-from-2
-slice-aggregate-seek-from-2 c = search needs
 
 seek-from-requires : tie.Need-seek-from-requires
 seek-from-requires c κs =
@@ -53,12 +41,6 @@ seek-from-requires c κs =
     (c .before .before .before .before .before .before .prepare .ensures) in
     (p .0, (prepared, p .1))
 
-same-length : tie.Need-same-length
-same-length c = search needs
-
-same-length-2 : tie.Need-same-length-2
-same-length-2 c = search needs
-
 returns : tie.Need-returns
 returns c = c .before .before .before .before .seek-from .ensures
 
@@ -69,12 +51,12 @@ seek-spec =
     standing-rows-requires
     curvature-for-requires
     slice-aggregate-prepare
-    slice-aggregate-prepare-2
-    slice-aggregate-prepare-3
+    (λ c. search needs)
+    (λ c. search needs)
     prepare-requires
-    slice-aggregate-seek-from
-    slice-aggregate-seek-from-2
+    (λ c. search needs)
+    (λ c. search needs)
     seek-from-requires
-    same-length
-    same-length-2
+    (λ c. search needs)
+    (λ c. search needs)
     returns)

@@ -103,12 +103,6 @@ follow-requires c κs =
     let i = c .before .before .before .before .before .before .before .loop .inv .2 in
     omega (arith, few _ _ _ i, i .later, p .1 .1 .0)
 
-enum-known-left : tie.Need-enum-known-left Inv-loop μ-loop
-enum-known-left c = search needs
-
-enum-known-y : tie.Need-enum-known-y Inv-loop μ-loop
-enum-known-y c = search needs
-
 loop-less : tie.Need-loop-less Inv-loop μ-loop
 loop-less c =
     let k = c .before .before .before in
@@ -123,12 +117,6 @@ loop-again c =
     let y = c .before .y .given .1 in
     (l .0 ∙ i .0, l .1 .0 ∙ i .1, seek-on _ _ _ (inv k) (grown-to k _ y) (whole k _ y))
 
-same-length : tie.Need-same-length Inv-loop μ-loop
-same-length c = search needs
-
-same-length-2 : tie.Need-same-length-2 Inv-loop μ-loop
-same-length-2 c = search needs
-
 returns : tie.Need-returns Inv-loop μ-loop
 unfolding searchOf
 returns c = whole (c .before .before .before) _ (c .before .left .given .1)
@@ -142,10 +130,10 @@ seek-from-spec =
     loop-holds
     propose-requires
     follow-requires
-    enum-known-left
-    enum-known-y
+    (λ c. search needs)
+    (λ c. search needs)
     loop-less
     loop-again
-    same-length
-    same-length-2
+    (λ c. search needs)
+    (λ c. search needs)
     returns)

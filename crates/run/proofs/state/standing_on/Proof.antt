@@ -3,14 +3,8 @@ use borrow.Author.Needs.{needs}
 use Rattle.run.proofs.state.standing_on.Statement.{statement}
 use Rattle.run.proofs.state.standing_on.Tie as tie
 
-add-t6 : tie.Need-add-t6
-add-t6 c = search needs
-
-renew-requires : tie.Need-renew-requires
-renew-requires c κs = search needs
-
 returns : tie.Need-returns
 returns c = rw (c .before .before .before .before .renew .ensures)
 
 pub standing-on-spec : {M : Type 1} → statement M
-standing-on-spec = tie.close (tie.spec add-t6 renew-requires returns)
+standing-on-spec = tie.close (tie.spec (λ c. search needs) (λ c κs. search needs) returns)

@@ -13,16 +13,10 @@ use Rattle.run.proofs.step.damped_step.Tie as tie
 inside : {k n l : ℕ} → k ≤ n → n ≤ 12 → l ≡ 12 → k ≤ l
 inside h j e = omega arith
 
-slice-aggregate-keep : tie.Need-slice-aggregate-keep
-slice-aggregate-keep c = search needs
-
 keep-requires : tie.Need-keep-requires
 keep-requires c κs =
     let p = c .before .before .before .before .before .before .pre in
     (p .0, p .1, refl)
-
-slice-aggregate-kept-step : tie.Need-slice-aggregate-kept-step
-slice-aggregate-kept-step c = search needs
 
 kept-step-requires : tie.Need-kept-step-requires
 unfolding ofBits
@@ -31,24 +25,12 @@ kept-step-requires c κs =
     let few = kept-few _ _ (c .before .before .before .keep .ensures) in
     (omega (arith, few, p .0), p .2, record { delta-length = refl; lambda-length = p .3 .lambda-length })
 
-slice-aggregate-spread : tie.Need-slice-aggregate-spread
-slice-aggregate-spread c = search needs
-
-slice-aggregate-spread-2 : tie.Need-slice-aggregate-spread-2
-slice-aggregate-spread-2 c = search needs
-
 spread-requires : tie.Need-spread-requires
 spread-requires c κs =
     let p = c .before .before .before .before .before .before .before .before .before .before .before .before .before
     .before .before .before .before .pre in
     let k = c .before .before .before .before .before .before .before .before .before .before .keep in
     (p .3 .delta-length, inside (kept-few _ _ (k .ensures)) (p .0) (k .kept .1 .1 .0))
-
-same-length : tie.Need-same-length
-same-length c = search needs
-
-same-length-2 : tie.Need-same-length-2
-same-length-2 c = search needs
 
 returns : tie.Need-returns
 returns c =
@@ -61,13 +43,13 @@ pub damped-step-spec : {M : Type 1} → statement M
 damped-step-spec =
     tie.close
     (tie.spec
-    slice-aggregate-keep
+    (λ c. search needs)
     keep-requires
-    slice-aggregate-kept-step
+    (λ c. search needs)
     kept-step-requires
-    slice-aggregate-spread
-    slice-aggregate-spread-2
+    (λ c. search needs)
+    (λ c. search needs)
     spread-requires
-    same-length
-    same-length-2
+    (λ c. search needs)
+    (λ c. search needs)
     returns)

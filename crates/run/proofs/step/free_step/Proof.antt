@@ -11,24 +11,6 @@ use borrow.Author.Needs.{needs}
 use Rattle.run.proofs.step.free_step.Statement.{statement}
 use Rattle.run.proofs.step.free_step.Tie as tie
 
-sub-free-part : tie.Need-sub-free-part
-sub-free-part c = search needs
-
-part-free-part-start : tie.Need-part-free-part-start
-part-free-part-start c = search needs
-
-part-free-part-end : tie.Need-part-free-part-end
-part-free-part-end c = search needs
-
-free-part-requires : tie.Need-free-part-requires
-free-part-requires c κs = search needs
-
-enum-told : tie.Need-enum-told
-enum-told c = search needs
-
-slice-aggregate-finite-pull : tie.Need-slice-aggregate-finite-pull
-slice-aggregate-finite-pull c = search needs
-
 finite-pull-requires : tie.Need-finite-pull-requires
 unfolding ofBits
 finite-pull-requires c κs = (
@@ -36,21 +18,6 @@ finite-pull-requires c κs = (
       .before .pre .0 .few-kept,
   refl,
 )
-
-slice-aggregate-multipliers : tie.Need-slice-aggregate-multipliers
-slice-aggregate-multipliers c = search needs
-
-multipliers-requires : tie.Need-multipliers-requires
-multipliers-requires c κs = search needs
-
-multiplied-requires : tie.Need-multiplied-requires
-multiplied-requires c κs = search needs
-
-same-length : tie.Need-same-length
-same-length c = search needs
-
-same-length-2 : tie.Need-same-length-2
-same-length-2 c = search needs
 
 returns : tie.Need-returns
 unfolding bind
@@ -71,9 +38,6 @@ returns c =
     .1) at (c .before .before .before .before .before .before .before .before .before .before .before .before .before
     .before .before .free-part .ensures))
 
-same-length-3 : tie.Need-same-length-3
-same-length-3 c = search needs
-
 returns-2 : tie.Need-returns-2
 unfolding bind
 returns-2 c =
@@ -83,22 +47,10 @@ returns-2 c =
     (rw (c .before .before .before .before .before .enum-told .given .1) at (c .before .before .before .before .before
     .before .before .before .before .free-part .ensures))
 
-enum-told-2 : tie.Need-enum-told-2
-enum-told-2 c = search needs
-
-same-length-4 : tie.Need-same-length-4
-same-length-4 c = search needs
-
 returns-3 : tie.Need-returns-3
 unfolding bind
 returns-3 c =
     free-step _ _ _ _ (rw (c .enum-told2 .given .1) at (c .before .before .before .before .free-part .ensures))
-
-enum-known-e : tie.Need-enum-known-e
-enum-known-e c = search needs
-
-same-length-5 : tie.Need-same-length-5
-same-length-5 c = search needs
 
 returns-4 : tie.Need-returns-4
 unfolding bind
@@ -109,24 +61,24 @@ pub free-step-spec : {M : Type 1} → statement M
 free-step-spec =
     tie.close
     (tie.spec
-    sub-free-part
-    part-free-part-start
-    part-free-part-end
-    free-part-requires
-    enum-told
-    slice-aggregate-finite-pull
+    (λ c. search needs)
+    (λ c. search needs)
+    (λ c. search needs)
+    (λ c κs. search needs)
+    (λ c. search needs)
+    (λ c. search needs)
     finite-pull-requires
-    slice-aggregate-multipliers
-    multipliers-requires
-    multiplied-requires
-    same-length
-    same-length-2
+    (λ c. search needs)
+    (λ c κs. search needs)
+    (λ c κs. search needs)
+    (λ c. search needs)
+    (λ c. search needs)
     returns
-    same-length-3
+    (λ c. search needs)
     returns-2
-    enum-told-2
-    same-length-4
+    (λ c. search needs)
+    (λ c. search needs)
     returns-3
-    enum-known-e
-    same-length-5
+    (λ c. search needs)
+    (λ c. search needs)
     returns-4)

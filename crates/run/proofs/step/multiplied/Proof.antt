@@ -5,12 +5,6 @@ use Rattle.run.specs.program.Step.{withMultipliers}
 use Rattle.run.proofs.step.multiplied.Statement.{statement}
 use Rattle.run.proofs.step.multiplied.Tie as tie
 
-enum-told : tie.Need-enum-told
-enum-told c = search needs
-
-enum-known-d : tie.Need-enum-known-d
-enum-known-d c = search needs
-
 returns : tie.Need-returns
 unfolding withMultipliers bind
 returns c = λ delta lambda. rw (c .enum-told .given .1)
@@ -20,4 +14,4 @@ unfolding withMultipliers bind
 returns-2 c = λ delta lambda. rw (c .before .d .given .1)
 
 pub multiplied-spec : {M : Type 1} → statement M
-multiplied-spec = tie.close (tie.spec enum-told enum-known-d returns returns-2)
+multiplied-spec = tie.close (tie.spec (λ c. search needs) (λ c. search needs) returns returns-2)

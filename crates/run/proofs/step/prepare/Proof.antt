@@ -25,28 +25,10 @@ undamped-long k =
     k .problem .kept .1 .1 .1 .1 .1 .1 .1 .0
     ∙ cut-length 336 0 (s .args .fixed .now) (omega (arith, clear-long (s .args .fixed .now) (s .pre .3)))
 
-slice-aggregate-keep : tie.Need-slice-aggregate-keep
-slice-aggregate-keep c = search needs
-
 keep-requires : tie.Need-keep-requires
 keep-requires c κs =
     let p = c .before .before .before .before .before .before .pre in
     (p .0 .few-variables, p .1, refl)
-
-slice-aggregate-problem : tie.Need-slice-aggregate-problem
-slice-aggregate-problem c = search needs
-
-slice-aggregate-problem-2 : tie.Need-slice-aggregate-problem-2
-slice-aggregate-problem-2 c = search needs
-
-slice-aggregate-problem-3 : tie.Need-slice-aggregate-problem-3
-slice-aggregate-problem-3 c = search needs
-
-sub-problem : tie.Need-sub-problem
-sub-problem c = search needs
-
-part-problem-start : tie.Need-part-problem-start
-part-problem-start c = search needs
 
 part-problem-end : tie.Need-part-problem-end
 part-problem-end c =
@@ -66,21 +48,6 @@ problem-requires c κs =
     } in
     ((s .pre .0, fits), (refl, refl, first-clear (s .args .fixed .now) (s .pre .3)))
 
-slice-aggregate-prepare-kept : tie.Need-slice-aggregate-prepare-kept
-slice-aggregate-prepare-kept c = search needs
-
-slice-aggregate-prepare-kept-2 : tie.Need-slice-aggregate-prepare-kept-2
-slice-aggregate-prepare-kept-2 c = search needs
-
-constraints-requires : tie.Need-constraints-requires
-constraints-requires c κs = search needs
-
-sub-prepare-kept : tie.Need-sub-prepare-kept
-sub-prepare-kept c = search needs
-
-part-prepare-kept-start : tie.Need-part-prepare-kept-start
-part-prepare-kept-start c = search needs
-
 part-prepare-kept-end : tie.Need-part-prepare-kept-end
 part-prepare-kept-end c =
     let s = c .before .before .before .before .before .before .before .before .before .before .before .before .before
@@ -98,12 +65,6 @@ prepare-kept-requires c κs =
     .before .before .keep in
     let clear = second-clear (s .args .fixed .now) (p .3) (undamped q) (undamped-long q) in
     (omega (arith, kept-few _ _ (k .ensures), p .0 .few-variables), (p .0 .few-constraints, (p .2, clear)))
-
-same-length : tie.Need-same-length
-same-length c = search needs
-
-same-length-2 : tie.Need-same-length-2
-same-length-2 c = search needs
 
 returns : tie.Need-returns
 returns c =
@@ -137,22 +98,22 @@ pub prepare-spec : {M : Type 1} → statement M
 prepare-spec =
     tie.close
     (tie.spec
-    slice-aggregate-keep
+    (λ c. search needs)
     keep-requires
-    slice-aggregate-problem
-    slice-aggregate-problem-2
-    slice-aggregate-problem-3
-    sub-problem
-    part-problem-start
+    (λ c. search needs)
+    (λ c. search needs)
+    (λ c. search needs)
+    (λ c. search needs)
+    (λ c. search needs)
     part-problem-end
     problem-requires
-    slice-aggregate-prepare-kept
-    slice-aggregate-prepare-kept-2
-    constraints-requires
-    sub-prepare-kept
-    part-prepare-kept-start
+    (λ c. search needs)
+    (λ c. search needs)
+    (λ c κs. search needs)
+    (λ c. search needs)
+    (λ c. search needs)
     part-prepare-kept-end
     prepare-kept-requires
-    same-length
-    same-length-2
+    (λ c. search needs)
+    (λ c. search needs)
     returns)

@@ -53,12 +53,6 @@ write-requires-2 c κs =
     let s = c .before .before .before .before .before .before .before .before .before .before .before in
     omega (arith, clear-long s, c .before .before .before .write .kept .0, s .pre .by-row)
 
-sub-correction : tie.Need-sub-correction
-sub-correction c = search needs
-
-part-correction-start : tie.Need-part-correction-start
-part-correction-start c = search needs
-
 part-correction-end : tie.Need-part-correction-end
 part-correction-end c =
     omega (
@@ -69,15 +63,6 @@ part-correction-end c =
       c .before .before .before .before .before .before .write .kept .0,
       c .before .before .write2 .kept .0,
     )
-
-correction-requires : tie.Need-correction-requires
-correction-requires c κs = search needs
-
-sub-free-directions : tie.Need-sub-free-directions
-sub-free-directions c = search needs
-
-part-free-directions-start : tie.Need-part-free-directions-start
-part-free-directions-start c = search needs
 
 part-free-directions-end : tie.Need-part-free-directions-end
 part-free-directions-end c = omega (arith, whole (c .before .before))
@@ -98,12 +83,6 @@ free-directions-requires c κs =
     fourth-clear (a .factors .now) (a .q .now) (a .coefficients .now) t (p .vectors) (p .by-row)
     (corrected k) one two (part-back x t 576 24 (corrected k)) (p .clear) in
     (p .few .variables, (few-independent s, e))
-
-ready-requires : tie.Need-ready-requires
-ready-requires c κs = search needs
-
-same-length : tie.Need-same-length
-same-length c = search needs
 
 returns : tie.Need-returns
 returns c =
@@ -139,14 +118,14 @@ prepare-free-spec =
     (tie.spec
     write-requires
     write-requires-2
-    sub-correction
-    part-correction-start
+    (λ c. search needs)
+    (λ c. search needs)
     part-correction-end
-    correction-requires
-    sub-free-directions
-    part-free-directions-start
+    (λ c κs. search needs)
+    (λ c. search needs)
+    (λ c. search needs)
     part-free-directions-end
     free-directions-requires
-    ready-requires
-    same-length
+    (λ c κs. search needs)
+    (λ c. search needs)
     returns)

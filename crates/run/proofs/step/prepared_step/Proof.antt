@@ -9,21 +9,6 @@ use borrow.Author.Needs.{needs}
 use Rattle.run.proofs.step.prepared_step.Statement.{statement}
 use Rattle.run.proofs.step.prepared_step.Tie as tie
 
-enum-known-prepared : tie.Need-enum-known-prepared
-enum-known-prepared c = search needs
-
-sub-write : tie.Need-sub-write
-sub-write c = search needs
-
-part-write-start : tie.Need-part-write-start
-part-write-start c = search needs
-
-part-write-end : tie.Need-part-write-end
-part-write-end c = search needs
-
-write-requires : tie.Need-write-requires
-write-requires c κs = search needs
-
 free-step-requires : tie.Need-free-step-requires
 free-step-requires c κs =
     let p = c .before .before .before .before .before .before .before .before .before .before .before .before .before
@@ -35,12 +20,6 @@ free-step-requires c κs =
       p .2,
       p .3 .lambda-length,
     )
-
-same-length : tie.Need-same-length
-same-length c = search needs
-
-same-length-2 : tie.Need-same-length-2
-same-length-2 c = search needs
 
 returns : tie.Need-returns
 returns c =
@@ -56,9 +35,6 @@ returns c =
     .given .1) copied
     (c .before .before .before .before .free-step .ensures)
 
-enum-known-prepared-2 : tie.Need-enum-known-prepared-2
-enum-known-prepared-2 c = search needs
-
 returns-2 : tie.Need-returns-2
 returns-2 c =
     let a = c .before .before .before .before .before .before .before .before .before .args in
@@ -69,14 +45,14 @@ pub prepared-step-spec : {M : Type 1} → statement M
 prepared-step-spec =
     tie.close
     (tie.spec
-    enum-known-prepared
-    sub-write
-    part-write-start
-    part-write-end
-    write-requires
+    (λ c. search needs)
+    (λ c. search needs)
+    (λ c. search needs)
+    (λ c. search needs)
+    (λ c κs. search needs)
     free-step-requires
-    same-length
-    same-length-2
+    (λ c. search needs)
+    (λ c. search needs)
     returns
-    enum-known-prepared-2
+    (λ c. search needs)
     returns-2)

@@ -6,9 +6,6 @@ use borrow.Author.Needs.{needs}
 use Rattle.run.proofs.vectors.choose_if.Statement.{statement}
 use Rattle.run.proofs.vectors.choose_if.Tie as tie
 
-choose-requires : tie.Need-choose-requires
-choose-requires c κs = search needs
-
 returns : tie.Need-returns
 returns c = c .choose .ensures ∙ sym (pick-yes _ _ (c .before .if1 .taken))
 
@@ -17,4 +14,4 @@ unfolding ofBits
 returns-2 c = sym (pick-no _ _ (c .if1 .left))
 
 pub choose-if-spec : {M : Type 1} → statement M
-choose-if-spec = tie.close (tie.spec choose-requires returns returns-2)
+choose-if-spec = tie.close (tie.spec (λ c κs. search needs) returns returns-2)

@@ -31,24 +31,6 @@ loop-holds : tie.Need-loop-holds Inv-loop μ-loop
 unfolding combinedTo
 loop-holds c = (search needs, refl, refl)
 
-at-requires : tie.Need-at-requires Inv-loop μ-loop
-at-requires c κs = search needs
-
-neg-requires : tie.Need-neg-requires Inv-loop μ-loop
-neg-requires c κs = search needs
-
-mul-minus-scaled : tie.Need-mul-minus-scaled Inv-loop μ-loop
-mul-minus-scaled c = search needs
-
-minus-scaled-requires : tie.Need-minus-scaled-requires Inv-loop μ-loop
-minus-scaled-requires c κs = search needs
-
-add-t : tie.Need-add-t Inv-loop μ-loop
-add-t c = search needs
-
-loop-less : tie.Need-loop-less Inv-loop μ-loop
-loop-less c = search needs
-
 loop-again : tie.Need-loop-again Inv-loop μ-loop
 loop-again c =
     let l = c .before .before .before .before .before .before .before .loop in (
@@ -57,9 +39,6 @@ loop-again c =
       turn _ _ _ _ _ (l .t) (l .inv .2) (c .before .before .before .before .before .at .ensures)
           (c .before .before .before .neg .ensures .value) (c .before .before .minus-scaled .ensures),
     )
-
-same-length : tie.Need-same-length Inv-loop μ-loop
-same-length c = search needs
 
 returns : tie.Need-returns Inv-loop μ-loop
 returns c = rw (le-antisymm (c .before .loop .inv .0) (c .loop-test .left)) at (c .before .loop .inv .2)
@@ -71,12 +50,12 @@ combine-spec =
     Inv-loop
     μ-loop
     loop-holds
-    at-requires
-    neg-requires
-    mul-minus-scaled
-    minus-scaled-requires
-    add-t
-    loop-less
+    (λ c κs. search needs)
+    (λ c κs. search needs)
+    (λ c. search needs)
+    (λ c κs. search needs)
+    (λ c. search needs)
+    (λ c. search needs)
     loop-again
-    same-length
+    (λ c. search needs)
     returns)

@@ -6,14 +6,8 @@ use borrow.Author.Needs.{needs}
 use Rattle.run.proofs.vectors.norm_of.Statement.{statement}
 use Rattle.run.proofs.vectors.norm_of.Tie as tie
 
-mul-q : tie.Need-mul-q
-mul-q c = search needs
-
 slice-aggregate-norm : tie.Need-slice-aggregate-norm
 slice-aggregate-norm c = sym (length-take-le _ _ (c .before .before .pre .1))
-
-norm-requires : tie.Need-norm-requires
-norm-requires c κs = search needs
 
 returns : tie.Need-returns
 returns c =
@@ -21,4 +15,4 @@ returns c =
     c .norm .ensures ∙ norm-part (s .args .xs .now) (s .args .k) (s .pre .0) (s .pre .1)
 
 pub norm-of-spec : {M : Type 1} → statement M
-norm-of-spec = tie.close (tie.spec mul-q slice-aggregate-norm norm-requires returns)
+norm-of-spec = tie.close (tie.spec (λ c. search needs) slice-aggregate-norm (λ c κs. search needs) returns)

@@ -4,12 +4,6 @@ use borrow.Author.Needs.{needs}
 use Rattle.run.proofs.vectors.or_zero.Statement.{statement}
 use Rattle.run.proofs.vectors.or_zero.Tie as tie
 
-enum-known-q : tie.Need-enum-known-q
-enum-known-q c = search needs
-
-enum-told : tie.Need-enum-told
-enum-told c = search needs
-
 returns : tie.Need-returns
 returns c = search needs
 
@@ -18,4 +12,4 @@ unfolding ofBits
 returns-2 c = rw (c .enum-told .given .1)
 
 pub or-zero-spec : {M : Type 1} → statement M
-or-zero-spec = tie.close (tie.spec enum-known-q enum-told returns returns-2)
+or-zero-spec = tie.close (tie.spec (λ c. search needs) (λ c. search needs) returns returns-2)

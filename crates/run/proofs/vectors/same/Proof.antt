@@ -33,15 +33,6 @@ loop-holds : tie.Need-loop-holds Inv-loop μ-loop
 unfolding allTo
 loop-holds c = (search needs, refl)
 
-at-requires : tie.Need-at-requires Inv-loop μ-loop
-at-requires c κs = search needs
-
-at-requires-2 : tie.Need-at-requires-2 Inv-loop μ-loop
-at-requires-2 c κs = search needs
-
-could-be-equal-requires : tie.Need-could-be-equal-requires Inv-loop μ-loop
-could-be-equal-requires c κs = search needs
-
 returns : tie.Need-returns Inv-loop μ-loop
 unfolding sameOf
 returns c =
@@ -52,12 +43,6 @@ returns c =
     (told (a .a .now) (a .b .now) (c .before .before .before .before .before .loop .i)
     (c .before .before .before .at .ensures) (c .before .before .at2 .ensures)
     (c .before .could-be-equal .ensures) ∙ negated _ (c .if1 .taken)))
-
-add-i : tie.Need-add-i Inv-loop μ-loop
-add-i c = search needs
-
-loop-less : tie.Need-loop-less Inv-loop μ-loop
-loop-less c = search needs
 
 loop-again : tie.Need-loop-again Inv-loop μ-loop
 loop-again c =
@@ -81,11 +66,11 @@ same-spec =
     Inv-loop
     μ-loop
     loop-holds
-    at-requires
-    at-requires-2
-    could-be-equal-requires
+    (λ c κs. search needs)
+    (λ c κs. search needs)
+    (λ c κs. search needs)
     returns
-    add-i
-    loop-less
+    (λ c. search needs)
+    (λ c. search needs)
     loop-again
     returns-2)

@@ -13,30 +13,6 @@ Inv-loop dr x rows₀ n m slopes₀ k₀ rows slopes k =
 abbrev μ-loop : tie.MeasureT-loop
 μ-loop dr x rows₀ n m slopes₀ k₀ rows slopes k = m - k
 
-mul-n : tie.Need-mul-n Inv-loop μ-loop
-mul-n c = search needs
-
-loop-holds : tie.Need-loop-holds Inv-loop μ-loop
-loop-holds c = search needs
-
-constraint-requires : tie.Need-constraint-requires Inv-loop μ-loop
-constraint-requires c κs = search needs
-
-add-slopes : tie.Need-add-slopes Inv-loop μ-loop
-add-slopes c = search needs
-
-add-k : tie.Need-add-k Inv-loop μ-loop
-add-k c = search needs
-
-loop-less : tie.Need-loop-less Inv-loop μ-loop
-loop-less c = search needs
-
-loop-again : tie.Need-loop-again Inv-loop μ-loop
-loop-again c = search needs
-
-same-length : tie.Need-same-length Inv-loop μ-loop
-same-length c = search needs
-
 returns : tie.Need-returns Inv-loop μ-loop
 returns c = search needs
 
@@ -46,12 +22,12 @@ constraints-spec =
     (tie.spec
     Inv-loop
     μ-loop
-    mul-n
-    loop-holds
-    constraint-requires
-    add-slopes
-    add-k
-    loop-less
-    loop-again
-    same-length
+    (λ c. search needs)
+    (λ c. search needs)
+    (λ c κs. search needs)
+    (λ c. search needs)
+    (λ c. search needs)
+    (λ c. search needs)
+    (λ c. search needs)
+    (λ c. search needs)
     returns)

@@ -13,48 +13,6 @@ Inv-loop n start x rows₀ values slope₀ i₀ rows slope i =
 abbrev μ-loop : tie.MeasureT-loop
 μ-loop n start x rows₀ values slope₀ i₀ rows slope i = n - i
 
-add-slope : tie.Need-add-slope Inv-loop μ-loop
-add-slope c = search needs
-
-loop-holds : tie.Need-loop-holds Inv-loop μ-loop
-loop-holds c = search needs
-
-add-put : tie.Need-add-put Inv-loop μ-loop
-add-put c = search needs
-
-at-requires : tie.Need-at-requires Inv-loop μ-loop
-at-requires c κs = search needs
-
-at-requires-2 : tie.Need-at-requires-2 Inv-loop μ-loop
-at-requires-2 c κs = search needs
-
-sub-requires : tie.Need-sub-requires Inv-loop μ-loop
-sub-requires c κs = search needs
-
-put-requires : tie.Need-put-requires Inv-loop μ-loop
-put-requires c κs = search needs
-
-put-requires-2 : tie.Need-put-requires-2 Inv-loop μ-loop
-put-requires-2 c κs = search needs
-
-add-slope-2 : tie.Need-add-slope-2 Inv-loop μ-loop
-add-slope-2 c = search needs
-
-add-slope-3 : tie.Need-add-slope-3 Inv-loop μ-loop
-add-slope-3 c = search needs
-
-add-i : tie.Need-add-i Inv-loop μ-loop
-add-i c = search needs
-
-loop-less : tie.Need-loop-less Inv-loop μ-loop
-loop-less c = search needs
-
-loop-again : tie.Need-loop-again Inv-loop μ-loop
-loop-again c = search needs
-
-same-length : tie.Need-same-length Inv-loop μ-loop
-same-length c = search needs
-
 returns : tie.Need-returns Inv-loop μ-loop
 returns c = search needs
 
@@ -64,18 +22,18 @@ sum-spec =
     (tie.spec
     Inv-loop
     μ-loop
-    add-slope
-    loop-holds
-    add-put
-    at-requires
-    at-requires-2
-    sub-requires
-    put-requires
-    put-requires-2
-    add-slope-2
-    add-slope-3
-    add-i
-    loop-less
-    loop-again
-    same-length
+    (λ c. search needs)
+    (λ c. search needs)
+    (λ c. search needs)
+    (λ c κs. search needs)
+    (λ c κs. search needs)
+    (λ c κs. search needs)
+    (λ c κs. search needs)
+    (λ c κs. search needs)
+    (λ c. search needs)
+    (λ c. search needs)
+    (λ c. search needs)
+    (λ c. search needs)
+    (λ c. search needs)
+    (λ c. search needs)
     returns)

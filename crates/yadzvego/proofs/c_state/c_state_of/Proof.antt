@@ -4,18 +4,6 @@ use borrow.Author.Needs.{needs}
 use Rattle.yadzvego.proofs.c_state.c_state_of.Statement.{statement}
 use Rattle.yadzvego.proofs.c_state.c_state_of.Tie as tie
 
-last-length-requires : tie.Need-last-length-requires
-last-length-requires c κs = search needs
-
-phase-number-requires : tie.Need-phase-number-requires
-phase-number-requires c κs = search needs
-
-rejection-number-requires : tie.Need-rejection-number-requires
-rejection-number-requires c κs = search needs
-
-last-number-requires : tie.Need-last-number-requires
-last-number-requires c κs = search needs
-
 returns : tie.Need-returns
 unfolding cStateOf
 returns c = rw (
@@ -29,8 +17,8 @@ pub c-state-of-spec : {M : Type 1} → statement M
 c-state-of-spec =
     tie.close
     (tie.spec
-    last-length-requires
-    phase-number-requires
-    rejection-number-requires
-    last-number-requires
+    (λ c κs. search needs)
+    (λ c κs. search needs)
+    (λ c κs. search needs)
+    (λ c κs. search needs)
     returns)

@@ -4,12 +4,6 @@ use borrow.Author.Needs.{needs}
 use Rattle.yadzvego.proofs.c_state.last_length.Statement.{statement}
 use Rattle.yadzvego.proofs.c_state.last_length.Tie as tie
 
-enum-told : tie.Need-enum-told
-enum-told c = search needs
-
-enum-known-l : tie.Need-enum-known-l
-enum-known-l c = search needs
-
 returns : tie.Need-returns
 unfolding ofBits
 returns c = rw (c .enum-told .given .1)
@@ -18,4 +12,4 @@ returns-2 : tie.Need-returns-2
 returns-2 c = search needs
 
 pub last-length-spec : {M : Type 1} → statement M
-last-length-spec = tie.close (tie.spec enum-told enum-known-l returns returns-2)
+last-length-spec = tie.close (tie.spec (λ c. search needs) (λ c. search needs) returns returns-2)

@@ -3,11 +3,8 @@ use borrow.Author.Needs.{needs}
 use Rattle.yadzvego.proofs.c_state.search_at.Statement.{statement}
 use Rattle.yadzvego.proofs.c_state.search_at.Tie as tie
 
-rejection-at-requires : tie.Need-rejection-at-requires
-rejection-at-requires c κs = search needs
-
 returns : tie.Need-returns
 returns c = rw (c .rejection-at .ensures)
 
 pub search-at-spec : {M : Type 1} → statement M
-search-at-spec = tie.close (tie.spec rejection-at-requires returns)
+search-at-spec = tie.close (tie.spec (λ c κs. search needs) returns)

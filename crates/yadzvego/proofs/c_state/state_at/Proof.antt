@@ -4,21 +4,6 @@ use borrow.Author.Needs.{needs}
 use Rattle.yadzvego.proofs.c_state.state_at.Statement.{statement}
 use Rattle.yadzvego.proofs.c_state.state_at.Tie as tie
 
-sizes-at-requires : tie.Need-sizes-at-requires
-sizes-at-requires c κs = search needs
-
-counts-at-requires : tie.Need-counts-at-requires
-counts-at-requires c κs = search needs
-
-search-at-requires : tie.Need-search-at-requires
-search-at-requires c κs = search needs
-
-last-at-requires : tie.Need-last-at-requires
-last-at-requires c κs = search needs
-
-phase-at-requires : tie.Need-phase-at-requires
-phase-at-requires c κs = search needs
-
 returns : tie.Need-returns
 unfolding stateAt
 returns c = rw (
@@ -33,9 +18,9 @@ pub state-at-spec : {M : Type 1} → statement M
 state-at-spec =
     tie.close
     (tie.spec
-    sizes-at-requires
-    counts-at-requires
-    search-at-requires
-    last-at-requires
-    phase-at-requires
+    (λ c κs. search needs)
+    (λ c κs. search needs)
+    (λ c κs. search needs)
+    (λ c κs. search needs)
+    (λ c κs. search needs)
     returns)

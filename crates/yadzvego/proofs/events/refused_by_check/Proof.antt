@@ -3,15 +3,6 @@ use borrow.Author.Needs.{needs}
 use Rattle.yadzvego.proofs.events.refused_by_check.Statement.{statement}
 use Rattle.yadzvego.proofs.events.refused_by_check.Tie as tie
 
-enum-told : tie.Need-enum-told
-enum-told c = search needs
-
-enum-told-2 : tie.Need-enum-told-2
-enum-told-2 c = search needs
-
-enum-known-a : tie.Need-enum-known-a
-enum-known-a c = search needs
-
 returns : tie.Need-returns
 returns c = search needs
 
@@ -22,4 +13,5 @@ returns-3 : tie.Need-returns-3
 returns-3 c = rw (c .before .a .given .1)
 
 pub refused-by-check-spec : {M : Type 1} → statement M
-refused-by-check-spec = tie.close (tie.spec enum-told enum-told-2 enum-known-a returns returns-2 returns-3)
+refused-by-check-spec = tie.close (tie.spec (λ c. search needs) (λ c. search needs) (λ c. search needs) returns
+    returns-2 returns-3)

@@ -3,14 +3,8 @@ use borrow.Author.Needs.{needs}
 use Rattle.yadzvego.proofs.events.returned_of.Statement.{statement}
 use Rattle.yadzvego.proofs.events.returned_of.Tie as tie
 
-c-state-of-requires : tie.Need-c-state-of-requires
-c-state-of-requires c κs = search needs
-
-numbers-of-requires : tie.Need-numbers-of-requires
-numbers-of-requires c κs = search needs
-
 returns : tie.Need-returns
 returns c = rw (c .before .c-state-of .ensures, c .numbers-of .ensures)
 
 pub returned-of-spec : {M : Type 1} → statement M
-returned-of-spec = tie.close (tie.spec c-state-of-requires numbers-of-requires returns)
+returned-of-spec = tie.close (tie.spec (λ c κs. search needs) (λ c κs. search needs) returns)

@@ -4,17 +4,11 @@ use borrow.Author.Needs.{needs}
 use Rattle.yadzvego.proofs.events.run_after.Statement.{statement}
 use Rattle.yadzvego.proofs.events.run_after.Tie as tie
 
-refused-by-check-requires : tie.Need-refused-by-check-requires
-refused-by-check-requires c κs = search needs
-
 returns : tie.Need-returns
 returns c = rw (sym (c .before .refused-by-check .ensures) ∙ c .if1 .taken)
-
-c-state-of-requires : tie.Need-c-state-of-requires
-c-state-of-requires c κs = search needs
 
 returns-2 : tie.Need-returns-2
 returns-2 c = rw (sym (c .before .before .refused-by-check .ensures) ∙ c .before .if1 .left) (c .c-state-of .ensures)
 
 pub run-after-spec : {M : Type 1} → statement M
-run-after-spec = tie.close (tie.spec refused-by-check-requires returns c-state-of-requires returns-2)
+run-after-spec = tie.close (tie.spec (λ c κs. search needs) returns (λ c κs. search needs) returns-2)

@@ -5,14 +5,8 @@ use borrow.Author.Needs.{needs}
 use Rattle.yadzvego.proofs.lists.yadzvego_linear_dot.Statement.{statement}
 use Rattle.yadzvego.proofs.lists.yadzvego_linear_dot.Tie as tie
 
-dot-requires : tie.Need-dot-requires
-dot-requires c κs = search needs
-
-scalar-result-of-requires : tie.Need-scalar-result-of-requires
-scalar-result-of-requires c κs = search needs
-
 returns : tie.Need-returns
 returns c = c .scalar-result-of .ensures ∙ ap scalarResultOf (c .before .dot .ensures)
 
 pub yadzvego-linear-dot-spec : {M : Type 1} → statement M
-yadzvego-linear-dot-spec = tie.close (tie.spec dot-requires scalar-result-of-requires returns)
+yadzvego-linear-dot-spec = tie.close (tie.spec (λ c κs. search needs) (λ c κs. search needs) returns)

@@ -5,14 +5,8 @@ use borrow.Author.Needs.{needs}
 use Rattle.yadzvego.proofs.lists.yadzvego_linear_norm.Statement.{statement}
 use Rattle.yadzvego.proofs.lists.yadzvego_linear_norm.Tie as tie
 
-norm-requires : tie.Need-norm-requires
-norm-requires c κs = search needs
-
-scalar-result-of-requires : tie.Need-scalar-result-of-requires
-scalar-result-of-requires c κs = search needs
-
 returns : tie.Need-returns
 returns c = c .scalar-result-of .ensures ∙ ap scalarResultOf (c .before .norm .ensures)
 
 pub yadzvego-linear-norm-spec : {M : Type 1} → statement M
-yadzvego-linear-norm-spec = tie.close (tie.spec norm-requires scalar-result-of-requires returns)
+yadzvego-linear-norm-spec = tie.close (tie.spec (λ c κs. search needs) (λ c κs. search needs) returns)

@@ -5,14 +5,8 @@ use borrow.Author.Needs.{needs}
 use Rattle.yadzvego.proofs.scalars.yadzvego_interval_div.Statement.{statement}
 use Rattle.yadzvego.proofs.scalars.yadzvego_interval_div.Tie as tie
 
-div-requires : tie.Need-div-requires
-div-requires c κs = search needs
-
-scalar-result-of-requires : tie.Need-scalar-result-of-requires
-scalar-result-of-requires c κs = search needs
-
 returns : tie.Need-returns
 returns c = c .scalar-result-of .ensures ∙ ap scalarResultOf (c .before .div .ensures .value)
 
 pub yadzvego-interval-div-spec : {M : Type 1} → statement M
-yadzvego-interval-div-spec = tie.close (tie.spec div-requires scalar-result-of-requires returns)
+yadzvego-interval-div-spec = tie.close (tie.spec (λ c κs. search needs) (λ c κs. search needs) returns)

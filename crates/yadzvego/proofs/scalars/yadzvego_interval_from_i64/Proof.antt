@@ -7,11 +7,8 @@ use borrow.Author.Needs.{needs}
 use Rattle.yadzvego.proofs.scalars.yadzvego_interval_from_i64.Statement.{statement}
 use Rattle.yadzvego.proofs.scalars.yadzvego_interval_from_i64.Tie as tie
 
-from-i64-requires : tie.Need-from-i64-requires
-from-i64-requires c κs = search needs
-
 returns : tie.Need-returns
 returns c = c .from-i64 .ensures ∙ ap fromI64 (toZ-ofZ w64 (c .before .args .v) (c .before .fits .v))
 
 pub yadzvego-interval-from-i64-spec : {M : Type 1} → statement M
-yadzvego-interval-from-i64-spec = tie.close (tie.spec from-i64-requires returns)
+yadzvego-interval-from-i64-spec = tie.close (tie.spec (λ c κs. search needs) returns)

@@ -7,12 +7,6 @@ use borrow.Author.Needs.{needs}
 use Rattle.yadzvego.proofs.scalars.yadzvego_interval_from_ratio.Statement.{statement}
 use Rattle.yadzvego.proofs.scalars.yadzvego_interval_from_ratio.Tie as tie
 
-from-ratio-requires : tie.Need-from-ratio-requires
-from-ratio-requires c κs = search needs
-
-scalar-result-of-requires : tie.Need-scalar-result-of-requires
-scalar-result-of-requires c κs = search needs
-
 returns : tie.Need-returns
 returns c =
     let s = c .before .before in
@@ -21,4 +15,4 @@ returns c =
     c .scalar-result-of .ensures ∙ ap scalarResultOf (rw (num, den) at (c .before .from-ratio .ensures))
 
 pub yadzvego-interval-from-ratio-spec : {M : Type 1} → statement M
-yadzvego-interval-from-ratio-spec = tie.close (tie.spec from-ratio-requires scalar-result-of-requires returns)
+yadzvego-interval-from-ratio-spec = tie.close (tie.spec (λ c κs. search needs) (λ c κs. search needs) returns)
