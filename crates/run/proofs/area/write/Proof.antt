@@ -1,4 +1,4 @@
--- `place` meets its contract: the numbers before the i-th are written.
+-- `write` meets its contract: the numbers before the i-th are written.
 use mathlib.Core.Path.{_≡_}
 use Prim.Native.Nat.{_-_}
 use native.Mathlib.Omega.{arith}

@@ -1,4 +1,4 @@
--- `bent` meets its contract: the scalars that are filled are the products with the curvature's rows.
+-- `curvature_along` meets its contract: the scalars that are filled are the products with the curvature's rows.
 use mathlib.Core.Path.{refl, _∙_}
 use borrow.Author.Needs.{needs}
 use lib.Ieee.{ofBits}

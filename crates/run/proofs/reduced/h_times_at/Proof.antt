@@ -1,4 +1,4 @@
--- `bent_at` meets its contract: the definition's steps, from what each call gives.
+-- `h_times_at` meets its contract: the definition's steps, from what each call gives.
 use borrow.Author.Needs.{needs}
 use Rattle.run.proofs.reduced.h_times_at.Statement.{statement}
 use Rattle.run.proofs.reduced.h_times_at.Tie as tie

@@ -1,4 +1,4 @@
--- `bent_row` meets its contract: the row holds the products so far, an even number of them, and at the end one more
+-- `h_times_row` meets its contract: the row holds the products so far, an even number of them, and at the end one more
 -- where k is odd.
 use mathlib.Core.Path.{_≡_, _∙_}
 use Prim.Native.Nat.{_+_, _*_, _/_, _≤_, _-_}

@@ -1,4 +1,4 @@
--- `bent_rows` meets its contract: the first rows hold the products, and the rest are clear.
+-- `h_times_rows` meets its contract: the first rows hold the products, and the rest are clear.
 use mathlib.Core.Path.{_≡_, _∙_}
 use Prim.Native.Nat.{_≤_, _-_}
 use native.Mathlib.Nat.{le-antisymm}

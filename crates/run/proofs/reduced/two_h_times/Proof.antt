@@ -1,4 +1,4 @@
--- `two_bent` meets its contract: the definition's two entries, from what each call gives.
+-- `two_h_times` meets its contract: the definition's two entries, from what each call gives.
 use borrow.Author.Needs.{needs}
 use Rattle.run.proofs.TwoRows.{two-put}
 use Rattle.run.proofs.reduced.two_h_times.Statement.{statement}

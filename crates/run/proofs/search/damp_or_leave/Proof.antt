@@ -1,4 +1,4 @@
--- `turned` meets its contract: each arm is the definition's, from what `damp` gives.
+-- `damp_or_leave` meets its contract: each arm is the definition's, from what `damp` gives.
 use mathlib.Core.Path.{sym, ap, _∙_}
 use Rattle.run.specs.program.Search.{turnOf}
 use borrow.Author.Needs.{needs}
