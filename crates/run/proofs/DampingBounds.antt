@@ -4,12 +4,10 @@ use Prim.Native.Nat.{ℕ, zero, suc, _+_, _≤_}
 use mathlib.Core.Bool.{Bool, true, false}
 use mathlib.Core.Path.{_≡_, refl, sym, _∙_}
 use native.Mathlib.Omega.{arith}
-use lib.Ieee.{binary64}
-use lib.Ieee.Fits.{div-fits}
 use Rattle.interval.specs.declared.Scalar.{Scalar}
 use Rattle.interval.specs.Enclosure.{Fits}
 use Rattle.interval.specs.Result.{Res, ok, refused}
-use Rattle.interval.specs.Scalar.{zeroS, degenerate, pick, isFinite, divOf, sharpen, definitelyGreater}
+use Rattle.interval.specs.Scalar.{degenerate, pick, isFinite, divOf}
 use Rattle.interval.specs.Scaling.{three64, quadrupled, isPositive}
 use Rattle.interval.proofs.Given.{yes}
 use Rattle.interval.proofs.Scaling.Positive.{positive-of}
@@ -84,13 +82,6 @@ pub quadrupled-sound : (mu : Scalar) → Fits mu → isPositive mu ≡ true → 
 quadrupled-sound mu t h f = growth-positive (growth-more (started mu t h) f)
 
 -- ---- the damping of a new iteration
-pub shrunk-fits : (mu q : Scalar) → Fits mu → Fits (shrunk mu q)
-shrunk-fits mu q t = go (definitelyGreater (sharpen q) zeroS)
-  where
-    go : (b : Bool) → Fits (pick b (sharpen q) mu)
-    go true = (div-fits binary64 _ _, div-fits binary64 _ _)
-    go false = t
-
 pub shrunk-positive : (mu q : Scalar) → Fits mu → isPositive mu ≡ true → divOf mu (degenerate three64) ≡ ok q →
     isPositive (shrunk mu q) ≡ true
 shrunk-positive mu q t h e = growth-positive (growth-third (started mu t h) e)

@@ -21,12 +21,7 @@ use Rattle.linear.specs.Calls.{blank, sharpReply, choleskyReply, solveReply, le
 use Rattle.linear.proofs.Replied.{done-is}
 
 module _ (r : Done) where
-  pub sharp-result : (n : ℕ) (v out x : List Float) → n ≤ 24 → length v ≡ 2 * n → length out ≡ 2 * n
-      → replied r x ≡ sharpReply n v out → doneOf r x ≡ ok (sharpOf v n)
-  unfolding sharpReply
-  sharp-result n v out x h p q e = done-is r x (zeros (2 * n)) _ (rw (le-leb _ _ h, eq-eqb _ _ p, eq-eqb _ _ q) at e)
-
-  -- it never refuses
+  -- `sharp` never refuses
   pub sharp-written : (n : ℕ) (v out x : List Float) → n ≤ 24 → length v ≡ 2 * n → length out ≡ 2 * n
       → replied r x ≡ sharpReply n v out → x ≡ sharpOf v n
   unfolding sharpReply

@@ -78,13 +78,6 @@ sized-ok {c} {count} e =
       whole = eqb-true _ _ (f .0);
     }
 
--- the constraint values stand in a list as long as the rows
-pub values-inside : {c : RowCounts} {count length : ℕ} → Sized c count → length ≡ count → 2 * c .m ≤ length
-values-inside {c} z e =
-    let h : 1 ≤ c .n + 1 = omega arith in
-    let a : (c .m + c .s) * 1 ≤ (c .m + c .s) * (c .n + 1) = mul-le-mul (le-refl (c .m + c .s)) h in
-    omega (arith, z .whole)
-
 -- of a check after others
 wants-ok : (count wanted : ℕ) (r : Res (Unit {0})) → wantsOf r count wanted ≡ ok tt → (r ≡ ok tt) × (count ≡ wanted)
 unfolding wantsOf bind

@@ -4,14 +4,13 @@ use Prim.Native.Nat.{ℕ, zero, suc, _+_, _-_, _*_, _<_, _≤_}
 use mathlib.Core.Bool.{Bool, true, false, _||_}
 use mathlib.Core.List.{List}
 use mathlib.Core.Logic.{⊎-elim, inl, inr}
-use mathlib.Core.Path.{_≡_, refl, ap, _∙_}
+use mathlib.Core.Path.{_≡_, refl, ap}
 use native.Mathlib.Nat.{eq-or-lt-of-le, mul-le-mul}
 use native.Mathlib.Omega.{arith}
 use borrow.Author.Tests.{ltb-true}
 use lib.Dec.{lit<, ltb}
 use lib.Ieee.{Float}
-use lib.ListN.{length, take, drop, getD, length-drop}
-use lib.Seq.{length-take-le}
+use lib.ListN.{length, take, drop, getD}
 use Rattle.interval.specs.Scalar.{pick}
 use Rattle.run.specs.Area.{Slots, startOf, startIn, inOrder, slotSizes, spareAt, areaLength, HasRoom, partOf}
 use Rattle.run.specs.Area.{placesOf, indices}
@@ -23,7 +22,6 @@ use Rattle.run.specs.declared.state.Sizes.{Sizes}
 use Rattle.run.specs.program.Area.{Apart}
 use Rattle.run.specs.program.Rows.{FewRows}
 use Rattle.run.proofs.CheckLaws.{few-scalars}
-use Rattle.run.proofs.RowLaws.{rows-enough}
 
 -- ---- what two have for each slot
 
@@ -68,10 +66,6 @@ module _ {A : Type 0} {x y : Slots A} where
 -- ---- slots of any sizes
 
 module _ (sizes : List ℕ) where
-  pub start-zero : startOf sizes 0 ≡ 0
-  unfolding startOf
-  start-zero = refl
-
   pub start-next : (k : ℕ) → startOf sizes (suc k) ≡ startOf sizes k + getD sizes k 0
   unfolding startOf
   start-next k = refl
@@ -162,21 +156,3 @@ module _ (z : Sizes) where
 pub lent : (a : List Float) {at place n count : ℕ} → at ≡ place → n ≡ count
     → take (at + n - at) (drop at a) ≡ partOf a place count
 lent a {at} {place} {n} {count} p q = let e : at + n - at ≡ count = omega arith in rw (e, p)
-
--- rows that are lent have the values of the constraints
-module _ (z : Sizes) (a : List Float) (room : HasRoom z a) (c : RowCounts) (few : FewRows c) where
-  rows-lent : (k : ℕ) → k < length (inOrder (slotSizes z)) → rowNumbers c ≤ sizeIn z k → {r : List Float}
-      → r ≡ partOf a (startIn z k) (rowNumbers c) → 2 * c .m ≤ length r
-  rows-lent k h fit {r} e =
-      let inside : startIn z k + rowNumbers c ≤ length a = part-inside z a room (rowNumbers c) k h fit in
-      let l : length (partOf a (startIn z k) (rowNumbers c)) ≡ rowNumbers c =
-      length-take-le (rowNumbers c) (drop (startIn z k) a) (simp length-drop (omega (arith, inside))) in
-      omega (arith, rows-enough c, ap length e ∙ l)
-
-  pub standing-rows-lent : {r : List Float} → r ≡ partOf a (placesOf z .standingRows) (rowNumbers c)
-      → 2 * c .m ≤ length r
-  standing-rows-lent e = rows-lent (indices .standingRows) (lit< tt) (rows-fit z c few) e
-
-  pub landed-rows-lent : {r : List Float} → r ≡ partOf a (placesOf z .landedRows) (rowNumbers c)
-      → 2 * c .m ≤ length r
-  landed-rows-lent e = rows-lent (indices .landedRows) (lit< tt) (rows-fit z c few) e

@@ -40,11 +40,6 @@ use Rattle.run.proofs.reduced.WeightsEnd.{the-type}
 pub negated : {v s n c : Scalar} → s ≡ v → n ≡ negOf s → c ≡ chooseOf n → c ≡ chooseOf (negOf v)
 negated es en ec = rw (ec, en, es)
 
--- a list that is written or refused, as weights
-pub as-weights : {x : Res (List Float)} {s : List Float} → x ≡ ok s → bind x (λ w. ok (weights w)) ≡ ok (weights s)
-unfolding bind
-as-weights e = rw e
-
 -- the weights from a factor that was found; left′ is the front of the array of its marks
 module _ (t : ℕ) (a rhs : List Float) (f : Factor) {r : Done} {left′ : List Bool} {marked : Bool}
     (h : r ≡ done.Finished) (ef : doneOf r f ≡ choleskyOf t a) (size : length (f .left-out) ≡ t)

@@ -3,7 +3,7 @@
 use Prim.Native.Nat.{ℕ, _+_, _*_, _/_, _%_, _<_, _≤_}
 use mathlib.Core.Bool.{Bool, true, false}
 use mathlib.Core.Logic.{⊎-elim}
-use mathlib.Core.Path.{_≡_, refl, sym, _∙_}
+use mathlib.Core.Path.{_≡_, refl, _∙_}
 use mathlib.Core.List.{List}
 use native.Mathlib.Nat.{mul-le-mul, le-of-lt, not-suc-le-zero, eq-or-lt-of-le, div-add-mod'}
 use native.Mathlib.Omega.{arith}
@@ -13,10 +13,9 @@ use lib.ListN.{length, getD, set, replicate, length-set, getD-replicate}
 use lib.Seq.{getD-set-same, getD-set-other}
 use Rattle.interval.specs.Scalar.{pick}
 use Rattle.linear.specs.Cholesky.{marksTo}
-use Rattle.linear.specs.Flat.{at, along}
+use Rattle.linear.specs.Flat.{at}
 use Rattle.linear.proofs.Marks.{is-marksTo}
-use Rattle.linear.proofs.Sums.{along-row}
-use Rattle.run.specs.Rows.{Rows, rowNumbers, constraintSet, sumSet, slopeAt, slopesOf, slopesBy}
+use Rattle.run.specs.Rows.{Rows, constraintSet, sumSet, slopeAt}
 use Rattle.run.specs.program.Rows.{Small, FewRows}
 use Rattle.run.specs.declared.rows.RowCounts.{RowCounts}
 
@@ -26,13 +25,6 @@ few h k = mul-le-mul h k
 
 pub few-rows : {m n : ℕ} → m ≤ 12 → n ≤ 12 → m * (n + 1) ≤ 156
 few-rows {m} {n} h k = mul-le-mul {n₁ = m} {m₁ = n + 1} {n₂ = 12} {m₂ = 13} h (omega arith)
-
--- the values of the constraints are among the numbers of an answer
-pub rows-enough : (c : RowCounts) → 2 * c .m ≤ rowNumbers c
-rows-enough c =
-    let h : c .m + c .s ≤ c .m + c .s = omega arith in
-    let k : 1 ≤ c .n + 1 = omega arith in
-    omega (arith, mul-le-mul {n₁ = c .m + c .s} {m₁ = 1} {n₂ = c .m + c .s} {m₂ = c .n + 1} h k)
 
 pub constraints-small : {c : RowCounts} → FewRows c → Small (constraintSet c)
 constraints-small f =
@@ -58,14 +50,7 @@ sum-small {c} f =
 pub row-near : {i n : ℕ} → i < 65536 → n ≤ 12 → i * n ≤ 786432
 row-near hi hn = mul-le-mul (le-of-lt hi) hn
 
--- a slope as one of its row's, as one of those by its variable, and by its place among all
-pub slope-in-row : (e : Rows) (i j : ℕ) → slopeAt e i j ≡ slopesOf e i j
-slope-in-row e i j = sym (along-row (e .list) (e .slopes + i * e .n) j)
-
-pub slope-by : (e : Rows) (i j : ℕ) → slopeAt e i j ≡ slopesBy e j i
-unfolding along
-slope-by e i j = let h : e .slopes + i * e .n + j ≡ e .slopes + j + i * e .n = omega arith in rw h
-
+-- a slope by its place among all
 pub slope-among : (e : Rows) (p : ℕ) → slopeAt e (p / e .n) (p % e .n) ≡ at (e .list) (e .slopes + p)
 slope-among e p =
     let h : e .slopes + p / e .n * e .n + p % e .n ≡ e .slopes + p = omega (arith, div-add-mod' p (e .n)) in rw h

@@ -300,52 +300,54 @@ pub fn clear_unused(area: &mut [f64], st: State)
 
 // ---- what is read of a slot: the numbers in use
 
+// So many numbers from a place on.
+pub fn part(area: &[f64], at: usize, count: usize) -> &[f64]
+    requires { ⌜ at + count ≤ length (now area) ⌝ }
+    ensures { λ r. ⌜ now r ≡ partOf (now (area .entry)) at count ⌝ }
+{
+    &area[at..at + count]
+}
+
 pub fn standing_point(area: &[f64], z: Sizes) -> &[f64]
     requires { ⌜ HasRoom z (now area) × (z .n ≤ VARIABLES) ⌝ }
     ensures { λ r. ⌜ now r ≡ standingPart z (now (area .entry)) ⌝ }
 {
-    let at = places(z).standing;
-    &area[at..at + 2 * z.n]
+    part(area, places(z).standing, 2 * z.n)
 }
 
 pub fn landed_point(area: &[f64], z: Sizes) -> &[f64]
     requires { ⌜ HasRoom z (now area) × (z .n ≤ VARIABLES) ⌝ }
     ensures { λ r. ⌜ now r ≡ partOf (now (area .entry)) (placesOf z .landed) (2 * z .n) ⌝ }
 {
-    let at = places(z).landed;
-    &area[at..at + 2 * z.n]
+    part(area, places(z).landed, 2 * z.n)
 }
 
 pub fn standing_rows(area: &[f64], z: Sizes, c: RowCounts) -> &[f64]
     requires { ⌜ HasRoom z (now area) × FewRows c ⌝ }
     ensures { λ r. ⌜ now r ≡ rowsOf z c (now (area .entry)) ⌝ }
 {
-    let at = places(z).standing_rows;
-    &area[at..at + row_numbers(c)]
+    part(area, places(z).standing_rows, row_numbers(c))
 }
 
 pub fn landed_rows(area: &[f64], z: Sizes, c: RowCounts) -> &[f64]
     requires { ⌜ HasRoom z (now area) × FewRows c ⌝ }
     ensures { λ r. ⌜ now r ≡ partOf (now (area .entry)) (placesOf z .landedRows) (rowNumbers c) ⌝ }
 {
-    let at = places(z).landed_rows;
-    &area[at..at + row_numbers(c)]
+    part(area, places(z).landed_rows, row_numbers(c))
 }
 
 pub fn step(area: &[f64], z: Sizes) -> &[f64]
     requires { ⌜ HasRoom z (now area) × (z .n ≤ VARIABLES) ⌝ }
     ensures { λ r. ⌜ now r ≡ partOf (now (area .entry)) (placesOf z .step) (2 * z .n) ⌝ }
 {
-    let at = places(z).step;
-    &area[at..at + 2 * z.n]
+    part(area, places(z).step, 2 * z.n)
 }
 
 pub fn multipliers(area: &[f64], z: Sizes, c: RowCounts) -> &[f64]
     requires { ⌜ HasRoom z (now area) × (c .m ≤ CONSTRAINTS) ⌝ }
     ensures { λ r. ⌜ now r ≡ partOf (now (area .entry)) (placesOf z .multipliers) (2 * c .m) ⌝ }
 {
-    let at = places(z).multipliers;
-    &area[at..at + 2 * c.m]
+    part(area, places(z).multipliers, 2 * c.m)
 }
 
 // The curvature that a search goes by. In plain there is none: the last numbers of the area are +0.
@@ -358,15 +360,14 @@ pub fn curvature_for(plain: bool, area: &[f64], z: Sizes) -> &[f64]
     if plain {
         at = spare_at(z);
     }
-    &area[at..at + entries]
+    part(area, at, entries)
 }
 
 pub fn filter(area: &[f64], z: Sizes, pairs: usize) -> &[f64]
     requires { ⌜ HasRoom z (now area) × (pairs ≤ ITERATIONS) ⌝ }
     ensures { λ r. ⌜ now r ≡ partOf (now (area .entry)) (placesOf z .filter) (4 * pairs) ⌝ }
 {
-    let at = places(z).filter;
-    &area[at..at + 4 * pairs]
+    part(area, places(z).filter, 4 * pairs)
 }
 
 // ---- what a call writes

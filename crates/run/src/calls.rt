@@ -6,6 +6,7 @@ use crate::answered::answered;
 use crate::answered::answered_none;
 use crate::area::area_length;
 use crate::area::clear_unused;
+use crate::area::part;
 use crate::area::point_place;
 use crate::area::write_begun;
 use crate::checks;
@@ -32,8 +33,7 @@ pub fn point(st: State, area: &[f64]) -> &[f64]
     if area.len() != area_length(st.sizes) {
         return &area[..0];
     }
-    let at = point_place(st);
-    &area[at..at + 2 * st.sizes.n]
+    part(area, point_place(st), 2 * st.sizes.n)
 }
 
 // Beside a refusal: no run, so any reply to it gets 4.

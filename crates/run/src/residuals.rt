@@ -105,7 +105,7 @@ pub fn chosen_slopes(xs: &[f64], e: RowSet, out: &mut [f64])
 
 // The violation of a point, from its rows.
 pub fn violation(xs: &[f64], c: RowCounts) -> LinearResult
-    requires { ⌜ (c .m ≤ CONSTRAINTS) × (2 * c .m ≤ length (now xs)) ⌝ }
+    requires { ⌜ c .m ≤ CONSTRAINTS ⌝ }
     ensures { λ r. ⌜ resultOf r ≡ violationOf (constraintsOf c (now (xs .entry))) ⌝ }
 {
     let mut out = [0.0; 24];

@@ -4,18 +4,17 @@ use Prim.Native.Nat.{ℕ, _+_, _*_, _≤_, _<_}
 use mathlib.Core.Bool.{Bool, true, not, _&&_, _||_}
 use mathlib.Core.Logic.{inl, inr, ⊎-elim, _≢_}
 use mathlib.Core.Path.{_≡_, refl, sym, ap, ap₂, _∙_, subst}
-use mathlib.Core.List.{List, [], _∷_, _++_}
+use mathlib.Core.List.{List, [], _∷_, _++_, append-assoc}
 use native.Mathlib.Omega.{arith}
-use borrow.Author.Tests.{lt-ltb}
-use lib.Ieee.{Float, nan}
-use lib.ListN.{length, getD, length-append, List·getD-append}
-use lib.Seq.{getD-append-add}
+use lib.Ieee.{Float}
+use lib.ListN.{length, length-append}
 use Rattle.interval.specs.declared.Scalar.{Scalar}
-use Rattle.interval.specs.Result.{ok}
+use Rattle.interval.specs.Result.{Res, ok}
 use Rattle.interval.specs.Scalar.{degenerate, divOf, subOf}
 use Rattle.interval.specs.Scaling.{three64}
 use Rattle.linear.specs.Flat.{at}
 use Rattle.linear.proofs.Folds.{bind-value}
+use Rattle.linear.proofs.Lists.{at-append, at-seam}
 use Rattle.interval.proofs.Given.{yes}
 use Rattle.interval.proofs.Results.{ok-inj}
 use Rattle.run.specs.Residuals.{sumSquared, violationOf}
@@ -26,6 +25,8 @@ use Rattle.run.specs.Filter.{beatsTo, filterSum, filterViolation, pairNu
 use Rattle.run.specs.Area.{standingAt, landedAt, curvatureOf}
 use Rattle.run.specs.Decide.{linearOf, take, notLower, wasTaken, decide, judge}
 use Rattle.run.specs.Damping.{shrunk}
+use Rattle.run.specs.Endings.{AfterSlots, orRefuse}
+use Rattle.run.specs.Iterate.{iterate}
 use Rattle.run.specs.Radius.{radiusAfter}
 use Rattle.run.specs.State.{standingOn}
 use Rattle.linear.specs.Norm.{normOf}
@@ -113,44 +114,23 @@ pairs-filter z rows f f′ (e ∷ es) h p =
       pairs-filter z rows f f′ es (λ j l. h j (omega arith)) (p .1),
     )
 
--- the scalars of a list that goes on, and of what follows it
-module _ (xs ys : List Float) where
-  at-front : (i : ℕ) → 2 * i + 1 < length xs → at (xs ++ ys) i ≡ at xs i
-  unfolding at
-  at-front i h =
-      let l : 2 * i + 1 < length (xs ++ ys) = omega (arith, length-append xs ys) in
-      rw (
-        lt-ltb _ _ l,
-        lt-ltb _ _ h,
-        List·getD-append xs ys nan (2 * i) (omega arith),
-        List·getD-append xs ys nan (2 * i + 1) h,
-      )
-
-  at-behind : (i j : ℕ) → 2 * i ≡ length xs + 2 * j → 2 * j + 1 < length ys → at (xs ++ ys) i ≡ at ys j
-  unfolding at
-  at-behind i j e h =
-      let l : 2 * i + 1 < length (xs ++ ys) = omega (arith, length-append xs ys) in
-      let p : 2 * i + 1 ≡ length xs + (2 * j + 1) = omega arith in
-      rw (
-        lt-ltb _ _ l,
-        lt-ltb _ _ h,
-        ap (λ (k : ℕ). getD (xs ++ ys) k nan) e ∙ getD-append-add xs ys (2 * j) nan,
-        ap (λ (k : ℕ). getD (xs ++ ys) k nan) p ∙ getD-append-add xs ys (2 * j + 1) nan,
-      )
-
 -- the filter with one pair more
 module _ (filter : List Float) (count : ℕ) (f theta : Scalar) (long : length filter ≡ 4 * count) where
   filter-kept : (i : ℕ) → i < 2 * count → at (filterWith filter f theta) i ≡ at filter i
   unfolding filterWith
-  filter-kept i h = at-front filter (pairNumbers f theta) i (omega (arith, long))
+  filter-kept i h = at-append filter (pairNumbers f theta) i (omega (arith, long))
 
   filter-sum : filterSum (filterWith filter f theta) count ≡ f
-  unfolding filterWith at
-  filter-sum = at-behind filter (pairNumbers f theta) (2 * count) 0 (omega (arith, long)) (omega arith)
+  unfolding filterWith
+  filter-sum = at-seam filter (theta .lo ∷ (theta .hi ∷ [])) (2 * count) f (omega (arith, long))
 
   filter-violation : filterViolation (filterWith filter f theta) count ≡ theta
-  unfolding filterWith at
-  filter-violation = at-behind filter (pairNumbers f theta) (2 * count + 1) 1 (omega (arith, long)) (omega arith)
+  unfolding filterWith
+  filter-violation =
+      let front : List Float = filter ++ (f .lo ∷ (f .hi ∷ [])) in
+      ap (λ (xs : List Float). at xs (2 * count + 1))
+      (sym (append-assoc filter (f .lo ∷ (f .hi ∷ [])) (theta .lo ∷ (theta .hi ∷ []))))
+      ∙ at-seam front [] (2 * count + 1) theta (length-append filter _ ∙ omega (arith, long))
 
 module _ (S : CallContext) (st : State) (w : Memory) (since : ℕ) (L : Landing S st w since) (theta : Scalar)
     (theta-is : violationOf (standingAt st w .constraints) ≡ ok theta) where
@@ -230,37 +210,63 @@ module _ (S : CallContext) (st : State) (w : Memory) (since : ℕ) (L : Landing 
         few-corrections = v .few-corrections;
       }
 
-  pub take-after :
+  -- what is learned, and the iteration that follows
+  learned : Res (List Float)
+  learned =
+      updateCurvature (st .sizes .n) (curvatureOf st w) (w .step) (standingAt st w) (landedAt st w) (w .multipliers)
+
+  next : Scalar → Bool → Scalar → List Float → AfterSlots
+  next length linear third b =
+      iterate
+      (standingOn st length (shrunk (st .search .mu) third)
+      (radiusAfter length (st .search .radius) (st .«max_step») linear))
+      (withTaken w b filter′)
+
+  next-after :
       since ≤ 5 →
-      (length : Scalar) →
-      Forward S (st .sizes) (st .counts .landed) (last.Taken length) → After S (st .sizes) (take st w theta length)
-  unfolding take filter′
-  take-after few length f =
-      let z = st .sizes in
+      (length : Scalar) (linear : Bool) (third : Scalar) →
+      divOf (st .search .mu) (degenerate three64) ≡ ok third →
+      Forward S (st .sizes) (st .counts .landed) (last.Taken length) →
+      (b : List Float) → After S (st .sizes) (next length linear third b)
+  unfolding next
+  next-after few length linear third is-third f b =
       let mu = st .search .mu in
       let t = bounds-few (S .history .mu) (st .counts) (st .search) since (L .count-bounds) in
       let q = L .count-bounds .few in
-      or-refuse-after S z st w (linearOf st w theta) _ (linear-yields st w theta)
-      (λ linear u v.
-      or-refuse-after S z st w (divOf mu (degenerate three64)) _ (div-yields mu (degenerate three64))
-      (λ third is-third v.
       let radius = radiusAfter length (st .search .radius) (st .«max_step») linear in
-      let next : shrunk mu third ≡ nextMu (S .run .state .search .mu) =
+      let shrunk-is : shrunk mu third ≡ nextMu (S .run .state .search .mu) =
       next-mu-is mu third is-third ∙ ap nextMu (sym (L .mu-same)) in
-      or-refuse-after S z st w
-      (updateCurvature (z .n) (curvatureOf st w) (w .step) (standingAt st w) (landedAt st w) (w .multipliers)) _
-      (curvature-yields (lib.ListN.length (curvatureOf st w)) (z .n) (curvatureOf st w) (w .step) (standingAt st w)
-      (landedAt st w) (w .multipliers) refl)
-      (λ b u v.
       iterate-after S (standingOn st length (shrunk mu third) radius) (withTaken w b filter′) (shrunk mu third)
-      (taken-consistent length (shrunk mu third) radius b next f)
+      (taken-consistent length (shrunk mu third) radius b shrunk-is f)
       (record {
         growths = 0;
         growth = growth-third (L .count-bounds .growth) is-third;
         fresh = λ e. refl;
         turned = omega arith;
         few = omega arith;
-      }))))
+      })
+
+  pub take-after :
+      since ≤ 5 →
+      (length : Scalar) →
+      Forward S (st .sizes) (st .counts .landed) (last.Taken length) → After S (st .sizes) (take st w theta length)
+  unfolding take filter′ learned next
+  take-after few length f =
+      let z = st .sizes in
+      let mu = st .search .mu in
+      or-refuse-after S z st w (linearOf st w theta)
+      (λ linear.
+      orRefuse st w (divOf mu (degenerate three64)) (λ third. orRefuse st w learned (next length linear third)))
+      (linear-yields st w theta)
+      (λ linear u v.
+      or-refuse-after S z st w (divOf mu (degenerate three64))
+      (λ third. orRefuse st w learned (next length linear third))
+      (div-yields mu (degenerate three64))
+      (λ third is-third v.
+      or-refuse-after S z st w learned (next length linear third)
+      (curvature-yields (lib.ListN.length (curvatureOf st w)) (z .n) (curvatureOf st w) (w .step) (standingAt st w)
+      (landedAt st w) (w .multipliers) refl)
+      (λ b u v. next-after few length linear third is-third f b)))
 
 -- ---- the judgement
 

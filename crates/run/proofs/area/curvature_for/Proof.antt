@@ -1,11 +1,11 @@
 -- `curvature_for` meets its contract: as many numbers as the curvature has are in the area behind the last slot too.
 use mathlib.Core.Logic.{⊎-elim}
-use mathlib.Core.Path.{_≡_, refl, _∙_}
+use mathlib.Core.Path.{_≡_, _∙_}
 use native.Mathlib.Nat.{mul-le-mul}
 use native.Mathlib.Omega.{arith}
 use Rattle.interval.specs.Scalar.{pick}
 use Rattle.run.specs.Area.{placesOf, spareAt}
-use Rattle.run.proofs.PlaceLaws.{each-same, curvature-fits, curvature-inside, lent}
+use Rattle.run.proofs.PlaceLaws.{each-same, curvature-fits, curvature-inside}
 use borrow.Author.Needs.{needs}
 use Rattle.run.proofs.area.curvature_for.Statement.{statement}
 use Rattle.run.proofs.area.curvature_for.Tie as tie
@@ -27,50 +27,19 @@ mul-entries-2 : tie.Need-mul-entries-2
 mul-entries-2 c =
     let p = c .before .before in omega (arith, curvature-fits (p .args .z) (p .args .z .n) (p .pre .1))
 
-add-result : tie.Need-add-result
-add-result c =
-    let p = c .before .before .before .before .before in
+part-requires : tie.Need-part-requires
+part-requires c κs =
+    let p = c .before .before .before .before in
     omega (
       arith,
-      p .pre .0,
-      chosen (c .before),
-      curvature-inside (p .args .z) (p .args .plain) (p .args .area .now) (p .args .z .n) (p .pre .0) (p .pre .1),
-    )
-
-mul-result : tie.Need-mul-result
-mul-result c =
-    let p = c .before .before .before .before .before in
-    omega (
-      arith,
-      p .pre .0,
-      chosen (c .before),
-      curvature-inside (p .args .z) (p .args .plain) (p .args .area .now) (p .args .z .n) (p .pre .0) (p .pre .1),
-    )
-
-part-result-end : tie.Need-part-result-end
-part-result-end c =
-    let p = c .before .before .before .before .before in
-    omega (
-      arith,
-      p .pre .0,
-      chosen (c .before),
+      chosen c,
       curvature-inside (p .args .z) (p .args .plain) (p .args .area .now) (p .args .z .n) (p .pre .0) (p .pre .1),
     )
 
 returns : tie.Need-returns
-returns c = lent (c .before .before .before .before .before .before .args .area .now) (chosen (c .before .before)) refl
+returns c = rw (chosen (c .before)) at (c .part .ensures)
 
 pub curvature-for-spec : {M : Type 1} → statement M
 curvature-for-spec =
     tie.close
-    (tie.spec
-    mul-entries
-    mul-entries-2
-    (λ c κs. search needs)
-    (λ c κs. search needs)
-    add-result
-    mul-result
-    (λ c. search needs)
-    (λ c. search needs)
-    part-result-end
-    returns)
+    (tie.spec mul-entries mul-entries-2 (λ c κs. search needs) (λ c κs. search needs) part-requires returns)

@@ -10,7 +10,6 @@ use Rattle.run.specs.Area.{HasRoom, pointAt}
 use Rattle.run.specs.Checks.{valid}
 use Rattle.run.proofs.CheckLaws.{bounds, compared-other}
 use Rattle.run.proofs.CallLaws.{point-at, point-none, point-inside}
-use Rattle.run.proofs.PlaceLaws.{lent}
 use borrow.Author.Needs.{needs}
 use Rattle.run.proofs.calls.point.Statement.{statement}
 use Rattle.run.proofs.calls.point.Tie as tie
@@ -47,27 +46,16 @@ returns-2 c =
           (c .before .if2 .taken),
     ))
 
-mul-result : tie.Need-mul-result
-mul-result c = omega (arith, inside (c .before .before), area-fits (c .before .before))
+mul-part : tie.Need-mul-part
+mul-part c = omega (arith, inside (c .before .before), area-fits (c .before .before))
 
-add-result : tie.Need-add-result
-add-result c = omega (arith, inside (c .before .before), area-fits (c .before .before), c .before .point-place .ensures)
-
-mul-result-2 : tie.Need-mul-result-2
-mul-result-2 c = omega (
-  arith,
-  inside (c .before .before),
-  area-fits (c .before .before),
-  c .before .point-place .ensures,
-)
-
-part-result-end : tie.Need-part-result-end
-part-result-end c = omega (arith, inside (c .before .before), c .before .point-place .ensures)
+part-requires : tie.Need-part-requires
+part-requires c κs = omega (arith, inside (c .before .before), c .before .point-place .ensures)
 
 returns-3 : tie.Need-returns-3
 returns-3 c =
     let a = c .before .before .before .before .before .before .before .before .args in
-    lent (now (a .area)) (c .before .before .point-place .ensures) refl
+    rw (c .before .before .point-place .ensures) at (c .part .ensures)
     ∙ point-at (a .st) (now (a .area)) (a .st .phase) (run-fits (c .before .before .before .before .before))
     (area-fits (c .before .before .before)) refl
 
@@ -82,10 +70,6 @@ point-spec =
     (λ c. search needs)
     returns-2
     (λ c κs. search needs)
-    mul-result
-    add-result
-    mul-result-2
-    (λ c. search needs)
-    (λ c. search needs)
-    part-result-end
+    mul-part
+    part-requires
     returns-3)

@@ -1,7 +1,6 @@
 -- `land_correction` meets its contract: whether its rows are nearer decides, or that is refused.
 use mathlib.Core.Bool.{Bool}
 use mathlib.Core.Path.{_≡_, ap, _∙_}
-use native.Mathlib.Omega.{arith}
 use Rattle.interval.specs.Scalar.{pick}
 use Rattle.linear.specs.LinearResult.{resultOf}
 use Rattle.run.specs.Area.{Memory, rowsAt}
@@ -10,11 +9,9 @@ use Rattle.run.specs.Corrected.{keep}
 use Rattle.run.specs.Decide.{judge}
 use Rattle.run.specs.Residuals.{violationOf}
 use Rattle.run.specs.Results.{truthOf}
-use Rattle.run.specs.Rows.{rowCounts}
 use Rattle.run.proofs.AnsweredLaws.{correction-by, nearer-read}
 use Rattle.run.proofs.EndingLaws.{or-next, or-refused, when, unless}
 use Rattle.run.proofs.MemoryLaws.{limits-of, rows-of, compares}
-use Rattle.run.proofs.RowLaws.{rows-enough}
 use borrow.Author.Needs.{needs}
 use Rattle.run.proofs.corrected.land_correction.Statement.{statement}
 use Rattle.run.proofs.corrected.land_correction.Tie as tie
@@ -28,9 +25,7 @@ next s w kept =
 violation-requires : tie.Need-violation-requires
 violation-requires c κs =
     let p = c .before .before .before .pre in
-    let z = c .before .before .before .args .st .sizes in
-    rw (c .landed-counts .ensures)
-    (p .0 .underway .bounded .few-constraints, omega (arith, rows-enough (rowCounts z), p .0 .whole-rows))
+    rw (c .landed-counts .ensures) (p .0 .underway .bounded .few-constraints)
 
 landed-violation-requires : tie.Need-landed-violation-requires
 landed-violation-requires c κs =

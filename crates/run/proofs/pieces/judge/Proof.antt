@@ -2,7 +2,7 @@
 use native.Mathlib.Omega.{arith}
 use borrow.Author.Tests.{le-leb, lt-leb}
 use Rattle.run.specs.Pieces.{judgeReply}
-use Rattle.run.proofs.PieceLaws.{finished, fits-passed, wants-passed, values-inside}
+use Rattle.run.proofs.PieceLaws.{finished, fits-passed, wants-passed}
 use borrow.Author.Needs.{needs}
 use Rattle.run.proofs.pieces.judge.Statement.{statement}
 use Rattle.run.proofs.pieces.judge.Tie as tie
@@ -24,8 +24,7 @@ returns-2 c =
 violation-requires : tie.Need-violation-requires
 violation-requires c κs =
     let p = wants-passed _ _ _ (finished (c .enum-told .given .1)) (c .before .before .wants .ensures) in
-    let q = fits-passed (p .0) (c .before .before .before .fits2 .ensures) in
-    (q .sized .counts .few-constraints, values-inside (q .sized) (q .first))
+    fits-passed (p .0) (c .before .before .before .fits2 .ensures) .sized .counts .few-constraints
 
 judge-requires : tie.Need-judge-requires
 judge-requires c κs =

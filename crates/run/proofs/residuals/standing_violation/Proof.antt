@@ -6,7 +6,6 @@ use Rattle.run.specs.Area.{standingCounts}
 use Rattle.run.specs.Residuals.{violationOf}
 use Rattle.run.specs.Rows.{constraintsOf}
 use Rattle.run.proofs.MemoryLaws.{read-standing-rows}
-use Rattle.run.proofs.PlaceLaws.{standing-rows-lent}
 use borrow.Author.Needs.{needs}
 use Rattle.run.proofs.residuals.standing_violation.Statement.{statement}
 use Rattle.run.proofs.residuals.standing_violation.Tie as tie
@@ -16,15 +15,7 @@ standing-rows-requires c κs =
     let p = c .before .before .pre in (p .0, rw (c .standing-counts .ensures) (p .1))
 
 violation-requires : tie.Need-violation-requires
-violation-requires c κs =
-    let s = c .before .before .before in
-    let st = s .args .st in
-    let e = c .before .standing-counts .ensures in
-    rw e (
-      s .pre .1 .few-constraints,
-      standing-rows-lent (st .sizes) (s .args .area .now) (s .pre .0) (standingCounts st) (s .pre .1)
-          (rw e at (c .standing-rows .ensures)),
-    )
+violation-requires c κs = rw (c .before .standing-counts .ensures) (c .before .before .before .pre .1 .few-constraints)
 
 returns : tie.Need-returns
 returns c w h e =

@@ -18,7 +18,7 @@ norm-of-requires c κs =
     let p = c .before .before .before .before .before .before .pre in
     let o = c .before .before .values in
     let l : length (o .last .1 .1 .0) ≡ 24 = o .kept .1 .1 .0 in
-    (omega (arith, p .0), omega (arith, p .0, l))
+    (omega (arith, p), omega (arith, p, l))
 
 returns : tie.Need-returns
 unfolding violationOf
@@ -27,7 +27,7 @@ returns c =
     let a = s .args in
     let e = rw (c .before .before .before .before .before .constraints .ensures)
     at (c .before .before .before .values .ensures) in
-    let h : 2 * a .c .m ≤ 24 = omega (arith, s .pre .0) in
+    let h : 2 * a .c .m ≤ 24 = omega (arith, s .pre) in
     rw e at (c .norm-of .ensures) ∙ norm-fill _ (valueAt (constraintsOf (a .c) (a .xs .now))) (a .c .m) h
 
 pub violation-spec : {M : Type 1} → statement M
