@@ -1,9 +1,8 @@
 // The bits of a float as a word, every NaN by one word, and a word as text.
 ghost use mathlib.Core.Path.{_≡_};
-ghost use mathlib.Core.Bool.{cond};
-ghost use Prim.Native.Nat.{_+_, _<_};
-ghost use lib.Dec.{ltb};
+ghost use Prim.Native.Nat.{_<_};
 ghost use lib.Ieee.{binary64, toBits, ofBits};
+ghost use Rattle.float_bits.specs.Word.{digitOf, wordOf};
 
 // A NaN's pattern, whichever it has.
 const NAN_BITS: u64 = 0x7FF8000000000000;
@@ -30,7 +29,7 @@ pub fn float_of(bits: u64) -> f64
 // The code of a hexadecimal digit: 0 to 9, then A to F.
 fn digit(d: u64) -> u8
     requires { ⌜ d < 16 ⌝ }
-    ensures { λ r. ⌜ r ≡ cond (ltb d 10) (48 + d) (55 + d) ⌝ }
+    ensures { λ r. ⌜ r ≡ digitOf d ⌝ }
 {
     if d < 10 {
         return b'0' + d as u8;
@@ -38,8 +37,10 @@ fn digit(d: u64) -> u8
     b'A' - 10 + d as u8
 }
 
-// Writes the 16 hexadecimal digits of a word, in upper case, and answers as io::write_all does.
-pub fn print_word(fd: i32, word: u64) -> bool {
+// The 16 hexadecimal digits of a word, in upper case.
+pub fn word_text(word: u64) -> [u8; 16]
+    ensures { λ r. ⌜ r ≡ wordOf word ⌝ }
+{
     let mut text = [0u8; 16];
     let mut rest = word;
     let mut i = 16;
@@ -48,5 +49,5 @@ pub fn print_word(fd: i32, word: u64) -> bool {
         text[i] = digit(rest % 16);
         rest /= 16;
     }
-    io::write_all(fd, &text)
+    text
 }

@@ -1,6 +1,6 @@
 // What the program prints: floats by their bits, and the answers of the crates with the protocol's numbers.
 use float_bits::bits_of;
-use float_bits::print_word;
+use float_bits::word_text;
 use interval::GeopError;
 use interval::Scalar;
 use interval::ScalarResult;
@@ -19,7 +19,7 @@ fn print_number(n: usize) {
 }
 
 pub fn print_float(x: f64) {
-    print_word(STDOUT_FILENO, bits_of(x));
+    print(&word_text(bits_of(x)));
 }
 
 // The two ends.

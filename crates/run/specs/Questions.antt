@@ -1,7 +1,6 @@
--- How long a run is, for every list of calls (PROTOCOL, Calls): each accepted reply asks the
--- next number or ends the run, and question numbers are within 5,500 times the limit. So a caller that answers until
--- the
--- run is over needs no bound of its own.
+-- How long a run is, for every list of calls (PROTOCOL, Calls): each accepted reply asks the next number or ends the
+-- run, and question numbers are within 5,500 times the limit. So a caller that answers until the run is over needs no
+-- bound of its own.
 use Prim.Native.Nat.{ℕ, _+_, _≤_}
 use mathlib.Core.Bool.{Bool, true, false, cond}
 use mathlib.Core.List.{List, [], _∷_}

@@ -36,6 +36,7 @@ pub use calls::reply_none;
 pub use checks::valid;
 pub use judgement::Judged;
 pub use judgement::Judgement;
+pub use limits::AREA;
 pub use pieces::along;
 pub use pieces::cut;
 pub use pieces::expects;

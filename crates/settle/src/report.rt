@@ -1,6 +1,6 @@
 // What the program prints: a line for each question, and how the run ended.
 use float_bits::bits_of;
-use float_bits::print_word;
+use float_bits::word_text;
 use interval::Scalar;
 use libc::STDOUT_FILENO;
 use linear::at;
@@ -23,13 +23,13 @@ fn print_middle(i: usize, x: Scalar) {
     if i > 0 {
         print(b",");
     }
-    print_word(STDOUT_FILENO, bits_of(x.midpoint().lo));
+    print(&word_text(bits_of(x.midpoint().lo)));
 }
 
 fn print_ends(x: Scalar) {
-    print_word(STDOUT_FILENO, bits_of(x.lo));
+    print(&word_text(bits_of(x.lo)));
     print(b",");
-    print_word(STDOUT_FILENO, bits_of(x.hi));
+    print(&word_text(bits_of(x.hi)));
 }
 
 // The question's number, and the middles of the asked point.
