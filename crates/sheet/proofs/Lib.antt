@@ -1,0 +1,12 @@
+pub mod SlotLaws
+pub mod DecimalLaws
+pub mod Tests
+pub mod TextLaws
+pub mod NumberLaws
+pub mod LineLaws
+pub mod ArrayLaws
+pub mod SheetLaws
+pub mod RowLaws
+pub mod SettlingLaws
+pub mod RangeLaws
+pub mod RunLaws

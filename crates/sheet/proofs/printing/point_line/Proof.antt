@@ -1,0 +1,45 @@
+-- `point_line` meets its contract: the key, two words with a comma between them and the line's end are five texts one
+-- after the other.
+use native.Mathlib.Omega.{arith}
+use borrow.Author.Needs.{needs}
+use Rattle.sheet.proofs.SlotLaws.{printed-as, five-texts}
+use Rattle.sheet.proofs.printing.point_line.Statement.{statement}
+use Rattle.sheet.proofs.printing.point_line.Tie as tie
+
+returns : tie.Need-returns
+returns c =
+    let k₅ = c .before .before in
+    let k₄ = k₅ .before .before .before .before .before in
+    let k₃ = k₄ .before .before .before .before in
+    let k₂ = k₃ .before .before .before .before .before in
+    let k₁ = k₂ .before .before .before .before in (
+      omega (
+        arith,
+        k₅ .append3 .ensures .0,
+        k₄ .middle2 .ensures .0,
+        k₃ .append2 .ensures .0,
+        k₂ .middle .ensures .0,
+        k₁ .append .ensures .0,
+      ),
+      λ s p.
+          printed-as
+          (k₅ .append3 .ensures .1 _
+          (k₄ .middle2 .ensures .1 _
+          (k₃ .append2 .ensures .1 _ (k₂ .middle .ensures .1 _ (k₁ .append .ensures .1 s p)))))
+          (five-texts s _ _ _ _ _),
+    )
+
+pub point-line-spec : {M : Type 1} → statement M
+point-line-spec =
+    tie.close
+    (tie.spec
+    (λ c. search needs)
+    (λ c κs. search needs)
+    (λ c κs. search needs)
+    (λ c. search needs)
+    (λ c κs. search needs)
+    (λ c κs. search needs)
+    (λ c. search needs)
+    (λ c κs. search needs)
+    (λ c. search needs)
+    returns)

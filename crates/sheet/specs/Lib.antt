@@ -1,0 +1,11 @@
+pub mod Text
+pub mod Numbers
+pub mod Rule
+pub mod Sheet
+pub mod Rows
+pub mod Ranges
+pub mod Decimal
+pub mod Printing
+pub mod Settling
+pub mod Runs
+pub mod program
