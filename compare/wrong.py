@@ -5,7 +5,7 @@ usage: wrong.py NAME SOURCE OUT
   NAME: one of WRONG; SOURCE: the folder that holds core/geop-core-math
   OUT: where the Rust is written as OUT/geop_core_math, and beside it compare/src with the declaration of the archive
        wrong.py --names
-  each NAME with the crate whose list its case is of
+  each NAME with the crate whose list its case is of, or with hostile or sheets
 """
 import os
 import shutil
@@ -67,6 +67,8 @@ WRONG = [
     ),
     # One turn-down more before number 4.
     ("rule", "hostile", COMPARE, "hostile/rule.rs", "1100 * (iterations + 1)", "1100 * iterations + 1101"),
+    # Minus zero below zero.
+    ("sheet", "sheets", COMPARE, "sheets/reader.rs", "negative: minus && !digits.is_empty(),", "negative: minus,"),
 ]
 
 

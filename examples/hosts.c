@@ -1,6 +1,6 @@
 /* The header against the archive. Hosts that do not keep to the calls get the number of a refusal, with run and area as
  * they were. That a field stands where the header says is seen by what it holds after a begin and two replies, or by
- * altering it; that a list is passed as the header says, by what comes out. Prints what is otherwise. */
+ * altering it; that a list or a text is passed as the header says, by what comes out. Prints what is otherwise. */
 #include "yadzvego.h"
 #include <stdio.h>
 #include <string.h>
@@ -84,6 +84,31 @@ static void expect_lists(void)
     expect("a list short", yadzvego_linear_sharp(2, line, 3, out, 4), 2);
 }
 
+static void expect_slot(const char *what, const char *text, const char *printed)
+{
+    char slot[YADZVEGO_SLOT], wanted[YADZVEGO_SLOT] = {0};
+    static const double clear[YADZVEGO_AREA];
+    memset(slot, 'x', sizeof slot);
+    area[7] = -1;
+    strcpy(wanted, printed);
+    expect(what, yadzvego_settle_text(text, strlen(text), area, YADZVEGO_AREA, slot, YADZVEGO_SLOT), 0);
+    expect(what, (size_t)memcmp(slot, wanted, sizeof slot), 0);
+    expect(what, (size_t)memcmp(area, clear, sizeof area), 0);
+}
+
+static void expect_sheets(void)
+{
+    const char *text = "points=1\nat=3,4\nlimit=0\nreach=1\nrules=0\n";
+    char slot[YADZVEGO_SLOT + 1] = "as it was";
+    expect_slot("a sheet", text, "stop=budget\niterations=0\nturned=0\nat=4008000000000000,4010000000000000\n");
+    expect_slot("no text", "", "error=7\n");
+    area[7] = -1;
+    expect("slot short", yadzvego_settle_text(text, strlen(text), area, YADZVEGO_AREA, slot, YADZVEGO_SLOT - 1), 2);
+    expect("slot long", yadzvego_settle_text(text, strlen(text), area, YADZVEGO_AREA, slot, YADZVEGO_SLOT + 1), 2);
+    expect("area short", yadzvego_settle_text(text, strlen(text), area, YADZVEGO_AREA - 1, slot, YADZVEGO_SLOT), 2);
+    expect("nothing written", strcmp(slot, "as it was") == 0 && area[7] == -1, 1);
+}
+
 int main(void)
 {
     const double start[4] = {3, 3, 1, 2};
@@ -109,5 +134,6 @@ int main(void)
     expect("finish", event.which == YADZVEGO_FINISH && event.stop == YADZVEGO_FLAT && event.constraints == 1, 1);
     expect_refused("over", run, YADZVEGO_AREA, 18, 4);
     expect_lists();
+    expect_sheets();
     return failures != 0;
 }

@@ -1,5 +1,6 @@
-/* Least squares under constraints over interval ends: the calls of a run by question and reply, the interval
- * arithmetic, and lists and small matrices of intervals, in libyadzvego.a (`rt staticlib yadzvego`).
+/* Least squares under constraints over interval ends: the calls of a run by question and reply, sheets that are settled
+ * by one call, the interval arithmetic, and lists and small matrices of intervals, in libyadzvego.a
+ * (`rt staticlib yadzvego`).
  *
  * An interval is two numbers, lo then hi. A slice is a pointer to that many numbers, and none that is written overlaps
  * another. Every function takes every number and every length, and ends; what it cannot do is refused by a number:
@@ -130,6 +131,25 @@ YadzvegoReturned yadzvego_reply_none(YadzvegoRun run, double *area, size_t area_
  * altered and for an area of another length. */
 size_t yadzvego_point_place(YadzvegoRun run, size_t area_len);
 size_t yadzvego_point_length(YadzvegoRun run, size_t area_len);
+
+/* Sheets.
+ *
+ * A sheet is a text that describes points and the rules between them, in lines of a fixed order (docs/PROTOCOL.md,
+ * Sheets). One call reads and settles it, and writes into the slot the lines that the program settle prints: the stop,
+ * the two counts and the bits of each point's coordinates; or the one line error= and its number, which is 5 or 6 for
+ * an arithmetic refusal, and for a text that is no sheet
+ *   7 a line missing, surplus or malformed, or a text of more than 4,096 bytes,
+ *   8 a number outside its range,
+ *   9 a rule with equal points or one not present. */
+
+/* How many bytes a slot has. No sheet prints as many: zeros follow, so that a slot is a string of C. */
+#define YADZVEGO_SLOT 320
+
+/* Settles a text. Whatever slot and area held before, the slot has what is printed and then zeros, and the area is +0;
+ * it returns 0. An area of another length than YADZVEGO_AREA or a slot of another than YADZVEGO_SLOT is refused by 2,
+ * before the text is read and with nothing written. */
+size_t yadzvego_settle_text(const char *text, size_t text_len, double *area, size_t area_len, char *slot,
+                            size_t slot_len);
 
 /* The interval arithmetic: every operation is rounded outward, and takes NaN, infinities and inverted ends too. */
 

@@ -1,10 +1,11 @@
-//! How long the Rattle takes beside the Rust, in one process: scalars, list functions, and whole runs on fixed corpora
-//! of frames. Each task is done by both in turn, round after round, and the least time of each counts. Both must give
-//! the same words. What one call takes is timed of the Rattle alone.
+//! How long the Rattle takes beside the Rust, in one process: scalars, list functions, whole runs on fixed corpora of
+//! frames, and whole sheets. Each task is done by both in turn, round after round, and the least time of each counts.
+//! Both must give the same words. What one call takes is timed of the Rattle alone.
 
 mod lists;
 mod scalars;
 mod settled;
+mod sheets;
 
 use std::time::{Duration, Instant};
 
@@ -68,9 +69,11 @@ pub fn print() {
     println!("| What | Rust, ns | Rattle, ns | Ratio | Goal |");
     println!("|---|---|---|---|---|");
     let (lists, settled) = (lists::Lists::drawn(), settled::Corpora::drawn());
+    let sheets = sheets::Sheets::drawn();
     let mut tasks = scalars::tasks();
     tasks.extend(lists.tasks());
     tasks.extend(settled.tasks());
+    tasks.push(sheets.task());
     for mut task in tasks {
         println!("{}", line(&mut task));
     }

@@ -1,7 +1,7 @@
 //! Compares the crates interval, linear and run with the Rust that they follow: function by function, the pieces of a
-//! run, whole runs question by question, and calls that must be refused. A NaN equals a NaN, other numbers compare by
-//! bits, refusals by number. Of what differs the smallest case that is found is printed, as a case of the fixed list.
-//! The exit status is 1 where any answer differs, or where runs never show what they must.
+//! run, whole runs question by question, calls that must be refused, and whole sheets. A NaN equals a NaN, other
+//! numbers compare by bits, refusals by number. Of what differs the smallest case that is found is printed, as a case
+//! of the fixed list. The exit status is 1 where any answer differs, or where runs or sheets never show what they must.
 
 #[path = "../../rust/src/archive.rs"]
 mod archive;
@@ -15,6 +15,7 @@ mod run;
 mod run_c;
 mod runs;
 mod settle;
+mod sheets;
 mod shrink;
 mod words;
 
@@ -31,6 +32,8 @@ struct Scale {
     runs: u64,
     /// Hostile calls, at least.
     hostile: u64,
+    /// Sheets that are accepted; damaged ones go with them.
+    sheets: u64,
 }
 
 impl Scale {
@@ -42,14 +45,16 @@ impl Scale {
             pieces: random / 10,
             runs: random / 50,
             hostile: random / 5 * 2,
+            sheets: random / 50,
         }
     }
 
-    /// More runs and more hostile calls.
+    /// More runs, hostile calls and sheets.
     fn full(random: u64) -> Scale {
         Scale {
             runs: random / 10,
             hostile: random * 10,
+            sheets: random / 10,
             ..Scale::test(random)
         }
     }
@@ -140,6 +145,12 @@ fn settings() -> Settings {
 }
 
 fn write_list(name: &str, path: &str, seed: u64) {
+    if name == "sheets" {
+        let written = sheets::examples::write(path);
+        let count = written.unwrap_or_else(|error| panic!("{path}: {error}"));
+        println!("what {count} sheets print written to {path}");
+        return;
+    }
     let lines = match name {
         "interval_replay" => interval::list::lines(seed),
         "linear_replay" => linear::list::lines(seed),
@@ -179,6 +190,7 @@ fn main() -> ExitCode {
     total += runs::compare(seed, scale.runs);
     total += hostile::compare(seed, scale.hostile);
     total += settle::compare();
+    total += sheets::compare(seed, scale.sheets);
     println!("{} compared, {} differ", total.compared, total.differ);
     if total.differ == 0 {
         ExitCode::SUCCESS

@@ -207,4 +207,13 @@ unsafe extern "C" {
     pub fn yadzvego_reply_none(run: Run, area: *mut f64, area_len: usize) -> ReturnedNumbers;
     pub safe fn yadzvego_point_place(run: Run, area_len: usize) -> usize;
     pub safe fn yadzvego_point_length(run: Run, area_len: usize) -> usize;
+
+    pub fn yadzvego_settle_text(
+        text: *const u8,
+        text_len: usize,
+        area: *mut f64,
+        area_len: usize,
+        slot: *mut u8,
+        slot_len: usize,
+    ) -> usize;
 }

@@ -1,10 +1,10 @@
 //! Least squares under constraints over interval ends, as the proved archive libyadzvego.a settles them.
 //!
 //! [`begin`], [`reply`], [`reply_none`] and [`point`] are the archive's calls: the caller owns the run and the area,
-//! and hands both on from call to call. [`minimize`] makes a whole run of them. The module [`solvers::least_squares`]
-//! has the names and shapes of geop's module of that name, with its `minimize` by `await`, and [`scalars`] those of its
-//! `Scalar`, so that a caller of geop's changes the crate that it imports. docs/DIFFERENCES.md names what cannot be the
-//! same.
+//! and hands both on from call to call. [`minimize`] makes a whole run of them, and [`sheets::settle`] that of a text
+//! which describes points and the rules between them. The module [`solvers::least_squares`] has the names and shapes of
+//! geop's module of that name, with its `minimize` by `await`, and [`scalars`] those of its `Scalar`, so that a caller
+//! of geop's changes the crate that it imports. docs/DIFFERENCES.md names what cannot be the same.
 //!
 //! ```
 //! use yadzvego::scalars::Scalar;
@@ -35,6 +35,7 @@ mod archive;
 mod calls;
 pub mod geop_error;
 pub mod scalars;
+pub mod sheets;
 pub mod slopes;
 pub mod solvers;
 

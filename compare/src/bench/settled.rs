@@ -18,10 +18,10 @@ use std::cell::RefCell;
 use std::time::{Duration, Instant};
 
 /// So many frames, each for so many iterations at most.
-const FRAMES: usize = 60;
-const LIMIT: usize = 30;
+pub const FRAMES: usize = 60;
+pub const LIMIT: usize = 30;
 /// A frame has at least so many variables.
-const VARIABLES: usize = 4;
+pub const VARIABLES: usize = 4;
 /// So many frames of one size.
 const SIZED: usize = 16;
 /// The sizes whose runs are timed, and those whose calls are.
@@ -31,7 +31,7 @@ const CALL_SIZES: [usize; 2] = [2, 12];
 struct Corpus(Vec<History>);
 
 /// The next frame whose number of variables is wanted.
-fn frame(random: &mut Random, wanted: &impl Fn(usize) -> bool) -> Frame {
+pub fn frame(random: &mut Random, wanted: &impl Fn(usize) -> bool) -> Frame {
     loop {
         let frame = Frame::drawn(random);
         if wanted(frame.start.len()) {

@@ -4,6 +4,7 @@
 use crate::interval::operands::Random;
 use crate::run::pieces::flat;
 use crate::runs::problem::Sizes;
+use crate::sheets::rows::{Rule, rows};
 use geop_core_math::scalars::Scalar;
 
 const POINTS: u64 = 6;
@@ -11,22 +12,12 @@ const RULES: u64 = 12;
 /// Micrometres.
 const FARTHEST: i64 = 10_000_000;
 
-#[derive(Clone, Copy)]
-enum Rule {
-    Span(usize, usize, i64),
-    Level(usize, usize),
-    Plumb(usize, usize),
-}
-
 pub struct Frame {
     pub start: Vec<Scalar>,
-    rules: Vec<Rule>,
+    pub rules: Vec<Rule>,
     /// The size of its coordinates.
     size: i64,
 }
-
-/// A value and its slopes.
-type Row = (Scalar, Vec<Scalar>);
 
 /// Where the points are in a plane, whole.
 type Places = Vec<[i64; 2]>;
@@ -121,42 +112,12 @@ impl Frame {
         Scalar::from_i64(random.between(1, most))
     }
 
-    fn row(&self, rule: Rule, x: &[Scalar]) -> Row {
-        let mut slopes = vec![Scalar::ZERO; x.len()];
-        let mut along = |axis: usize, i: usize, j: usize| {
-            slopes[2 * i + axis] = Scalar::ONE;
-            slopes[2 * j + axis] = Scalar::ONE.neg();
-            x[2 * i + axis].sub(x[2 * j + axis])
-        };
-        match rule {
-            Rule::Level(i, j) => (along(1, i, j), slopes),
-            Rule::Plumb(i, j) => (along(0, i, j), slopes),
-            Rule::Span(i, j, d) => {
-                let (dx, dy) = (along(0, i, j), along(1, i, j));
-                let d = Scalar::from_i64(d);
-                for (axis, by) in [dx, dy].into_iter().enumerate() {
-                    slopes[2 * i + axis] = Scalar::TWO.mul(by);
-                    slopes[2 * j + axis] = Scalar::TWO.mul(by).neg();
-                }
-                (dx.mul(dx).add(dy.mul(dy)).sub(d.mul(d)), slopes)
-            }
-        }
-    }
-
     pub fn rows(&self, x: &[Scalar]) -> Option<Vec<f64>> {
-        let n = x.len();
-        let constraints: Vec<Row> = self.rules.iter().map(|&rule| self.row(rule, x)).collect();
-        let sum: Vec<Row> = (0..n)
-            .map(|i| {
-                let mut slopes = vec![Scalar::ZERO; n];
-                slopes[i] = Scalar::ONE;
-                (x[i].sub(self.start[i]), slopes)
-            })
-            .collect();
+        let e = rows(&self.rules, &self.start, x);
         let mut numbers = Vec::new();
-        for rows in [constraints, sum] {
-            numbers.extend(rows.iter().flat_map(|(v, _)| [v.lo, v.hi]));
-            numbers.extend(rows.iter().flat_map(|(_, slopes)| flat(slopes)));
+        for rows in [e.constraints, e.sum] {
+            numbers.extend(flat(&rows.values));
+            numbers.extend(rows.jacobian.iter().flat_map(|slopes| flat(slopes)));
         }
         Some(numbers)
     }

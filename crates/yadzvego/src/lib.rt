@@ -8,6 +8,7 @@ mod c_state;
 mod events;
 pub mod lists;
 pub mod scalars;
+pub mod sheets;
 
 use crate::c_state::numbers_fit;
 use crate::c_state::state_at;
