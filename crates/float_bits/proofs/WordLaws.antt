@@ -7,7 +7,7 @@ use native.Mathlib.Omega.{arith}
 use lib.ListN.{length, drop, set, length-set}
 use Rattle.float_bits.specs.Word.{digitOf, digitsTo, wordOf}
 
-drop-set : (xs : List ℕ) (i v : ℕ) → i < length xs → drop i (set xs i v) ≡ v ∷ drop (suc i) xs
+pub drop-set : (xs : List ℕ) (i v : ℕ) → i < length xs → drop i (set xs i v) ≡ v ∷ drop (suc i) xs
 drop-set [] i v h = absurd (not-suc-le-zero h)
 drop-set (x ∷ xs) zero v h = refl
 drop-set (x ∷ xs) (suc i) v h = drop-set xs i v (le-of-suc-le-suc h)

@@ -3,16 +3,12 @@
 use Prim.Native.Nat.{ℕ, zero, suc, _+_, _*_, _^_, _/_, _%_, _<_, _≤_}
 use mathlib.Core.List.{List, [], _∷_, _++_, append-assoc, append-nil}
 use mathlib.Core.Path.{_≡_, refl, sym, ap, _∙_}
-use native.Mathlib.Nat.{not-suc-le-zero, le-of-suc-le-suc, pow-suc}
+use native.Mathlib.Nat.{pow-suc}
 use native.Mathlib.Omega.{arith}
 use borrow.Author.Tests.{lt-ltb, le-ltb}
 use lib.ListN.{length, drop, set, length-set}
+use Rattle.float_bits.proofs.WordLaws.{drop-set}
 use Rattle.sheet.specs.Decimal.{DIGITS, decimalTo, decimalOf}
-
-drop-set : (xs : List ℕ) (i v : ℕ) → i < length xs → drop i (set xs i v) ≡ v ∷ drop (suc i) xs
-drop-set [] i v h = absurd (not-suc-le-zero h)
-drop-set (x ∷ xs) zero v h = refl
-drop-set (x ∷ xs) (suc i) v h = drop-set xs i v (le-of-suc-le-suc h)
 
 -- the digits from place i on are stored, and `rest`, which is below the power of 10, has those before
 pub record Stored (v : ℕ) (digits : List ℕ) (rest i : ℕ) : Type 0 where
