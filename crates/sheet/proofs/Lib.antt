@@ -10,3 +10,4 @@ pub mod RowLaws
 pub mod SettlingLaws
 pub mod RangeLaws
 pub mod RunLaws
+pub mod ExampleLaws

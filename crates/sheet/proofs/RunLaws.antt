@@ -181,7 +181,7 @@ start-domain xs h =
 
 -- ---- the begin
 
-sizes-fit : (s : Sheet) → InRange s → sizesFit (sizesOf s) ≡ true
+pub sizes-fit : (s : Sheet) → InRange s → sizesFit (sizesOf s) ≡ true
 sizes-fit s r =
     let p = r .few-points in
     let e = r .even in
@@ -192,7 +192,7 @@ sizes-fit s r =
       le-leb (s .limit) 200 (r .few-iterations),
     ) refl
 
-begin-is : (s : Sheet) → InRange s → (a : List Float) → length a ≡ AREA
+pub begin-is : (s : Sheet) → InRange s → (a : List Float) → length a ≡ AREA
     → beginAt s a ≡ begunOf (sizesOf s) (pointAt (s .coordinates)) (fromI64 (pos (s .reach)))
 unfolding beginOf
 begin-is s r a l =
@@ -401,7 +401,7 @@ module _ (n : ℕ) (rules : List Rule) (x aims : List Float) where
       (floats-append (listTo (λ i. subOf (at x i) (at aims i)) n) _ (floats-listTo _ (λ i. outward-fits _ _) n)
       (floats-listTo _ (λ p. pick-fits (eqb (p / n) (p % n)) oneS zeroS one-fits zero-fits) (n * n))))
 
-  rows-length : length (rowsOf n rules x aims) ≡ 2 * ((length rules + n) * (n + 1))
+  pub rows-length : length (rowsOf n rules x aims) ≡ 2 * ((length rules + n) * (n + 1))
   unfolding rowsOf
   rows-length =
       let m = length rules in

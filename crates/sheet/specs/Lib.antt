@@ -7,5 +7,6 @@ pub mod Ranges
 pub mod Decimal
 pub mod Printing
 pub mod Settling
+pub mod Example
 pub mod Runs
 pub mod program
