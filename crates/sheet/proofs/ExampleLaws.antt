@@ -55,94 +55,94 @@ use Rattle.sheet.proofs.SettlingLaws.{answer-rows, answers-more, answer
 -- ---- a run without iterations
 
 module _ (z : Sizes) (start : List Float) (max : Scalar) (fit : sizesFit z ≡ true) (many : length start ≡ 2 * z .n)
-    where
-  abbrev first : State
-  first = begunOf z start max .state
+  where
+    abbrev first : State
+    first = begunOf z start max .state
 
-  abbrev area : List Float
-  area = begunOf z start max .area
+    abbrev area : List Float
+    area = begunOf z start max .area
 
-  limits : Limits z 0
-  limits = begun-limits z start max (size-bounds z fit)
+    limits : Limits z 0
+    limits = begun-limits z start max (size-bounds z fit)
 
-  first-valid : valid first ≡ true
-  first-valid =
-      sound-valid first
-      (record {
-        sizes-fit = fit;
-        within = zero-le;
-        few-turned = zero-le;
-        few-asked = zero-le;
-        few-corrections = zero-le;
-        phase-fits = growth-positive growth-begin;
-      })
-
-  room : length area ≡ AREA
-  room = area-long first (begunMemory start) limits (begun-lengths z start max many)
-
-  back : memoryOf first area ≡ begunMemory start
-  back = memory-back first (begunMemory start) limits (begun-lengths z start max many)
-
-  asked : pointOf first area ≡ start
-  asked = asked-given first area first-valid room refl ∙ ap (λ (w : Memory). w .asked) back
-
-  -- what an answer leaves: the start alone
-  abbrev ending : List Float → AfterSlots
-  ending rows =
-      finish (moves first (movingOf (z .n) (rowsAt first rows))) (withStart first (begunMemory start) rows) stop.Budget
-
-  abbrev last : List Float → State
-  last rows = ending rows .state
-
-  abbrev left : Memory
-  left = onlyStanding (begunMemory start)
-
-  module _ (rows : List Float) where
-    last-valid : valid (last rows) ≡ true
-    last-valid =
-        sound-valid (last rows)
+    first-valid : valid first ≡ true
+    first-valid =
+        sound-valid first
         (record {
           sizes-fit = fit;
           within = zero-le;
           few-turned = zero-le;
           few-asked = zero-le;
           few-corrections = zero-le;
-          phase-fits = refl;
+          phase-fits = growth-positive growth-begin;
         })
 
-    last-lengths : lengthsOf left ≡ usedIn (last rows)
-    last-lengths =
-        all-same {x = lengthsOf left} {y = usedIn (last rows)}
-        (record {
-          standing = many;
-          landed = refl;
-          asked = refl;
-          standing-rows = refl;
-          landed-rows = refl;
-          step = refl;
-          multipliers = refl;
-          curvature = refl;
-          filter = refl;
-        })
+    room : length area ≡ AREA
+    room = area-long first (begunMemory start) limits (begun-lengths z start max many)
 
-    point-left : pointOf (last rows) (areaOf z left) ≡ start
-    point-left =
-        standing-given (last rows) (areaOf z left) last-valid (area-long (last rows) left limits last-lengths) refl
-        ∙ ap (λ (w : Memory). w .standing) (memory-back (last rows) left limits last-lengths)
+    back : memoryOf first area ≡ begunMemory start
+    back = memory-back first (begunMemory start) limits (begun-lengths z start max many)
 
-    accepted : length rows ≡ rowNumbers (rowCounts z) → allInDomain rows ((z .m + z .s) * (z .n + 1)) ≡ true
-        → replyOf first area rows ≡ inArea (started first (memoryOf first area) rows)
-    unfolding replyOf
-    accepted l d = rw (first-valid, eq-eqb _ _ room, eq-eqb _ _ l, d) refl
+    asked : pointOf first area ≡ start
+    asked = asked-given first area first-valid room refl ∙ ap (λ (w : Memory). w .asked) back
 
-    finished : z .limit ≡ 0 → started first (begunMemory start) rows ≡ ending rows
-    unfolding started iterate
-    finished none = rw none refl
+    -- what an answer leaves: the start alone
+    abbrev ending : List Float → AfterSlots
+    ending rows =
+        finish (moves first (movingOf (z .n) (rowsAt first rows))) (withStart first (begunMemory start) rows) stop.Budget
 
-    replied : z .limit ≡ 0 → length rows ≡ rowNumbers (rowCounts z)
-        → allInDomain rows ((z .m + z .s) * (z .n + 1)) ≡ true → inArea (ending rows) ≡ replyOf first area rows
-    replied none l d =
-        sym (accepted l d ∙ ap (λ (w : Memory). inArea (started first w rows)) back ∙ ap inArea (finished none))
+    abbrev last : List Float → State
+    last rows = ending rows .state
+
+    abbrev left : Memory
+    left = onlyStanding (begunMemory start)
+
+    module _ (rows : List Float) where
+      last-valid : valid (last rows) ≡ true
+      last-valid =
+          sound-valid (last rows)
+          (record {
+            sizes-fit = fit;
+            within = zero-le;
+            few-turned = zero-le;
+            few-asked = zero-le;
+            few-corrections = zero-le;
+            phase-fits = refl;
+          })
+
+      last-lengths : lengthsOf left ≡ usedIn (last rows)
+      last-lengths =
+          all-same {x = lengthsOf left} {y = usedIn (last rows)}
+          (record {
+            standing = many;
+            landed = refl;
+            asked = refl;
+            standing-rows = refl;
+            landed-rows = refl;
+            step = refl;
+            multipliers = refl;
+            curvature = refl;
+            filter = refl;
+          })
+
+      point-left : pointOf (last rows) (areaOf z left) ≡ start
+      point-left =
+          standing-given (last rows) (areaOf z left) last-valid (area-long (last rows) left limits last-lengths) refl
+          ∙ ap (λ (w : Memory). w .standing) (memory-back (last rows) left limits last-lengths)
+
+      accepted : length rows ≡ rowNumbers (rowCounts z) → allInDomain rows ((z .m + z .s) * (z .n + 1)) ≡ true
+          → replyOf first area rows ≡ inArea (started first (memoryOf first area) rows)
+      unfolding replyOf
+      accepted l d = rw (first-valid, eq-eqb _ _ room, eq-eqb _ _ l, d) refl
+
+      finished : z .limit ≡ 0 → started first (begunMemory start) rows ≡ ending rows
+      unfolding started iterate
+      finished none = rw none refl
+
+      replied : z .limit ≡ 0 → length rows ≡ rowNumbers (rowCounts z)
+          → allInDomain rows ((z .m + z .s) * (z .n + 1)) ≡ true → inArea (ending rows) ≡ replyOf first area rows
+      replied none l d =
+          sym (accepted l d ∙ ap (λ (w : Memory). inArea (started first w rows)) back ∙ ap inArea (finished none))
 
 -- ---- a sheet whose limit is 0
 
@@ -160,36 +160,36 @@ module _ (s : Sheet) (r : InRange s) (none : s .limit ≡ 0) where
   full = length-listTo (λ i. fromI64 (getD (s .coordinates) i (pos 0))) (length (s .coordinates))
 
   module _ (d : allInDomain rows ((length (s .rules) + length (s .coordinates)) * (length (s .coordinates) + 1)) ≡ true)
-      where
-    abbrev done : AfterCall
-    done = inArea (ending (sizesOf s) start reach (sizes-fit s r) full rows)
+    where
+      abbrev done : AfterCall
+      done = inArea (ending (sizesOf s) start reach (sizes-fit s r) full rows)
 
-    answer-is : answerOf s start (begunOf (sizesOf s) start reach) ≡ done
-    unfolding answerOf
-    answer-is =
-        let z = sizesOf s in
-        let b = begunOf z start reach in
-        let p : pointOf (b .state) (b .area) ≡ start = asked z start reach (sizes-fit s r) full in
-        sym (answer-rows s start (b .state) (b .area) rows {l = done}
-        (ap (λ (x : List Float). rowsOf (length (s .coordinates)) (s .rules) x start) (sym p))
-        (replied z start reach (sizes-fit s r) full rows none
-        (rows-length (length (s .coordinates)) (s .rules) start start) d)
-        refl)
+      answer-is : answerOf s start (begunOf (sizesOf s) start reach) ≡ done
+      unfolding answerOf
+      answer-is =
+          let z = sizesOf s in
+          let b = begunOf z start reach in
+          let p : pointOf (b .state) (b .area) ≡ start = asked z start reach (sizes-fit s r) full in
+          sym (answer-rows s start (b .state) (b .area) rows {l = done}
+          (ap (λ (x : List Float). rowsOf (length (s .coordinates)) (s .rules) x start) (sym p))
+          (replied z start reach (sizes-fit s r) full rows none
+          (rows-length (length (s .coordinates)) (s .rules) start start) d)
+          refl)
 
-    printed-begun : (n : ℕ) → printedOf (answersTo (suc n) s start (begunOf (sizesOf s) start reach))
-        ≡ finishOf stop.Budget 0 0 start
-    printed-begun n =
-        ap printedOf
-        (answers-more s start n (begunOf (sizesOf s) start reach) refl ∙ ap (answersTo n s start) answer-is
-        ∙ answers-over s start n done refl)
-        ∙ ap (finishOf stop.Budget 0 0) (point-left (sizesOf s) start reach (sizes-fit s r) full rows)
+      printed-begun : (n : ℕ) → printedOf (answersTo (suc n) s start (begunOf (sizesOf s) start reach))
+          ≡ finishOf stop.Budget 0 0 start
+      printed-begun n =
+          ap printedOf
+          (answers-more s start n (begunOf (sizesOf s) start reach) refl ∙ ap (answersTo n s start) answer-is
+          ∙ answers-over s start n done refl)
+          ∙ ap (finishOf stop.Budget 0 0) (point-left (sizesOf s) start reach (sizes-fit s r) full rows)
 
-    printed-start : printedSheet (ok s) ≡ finishOf stop.Budget 0 0 start
-    unfolding settledOf
-    printed-start =
-        ap (λ (b : AfterCall). printedOf (answersTo (suc 1100000) s start b))
-        (begin-is s r (zeros AREA) (length-replicate AREA zero64))
-        ∙ printed-begun 1100000
+      printed-start : printedSheet (ok s) ≡ finishOf stop.Budget 0 0 start
+      unfolding settledOf
+      printed-start =
+          ap (λ (b : AfterCall). printedOf (answersTo (suc 1100000) s start b))
+          (begin-is s r (zeros AREA) (length-replicate AREA zero64))
+          ∙ printed-begun 1100000
 
 -- ---- the example
 
