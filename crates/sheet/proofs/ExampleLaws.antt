@@ -89,7 +89,8 @@ module _ (z : Sizes) (start : List Float) (max : Scalar) (fit : sizesFit z ≡ t
     -- what an answer leaves: the start alone
     abbrev ending : List Float → AfterSlots
     ending rows =
-        finish (moves first (movingOf (z .n) (rowsAt first rows))) (withStart first (begunMemory start) rows) stop.Budget
+        finish (moves first (movingOf (z .n) (rowsAt first rows))) (withStart first (begunMemory start) rows)
+        stop.Budget
 
     abbrev last : List Float → State
     last rows = ending rows .state
