@@ -98,13 +98,13 @@ module _ (x y : Scalar) {g h : Float}
 
 -- ---- z + s and z - s, where p is the bounds of s
 module _ (z : Bounds) (s : Scalar) {p : Bounds} (proper : T (isProper z)) (b : Bounding s p) where
-  pub sum-below : Number (add binary64 (z .below) (p .below))
+  sum-below : Number (add binary64 (z .below) (p .below))
   sum-below = sum-number (z .below) (p .below) (below-proper z proper) (below-proper p (b .proper))
 
-  pub sum-above : Number (add binary64 (z .above) (p .above))
+  sum-above : Number (add binary64 (z .above) (p .above))
   sum-above = sum-number (z .above) (p .above) (above-proper z proper) (above-proper p (b .proper))
 
-  pub sum-bounds : {u v : Float}
+  sum-bounds : {u v : Float}
       → u ≡ nextUp (add binary64 (z .below) (p .below)) → v ≡ nextUp (add binary64 (z .above) (p .above))
       → Bounding (addOf (scalarOf z) s) (record { below = u; above = v })
   sum-bounds eu ev =
@@ -130,7 +130,7 @@ module _ (z : Bounds) (s : Scalar) {p : Bounds} (proper : T (isProper z)) (b : B
       ∙ ap (λ (w : Float). nextUp (add binary64 w (s .hi))) (sym (neg-neg (z .below))) ∙ sym (sub-below (scalarOf z) s))
       (ap (λ (q : Bounds). nextUp (add binary64 (z .above) (q .below))) (b .value) ∙ sym (sub-above (scalarOf z) s))
 
--- ---- z + x y and z - x y for points x and y, where p is the bounds of x y with -0 made +0
+-- ---- z + x y and z - x y, where p is the bounds of x y with -0 made +0
 -- a + b, where b is q with -0 made +0: a number that is not -0, and steps up as a + q does
 abbrev Steady : Float → Float → Float → Type 0
 Steady a q b = (T (not (isNan (add binary64 a b))) × Kept (add binary64 a b))
@@ -163,29 +163,29 @@ module _ (z : Bounds) (x y : Scalar) {p : Bounds} (proper : T (isProper z)) (tb 
   to-above a h t = steady a (mulOf x y .hi) (p .above) h t
       (above-proper (boundsOf (mulOf x y)) (product-bounding x y .proper)) (up-fits _) (ap (λ (b : Bounds). b .above) e)
 
-  pub point-sum-below : Steady (z .below) (neg (mulOf x y .lo)) (p .below)
-  point-sum-below = to-below (z .below) (below-proper z proper) tb
+  pub product-sum-below : Steady (z .below) (neg (mulOf x y .lo)) (p .below)
+  product-sum-below = to-below (z .below) (below-proper z proper) tb
 
-  pub point-sum-above : Steady (z .above) (mulOf x y .hi) (p .above)
-  point-sum-above = to-above (z .above) (above-proper z proper) ta
+  pub product-sum-above : Steady (z .above) (mulOf x y .hi) (p .above)
+  product-sum-above = to-above (z .above) (above-proper z proper) ta
 
-  pub point-sum-bounds : {u v : Float} → u ≡ nextUp (add binary64 (z .below) (p .below))
+  pub product-sum-bounds : {u v : Float} → u ≡ nextUp (add binary64 (z .below) (p .below))
       → v ≡ nextUp (add binary64 (z .above) (p .above))
       → Bounding (addOf (scalarOf z) (mulOf x y)) (record { below = u; above = v })
-  point-sum-bounds eu ev =
-      sum-bounds z (mulOf x y) proper (product-bounding x y) (eu ∙ point-sum-below .1) (ev ∙ point-sum-above .1)
+  product-sum-bounds eu ev =
+      sum-bounds z (mulOf x y) proper (product-bounding x y) (eu ∙ product-sum-below .1) (ev ∙ product-sum-above .1)
 
-  pub point-difference-below : Steady (z .below) (mulOf x y .hi) (p .above)
-  point-difference-below = to-above (z .below) (below-proper z proper) tb
+  pub product-difference-below : Steady (z .below) (mulOf x y .hi) (p .above)
+  product-difference-below = to-above (z .below) (below-proper z proper) tb
 
-  pub point-difference-above : Steady (z .above) (neg (mulOf x y .lo)) (p .below)
-  point-difference-above = to-below (z .above) (above-proper z proper) ta
+  pub product-difference-above : Steady (z .above) (neg (mulOf x y .lo)) (p .below)
+  product-difference-above = to-below (z .above) (above-proper z proper) ta
 
-  pub point-difference-bounds : {u v : Float}
+  pub product-difference-bounds : {u v : Float}
       → u ≡ nextUp (add binary64 (z .below) (p .above)) → v ≡ nextUp (add binary64 (z .above) (p .below))
       → Bounding (subOf (scalarOf z) (mulOf x y)) (record { below = u; above = v })
-  point-difference-bounds eu ev = difference-bounds z (mulOf x y) proper (product-bounding x y)
-      (eu ∙ point-difference-below .1) (ev ∙ point-difference-above .1)
+  product-difference-bounds eu ev = difference-bounds z (mulOf x y) proper (product-bounding x y)
+      (eu ∙ product-difference-below .1) (ev ∙ product-difference-above .1)
 
 pub both-sharp : (x y : Scalar) (b : Bool) → b ≡ (isSharp x && isSharp y) → not b ≡ false
     → T (isSharp x) × T (isSharp y)

@@ -48,15 +48,16 @@ fn step_up(x: f64) -> f64
     step_on(x + 0.0)
 }
 
-// The bounds of x y.
+// The bounds of x y, with -0 made +0. A sum with them is never -0, so step_on will do, and a loop that adds them waits
+// for one addition the less in each turn.
 fn product(x: Scalar, y: Scalar) -> Bounds
-    ensures { λ r. ⌜ Bounding (mulOf x y) r ⌝ }
+    ensures { λ r. ⌜ r ≡ unsigned (boundsOf (mulOf x y)) ⌝ }
 {
     let nl = -x.lo;
     let nh = -x.hi;
     Bounds {
-        below: step_up(greatest_of(nl * y.lo, nl * y.hi, nh * y.lo, nh * y.hi)),
-        above: step_up(greatest_of(x.lo * y.lo, x.lo * y.hi, x.hi * y.lo, x.hi * y.hi)),
+        below: step_up(greatest_of(nl * y.lo, nl * y.hi, nh * y.lo, nh * y.hi)) + 0.0,
+        above: step_up(greatest_of(x.lo * y.lo, x.lo * y.hi, x.hi * y.lo, x.hi * y.hi)) + 0.0,
     }
 }
 
@@ -95,8 +96,8 @@ pub fn plus_product(z: Bounds, x: Scalar, y: Scalar) -> Bounds
 {
     let p = product(x, y);
     Bounds {
-        below: step_up(z.below + p.below),
-        above: step_up(z.above + p.above),
+        below: step_on(z.below + p.below),
+        above: step_on(z.above + p.above),
     }
 }
 
@@ -107,13 +108,12 @@ pub fn minus_product(z: Bounds, x: Scalar, y: Scalar) -> Bounds
 {
     let p = product(x, y);
     Bounds {
-        below: step_up(z.below + p.above),
-        above: step_up(z.above + p.below),
+        below: step_on(z.below + p.above),
+        above: step_on(z.above + p.below),
     }
 }
 
-// The bounds of x y for points x and y, with -0 made +0: one product in place of four. A sum with them is never -0, so
-// step_on will do.
+// The same for points x and y: one product in place of four.
 fn point_product(x: Scalar, y: Scalar) -> Bounds
     requires { ⌜ T (isSharp x) × T (isSharp y) ⌝ }
     ensures { λ r. ⌜ r ≡ unsigned (boundsOf (mulOf x y)) ⌝ }
@@ -146,6 +146,35 @@ pub fn minus_points(z: Bounds, x: Scalar, y: Scalar) -> Bounds
     Bounds {
         below: step_on(z.below + p.above),
         above: step_on(z.above + p.below),
+    }
+}
+
+// The least float above 0.
+const LEAST: f64 = 5e-324;
+
+// The same of q q. A zero over a number is [-2^-1074, 2^-1074], and so is its square, which needs no product of
+// subnormal numbers.
+fn square(q: Scalar) -> Bounds
+    ensures { λ r. ⌜ r ≡ unsigned (boundsOf (mulOf q q)) ⌝ }
+{
+    if q.hi == LEAST && q.lo == -LEAST {
+        return Bounds {
+            below: LEAST,
+            above: LEAST,
+        };
+    }
+    product(q, q)
+}
+
+// The bounds of z + q q.
+pub fn plus_square(z: Bounds, q: Scalar) -> Bounds
+    requires { ⌜ T (isProper z) ⌝ }
+    ensures { λ r. ⌜ Bounding (addOf (scalarOf z) (mulOf q q)) r ⌝ }
+{
+    let p = square(q);
+    Bounds {
+        below: step_on(z.below + p.below),
+        above: step_on(z.above + p.above),
     }
 }
 

@@ -4,12 +4,14 @@
 ghost use mathlib.Core.Path.{_≡_};
 ghost use Prim.Native.Nat.{_<_};
 ghost use Rattle.interval.specs.Result as scalar;
-ghost use Rattle.interval.specs.Scalar.{mulOf};
 ghost use Rattle.linear.specs.LinearResult.{resultOf};
 ghost use Rattle.linear.specs.Calls.{normReply};
 ghost use Rattle.linear.specs.Dot.{dotTo};
 ghost use Rattle.linear.specs.Flat.{at};
 ghost use Rattle.linear.specs.Norm.{largestTo, times, scaledSquares, scaledRoot, normOf};
+use crate::bounds::bounds_of;
+use crate::bounds::plus_square;
+use crate::bounds::scalar_of;
 use crate::dots::dot_of;
 use crate::flat::at;
 use crate::results::LinearError;
@@ -32,28 +34,15 @@ fn largest(v: &[f64], n: usize) -> Scalar
     Scalar::degenerate(greater_of(below, above))
 }
 
-// The least float above 0.
-const LEAST: f64 = 5e-324;
-
-// q q. A zero over g is [-2^-1074, 2^-1074], and so is its square, which needs no product of subnormal numbers.
-fn square(q: Scalar) -> Scalar
-    ensures { λ r. ⌜ r ≡ mulOf q q ⌝ }
-{
-    if q.hi == LEAST && q.lo == -LEAST {
-        return q;
-    }
-    q.mul(q)
-}
-
 // The sum of the squares of the first n, each times i.
 fn squares_times(v: &[f64], i: Scalar, n: usize) -> Scalar
     ensures { λ r. ⌜ r ≡ dotTo (times (at (now (v .entry))) i) (times (at (now (v .entry))) i) n ⌝ }
 {
-    let mut sum = Scalar::ZERO;
+    let mut sum = bounds_of(Scalar::ZERO);
     for j in 0..n {
-        sum = sum.add(square(at(v, j).mul(i)));
+        sum = plus_square(sum, at(v, j).mul(i));
     }
-    sum
+    scalar_of(sum)
 }
 
 // The sum of the squares of the first n, each over g. A quotient is the product with the divisor's inverse, so one
