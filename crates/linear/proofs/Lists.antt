@@ -1,6 +1,6 @@
 -- Lists that a loop writes: the first scalars of an index function, and one number throughout. Lists with the same
 -- scalars are equal.
-use Prim.Native.Nat.{ℕ, zero, suc, _+_, _*_, _/_, _<_}
+use Prim.Native.Nat.{ℕ, zero, suc, _+_, _*_, _/_, _<_, _≤_}
 use mathlib.Core.Logic.{_⊎_, inl, inr, ⊎-elim}
 use mathlib.Core.Path.{_≡_, refl, sym, ap, _∙_}
 use mathlib.Core.List.{List, [], _∷_, _++_, append-assoc, append-nil}
@@ -9,8 +9,8 @@ use native.Mathlib.Numerals.{add-one}
 use native.Mathlib.Omega.{arith}
 use borrow.Author.Tests.{lt-ltb}
 use lib.Ieee.{Float, nan}
-use lib.ListN.{length, getD, set, drop, replicate, length-append, List·getD-append}
-use lib.Seq.{drop-cons, drop-length, set-at, ext-getD, append-snoc, getD-append-add}
+use lib.ListN.{length, getD, set, take, drop, replicate, length-append, take-append-drop, List·getD-append}
+use lib.Seq.{length-take-le, drop-cons, drop-length, set-at, ext-getD, append-snoc, getD-append-add}
 use Rattle.interval.specs.declared.Scalar.{Scalar}
 use Rattle.linear.specs.Flat.{at, put, listTo}
 use Rattle.linear.proofs.FlatLaws.{at-inside, put-inside}
@@ -38,6 +38,13 @@ at-seam xs ys i v e =
     let e₀ : 2 * i ≡ length xs + 0 = omega arith in
     let e₁ : 2 * i + 1 ≡ length xs + 1 = omega arith in
     rw (at-inside _ i (lt-ltb _ _ m), e₁, e₀, getD-append-add xs _ 1 nan, getD-append-add xs _ 0 nan)
+
+-- reading in the start of a list
+pub at-take : (xs : List Float) (n i : ℕ) → i < n → 2 * n ≤ length xs → at (take (2 * n) xs) i ≡ at xs i
+at-take xs n i h room =
+    let size = length-take-le (2 * n) xs room in
+    let inside : 2 * i + 1 < length (take (2 * n) xs) = omega arith in
+    sym (at-append (take (2 * n) xs) (drop (2 * n) xs) i inside) ∙ ap (λ l. at l i) (take-append-drop (2 * n) xs)
 
 -- storing at the seam
 pub put-seam : (xs ys : List Float) (a b : Float) (i : ℕ) (v : Scalar) → length xs ≡ 2 * i

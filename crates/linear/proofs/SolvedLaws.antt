@@ -1,24 +1,29 @@
 -- `minus_solved` is the factor of J Jᵀ, and then the values by that factor.
 use mathlib.Core.Path.{_≡_, refl, sym, ap, _∙_}
-use Prim.Native.Nat.{ℕ, _+_, _*_}
+use Prim.Native.Nat.{ℕ, _+_, _*_, _≤_}
 use mathlib.Core.Bool.{Bool}
 use mathlib.Core.List.{List}
+use borrow.Author.Tests.{le-leb, eq-eqb}
 use lib.Ieee.{Float}
+use lib.ListN.{length, take}
 use Rattle.interval.specs.Result.{Res, ok, refused}
 use Rattle.interval.specs.declared.Scalar.{Scalar}
 use Rattle.linear.specs.LinearResult.{doneOf}
-use Rattle.linear.specs.Calls.{blank}
+use Rattle.linear.specs.Calls.{blank, minusFactoredReply}
 use Rattle.linear.specs.Cholesky.{Factor, factorOf, choleskyOf}
 use Rattle.linear.specs.Choose.{chooseOf}
 use Rattle.linear.specs.Dot.{minusTo}
 use Rattle.linear.specs.Flat.{at, put, along, zeros}
+use Rattle.linear.specs.Lengths.{SolvedLengths}
 use Rattle.linear.specs.Replies.{replied, replyOf}
 use Rattle.linear.specs.Results.{bind}
 use Rattle.linear.specs.Solved.{gramOf, gramAt, LowerRows, multipliersOf, minusAt, minusOf, minusSolvedOf}
 use Rattle.linear.specs.Solved.{gramFactorOf, minusFactoredOf}
 use Rattle.linear.specs.Substitution.{solveOf}
 use Rattle.linear.specs.declared.results.Done.{Done}
+use Rattle.linear.proofs.Agree.{minusTo-ext, listTo-ext}
 use Rattle.linear.proofs.Folds.{bind-ok, bind-refused}
+use Rattle.linear.proofs.Lists.{at-take}
 use Rattle.linear.proofs.LowerTriangle.{cholesky-gram}
 use Rattle.linear.proofs.Replied.{done-is, done-then}
 use Rattle.linear.proofs.Sums.{along-start}
@@ -53,12 +58,42 @@ module _ (m n : ℕ) (jc : List Float) where
       → gramFactorOf m n jc ≡ doneOf r f
   factor-done r f h = sym (done-is r f (blank m) (gramFactorOf m n jc) h)
 
-  pub minus-factored : (l : List Float) (left : List Bool) (rhs from k : List Float) (r : Done)
-      → replied r k ≡ replyOf (zeros (2 * m)) (solveOf m l left rhs)
+  -- the values read the first m scalars of k alone
+  minus-start : (from k : List Float) → 2 * m ≤ length k → minusOf m n jc from (take (2 * m) k) ≡ minusOf m n jc from k
+  unfolding minusOf
+  minus-start from k room =
+      listTo-ext _ _ n
+      (λ i _.
+      ap chooseOf
+      (minusTo-ext (along jc i n) (along jc i n) (at (take (2 * m) k)) (at k) (at from i) m (λ j _. refl)
+      (λ j h. at-take k m j h room)))
+
+  pub minus-factored : (l : List Float) (left : List Bool) (rhs from k : List Float) (r : Done) → 2 * m ≤ length k
+      → replied r (take (2 * m) k) ≡ replyOf (zeros (2 * m)) (solveOf m l left rhs)
       → doneOf r (minusOf m n jc from k) ≡ minusFactoredOf m n jc (factorOf l left) rhs from
   unfolding minusFactoredOf
-  minus-factored l left rhs from k r h =
-      done-then r (minusOf m n jc from) k (done-is r k (zeros (2 * m)) (solveOf m l left rhs) h)
+  minus-factored l left rhs from k r room h =
+      ap (doneOf r) (sym (minus-start from k room))
+      ∙ done-then r (minusOf m n jc from) (take (2 * m) k)
+      (done-is r (take (2 * m) k) (zeros (2 * m)) (solveOf m l left rhs) h)
+
+-- where every count and every length is right, no check refuses
+pub factored-reply : (m n : ℕ) (jc : List Float) (f : Factor) (rhs from out : List Float)
+    → SolvedLengths m n (length jc) (length rhs) (length from) (length out) → length (f .l) ≡ 2 * (m * m)
+    → length (f .left-out) ≡ m
+    → minusFactoredReply m n jc f rhs from out ≡ replyOf (zeros (2 * n)) (minusFactoredOf m n jc f rhs from)
+unfolding minusFactoredReply
+factored-reply m n jc f rhs from out lengths entries marks =
+    rw (
+      le-leb _ _ (lengths .rows),
+      le-leb _ _ (lengths .columns),
+      eq-eqb _ _ (lengths .slopes),
+      eq-eqb _ _ entries,
+      eq-eqb _ _ marks,
+      eq-eqb _ _ (lengths .sides),
+      eq-eqb _ _ (lengths .start),
+      eq-eqb _ _ (lengths .values),
+    )
 
 -- ---- the values
 module _ (m n : ℕ) (jc from k : List Float) where

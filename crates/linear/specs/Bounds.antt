@@ -7,8 +7,9 @@ use lib.Dec.{T}
 use lib.Ieee.{inf, binary64, add, neg, lt}
 use Rattle.interval.specs.declared.Scalar.{Scalar}
 use Rattle.interval.specs.Scalar.{zero64}
-use Rattle.linear.specs.Lengths.{Inside}
+use Rattle.linear.specs.Lengths.{Inside, PlacesInside}
 use Rattle.linear.specs.declared.bounds.Bounds.{Bounds}
+use Rattle.linear.specs.declared.flat.Places.{Places}
 
 abbrev pub boundsOf : Scalar → Bounds
 boundsOf x = record { below = neg (x .lo); above = x .hi }
@@ -30,15 +31,15 @@ pub record Bounding (x : Scalar) (r : Bounds) : Type 0 where
   pub proper : T (isProper r)
 
 -- k products of two runs can be added to z by bounds, with no test of a place: every place is inside, and z is proper
-pub record Plain (a0 sa a b0 sb b k : ℕ) (z : Bounds) : Type 0 where
-  pub first : Inside a0 sa k a
-  pub second : Inside b0 sb k b
+pub record Plain (i : Places) (a : ℕ) (j : Places) (b k : ℕ) (z : Bounds) : Type 0 where
+  pub first : PlacesInside i k a
+  pub second : PlacesInside j k b
   pub start : T (isProper z)
 
 -- the same of two sums, of two runs of one list with a row of another
-pub record PlainTwo (a0 a1 sa a b0 b k : ℕ) (y z : Bounds) : Type 0 where
-  pub first : Inside a0 sa k a
-  pub second : Inside a1 sa k a
+pub record PlainTwo (i j : Places) (a b0 b k : ℕ) (y z : Bounds) : Type 0 where
+  pub first : PlacesInside i k a
+  pub second : PlacesInside j k a
   pub row : Inside b0 1 k b
   pub first-start : T (isProper y)
   pub second-start : T (isProper z)

@@ -8,6 +8,7 @@ use lib.Ieee.{Float, nan}
 use lib.ListN.{getD, set, length, replicate}
 use Rattle.interval.specs.declared.Scalar.{Scalar}
 use Rattle.interval.specs.Scalar.{degenerate, zero64, pick}
+use Rattle.linear.specs.declared.flat.Places.{Places}
 
 -- whether the i-th scalar is inside the list
 abbrev pub inside : List Float → ℕ → Bool
@@ -25,6 +26,10 @@ zeros n = replicate n zero64
 -- the scalars from base on, step apart: a row with step 1, a column with the row's length
 unfoldable pub along : List Float → ℕ → ℕ → ℕ → Scalar
 along xs base step j = at xs (base + j * step)
+
+-- the same by the places of a run
+abbrev pub scalarsAt : List Float → Places → ℕ → Scalar
+scalarsAt xs p = along xs (p .base) (p .step)
 
 -- xs with f 0 to f (k - 1) stored from the place base on
 unfoldable pub fillTo : List Float → ℕ → (ℕ → Scalar) → ℕ → List Float

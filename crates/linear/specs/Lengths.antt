@@ -2,6 +2,7 @@
 -- that calls them has checked (PROTOCOL, Refusals: 1 and 2), and runs of places that were found to be inside.
 use Prim.Native.Nat.{ℕ, _+_, _*_, _<_, _≤_}
 use mathlib.Core.Path.{_≡_}
+use Rattle.linear.specs.declared.flat.Places.{Places}
 
 -- ---- counts and lengths
 
@@ -21,6 +22,15 @@ pub record FactorLengths (n l left : ℕ) : Type 0 where
   pub rows : n ≤ 24
   pub entries : l ≡ 2 * (n * n)
   pub marks : left ≡ n
+
+-- m rows of n slopes, a right-hand side for each row, and a start and an output slice for n values
+pub record SolvedLengths (m n jc rhs from out : ℕ) : Type 0 where
+  pub rows : m ≤ 24
+  pub columns : n ≤ 24
+  pub slopes : jc ≡ 2 * (m * n)
+  pub sides : rhs ≡ 2 * m
+  pub start : from ≡ 2 * n
+  pub values : out ≡ 2 * n
 
 -- column j of m rows and r columns, from the diagonal on
 pub record Column (m r j : ℕ) : Type 0 where
@@ -47,6 +57,10 @@ Inside base step k len = (t : ℕ) → t < k → 2 * (base + t * step) + 1 < len
 pub record BothInside (a0 sa a b0 sb b k : ℕ) : Type 0 where
   pub first : Inside a0 sa k a
   pub second : Inside b0 sb k b
+
+-- the same by the places of a run
+abbrev pub PlacesInside : Places → ℕ → ℕ → Type 0
+PlacesInside p k len = Inside (p .base) (p .step) k len
 
 -- k scalars of two runs of a list of a numbers, and of a row of a list of b
 pub record ThreeInside (a0 a1 sa a b0 b k : ℕ) : Type 0 where

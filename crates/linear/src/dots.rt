@@ -14,7 +14,7 @@ ghost use Rattle.linear.specs.LinearResult.{resultOf};
 ghost use Rattle.linear.specs.Bounds.{boundsOf, scalarOf, Bounding, Plain, PlainTwo};
 ghost use Rattle.linear.specs.Calls.{dotReply};
 ghost use Rattle.linear.specs.Dot.{plusTo, dotTo, minusTo, pointsFrom};
-ghost use Rattle.linear.specs.Flat.{at, along};
+ghost use Rattle.linear.specs.Flat.{at, along, scalarsAt};
 ghost use Rattle.linear.specs.Lengths.{BothInside, ThreeInside};
 use crate::bounds::Bounds;
 use crate::bounds::bounds_of;
@@ -23,10 +23,13 @@ use crate::bounds::minus_fresh;
 use crate::bounds::plus_points;
 use crate::bounds::plus_product;
 use crate::bounds::scalar_of;
+use crate::flat::Places;
 use crate::flat::ahead;
 use crate::flat::at;
 use crate::flat::at_inside;
 use crate::flat::both_inside;
+use crate::flat::in_column;
+use crate::flat::in_row;
 use crate::flat::is_row_inside;
 use crate::results::LinearError;
 use crate::results::LinearResult;
@@ -46,44 +49,26 @@ pub fn are_points(x: Scalar, y: Scalar) -> bool
 }
 
 // Whether k places of two runs are found to be inside, and the bounds of z are proper.
-fn is_plain(
-    a0: usize,
-    sa: usize,
-    a: usize,
-    b0: usize,
-    sb: usize,
-    b: usize,
-    z: Scalar,
-    k: usize,
-) -> bool
-    ensures { λ r. ⌜ (r ≡ true → Plain a0 sa a b0 sb b k (boundsOf z)) ⌝ }
+fn is_plain(i: Places, a: usize, j: Places, b: usize, z: Scalar, k: usize) -> bool
+    ensures { λ r. ⌜ (r ≡ true → Plain i a j b k (boundsOf z)) ⌝ }
 {
-    if both_inside(a0, sa, a, b0, sb, b, k) {
+    if both_inside(i.base, i.step, a, j.base, j.step, b, k) {
         return is_proper(bounds_of(z));
     }
     false
 }
 
 // The terms of plus_dot up to the first whose factors are not both points.
-fn plus_points_inside(
-    a: &[f64],
-    a0: usize,
-    sa: usize,
-    b: &[f64],
-    b0: usize,
-    sb: usize,
-    z: Bounds,
-    k: usize,
-) -> Begun
-    requires { ⌜ Plain a0 sa (length (now a)) b0 sb (length (now b)) k z ⌝ }
-    ensures { λ r. ⌜ (r .done ≡ pointsFrom (along (now (a .entry)) a0 sa) (along (now (b .entry)) b0 sb) 0 k)
-        × Bounding (plusTo (along (now (a .entry)) a0 sa) (along (now (b .entry)) b0 sb) (scalarOf z) (r .done))
+fn plus_points_inside(a: &[f64], i: Places, b: &[f64], j: Places, z: Bounds, k: usize) -> Begun
+    requires { ⌜ Plain i (length (now a)) j (length (now b)) k z ⌝ }
+    ensures { λ r. ⌜ (r .done ≡ pointsFrom (scalarsAt (now (a .entry)) i) (scalarsAt (now (b .entry)) j) 0 k)
+        × Bounding (plusTo (scalarsAt (now (a .entry)) i) (scalarsAt (now (b .entry)) j) (scalarOf z) (r .done))
         (r .sum) ⌝ }
 {
     let mut sum = z;
     for t in 0..k {
-        let x = at_inside(a, a0 + t * sa);
-        let y = at_inside(b, b0 + t * sb);
+        let x = at_inside(a, i.base + t * i.step);
+        let y = at_inside(b, j.base + t * j.step);
         if !are_points(x, y) {
             return Begun { sum, done: t };
         }
@@ -93,92 +78,58 @@ fn plus_points_inside(
 }
 
 // plus_dot where every place is inside and the bounds of z are proper.
-fn plus_inside(
-    a: &[f64],
-    a0: usize,
-    sa: usize,
-    b: &[f64],
-    b0: usize,
-    sb: usize,
-    z: Scalar,
-    k: usize,
-) -> Scalar
-    requires { ⌜ Plain a0 sa (length (now a)) b0 sb (length (now b)) k (boundsOf z) ⌝ }
-    ensures { λ r. ⌜ r ≡ plusTo (along (now (a .entry)) a0 sa) (along (now (b .entry)) b0 sb) z k ⌝ }
+fn plus_inside(a: &[f64], i: Places, b: &[f64], j: Places, z: Scalar, k: usize) -> Scalar
+    requires { ⌜ Plain i (length (now a)) j (length (now b)) k (boundsOf z) ⌝ }
+    ensures { λ r. ⌜ r ≡ plusTo (scalarsAt (now (a .entry)) i) (scalarsAt (now (b .entry)) j) z k ⌝ }
 {
-    let begun = plus_points_inside(a, a0, sa, b, b0, sb, bounds_of(z), k);
+    let begun = plus_points_inside(a, i, b, j, bounds_of(z), k);
     let mut sum = begun.sum;
     let done = begun.done;
     for t in done..k {
-        sum = plus_product(sum, at_inside(a, a0 + t * sa), at_inside(b, b0 + t * sb));
+        let x = at_inside(a, i.base + t * i.step);
+        sum = plus_product(sum, x, at_inside(b, j.base + t * j.step));
     }
     scalar_of(sum)
 }
 
 // plus_dot for every place.
-fn plus_cut(
-    a: &[f64],
-    a0: usize,
-    sa: usize,
-    b: &[f64],
-    b0: usize,
-    sb: usize,
-    z: Scalar,
-    k: usize,
-) -> Scalar
-    ensures { λ r. ⌜ r ≡ plusTo (along (now (a .entry)) a0 sa) (along (now (b .entry)) b0 sb) z k ⌝ }
+fn plus_cut(a: &[f64], i: Places, b: &[f64], j: Places, z: Scalar, k: usize) -> Scalar
+    ensures { λ r. ⌜ r ≡ plusTo (scalarsAt (now (a .entry)) i) (scalarsAt (now (b .entry)) j) z k ⌝ }
 {
     let mut sum = z;
-    let mut i = a0;
-    let mut j = b0;
+    let mut p = i.base;
+    let mut q = j.base;
     for _ in 0..k {
-        sum = sum.add(at(a, i).mul(at(b, j)));
-        i = ahead(i, sa, a.len());
-        j = ahead(j, sb, b.len());
+        sum = sum.add(at(a, p).mul(at(b, q)));
+        p = ahead(p, i.step, a.len());
+        q = ahead(q, j.step, b.len());
     }
     sum
 }
 
-// z and k products of two runs of scalars, each from a base on by a step.
-pub fn plus_dot(
-    a: &[f64],
-    a0: usize,
-    sa: usize,
-    b: &[f64],
-    b0: usize,
-    sb: usize,
-    z: Scalar,
-    k: usize,
-) -> Scalar
-    ensures { λ r. ⌜ r ≡ plusTo (along (now (a .entry)) a0 sa) (along (now (b .entry)) b0 sb) z k ⌝ }
+// z and k products of a run of a and one of b.
+pub fn plus_dot(a: &[f64], i: Places, b: &[f64], j: Places, z: Scalar, k: usize) -> Scalar
+    ensures { λ r. ⌜ r ≡ plusTo (scalarsAt (now (a .entry)) i) (scalarsAt (now (b .entry)) j) z k ⌝ }
 {
-    if is_plain(a0, sa, a.len(), b0, sb, b.len(), z, k) {
-        return plus_inside(a, a0, sa, b, b0, sb, z, k);
+    if is_plain(i, a.len(), j, b.len(), z, k) {
+        return plus_inside(a, i, b, j, z, k);
     }
-    plus_cut(a, a0, sa, b, b0, sb, z, k)
+    plus_cut(a, i, b, j, z, k)
 }
 
 // z less k products of two such runs: -(-z + ..), which has the same bits.
-pub fn minus_dot(
-    a: &[f64],
-    a0: usize,
-    sa: usize,
-    b: &[f64],
-    b0: usize,
-    sb: usize,
-    z: Scalar,
-    k: usize,
-) -> Scalar
-    ensures { λ r. ⌜ r ≡ minusTo (along (now (a .entry)) a0 sa) (along (now (b .entry)) b0 sb) z k ⌝ }
+pub fn minus_dot(a: &[f64], i: Places, b: &[f64], j: Places, z: Scalar, k: usize) -> Scalar
+    ensures { λ r. ⌜ r ≡ minusTo (scalarsAt (now (a .entry)) i) (scalarsAt (now (b .entry)) j) z k ⌝ }
 {
     let la = a.len();
     let lb = b.len();
-    plus_dot(&a[..la], a0, sa, &b[..lb], b0, sb, z.neg(), k).neg()
+    plus_dot(&a[..la], i, &b[..lb], j, z.neg(), k).neg()
 }
 
 // rows_minus where the bounds of z are proper.
 fn rows_inside(l: &[f64], i0: usize, j0: usize, z: Scalar, k: usize) -> Scalar
-    requires { ⌜ Plain i0 1 (length (now l)) j0 1 (length (now l)) k (boundsOf z) ⌝ }
+    requires { ⌜ Plain (record { base = i0; step = 1 }) (length (now l)) (record { base = j0; step = 1 })
+        (length (now l)) k (boundsOf z) ⌝ }
     ensures { λ r. ⌜ r ≡ minusTo (along (now (l .entry)) i0 1) (along (now (l .entry)) j0 1) z k ⌝ }
 {
     let mut sum = bounds_of(z);
@@ -196,7 +147,7 @@ pub fn rows_minus(l: &[f64], i0: usize, j0: usize, z: Scalar, k: usize) -> Scala
     if is_proper(bounds_of(z)) {
         return rows_inside(l, i0, j0, z, k);
     }
-    minus_dot(l, i0, 1, l, j0, 1, z, k)
+    minus_dot(l, in_row(i0), l, in_row(j0), z, k)
 }
 
 // The terms of row_dot up to the first whose factors are not both points.
@@ -241,7 +192,7 @@ pub fn row_dot(a: &[f64], a0: usize, b: &[f64], b0: usize, k: usize) -> Scalar
     }
     let la = a.len();
     let lb = b.len();
-    plus_dot(&a[..la], a0, 1, &b[..lb], b0, 1, Scalar::ZERO, k)
+    plus_dot(&a[..la], in_row(a0), &b[..lb], in_row(b0), Scalar::ZERO, k)
 }
 
 // Two sums.
@@ -269,27 +220,26 @@ fn are_three_points(x: Scalar, y: Scalar, z: Scalar) -> bool
 // The terms of two sums with the same second factors, up to the first term whose factors are not all points.
 fn two_points_inside(
     a: &[f64],
-    a0: usize,
-    a1: usize,
-    sa: usize,
+    i: Places,
+    j: Places,
     b: &[f64],
     b0: usize,
     y: Bounds,
     z: Bounds,
     k: usize,
 ) -> BegunTwo
-    requires { ⌜ PlainTwo a0 a1 sa (length (now a)) b0 (length (now b)) k y z ⌝ }
+    requires { ⌜ PlainTwo i j (length (now a)) b0 (length (now b)) k y z ⌝ }
     ensures { λ r. ⌜ (r .done ≤ k)
-        × Bounding (plusTo (along (now (a .entry)) a0 sa) (along (now (b .entry)) b0 1) (scalarOf y) (r .done))
+        × Bounding (plusTo (scalarsAt (now (a .entry)) i) (along (now (b .entry)) b0 1) (scalarOf y) (r .done))
         (r .first)
-        × Bounding (plusTo (along (now (a .entry)) a1 sa) (along (now (b .entry)) b0 1) (scalarOf z) (r .done))
+        × Bounding (plusTo (scalarsAt (now (a .entry)) j) (along (now (b .entry)) b0 1) (scalarOf z) (r .done))
         (r .second) ⌝ }
 {
     let mut first = y;
     let mut second = z;
     for t in 0..k {
-        let u = at_inside(a, a0 + t * sa);
-        let v = at_inside(a, a1 + t * sa);
+        let u = at_inside(a, i.base + t * i.step);
+        let v = at_inside(a, j.base + t * j.step);
         let w = at_inside(b, b0 + t);
         if !are_three_points(u, v, w) {
             return BegunTwo {
@@ -309,7 +259,8 @@ fn two_points_inside(
 }
 
 // y and z, and k products of two runs of a with a row of b, where every place is inside: the factors of the row are
-// read once, and neither sum waits for the other.
+// read once, and neither sum waits for the other. Its runs come as numbers: a struct is handed on in memory, and to
+// read it there takes 1 % of whole runs.
 fn two_inside(
     a: &[f64],
     a0: usize,
@@ -321,11 +272,14 @@ fn two_inside(
     z: Bounds,
     k: usize,
 ) -> Two
-    requires { ⌜ PlainTwo a0 a1 sa (length (now a)) b0 (length (now b)) k y z ⌝ }
+    requires { ⌜ PlainTwo (record { base = a0; step = sa }) (record { base = a1; step = sa }) (length (now a)) b0
+        (length (now b)) k y z ⌝ }
     ensures { λ r. ⌜ (r .first ≡ plusTo (along (now (a .entry)) a0 sa) (along (now (b .entry)) b0 1) (scalarOf y) k)
         × (r .second ≡ plusTo (along (now (a .entry)) a1 sa) (along (now (b .entry)) b0 1) (scalarOf z) k) ⌝ }
 {
-    let begun = two_points_inside(a, a0, a1, sa, b, b0, y, z, k);
+    let i = Places { base: a0, step: sa };
+    let j = Places { base: a1, step: sa };
+    let begun = two_points_inside(a, i, j, b, b0, y, z, k);
     let mut first = begun.first;
     let mut second = begun.second;
     let done = begun.done;
@@ -362,8 +316,8 @@ pub fn two_rows(a: &[f64], a0: usize, a1: usize, b: &[f64], b0: usize, k: usize)
         return two_inside(&a[..la], a0, a1, 1, &b[..lb], b0, zero, zero, k);
     }
     Two {
-        first: plus_dot(&a[..la], a0, 1, &b[..lb], b0, 1, Scalar::ZERO, k),
-        second: plus_dot(&a[..la], a1, 1, &b[..lb], b0, 1, Scalar::ZERO, k),
+        first: row_dot(&a[..la], a0, &b[..lb], b0, k),
+        second: row_dot(&a[..la], a1, &b[..lb], b0, k),
     }
 }
 
@@ -403,9 +357,10 @@ pub fn two_minus(
             second: sums.second.neg(),
         };
     }
+    let p = in_row(b0);
     Two {
-        first: plus_dot(&a[..la], a0, sa, &b[..lb], b0, 1, y.neg(), k).neg(),
-        second: plus_dot(&a[..la], a1, sa, &b[..lb], b0, 1, z.neg(), k).neg(),
+        first: minus_dot(&a[..la], in_column(a0, sa), &b[..lb], p, y, k),
+        second: minus_dot(&a[..la], in_column(a1, sa), &b[..lb], p, z, k),
     }
 }
 

@@ -9,6 +9,26 @@ ghost use Rattle.linear.specs.Flat.{at, put, zeros, along};
 ghost use Rattle.linear.specs.Lengths.{Inside, BothInside};
 use interval::Scalar;
 
+// Where the scalars of a run stand: the first at base, and each step behind the one before it.
+pub struct Places {
+    pub base: usize,
+    pub step: usize,
+}
+
+// Neighbours, as in a row of a matrix.
+pub fn in_row(base: usize) -> Places
+    ensures { λ r. ⌜ r ≡ record { base = base; step = 1 } ⌝ }
+{
+    Places { base, step: 1 }
+}
+
+// Every step-th scalar, as in a column of a matrix with rows of that length.
+pub fn in_column(base: usize, step: usize) -> Places
+    ensures { λ r. ⌜ r ≡ record { base = base; step = step } ⌝ }
+{
+    Places { base, step }
+}
+
 // The i-th scalar; NaN outside the slice.
 pub fn at(xs: &[f64], i: usize) -> Scalar
     ensures { λ r. ⌜ r ≡ at (now (xs .entry)) i ⌝ }

@@ -22,6 +22,8 @@ use crate::dots::row_dot;
 use crate::factor::unmark;
 use crate::flat::at;
 use crate::flat::clear;
+use crate::flat::in_column;
+use crate::flat::in_row;
 use crate::flat::put;
 use crate::norms::norm_of;
 use crate::results::Done;
@@ -231,7 +233,8 @@ fn value_row(
         return Done::Finished;
     }
     let z = at(cols, r * m + j);
-    let known = minus_dot(cols, (j + 1) * m + j, m, y, j + 1, 1, z, r - 1 - j);
+    let p = in_column((j + 1) * m + j, m);
+    let known = minus_dot(cols, p, y, in_row(j + 1), z, r - 1 - j);
     store(y, j, chosen_of(known.div(d)))
 }
 

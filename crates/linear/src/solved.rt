@@ -2,14 +2,14 @@
 // the factor is a call of its own, since it serves several right-hand sides.
 ghost use mathlib.Core.Path.{_≡_};
 ghost use Prim.Native.Nat.{_+_, _*_, _<_, _≤_};
-ghost use lib.ListN.{length};
+ghost use lib.ListN.{length, take};
 ghost use Rattle.linear.specs.Calls.{blank, minusSolvedReply, gramFactorReply, minusFactoredReply};
 ghost use Rattle.linear.specs.Cholesky.{factorOf};
 ghost use Rattle.linear.specs.Flat.{zeros, put};
-ghost use Rattle.linear.specs.Lengths.{Counts, OutputLengths, FactorLengths};
+ghost use Rattle.linear.specs.Lengths.{Counts, OutputLengths, FactorLengths, SolvedLengths};
 ghost use Rattle.linear.specs.Replies.{replied, replyOf};
 ghost use Rattle.linear.specs.Solved.{gramAt, LowerRows, minusAt, minusOf, minusSolvedOf, gramFactorOf};
-ghost use Rattle.linear.specs.Solved.{minusFactoredOf};
+ghost use Rattle.linear.specs.Substitution.{solveOf};
 use crate::choices::choose;
 use crate::dots::minus_dot;
 use crate::dots::row_dot;
@@ -18,6 +18,8 @@ use crate::dots::two_rows;
 use crate::factor::factor_sized;
 use crate::flat::at;
 use crate::flat::clear;
+use crate::flat::in_column;
+use crate::flat::in_row;
 use crate::flat::put;
 use crate::results::Done;
 use crate::results::LinearError;
@@ -72,7 +74,7 @@ fn gram(m: usize, n: usize, jc: &[f64], g: &mut [f64])
 fn minus_at(m: usize, n: usize, jc: &[f64], from: &[f64], k: &[f64], i: usize) -> Scalar
     ensures { λ r. ⌜ r ≡ minusAt m n (now (jc .entry)) (now (from .entry)) (now (k .entry)) i ⌝ }
 {
-    choose(minus_dot(jc, i, n, k, 0, 1, at(from, i), m))
+    choose(minus_dot(jc, in_column(i, n), k, in_row(0), at(from, i), m))
 }
 
 // Values i and i + 1, stored.
@@ -120,51 +122,55 @@ fn gram_factor_sized(
     factor_sized(m, g, l, left_out)
 }
 
-// The values by the factor, with a scratch slice for k; out is clear where they are refused.
-fn minus_factored_in(
-    m: usize,
-    n: usize,
-    jc: &[f64],
-    l: &[f64],
-    left_out: &[bool],
-    rhs: &[f64],
-    from: &[f64],
-    out: &mut [f64],
-    k: &mut [f64],
-) -> Done
-    requires { ⌜ OutputLengths m n (length (now out)) × (length (now «left_out») ≡ m) × (length (now k) ≡ 2 * m) ⌝ }
-    ensures { λ r. ⌜ replied r (now (out .exit))
-        ≡ replyOf (zeros (2 * n)) (minusFactoredOf m n (now (jc .entry))
-        (factorOf (now (l .entry)) (now («left_out» .entry))) (now (rhs .entry)) (now (from .entry))) ⌝ }
+// k, at the start of a slice that is long enough.
+fn multipliers(m: usize, l: &[f64], left_out: &[bool], rhs: &[f64], k: &mut [f64]) -> Done
+    requires { ⌜ (m ≤ 24) × (length (now «left_out») ≡ m) × (2 * m ≤ length (now k)) ⌝ }
+    ensures { λ r. ⌜ replied r (take (2 * m) (now (k .exit)))
+        ≡ replyOf (zeros (2 * m)) (solveOf m (now (l .entry)) (now («left_out» .entry)) (now (rhs .entry))) ⌝ }
 {
-    let d = solve_sized(m, l, left_out, rhs, k);
-    minus(m, n, jc, from, k, out);
-    cleared(d, out)
+    let e = 2 * m;
+    solve_sized(m, l, left_out, rhs, &mut k[..e])
 }
 
-// The same with a scratch slice that is long enough.
-fn minus_factored_with(
+// L with L Lᵀ = J Jᵀ, for several right-hand sides by minus_factored; J has m rows of n, and g is scratch, clear
+// afterwards.
+pub fn gram_factor(
     m: usize,
     n: usize,
     jc: &[f64],
-    l: &[f64],
-    left_out: &[bool],
-    rhs: &[f64],
-    from: &[f64],
-    out: &mut [f64],
-    k: &mut [f64],
+    g: &mut [f64],
+    l: &mut [f64],
+    left_out: &mut [bool],
 ) -> Done
-    requires { ⌜ OutputLengths m n (length (now out)) × (length (now «left_out») ≡ m) × (2 * m ≤ length (now k)) ⌝ }
-    ensures { λ r. ⌜ replied r (now (out .exit))
-        ≡ replyOf (zeros (2 * n)) (minusFactoredOf m n (now (jc .entry))
-        (factorOf (now (l .entry)) (now («left_out» .entry))) (now (rhs .entry)) (now (from .entry))) ⌝ }
+    ensures { λ r. ⌜ replied r (now (g .exit), factorOf (now (l .exit)) (now («left_out» .exit)))
+        ≡ gramFactorReply m n (now (jc .entry)) (now (g .entry))
+        (factorOf (now (l .entry)) (now («left_out» .entry))) ⌝ }
 {
-    let q = 2 * m;
-    minus_factored_in(m, n, jc, l, left_out, rhs, from, out, &mut k[..q])
+    if m > 24 {
+        return Done::Refused(LinearError::TooMany);
+    }
+    if n > 24 {
+        return Done::Refused(LinearError::TooMany);
+    }
+    if jc.len() != 2 * (m * n) {
+        return Done::Refused(LinearError::WrongLength);
+    }
+    if g.len() != 2 * (m * m) {
+        return Done::Refused(LinearError::WrongLength);
+    }
+    if l.len() != 2 * (m * m) {
+        return Done::Refused(LinearError::WrongLength);
+    }
+    if left_out.len() != m {
+        return Done::Refused(LinearError::WrongLength);
+    }
+    let d = gram_factor_sized(m, n, jc, g, l, left_out);
+    clear(g);
+    d
 }
 
-// The same with an array of its own; the lengths are checked.
-fn minus_factored_sized(
+// minus_solved by the factor of gram_factor: from - Jᵀ k with L Lᵀ k = rhs.
+pub fn minus_factored(
     m: usize,
     n: usize,
     jc: &[f64],
@@ -174,13 +180,38 @@ fn minus_factored_sized(
     from: &[f64],
     out: &mut [f64],
 ) -> Done
-    requires { ⌜ OutputLengths m n (length (now out)) × (length (now «left_out») ≡ m) ⌝ }
     ensures { λ r. ⌜ replied r (now (out .exit))
-        ≡ replyOf (zeros (2 * n)) (minusFactoredOf m n (now (jc .entry))
-        (factorOf (now (l .entry)) (now («left_out» .entry))) (now (rhs .entry)) (now (from .entry))) ⌝ }
+        ≡ minusFactoredReply m n (now (jc .entry)) (factorOf (now (l .entry)) (now («left_out» .entry)))
+        (now (rhs .entry)) (now (from .entry)) (now (out .entry)) ⌝ }
 {
+    if m > 24 {
+        return Done::Refused(LinearError::TooMany);
+    }
+    if n > 24 {
+        return Done::Refused(LinearError::TooMany);
+    }
+    if jc.len() != 2 * (m * n) {
+        return Done::Refused(LinearError::WrongLength);
+    }
+    if l.len() != 2 * (m * m) {
+        return Done::Refused(LinearError::WrongLength);
+    }
+    if left_out.len() != m {
+        return Done::Refused(LinearError::WrongLength);
+    }
+    if rhs.len() != 2 * m {
+        return Done::Refused(LinearError::WrongLength);
+    }
+    if from.len() != 2 * n {
+        return Done::Refused(LinearError::WrongLength);
+    }
+    if out.len() != 2 * n {
+        return Done::Refused(LinearError::WrongLength);
+    }
     let mut k = [0.0; 48];
-    minus_factored_with(m, n, jc, l, left_out, rhs, from, out, &mut k)
+    let d = multipliers(m, l, left_out, rhs, &mut k);
+    minus(m, n, jc, from, &k, out);
+    cleared(d, out)
 }
 
 // The whole, with scratch slices of the right lengths; out is clear where it is refused.
@@ -195,13 +226,13 @@ fn solved_in(
     l: &mut [f64],
     left_out: &mut [bool],
 ) -> Done
-    requires { ⌜ OutputLengths m n (length (now out)) × (length (now g) ≡ 2 * (m * m))
-        × FactorLengths m (length (now l)) (length (now «left_out»)) ⌝ }
+    requires { ⌜ SolvedLengths m n (length (now jc)) (length (now rhs)) (length (now from)) (length (now out))
+        × (length (now g) ≡ 2 * (m * m)) × FactorLengths m (length (now l)) (length (now «left_out»)) ⌝ }
     ensures { λ r. ⌜ replied r (now (out .exit))
         ≡ replyOf (zeros (2 * n)) (minusSolvedOf m n (now (jc .entry)) (now (rhs .entry)) (now (from .entry))) ⌝ }
 {
     match gram_factor_sized(m, n, jc, g, l, left_out) {
-        Done::Finished => minus_factored_sized(m, n, jc, l, left_out, rhs, from, out),
+        Done::Finished => minus_factored(m, n, jc, l, left_out, rhs, from, out),
         Done::Refused(e) => {
             clear(out);
             Done::Refused(e)
@@ -221,8 +252,8 @@ fn solved_cut(
     l: &mut [f64],
     left_out: &mut [bool],
 ) -> Done
-    requires { ⌜ OutputLengths m n (length (now out)) × (2 * (m * m) ≤ length (now g))
-        × (2 * (m * m) ≤ length (now l)) × (m ≤ length (now «left_out»)) ⌝ }
+    requires { ⌜ SolvedLengths m n (length (now jc)) (length (now rhs)) (length (now from)) (length (now out))
+        × (2 * (m * m) ≤ length (now g)) × (2 * (m * m) ≤ length (now l)) × (m ≤ length (now «left_out»)) ⌝ }
     ensures { λ r. ⌜ replied r (now (out .exit))
         ≡ replyOf (zeros (2 * n)) (minusSolvedOf m n (now (jc .entry)) (now (rhs .entry)) (now (from .entry))) ⌝ }
 {
@@ -242,7 +273,8 @@ fn solved_cut(
 
 // The same of at most 12 rows, as a run has them, with arrays of its own, which are a quarter of those for 24.
 fn solved_small(m: usize, n: usize, jc: &[f64], rhs: &[f64], from: &[f64], out: &mut [f64]) -> Done
-    requires { ⌜ OutputLengths m n (length (now out)) × (m ≤ 12) ⌝ }
+    requires { ⌜ SolvedLengths m n (length (now jc)) (length (now rhs)) (length (now from)) (length (now out))
+        × (m ≤ 12) ⌝ }
     ensures { λ r. ⌜ replied r (now (out .exit))
         ≡ replyOf (zeros (2 * n)) (minusSolvedOf m n (now (jc .entry)) (now (rhs .entry)) (now (from .entry))) ⌝ }
 {
@@ -254,7 +286,7 @@ fn solved_small(m: usize, n: usize, jc: &[f64], rhs: &[f64], from: &[f64], out: 
 
 // The same of at most 24.
 fn solved_large(m: usize, n: usize, jc: &[f64], rhs: &[f64], from: &[f64], out: &mut [f64]) -> Done
-    requires { ⌜ OutputLengths m n (length (now out)) ⌝ }
+    requires { ⌜ SolvedLengths m n (length (now jc)) (length (now rhs)) (length (now from)) (length (now out)) ⌝ }
     ensures { λ r. ⌜ replied r (now (out .exit))
         ≡ replyOf (zeros (2 * n)) (minusSolvedOf m n (now (jc .entry)) (now (rhs .entry)) (now (from .entry))) ⌝ }
 {
@@ -266,7 +298,7 @@ fn solved_large(m: usize, n: usize, jc: &[f64], rhs: &[f64], from: &[f64], out: 
 
 // The whole, with arrays of its own; the lengths are checked.
 fn solved_sized(m: usize, n: usize, jc: &[f64], rhs: &[f64], from: &[f64], out: &mut [f64]) -> Done
-    requires { ⌜ OutputLengths m n (length (now out)) ⌝ }
+    requires { ⌜ SolvedLengths m n (length (now jc)) (length (now rhs)) (length (now from)) (length (now out)) ⌝ }
     ensures { λ r. ⌜ replied r (now (out .exit))
         ≡ replyOf (zeros (2 * n)) (minusSolvedOf m n (now (jc .entry)) (now (rhs .entry)) (now (from .entry))) ⌝ }
 {
@@ -307,83 +339,4 @@ pub fn minus_solved(
         return Done::Refused(LinearError::WrongLength);
     }
     solved_sized(m, n, jc, rhs, from, out)
-}
-
-// L with L Lᵀ = J Jᵀ, for several right-hand sides by minus_factored; J has m rows of n, and g is scratch, clear
-// afterwards.
-pub fn gram_factor(
-    m: usize,
-    n: usize,
-    jc: &[f64],
-    g: &mut [f64],
-    l: &mut [f64],
-    left_out: &mut [bool],
-) -> Done
-    ensures { λ r. ⌜ replied r (now (g .exit), factorOf (now (l .exit)) (now («left_out» .exit)))
-        ≡ gramFactorReply m n (now (jc .entry)) (now (g .entry))
-        (factorOf (now (l .entry)) (now («left_out» .entry))) ⌝ }
-{
-    if m > 24 {
-        return Done::Refused(LinearError::TooMany);
-    }
-    if n > 24 {
-        return Done::Refused(LinearError::TooMany);
-    }
-    if jc.len() != 2 * (m * n) {
-        return Done::Refused(LinearError::WrongLength);
-    }
-    if g.len() != 2 * (m * m) {
-        return Done::Refused(LinearError::WrongLength);
-    }
-    if l.len() != 2 * (m * m) {
-        return Done::Refused(LinearError::WrongLength);
-    }
-    if left_out.len() != m {
-        return Done::Refused(LinearError::WrongLength);
-    }
-    let d = gram_factor_sized(m, n, jc, g, l, left_out);
-    clear(g);
-    d
-}
-
-// minus_solved by the factor of gram_factor.
-pub fn minus_factored(
-    m: usize,
-    n: usize,
-    jc: &[f64],
-    l: &[f64],
-    left_out: &[bool],
-    rhs: &[f64],
-    from: &[f64],
-    out: &mut [f64],
-) -> Done
-    ensures { λ r. ⌜ replied r (now (out .exit))
-        ≡ minusFactoredReply m n (now (jc .entry)) (factorOf (now (l .entry)) (now («left_out» .entry)))
-        (now (rhs .entry)) (now (from .entry)) (now (out .entry)) ⌝ }
-{
-    if m > 24 {
-        return Done::Refused(LinearError::TooMany);
-    }
-    if n > 24 {
-        return Done::Refused(LinearError::TooMany);
-    }
-    if jc.len() != 2 * (m * n) {
-        return Done::Refused(LinearError::WrongLength);
-    }
-    if l.len() != 2 * (m * m) {
-        return Done::Refused(LinearError::WrongLength);
-    }
-    if left_out.len() != m {
-        return Done::Refused(LinearError::WrongLength);
-    }
-    if rhs.len() != 2 * m {
-        return Done::Refused(LinearError::WrongLength);
-    }
-    if from.len() != 2 * n {
-        return Done::Refused(LinearError::WrongLength);
-    }
-    if out.len() != 2 * n {
-        return Done::Refused(LinearError::WrongLength);
-    }
-    minus_factored_sized(m, n, jc, l, left_out, rhs, from, out)
 }

@@ -13,6 +13,8 @@ ghost use Rattle.linear.specs.Substitution.{forwardStep, backStep, solve
 use crate::dots::minus_dot;
 use crate::flat::at;
 use crate::flat::clear;
+use crate::flat::in_column;
+use crate::flat::in_row;
 use crate::results::Done;
 use crate::results::LinearError;
 use crate::store::store;
@@ -27,7 +29,7 @@ fn forward_row(n: usize, l: &[f64], left_out: &[bool], b: &[f64], y: &mut [f64],
         return Done::Finished;
     }
     let row = i * n;
-    let s = minus_dot(l, row, 1, y, 0, 1, at(b, i), i);
+    let s = minus_dot(l, in_row(row), y, in_row(0), at(b, i), i);
     store(y, i, s.div(at(l, row + i)))
 }
 
@@ -58,7 +60,8 @@ fn back_row(n: usize, l: &[f64], left_out: &[bool], y: &[f64], x: &mut [f64], t:
     if left_out[i] {
         return Done::Finished;
     }
-    let s = minus_dot(l, (i + 1) * n + i, n, x, i + 1, 1, at(y, i), t);
+    let p = in_column((i + 1) * n + i, n);
+    let s = minus_dot(l, p, x, in_row(i + 1), at(y, i), t);
     store(x, i, s.div(at(l, i * n + i)))
 }
 

@@ -40,6 +40,8 @@ use linear::LinearResult;
 use linear::at;
 use linear::choose;
 use linear::clear;
+use linear::in_column;
+use linear::in_row;
 use linear::minus_dot;
 use linear::minus_scaled;
 use linear::put;
@@ -142,11 +144,8 @@ fn outside(k: usize, r: usize, i: usize, wide: &[f64], q: &[f64], a: &[f64], out
         return;
     }
     let p = 2 * half;
-    put(
-        out,
-        p,
-        minus_dot(a, 0, 1, q, p, 12, at(wide, 12 * i + p), r),
-    );
+    let z = at(wide, 12 * i + p);
+    put(out, p, minus_dot(a, in_row(0), q, in_column(p, 12), z, r));
 }
 
 // ---- an independent row
@@ -170,7 +169,7 @@ fn gram_entry(k: usize, r: usize, q: &[f64], gram: &mut [f64], j: usize) -> Done
     ensures { λ d. ⌜ doneOf d (now (gram .exit)) ≡ gramStep k r (now (q .entry)) (now (gram .entry)) j ⌝ }
 {
     let z = row_dot(q, 12 * r, q, 12 * j, k);
-    let s = minus_dot(gram, 12 * r, 1, gram, 12 * j, 1, z, j);
+    let s = minus_dot(gram, in_row(12 * r), gram, in_row(12 * j), z, j);
     let d = at(gram, 12 * j + j);
     store(gram, 12 * r + j, s.div(d))
 }
@@ -199,7 +198,7 @@ fn gram_row(k: usize, r: usize, q: &[f64], gram: &mut [f64]) -> Done
     match gram_entries(k, r, q, gram) {
         Done::Finished => {
             let z = row_dot(q, 12 * r, q, 12 * r, k);
-            let s = minus_dot(gram, 12 * r, 1, gram, 12 * r, 1, z, r);
+            let s = minus_dot(gram, in_row(12 * r), gram, in_row(12 * r), z, r);
             return store(gram, 12 * r + r, s.sqrt());
         }
         Done::Refused(e) => {
@@ -496,7 +495,7 @@ fn multiplier(k: usize, r: usize, q: &[f64], pull: &[f64], by_row: &mut [f64], u
     let t = r - 1 - u;
     let c = Q_LEN + 13 * t;
     let z = row_dot(q, 12 * t, pull, 0, k);
-    let s = minus_dot(q, c + 12, 12, by_row, t + 1, 1, z, u);
+    let s = minus_dot(q, in_column(c + 12, 12), by_row, in_row(t + 1), z, u);
     store_chosen(by_row, t, s.div(at(q, c)))
 }
 

@@ -25,6 +25,7 @@ use interval::Scalar;
 use linear::along;
 use linear::at;
 use linear::choose;
+use linear::in_column;
 use linear::plus_dot;
 use linear::put;
 
@@ -113,8 +114,9 @@ pub fn squeeze(xs: &[f64], e: RowSet, index: &[usize], k: usize, is_chosen: bool
 fn scaling(jr: &[f64], s: usize, jc: &[f64], m: usize, i: usize) -> Scalar
     ensures { λ r. ⌜ r ≡ scalingAt (now (jr .entry)) s (now (jc .entry)) m i ⌝ }
 {
-    let d = plus_dot(jr, i, 12, jr, i, 12, Scalar::ZERO, s);
-    plus_dot(jc, i, 12, jc, i, 12, d, m)
+    let p = in_column(i, 12);
+    let d = plus_dot(jr, p, jr, p, Scalar::ZERO, s);
+    plus_dot(jc, p, jc, p, d, m)
 }
 
 // D over the kept variables, at its place.
@@ -133,7 +135,7 @@ fn scalings(k: usize, jr: &[f64], s: usize, jc: &[f64], m: usize, undamped: &mut
 fn undamped_at(jr: &[f64], s: usize, b: Scalar, i: usize, j: usize) -> Scalar
     ensures { λ r. ⌜ r ≡ undampedAt (now (jr .entry)) s b i j ⌝ }
 {
-    let v = plus_dot(jr, i, 12, jr, j, 12, b, s);
+    let v = plus_dot(jr, in_column(i, 12), jr, in_column(j, 12), b, s);
     if i == j {
         return v;
     }

@@ -44,6 +44,7 @@ use interval::ScalarResult;
 use linear::LinearError;
 use linear::LinearResult;
 use linear::at;
+use linear::in_row;
 use linear::plus_dot;
 use linear::put;
 
@@ -81,7 +82,7 @@ fn curvature_along(n: usize, b: &[f64], delta: &[f64]) -> Scalar
 {
     let mut rows = [0.0; 24];
     products(n, n, b, delta, &mut rows);
-    plus_dot(delta, 0, 1, &rows, 0, 1, Scalar::ZERO, n)
+    plus_dot(delta, in_row(0), &rows, in_row(0), Scalar::ZERO, n)
 }
 
 // Whether the violation falls, from what it is to what is predicted.

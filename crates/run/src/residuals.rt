@@ -29,6 +29,8 @@ use crate::vectors::norm_of;
 use interval::Scalar;
 use linear::LinearResult;
 use linear::choose;
+use linear::in_column;
+use linear::in_row;
 use linear::plus_dot;
 use linear::put;
 use linear::row_dot;
@@ -60,7 +62,8 @@ pub fn transposed_at(xs: &[f64], e: RowSet, w: &[f64], j: usize) -> Scalar
     ensures { λ r. ⌜ r ≡ transposedAt (rowsIn (now (xs .entry)) e) (now (w .entry)) j ⌝ }
 {
     let slopes = slopes_of(xs, e);
-    plus_dot(slopes, j, e.n, w, 0, 1, Scalar::ZERO, e.count)
+    let p = in_column(j, e.n);
+    plus_dot(slopes, p, w, in_row(0), Scalar::ZERO, e.count)
 }
 
 // f of a point, from its rows.

@@ -1,7 +1,8 @@
 -- `minus_points` meets its contract: the bounds of the product are added to those of z, each to the other, and no sum
 -- is -0.
 use Rattle.interval.proofs.Given.{yes}
-use Rattle.linear.proofs.BoundLaws.{product-difference-below, product-difference-above, product-difference-bounds}
+use Rattle.linear.proofs.BoundLaws.{product-difference-below, product-difference-above}
+use Rattle.linear.proofs.BoundLaws.{product-difference-bounds}
 use Rattle.linear.proofs.bounds.minus_points.Statement.{statement}
 use Rattle.linear.proofs.bounds.minus_points.Tie as tie
 

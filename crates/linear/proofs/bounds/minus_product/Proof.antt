@@ -2,7 +2,8 @@
 -- sum is -0.
 use borrow.Author.Needs.{needs}
 use Rattle.interval.proofs.Given.{yes}
-use Rattle.linear.proofs.BoundLaws.{product-difference-below, product-difference-above, product-difference-bounds}
+use Rattle.linear.proofs.BoundLaws.{product-difference-below, product-difference-above}
+use Rattle.linear.proofs.BoundLaws.{product-difference-bounds}
 use Rattle.linear.proofs.bounds.minus_product.Statement.{statement}
 use Rattle.linear.proofs.bounds.minus_product.Tie as tie
 

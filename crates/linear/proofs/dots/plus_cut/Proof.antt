@@ -5,7 +5,7 @@ use Prim.Native.Nat.{_+_, _*_, _≤_, _-_}
 use native.Mathlib.Nat.{le-antisymm}
 use borrow.Author.Needs.{needs}
 use lib.ListN.{length}
-use Rattle.linear.specs.Flat.{along}
+use Rattle.linear.specs.Flat.{along, scalarsAt}
 use Rattle.linear.specs.Dot.{plusTo}
 use Rattle.linear.proofs.Sums.{plusTo-more}
 use Rattle.linear.proofs.Walks.{Cut, at-cut, cut-none, cut-more}
@@ -13,11 +13,11 @@ use Rattle.linear.proofs.dots.plus_cut.Statement.{statement}
 use Rattle.linear.proofs.dots.plus_cut.Tie as tie
 
 abbrev Inv-loop : tie.InvT-loop
-Inv-loop a a0 sa b b0 sb k sum₀ i₀ j₀ t₀ sum i j t = (t ≤ k) × (sum ≡ plusTo (along a a0 sa) (along b b0 sb) sum₀ t)
-    × Cut (length a) i (a0 + t * sa) × Cut (length b) j (b0 + t * sb)
+Inv-loop a i b j k sum₀ p₀ q₀ t₀ sum p q t = (t ≤ k) × (sum ≡ plusTo (scalarsAt a i) (scalarsAt b j) sum₀ t)
+    × Cut (length a) p (i .base + t * i .step) × Cut (length b) q (j .base + t * j .step)
 
 abbrev μ-loop : tie.MeasureT-loop
-μ-loop a a0 sa b b0 sb k sum₀ i₀ j₀ t₀ sum i j t = k - t
+μ-loop a i b j k sum₀ p₀ q₀ t₀ sum p q t = k - t
 
 loop-holds : tie.Need-loop-holds Inv-loop μ-loop
 unfolding plusTo

@@ -7,7 +7,7 @@ use native.Mathlib.Omega.{arith}
 use borrow.Author.Needs.{needs}
 use Rattle.interval.specs.declared.Scalar.{Scalar}
 use Rattle.linear.specs.Bounds.{Bounding}
-use Rattle.linear.specs.Flat.{along}
+use Rattle.linear.specs.Flat.{along, scalarsAt}
 use Rattle.linear.specs.Dot.{plusTo}
 use Rattle.linear.proofs.Sums.{plusTo-more, points-within}
 use Rattle.linear.proofs.BoundLaws.{bounds-back, proper-bounds, bounding}
@@ -15,12 +15,12 @@ use Rattle.linear.proofs.dots.plus_inside.Statement.{statement}
 use Rattle.linear.proofs.dots.plus_inside.Tie as tie
 
 abbrev Inv-loop : tie.InvT-loop
-Inv-loop a a0 sa b b0 sb k sum₀ done t₀ sum t =
-    (t ≤ k) × ((z : Scalar) → Bounding (plusTo (along a a0 sa) (along b b0 sb) z done) sum₀
-    → Bounding (plusTo (along a a0 sa) (along b b0 sb) z t) sum)
+Inv-loop a i b j k sum₀ done t₀ sum t =
+    (t ≤ k) × ((z : Scalar) → Bounding (plusTo (scalarsAt a i) (scalarsAt b j) z done) sum₀
+    → Bounding (plusTo (scalarsAt a i) (scalarsAt b j) z t) sum)
 
 abbrev μ-loop : tie.MeasureT-loop
-μ-loop a a0 sa b b0 sb k sum₀ done t₀ sum t = k - t
+μ-loop a i b j k sum₀ done t₀ sum t = k - t
 
 plus-points-inside-requires : tie.Need-plus-points-inside-requires Inv-loop μ-loop
 plus-points-inside-requires c κs =
@@ -37,48 +37,61 @@ loop-holds c = (points-within _ _ _ (c .before .plus-points-inside .ensures .0),
 mul-at-inside : tie.Need-mul-at-inside Inv-loop μ-loop
 mul-at-inside c = omega (
   arith,
-  c .before .before .before .before .before .before .before .pre .first (c .before .loop .t) (c .loop-test .taken),
+  c .before .before .before .before .before .before .before .before .pre .first (c
+      .before .before .loop .t) (c .before .loop-test .taken),
 )
 
 add-at-inside : tie.Need-add-at-inside Inv-loop μ-loop
 add-at-inside c = omega (
   arith,
-  c .before .before .before .before .before .before .before .pre .first (c .before .loop .t) (c .loop-test .taken),
+  c .before .before .before .before .before .before .before .before .before .pre .first
+      (c .before .before .before .loop .t) (c .before .before .loop-test .taken),
 )
 
 at-inside-requires : tie.Need-at-inside-requires Inv-loop μ-loop
-at-inside-requires c κs =
-    c .before .before .before .before .before .before .before .pre .first (c .before .loop .t) (c .loop-test .taken)
+at-inside-requires c κs = c .before .before .before .before .before .before .before .before .before .pre .first (c
+    .before .before .before .loop .t) (c .before .before .loop-test .taken)
 
 mul-at-inside-2 : tie.Need-mul-at-inside-2 Inv-loop μ-loop
 mul-at-inside-2 c = omega (
   arith,
-  c .before .before .before .before .before .before .before .before .pre .second (c .before .before .loop .t)
-      (c .before .loop-test .taken),
+  c .before .before .before .before .before .before .before .before .before .before
+      .before .pre .second (c .before .before .before .before .before .loop .t) (c .before .before .before .before
+      .loop-test .taken),
 )
 
 add-at-inside-2 : tie.Need-add-at-inside-2 Inv-loop μ-loop
 add-at-inside-2 c = omega (
   arith,
-  c .before .before .before .before .before .before .before .before .pre .second (c .before .before .loop .t)
-      (c .before .loop-test .taken),
+  c .before .before .before .before .before .before .before .before .before .before
+      .before .before .pre .second (c .before .before .before .before .before .before .loop .t) (c .before .before
+      .before .before .before .loop-test .taken),
 )
 
 at-inside-requires-2 : tie.Need-at-inside-requires-2 Inv-loop μ-loop
-at-inside-requires-2 c κs = c .before .before .before .before .before .before .before .before .pre .second
-    (c .before .before .loop .t) (c .before .loop-test .taken)
+at-inside-requires-2 c κs = c .before .before .before .before .before .before .before .before .before .before .before
+    .before .pre .second (c .before .before .before .before .before .before .loop .t) (c .before .before .before
+    .before .before .loop-test .taken)
 
 plus-product-requires : tie.Need-plus-product-requires Inv-loop μ-loop
-plus-product-requires c κs = c .before .before .before .loop .inv .1 _
-    (c .before .before .before .before .before .plus-points-inside .ensures .1) .proper
+plus-product-requires c κs = c .before .before .before .before .before .before .before .loop .inv .1 _ (c .before
+    .before .before .before .before .before .before .before .before .plus-points-inside .ensures .1) .proper
+
+add-t : tie.Need-add-t Inv-loop μ-loop
+add-t c = omega (
+  arith,
+  c .before .before .before .before .before .before .before .loop-test .taken,
+  c .before
+      .before .before .before .before .before .before .before .before .before .before .before .before .before .good,
+)
 
 loop-again : tie.Need-loop-again Inv-loop μ-loop
 unfolding along
 loop-again c =
-    let l = c .before .before .before .before .loop in (
+    let l = c .before .before .before .before .before .before .before .before .loop in (
       search needs,
       λ z h. bounding (plusTo-more _ _ z (l .t) (bounds-back (l .inv .1 z h .value))
-          (c .before .before .at-inside .ensures) (c .before .at-inside2 .ensures) refl refl)
+          (c .before .before .before .before .at-inside .ensures) (c .before .at-inside2 .ensures) refl refl)
           (c .plus-product .ensures),
     )
 
@@ -107,7 +120,7 @@ plus-inside-spec =
     add-at-inside-2
     at-inside-requires-2
     plus-product-requires
-    (λ c. search needs)
+    add-t
     (λ c. search needs)
     loop-again
     (λ c κs. search needs)

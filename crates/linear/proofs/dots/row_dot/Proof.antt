@@ -19,14 +19,15 @@ slice-aggregate-plus-dot : tie.Need-slice-aggregate-plus-dot
 slice-aggregate-plus-dot c = anew-length (c .before .before .before .before .before .args .a .now)
 
 slice-aggregate-plus-dot-2 : tie.Need-slice-aggregate-plus-dot-2
-slice-aggregate-plus-dot-2 c = anew-length (c .before .before .before .before .before .before .args .b .now)
+slice-aggregate-plus-dot-2 c = anew-length (c .before .before .before .before .before .before .before .args .b .now)
 
 plus-dot-requires : tie.Need-plus-dot-requires
 plus-dot-requires c κs = tt
 
 returns-2 : tie.Need-returns-2
 unfolding ofBits
-returns-2 c = rw (anew, anew) at (c .plus-dot .ensures)
+returns-2 c =
+    rw (anew, anew, c .before .before .before .in-row .ensures, c .before .in-row2 .ensures) at (c .plus-dot .ensures)
 
 pub row-dot-spec : {M : Type 1} → statement M
 row-dot-spec =
@@ -37,6 +38,8 @@ row-dot-spec =
     row-inside-requires
     returns
     slice-aggregate-plus-dot
+    (λ c κs. search needs)
     slice-aggregate-plus-dot-2
+    (λ c κs. search needs)
     plus-dot-requires
     returns-2)

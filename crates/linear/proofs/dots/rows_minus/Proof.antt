@@ -18,7 +18,7 @@ returns : tie.Need-returns
 returns c = c .rows-inside .ensures
 
 returns-2 : tie.Need-returns-2
-returns-2 c = c .minus-dot .ensures
+returns-2 c = rw (c .before .before .in-row .ensures, c .before .in-row2 .ensures) at (c .minus-dot .ensures)
 
 pub rows-minus-spec : {M : Type 1} → statement M
 rows-minus-spec =
@@ -28,5 +28,7 @@ rows-minus-spec =
     (λ c κs. search needs)
     rows-inside-requires
     returns
+    (λ c κs. search needs)
+    (λ c κs. search needs)
     (λ c κs. search needs)
     returns-2)

@@ -48,40 +48,34 @@ returns c =
           (c .neg4 .ensures .value),
     )
 
-slice-aggregate-plus-dot : tie.Need-slice-aggregate-plus-dot
-slice-aggregate-plus-dot c =
-    anew-length (c .before .before .before .before .before .before .before .before .before .args .a .now)
-
-slice-aggregate-plus-dot-2 : tie.Need-slice-aggregate-plus-dot-2
-slice-aggregate-plus-dot-2 c =
-    anew-length (c .before .before .before .before .before .before .before .before .before .before .args .b .now)
-
-plus-dot-requires : tie.Need-plus-dot-requires
-plus-dot-requires c κs = tt
-
-slice-aggregate-plus-dot-3 : tie.Need-slice-aggregate-plus-dot-3
-slice-aggregate-plus-dot-3 c =
-    anew-length
-    (c .before .before .before .before .before .before .before .before .before .before .before .before .before
+slice-aggregate-minus-dot : tie.Need-slice-aggregate-minus-dot
+slice-aggregate-minus-dot c = anew-length (c .before .before .before .before .before .before .before .before .before
     .before .args .a .now)
 
-slice-aggregate-plus-dot-4 : tie.Need-slice-aggregate-plus-dot-4
-slice-aggregate-plus-dot-4 c =
-    anew-length
-    (c .before .before .before .before .before .before .before .before .before .before .before .before .before
-    .before .before .args .b .now)
+slice-aggregate-minus-dot-2 : tie.Need-slice-aggregate-minus-dot-2
+slice-aggregate-minus-dot-2 c = anew-length (c .before .before .before .before .before .before .before .before
+    .before .before .before .before .args .b .now)
 
-plus-dot-requires-2 : tie.Need-plus-dot-requires-2
-plus-dot-requires-2 c κs = tt
+minus-dot-requires : tie.Need-minus-dot-requires
+minus-dot-requires c κs = tt
+
+slice-aggregate-minus-dot-3 : tie.Need-slice-aggregate-minus-dot-3
+slice-aggregate-minus-dot-3 c = anew-length (c .before .before .before .before .before .before .before .before
+    .before .before .before .before .before .before .args .a .now)
+
+slice-aggregate-minus-dot-4 : tie.Need-slice-aggregate-minus-dot-4
+slice-aggregate-minus-dot-4 c = anew-length (c .before .before .before .before .before .before .before .before
+    .before .before .before .before .before .before .before .before .args .b .now)
+
+minus-dot-requires-2 : tie.Need-minus-dot-requires-2
+minus-dot-requires-2 c κs = tt
 
 returns-2 : tie.Need-returns-2
-returns-2 c =
-    let k = c .before .before .before .before .before in
-    let first = rw (anew, anew) at (k .before .plus-dot .ensures) in
-    let second = rw (anew, anew) at (c .before .plus-dot2 .ensures) in (
-      negated-back _ _ _ _ (k .before .before .neg5 .ensures .value) first (k .neg6 .ensures .value),
-      negated-back _ _ _ _ (c .before .before .neg7 .ensures .value) second (c .neg8 .ensures .value),
-    )
+returns-2 c = let row = c .before .before .before .before .before .before .before .before .in-row .ensures in (
+  rw (anew, anew, c .before .before .before .before .before .before .in-column .ensures, row) at (c .before .before
+      .before .before .minus-dot .ensures),
+  rw (anew, anew, c .before .before .in-column2 .ensures, row) at (c .minus-dot2 .ensures),
+)
 
 pub two-minus-spec : {M : Type 1} → statement M
 two-minus-spec =
@@ -100,14 +94,13 @@ two-minus-spec =
     (λ c κs. search needs)
     (λ c κs. search needs)
     returns
-    slice-aggregate-plus-dot
-    slice-aggregate-plus-dot-2
     (λ c κs. search needs)
-    plus-dot-requires
+    slice-aggregate-minus-dot
     (λ c κs. search needs)
-    slice-aggregate-plus-dot-3
-    slice-aggregate-plus-dot-4
+    slice-aggregate-minus-dot-2
+    minus-dot-requires
+    slice-aggregate-minus-dot-3
     (λ c κs. search needs)
-    plus-dot-requires-2
-    (λ c κs. search needs)
+    slice-aggregate-minus-dot-4
+    minus-dot-requires-2
     returns-2)

@@ -30,30 +30,30 @@ returns : tie.Need-returns
 unfolding ofBits
 returns c = simp (anew, bounds-back (c .before .before .before .bounds-of .ensures)) at (c .two-inside .ensures)
 
-slice-aggregate-plus-dot : tie.Need-slice-aggregate-plus-dot
-slice-aggregate-plus-dot c = anew-length (c .before .before .before .before .before .args .a .now)
+slice-aggregate-row-dot : tie.Need-slice-aggregate-row-dot
+slice-aggregate-row-dot c = anew-length (c .before .before .before .before .before .args .a .now)
 
-slice-aggregate-plus-dot-2 : tie.Need-slice-aggregate-plus-dot-2
-slice-aggregate-plus-dot-2 c = anew-length (c .before .before .before .before .before .before .args .b .now)
+slice-aggregate-row-dot-2 : tie.Need-slice-aggregate-row-dot-2
+slice-aggregate-row-dot-2 c = anew-length (c .before .before .before .before .before .before .args .b .now)
 
-plus-dot-requires : tie.Need-plus-dot-requires
-plus-dot-requires c κs = tt
+row-dot-requires : tie.Need-row-dot-requires
+row-dot-requires c κs = tt
 
-slice-aggregate-plus-dot-3 : tie.Need-slice-aggregate-plus-dot-3
-slice-aggregate-plus-dot-3 c =
+slice-aggregate-row-dot-3 : tie.Need-slice-aggregate-row-dot-3
+slice-aggregate-row-dot-3 c =
     anew-length (c .before .before .before .before .before .before .before .before .args .a .now)
 
-slice-aggregate-plus-dot-4 : tie.Need-slice-aggregate-plus-dot-4
-slice-aggregate-plus-dot-4 c =
+slice-aggregate-row-dot-4 : tie.Need-slice-aggregate-row-dot-4
+slice-aggregate-row-dot-4 c =
     anew-length (c .before .before .before .before .before .before .before .before .before .args .b .now)
 
-plus-dot-requires-2 : tie.Need-plus-dot-requires-2
-plus-dot-requires-2 c κs = tt
+row-dot-requires-2 : tie.Need-row-dot-requires-2
+row-dot-requires-2 c κs = tt
 
 returns-2 : tie.Need-returns-2
 unfolding ofBits
 returns-2 c =
-    (rw (anew, anew) at (c .before .before .before .plus-dot .ensures), rw (anew, anew) at (c .plus-dot2 .ensures))
+    (rw (anew, anew) at (c .before .before .before .row-dot .ensures), rw (anew, anew) at (c .row-dot2 .ensures))
 
 pub two-rows-spec : {M : Type 1} → statement M
 two-rows-spec =
@@ -65,10 +65,10 @@ two-rows-spec =
     slice-aggregate-two-inside-2
     two-inside-requires
     returns
-    slice-aggregate-plus-dot
-    slice-aggregate-plus-dot-2
-    plus-dot-requires
-    slice-aggregate-plus-dot-3
-    slice-aggregate-plus-dot-4
-    plus-dot-requires-2
+    slice-aggregate-row-dot
+    slice-aggregate-row-dot-2
+    row-dot-requires
+    slice-aggregate-row-dot-3
+    slice-aggregate-row-dot-4
+    row-dot-requires-2
     returns-2)

@@ -43,11 +43,11 @@ mul-at-2 c = omega (arith, last (c .before .before .before .before .before .befo
 add-at-2 : tie.Need-add-at-2
 add-at-2 c = omega (arith, last (c .before .before .before .before .before .before .before .before))
 
-mul-minus-dot : tie.Need-mul-minus-dot
-mul-minus-dot c = omega (arith, behind (c .before .before .before .before .before .before .before .before .before))
+mul-in-column : tie.Need-mul-in-column
+mul-in-column c = omega (arith, behind (c .before .before .before .before .before .before .before .before .before))
 
-add-minus-dot-2 : tie.Need-add-minus-dot-2
-add-minus-dot-2 c = omega (arith, behind (c .before .before .before .before .before .before .before .before .before))
+add-in-column-2 : tie.Need-add-in-column-2
+add-in-column-2 c = omega (arith, behind (c .before .before .before .before .before .before .before .before .before))
 
 minus-dot-requires : tie.Need-minus-dot-requires
 minus-dot-requires c κs = tt
@@ -55,14 +55,17 @@ minus-dot-requires c κs = tt
 returns-3 : tie.Need-returns-3
 unfolding valueStep ofBits
 returns-3 c =
-    let k = c .before .before .before .before .before .before .before .before in
+    let q = c .before .before .before .before .before .before in
+    let p = q .before in
+    let k = p .before .before .before in
+    let s = rw (p .before .before .in-column .ensures, p .in-row .ensures) at (q .minus-dot .ensures) in
     rw (
       k .before .before .before .if1 .left,
       ← k .before .before .before .before .before .at .ensures,
       ← k .before .before .definitely-not-equal .ensures,
       k .before .if2 .left,
       ← k .at2 .ensures,
-      ← c .before .before .before .before .before .before .minus-dot .ensures,
+      ← s,
       ← c .before .before .before .before .div .ensures .value,
       ← c .before .before .before .chosen-of .ensures,
     )
@@ -85,9 +88,11 @@ value-row-spec =
     add-at-2
     (λ c κs. search needs)
     (λ c. search needs)
-    mul-minus-dot
-    add-minus-dot-2
+    mul-in-column
+    add-in-column-2
+    (λ c κs. search needs)
     (λ c. search needs)
+    (λ c κs. search needs)
     (λ c. search needs)
     (λ c. search needs)
     minus-dot-requires

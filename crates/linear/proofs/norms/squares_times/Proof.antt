@@ -39,7 +39,8 @@ loop-again c =
 returns : tie.Need-returns Inv-loop μ-loop
 returns c =
     let l = c .before .before .loop in
-    rw (le-antisymm (l .inv .0) (c .before .loop-test .left)) at (c .scalar-of .ensures ∙ bounds-back (l .inv .1 .value))
+    let e = le-antisymm (l .inv .0) (c .before .loop-test .left) in
+    rw e at (c .scalar-of .ensures ∙ bounds-back (l .inv .1 .value))
 
 pub squares-times-spec : {M : Type 1} → statement M
 squares-times-spec =

@@ -1,9 +1,14 @@
--- `minus_factored` meets its contract: each check decides one of the definition's.
+-- `minus_factored` meets its contract: each check decides one of the definition's. Behind them stand the values by the
+-- multipliers, which read no more of the array than its first 2 m numbers, and a clear output where those are refused.
+use mathlib.Core.Path.{_≡_}
+use Prim.Native.Nat.{_*_, _≤_}
 use native.Mathlib.Omega.{arith}
 use borrow.Author.Needs.{needs}
 use borrow.Author.Tests.{le-leb, lt-leb, eq-eqb, ne-eqb}
+use lib.ListN.{length}
 use Rattle.linear.specs.Calls.{minusFactoredReply}
 use Rattle.linear.proofs.Cells.{product-small}
+use Rattle.linear.proofs.SolvedLaws.{minus-factored}
 use Rattle.linear.proofs.solved.minus_factored.Statement.{statement}
 use Rattle.linear.proofs.solved.minus_factored.Tie as tie
 
@@ -96,12 +101,27 @@ returns-8 c =
       ne-eqb _ _ (c .if8 .taken),
     )
 
+cleared-requires : tie.Need-cleared-requires
+cleared-requires c κs = tt
+
 returns-9 : tie.Need-returns-9
 unfolding minusFactoredReply
 returns-9 c =
-    let k = c .before .before .before .before in
+    let w = c .before .before .before .before .before .before in
+    let v = w .before .before .before .before in
+    let k = v .before .before in
+    let s = k .before .before .before .before .before .before .before .before .before .before .before .before .before
+    .before in
+    let a = s .args in
+    let size : length (w .minus .last .1 .1 .1 .1 .1 .0) ≡ 2 * a .n =
+    omega (arith, w .minus .kept, k .if8 .left) in
+    let few = k .before .before .before .before .before .before .before .if1 .left in
+    let room : 2 * a .m ≤ length (v .multipliers .last .1 .1 .1 .1 .0) =
+    omega (arith, v .multipliers .kept, few) in
+    let e = minus-factored (a .m) (a .n) (a .jc .now) (a .l .now) (a .left-out .now) (a .rhs .now) (a .from .now) _
+    (v .multipliers .result) room (v .multipliers .ensures) in
     rw (
-      le-leb _ _ (k .before .before .before .before .before .before .before .if1 .left),
+      le-leb _ _ few,
       le-leb _ _ (k .before .before .before .before .before .before .if2 .left),
       eq-eqb _ _ (k .before .before .before .before .before .if3 .left),
       eq-eqb _ _ (k .before .before .before .before .if4 .left),
@@ -109,7 +129,7 @@ returns-9 c =
       eq-eqb _ _ (k .before .before .if6 .left),
       eq-eqb _ _ (k .before .if7 .left),
       eq-eqb _ _ (k .if8 .left),
-    ) (c .before .before .minus-factored-sized .ensures)
+    ) (rw (size, w .minus .ensures, e) at (c .before .before .cleared .ensures))
 
 pub minus-factored-spec : {M : Type 1} → statement M
 minus-factored-spec =
@@ -130,6 +150,10 @@ minus-factored-spec =
     returns-7
     (λ c. search needs)
     returns-8
+    (λ c. search needs)
     (λ c κs. search needs)
+    (λ c. search needs)
+    (λ c κs. search needs)
+    cleared-requires
     (λ c. search needs)
     returns-9)

@@ -1,12 +1,14 @@
--- `solved_in` meets its contract: the factor, then the values by it; its refusal clears the output.
+-- `solved_in` meets its contract: the factor, then the values by it, whose checks all hold since the lengths are as
+-- asked; its refusal clears the output.
 use mathlib.Core.Path.{_≡_, sym, ap, _∙_}
 use Prim.Native.Nat.{_*_}
+use native.Mathlib.Omega.{arith}
 use borrow.Author.Needs.{needs}
 use lib.ListN.{length}
 use Rattle.linear.specs.Cholesky.{factorOf}
 use Rattle.linear.specs.Flat.{zeros}
 use Rattle.linear.specs.Replies.{replyOf}
-use Rattle.linear.proofs.SolvedLaws.{solved-by-factor, solved-refused, factor-done}
+use Rattle.linear.proofs.SolvedLaws.{solved-by-factor, solved-refused, factor-done, factored-reply}
 use Rattle.linear.proofs.solved.solved_in.Statement.{statement}
 use Rattle.linear.proofs.solved.solved_in.Tie as tie
 
@@ -22,7 +24,11 @@ returns c =
     let k = after .gram-factor-sized in
     let f = factorOf (k .last .1 .1 .1 .1 .0) (k .last .1 .1 .1 .1 .1 .0) in
     let e = rw (told .enum-told .given .1) at (factor-done (a .m) (a .n) (a .jc .now) (k .result) f (k .ensures)) in
-    c .before .before .minus-factored-sized .ensures ∙ ap (replyOf (zeros (2 * a .n)))
+    let size : length (k .last .1 .1 .1 .1 .0) ≡ 2 * (a .m * a .m) = omega (arith, k .kept, s .pre .2) in
+    let marks : length (k .last .1 .1 .1 .1 .1 .0) ≡ a .m = omega (arith, k .kept, s .pre .2) in
+    c .before .before .minus-factored .ensures
+    ∙ factored-reply (a .m) (a .n) (a .jc .now) f (a .rhs .now) (a .from .now) (a .out .now) (s .pre .0) size marks
+    ∙ ap (replyOf (zeros (2 * a .n)))
     (sym (solved-by-factor (a .m) (a .n) (a .jc .now) (a .rhs .now) (a .from .now) f e))
 
 returns-2 : tie.Need-returns-2

@@ -18,30 +18,36 @@ returns : tie.Need-returns
 unfolding backStep
 returns c = rw (c .if1 .taken)
 
-mul-minus-dot : tie.Need-mul-minus-dot
-mul-minus-dot c = omega (arith, below (c .before .before .before .before .before .before))
+mul-in-column : tie.Need-mul-in-column
+mul-in-column c = omega (arith, below (c .before .before .before .before .before .before))
 
-add-minus-dot-2 : tie.Need-add-minus-dot-2
-add-minus-dot-2 c = omega (arith, below (c .before .before .before .before .before .before))
+add-in-column-2 : tie.Need-add-in-column-2
+add-in-column-2 c = omega (arith, below (c .before .before .before .before .before .before))
 
 minus-dot-requires : tie.Need-minus-dot-requires
 minus-dot-requires c κs = tt
 
 mul-at : tie.Need-mul-at
-mul-at c = omega (arith, row (c .before .before .before .before .before .before .before .before .before .before))
+mul-at c =
+    let k = c .before .before .before .before .before .before in
+    omega (arith, row (k .before .before .before .before .before .before))
 
 add-at : tie.Need-add-at
-add-at c = omega (arith, row (c .before .before .before .before .before .before .before .before .before .before))
+add-at c =
+    let k = c .before .before .before .before .before .before in
+    omega (arith, row (k .before .before .before .before .before .before))
 
 returns-2 : tie.Need-returns-2
 unfolding backStep
 returns-2 c =
     let q = c .before .before .before in
     let k = q .before .before .before in
+    let p = k .before .before in
+    let s = rw (p .before .before .in-column .ensures, p .in-row .ensures) at (k .minus-dot .ensures) in
     rw (
-      k .before .before .before .if1 .left,
+      p .before .before .before .if1 .left,
       ← k .before .at .ensures,
-      ← k .minus-dot .ensures,
+      ← s,
       ← q .before .at2 .ensures,
       ← q .div .ensures .value,
     ) (c .before .before .store .ensures)
@@ -55,9 +61,11 @@ back-row-spec =
     (λ c. search needs)
     returns
     (λ c. search needs)
-    mul-minus-dot
-    add-minus-dot-2
+    mul-in-column
+    add-in-column-2
+    (λ c κs. search needs)
     (λ c. search needs)
+    (λ c κs. search needs)
     (λ c κs. search needs)
     minus-dot-requires
     mul-at

@@ -22,18 +22,22 @@ minus-dot-requires : tie.Need-minus-dot-requires
 minus-dot-requires c κs = tt
 
 add-at : tie.Need-add-at
-add-at c = omega (arith, row (c .before .before .before .before .before .before .before .before .before .before))
+add-at c =
+    let k = c .before .before .before .before .before .before in
+    omega (arith, row (k .before .before .before .before .before .before))
 
 returns-2 : tie.Need-returns-2
 unfolding forwardStep
 returns-2 c =
     let q = c .before .before .before in
     let k = q .before .before .before in
+    let p = k .before .before in
+    let s = rw (p .before .before .in-row .ensures, p .in-row2 .ensures) at (k .minus-dot .ensures) in
     rw (
-      k .before .before .before .if1 .left,
+      p .before .before .before .if1 .left,
       ← k .before .at .ensures,
       ← along-start,
-      ← k .minus-dot .ensures,
+      ← s,
       ← q .before .at2 .ensures,
       ← q .div .ensures .value,
     ) (c .before .before .store .ensures)
@@ -45,6 +49,8 @@ forward-row-spec =
     (λ c. search needs)
     returns
     mul-row
+    (λ c κs. search needs)
+    (λ c κs. search needs)
     (λ c κs. search needs)
     minus-dot-requires
     add-at

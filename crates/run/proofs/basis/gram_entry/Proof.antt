@@ -12,14 +12,19 @@ minus-dot-requires c κs = tt
 
 returns : tie.Need-returns
 unfolding gramStep
-returns c = rw (
-  ← c .before .before .before .before .before .before .before .before .before .row-dot .ensures,
-  ← c
-      .before .before .before .before .before .before .before .minus-dot .ensures,
-  ← c .before .before .before .before
-      .before .at .ensures,
-  ← c .before .before .before .div .ensures .value,
-) (c .before .before .store .ensures)
+returns c =
+    let s = rw (
+      c .before .before .before .before .before .before .before .before .before .in-row .ensures,
+      c .before
+          .before .before .before .before .before .before .before .in-row2 .ensures,
+    ) at (c .before .before .before .before
+    .before .before .before .minus-dot .ensures) in
+    rw (
+      ← c .before .before .before .before .before .before .before .before .before .before .before .row-dot .ensures,
+      ← s,
+      ← c .before .before .before .before .before .at .ensures,
+      ← c .before .before .before .div .ensures .value,
+    ) (c .before .before .store .ensures)
 
 pub gram-entry-spec : {M : Type 1} → statement M
 gram-entry-spec =
@@ -29,7 +34,9 @@ gram-entry-spec =
     (λ c. search needs)
     row-dot-requires
     (λ c. search needs)
+    (λ c κs. search needs)
     (λ c. search needs)
+    (λ c κs. search needs)
     minus-dot-requires
     (λ c. search needs)
     (λ c. search needs)

@@ -12,16 +12,19 @@ minus-dot-requires c κs = tt
 
 returns : tie.Need-returns
 returns c =
-    let a =
-    c .before .before .before .before .before .before .before .before .before .before .before .before
-    .before .before .before .before .args in
-    let g =
-    c .before .before .before .before .before .before .before .before .before .before .before .before
-    .gram-entries in
+    let a = c .before .before .before .before .before .before .before .before .before .before .before .before .before
+    .before .before .before .before .before .args in
+    let g = c .before .before .before .before .before .before .before .before .before .before .before .before .before
+    .before .gram-entries in
     gram-on (a .k) (a .r) (a .q .now) (a .gram .now) (g .last .1 .1 .1 .0) (g .result) (g .ensures)
-    (c .before .before .before .before .before .before .before .before .enum-told .given .1)
-    (c .before .before .before .before .before .before .before .row-dot .ensures)
-    (c .before .before .before .before .before .minus-dot .ensures) (c .before .before .before .sqrt .ensures .value)
+    (c .before .before .before .before .before .before .before .before .before .before .enum-told .given .1)
+    (c .before .before .before .before .before .before .before .before .before .row-dot .ensures)
+    (rw (
+      c .before .before .before .before .before .before .before .in-row .ensures,
+      c .before .before .before
+          .before .before .before .in-row2 .ensures,
+    ) at (c .before .before .before .before .before .minus-dot .ensures))
+    (c .before .before .before .sqrt .ensures .value)
     (c .before .before .store .ensures)
 
 returns-2 : tie.Need-returns-2
@@ -41,7 +44,9 @@ gram-row-spec =
     (λ c. search needs)
     row-dot-requires
     (λ c. search needs)
+    (λ c κs. search needs)
     (λ c. search needs)
+    (λ c κs. search needs)
     minus-dot-requires
     (λ c. search needs)
     (λ c. search needs)

@@ -12,10 +12,16 @@ minus-dot-requires c κs = tt
 
 returns : tie.Need-returns
 returns c =
-    let a = c .before .before .before .before .before .before .before .before .before .before .before .before .args in
+    let a = c .before .before .before .before .before .before .before .before .before .before .before .before .before
+    .before .args in
     multiplier-is (a .k) (a .r) (a .q .now) (a .pull .now) (a .by-row .now) (a .u)
-    (c .before .before .before .before .before .before .before .before .row-dot .ensures)
-    (c .before .before .before .before .before .before .minus-dot .ensures)
+    (c .before .before .before .before .before .before .before .before .before .before .row-dot .ensures)
+    (rw (
+      c .before .before .before .before .before .before .before .before .before .in-column .ensures,
+      c .before
+          .before .before .before .before .before .before .in-row .ensures,
+    ) at (c .before .before .before .before .before
+    .before .minus-dot .ensures))
     (c .before .before .before .before .at .ensures) (c .before .before .before .div .ensures .value)
     (c .before .before .store-chosen .ensures)
 
@@ -30,7 +36,9 @@ multiplier-spec =
     (λ c. search needs)
     row-dot-requires
     (λ c. search needs)
+    (λ c κs. search needs)
     (λ c. search needs)
+    (λ c κs. search needs)
     minus-dot-requires
     (λ c κs. search needs)
     (λ c κs. search needs)

@@ -48,15 +48,29 @@ minus-dot-requires c κs = tt
 
 returns-2 : tie.Need-returns-2 Inv-loop μ-loop
 returns-2 c =
-    let d = c .before .before .before in
-    let t = d .before .before .before .before in
-    let l = t .before .loop in
-    let a = t .before .before .before .before .before .before .args in
-    let e : 2 * l .h ≡ 2 * (a .k / 2) = omega (arith, l .inv .0, t .loop-test .left) in
-    let n : 2 * (a .k / 2) + 1 ≡ a .k = omega (arith, d .before .before .before .if1 .left) in
+    let l = c .before .before .before .before .before .before .before .before .before .before .loop in
+    let a = c .before .before .before .before .before .before .before .before .before .before .before .before .before
+    .before .before .args in
+    let e : 2 * l .h ≡ 2 * (a .k / 2) = omega (
+      arith,
+      l .inv .0,
+      c .before .before .before .before .before .before
+          .before .before .before .loop-test .left,
+    ) in
+    let n : 2 * (a .k / 2) + 1 ≡ a .k = omega (
+      arith,
+      c .before .before .before .before .before .before .before
+          .before .if1 .left,
+    ) in
     let f : ℕ → Scalar = λ j. minusTo (at (a .a .now)) (column (a .q .now) j) (entry (a .wide .now) (a .i) j) (a .r) in
-    let v : d .minus-dot .result ≡ f (2 * (a .k / 2)) = rw (along-start, d .before .at .ensures) at (d .minus-dot
-    .ensures) in
+    let d = c .before .before .before .minus-dot in
+    let v : d .result ≡ f (2 * (a .k / 2)) = rw (
+      c .before .before .before .before .before .in-row .ensures,
+      c
+          .before .before .before .before .in-column .ensures,
+      along-start,
+      c .before .before .before .before .before .before .before .at .ensures,
+    ) at (d .ensures) in
     c .before .before .put .ensures ∙ (rw n at (fill-first (a .out .now) f (2 * (a .k / 2)) (rw e at (l .inv .2)) v))
 
 pub outside-spec : {M : Type 1} → statement M
@@ -77,6 +91,8 @@ outside-spec =
     (λ c. search needs)
     (λ c. search needs)
     (λ c. search needs)
+    (λ c κs. search needs)
+    (λ c κs. search needs)
     (λ c κs. search needs)
     minus-dot-requires
     (λ c κs. search needs)

@@ -9,10 +9,11 @@ use Rattle.run.proofs.proposal.curvature_along.Tie as tie
 returns : tie.Need-returns
 unfolding ofBits
 returns c =
-    let s = c .before .before .before .before .before .before .before in
+    let s = c .before .before .before .before .before .before .before .before .before in
     let a = s .args in
-    c .plus-dot .ensures
-    ∙ bent-products (a .n) (a .b .now) (a .delta .now) (s .pre) refl (c .before .before .before .products .ensures)
+    (rw (c .before .before .before .in-row .ensures, c .before .in-row2 .ensures) at (c .plus-dot .ensures))
+    ∙ bent-products (a .n) (a .b .now) (a .delta .now) (s .pre) refl (c .before .before .before .before .before
+    .products .ensures)
 
 pub curvature-along-spec : {M : Type 1} → statement M
 curvature-along-spec =
@@ -20,6 +21,8 @@ curvature-along-spec =
     (tie.spec
     (λ c. search needs)
     (λ c κs. search needs)
+    (λ c κs. search needs)
     (λ c. search needs)
+    (λ c κs. search needs)
     (λ c κs. search needs)
     returns)

@@ -23,7 +23,16 @@ summed e w j es er = rw (er, es, along-behind (e .list) (e .slopes) j (e .n) ref
 
 returns : tie.Need-returns
 unfolding ofBits
-returns c = summed _ _ _ (c .before .slopes-of .ensures) (c .plus-dot .ensures)
+returns c =
+    summed _ _ _ (c .before .before .before .slopes-of .ensures)
+    (rw (c .before .before .in-column .ensures, c .before .in-row .ensures) at (c .plus-dot .ensures))
 
 pub transposed-at-spec : {M : Type 1} → statement M
-transposed-at-spec = tie.close (tie.spec (λ c κs. search needs) (λ c κs. search needs) returns)
+transposed-at-spec =
+    tie.close
+    (tie.spec
+    (λ c κs. search needs)
+    (λ c κs. search needs)
+    (λ c κs. search needs)
+    (λ c κs. search needs)
+    returns)
