@@ -6,7 +6,7 @@ use mathlib.Core.Bool.{Bool, true, _&&_}
 use lib.Dec.{T}
 use lib.Ieee.{inf, binary64, add, neg, lt}
 use Rattle.interval.specs.declared.Scalar.{Scalar}
-use Rattle.interval.specs.Scalar.{zero64}
+use Rattle.interval.specs.Scalar.{zero64, mulOf}
 use Rattle.linear.specs.Lengths.{Inside, PlacesInside}
 use Rattle.linear.specs.declared.bounds.Bounds.{Bounds}
 use Rattle.linear.specs.declared.flat.Places.{Places}
@@ -24,6 +24,12 @@ isProper b = lt (inf true) (b .below) && lt (inf true) (b .above)
 -- -0 made +0
 abbrev pub unsigned : Bounds → Bounds
 unsigned b = record { below = add binary64 (b .below) zero64; above = add binary64 (b .above) zero64 }
+
+-- p is the bounds of a product, with -0 made +0
+pub record OfProduct (p : Bounds) : Type 0 where
+  pub first : Scalar
+  pub second : Scalar
+  pub value : p ≡ unsigned (boundsOf (mulOf first second))
 
 -- r is the bounds of x, and proper
 pub record Bounding (x : Scalar) (r : Bounds) : Type 0 where

@@ -6,7 +6,8 @@ ghost use lib.Dec.{T};
 ghost use lib.Ieee.{binary64, add, isNan};
 ghost use Rattle.interval.specs.Scalar.{zero64, addOf, subOf, mulOf, isSharp};
 ghost use Rattle.interval.specs.Step.{nextUp};
-ghost use Rattle.linear.specs.Bounds.{boundsOf, scalarOf, isProper, unsigned, Bounding};
+ghost use Rattle.interval.specs.declared.Scalar.{Scalar};
+ghost use Rattle.linear.specs.Bounds.{boundsOf, scalarOf, isProper, unsigned, Bounding, OfProduct};
 use interval::Scalar;
 use interval::greater_of;
 use interval::greatest_of;
@@ -19,6 +20,9 @@ pub struct Bounds {
 
 // The greatest finite float.
 const MOST: f64 = 1.7976931348623157e308;
+
+// The least float above 0.
+const LEAST: f64 = 5e-324;
 
 // 1 where it holds, else 0.
 fn one_if(holds: bool) -> u64
@@ -48,8 +52,7 @@ fn step_up(x: f64) -> f64
     step_on(x + 0.0)
 }
 
-// The bounds of x y, with -0 made +0. A sum with them is never -0, so step_on will do, and a loop that adds them waits
-// for one addition the less in each turn.
+// The bounds of x y, with -0 made +0, so that no sum with them is -0.
 fn product(x: Scalar, y: Scalar) -> Bounds
     ensures { λ r. ⌜ r ≡ unsigned (boundsOf (mulOf x y)) ⌝ }
 {
@@ -59,6 +62,32 @@ fn product(x: Scalar, y: Scalar) -> Bounds
         below: step_up(greatest_of(nl * y.lo, nl * y.hi, nh * y.lo, nh * y.hi)) + 0.0,
         above: step_up(greatest_of(x.lo * y.lo, x.lo * y.hi, x.hi * y.lo, x.hi * y.hi)) + 0.0,
     }
+}
+
+// The same for points x and y: one product in place of four.
+fn point_product(x: Scalar, y: Scalar) -> Bounds
+    requires { ⌜ T (isSharp x) × T (isSharp y) ⌝ }
+    ensures { λ r. ⌜ r ≡ unsigned (boundsOf (mulOf x y)) ⌝ }
+{
+    let p = x.lo * y.lo;
+    Bounds {
+        below: step_up(greater_of(-1.0 / 0.0, -p)) + 0.0,
+        above: step_up(greater_of(-1.0 / 0.0, p)) + 0.0,
+    }
+}
+
+// The same of q q. A zero over a number is [-2^-1074, 2^-1074], and so is its square, which needs no product of
+// subnormal numbers.
+fn square(q: Scalar) -> Bounds
+    ensures { λ r. ⌜ r ≡ unsigned (boundsOf (mulOf q q)) ⌝ }
+{
+    if q.hi == LEAST && q.lo == -LEAST {
+        return Bounds {
+            below: LEAST,
+            above: LEAST,
+        };
+    }
+    product(q, q)
 }
 
 // The bounds of an interval.
@@ -89,16 +118,37 @@ pub fn is_proper(b: Bounds) -> bool
     b.below > -1.0 / 0.0 && b.above > -1.0 / 0.0
 }
 
+// The bounds of z plus a product, from those of the product. No sum here is -0, so step_on is enough, and a loop that
+// adds products waits for one addition the less in each turn.
+fn plus(z: Bounds, p: Bounds) -> Bounds
+    requires { ⌜ T (isProper z) × OfProduct p ⌝ }
+    ensures { λ r. ⌜ ((x y : Scalar) → p ≡ unsigned (boundsOf (mulOf x y)) →
+        Bounding (addOf (scalarOf z) (mulOf x y)) r) ⌝ }
+{
+    Bounds {
+        below: step_on(z.below + p.below),
+        above: step_on(z.above + p.above),
+    }
+}
+
+// The bounds of z less a product.
+fn minus(z: Bounds, p: Bounds) -> Bounds
+    requires { ⌜ T (isProper z) × OfProduct p ⌝ }
+    ensures { λ r. ⌜ ((x y : Scalar) → p ≡ unsigned (boundsOf (mulOf x y)) →
+        Bounding (subOf (scalarOf z) (mulOf x y)) r) ⌝ }
+{
+    Bounds {
+        below: step_on(z.below + p.above),
+        above: step_on(z.above + p.below),
+    }
+}
+
 // The bounds of z + x y.
 pub fn plus_product(z: Bounds, x: Scalar, y: Scalar) -> Bounds
     requires { ⌜ T (isProper z) ⌝ }
     ensures { λ r. ⌜ Bounding (addOf (scalarOf z) (mulOf x y)) r ⌝ }
 {
-    let p = product(x, y);
-    Bounds {
-        below: step_on(z.below + p.below),
-        above: step_on(z.above + p.above),
-    }
+    plus(z, product(x, y))
 }
 
 // The bounds of z - x y.
@@ -106,23 +156,7 @@ pub fn minus_product(z: Bounds, x: Scalar, y: Scalar) -> Bounds
     requires { ⌜ T (isProper z) ⌝ }
     ensures { λ r. ⌜ Bounding (subOf (scalarOf z) (mulOf x y)) r ⌝ }
 {
-    let p = product(x, y);
-    Bounds {
-        below: step_on(z.below + p.above),
-        above: step_on(z.above + p.below),
-    }
-}
-
-// The same for points x and y: one product in place of four.
-fn point_product(x: Scalar, y: Scalar) -> Bounds
-    requires { ⌜ T (isSharp x) × T (isSharp y) ⌝ }
-    ensures { λ r. ⌜ r ≡ unsigned (boundsOf (mulOf x y)) ⌝ }
-{
-    let p = x.lo * y.lo;
-    Bounds {
-        below: step_up(greater_of(-1.0 / 0.0, -p)) + 0.0,
-        above: step_up(greater_of(-1.0 / 0.0, p)) + 0.0,
-    }
+    minus(z, product(x, y))
 }
 
 // The bounds of z + x y for points x and y.
@@ -130,11 +164,7 @@ pub fn plus_points(z: Bounds, x: Scalar, y: Scalar) -> Bounds
     requires { ⌜ T (isProper z) × T (isSharp x) × T (isSharp y) ⌝ }
     ensures { λ r. ⌜ Bounding (addOf (scalarOf z) (mulOf x y)) r ⌝ }
 {
-    let p = point_product(x, y);
-    Bounds {
-        below: step_on(z.below + p.below),
-        above: step_on(z.above + p.above),
-    }
+    plus(z, point_product(x, y))
 }
 
 // The bounds of z - x y for points x and y.
@@ -142,28 +172,7 @@ pub fn minus_points(z: Bounds, x: Scalar, y: Scalar) -> Bounds
     requires { ⌜ T (isProper z) × T (isSharp x) × T (isSharp y) ⌝ }
     ensures { λ r. ⌜ Bounding (subOf (scalarOf z) (mulOf x y)) r ⌝ }
 {
-    let p = point_product(x, y);
-    Bounds {
-        below: step_on(z.below + p.above),
-        above: step_on(z.above + p.below),
-    }
-}
-
-// The least float above 0.
-const LEAST: f64 = 5e-324;
-
-// The same of q q. A zero over a number is [-2^-1074, 2^-1074], and so is its square, which needs no product of
-// subnormal numbers.
-fn square(q: Scalar) -> Bounds
-    ensures { λ r. ⌜ r ≡ unsigned (boundsOf (mulOf q q)) ⌝ }
-{
-    if q.hi == LEAST && q.lo == -LEAST {
-        return Bounds {
-            below: LEAST,
-            above: LEAST,
-        };
-    }
-    product(q, q)
+    minus(z, point_product(x, y))
 }
 
 // The bounds of z + q q.
@@ -171,11 +180,7 @@ pub fn plus_square(z: Bounds, q: Scalar) -> Bounds
     requires { ⌜ T (isProper z) ⌝ }
     ensures { λ r. ⌜ Bounding (addOf (scalarOf z) (mulOf q q)) r ⌝ }
 {
-    let p = square(q);
-    Bounds {
-        below: step_on(z.below + p.below),
-        above: step_on(z.above + p.above),
-    }
+    plus(z, square(q))
 }
 
 // The bounds of x y, by the sign of y: the ends of x are read one by one, which is faster where they were just stored.

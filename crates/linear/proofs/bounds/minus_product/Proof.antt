@@ -1,34 +1,15 @@
--- `minus_product` meets its contract: the bounds of the product are added to those of z, each to the other, and no
--- sum is -0.
+-- `minus_product` meets its contract: the difference of z and the bounds of the product.
 use borrow.Author.Needs.{needs}
-use Rattle.interval.proofs.Given.{yes}
-use Rattle.linear.proofs.BoundLaws.{product-difference-below, product-difference-above}
-use Rattle.linear.proofs.BoundLaws.{product-difference-bounds}
 use Rattle.linear.proofs.bounds.minus_product.Statement.{statement}
 use Rattle.linear.proofs.bounds.minus_product.Tie as tie
 
-step-on-requires : tie.Need-step-on-requires
-step-on-requires c κs =
-    let k = c .before .before .before in
-    let g = k .good .0 .1 .1 in
-    product-difference-below (k .args .z) (k .args .x) (k .args .y) (k .pre) (yes (g .0 .1)) (yes (g .1 .0 .1))
-    (c .before .before .product .ensures) .0
-
-step-on-requires-2 : tie.Need-step-on-requires-2
-step-on-requires-2 c κs =
-    let k = c .before .before .before .before .before .before in
-    let g = k .good .0 .1 .1 in
-    product-difference-above (k .args .z) (k .args .x) (k .args .y) (k .pre) (yes (g .0 .1)) (yes (g .1 .0 .1))
-    (c .before .before .before .before .before .product .ensures) .0
+minus-requires : tie.Need-minus-requires
+minus-requires c κs = let a = c .before .args in
+    (c .before .pre, record { first = a .x; second = a .y; value = c .product .ensures })
 
 returns : tie.Need-returns
-returns c =
-    let k = c .before .before .before .before .before .before .before in
-    let g = k .good .0 .1 .1 in
-    product-difference-bounds (k .args .z) (k .args .x) (k .args .y) (k .pre) (yes (g .0 .1)) (yes (g .1 .0 .1))
-    (c .before .before .before .before .before .before .product .ensures)
-    (c .before .before .before .step-on .ensures) (c .step-on2 .ensures)
+returns c = let a = c .before .before .args in
+    c .minus .ensures (a .x) (a .y) (c .before .product .ensures)
 
 pub minus-product-spec : {M : Type 1} → statement M
-minus-product-spec =
-    tie.close (tie.spec (λ c κs. search needs) step-on-requires step-on-requires-2 returns)
+minus-product-spec = tie.close (tie.spec (λ c κs. search needs) minus-requires returns)

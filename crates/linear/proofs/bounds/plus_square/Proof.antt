@@ -1,33 +1,15 @@
--- `plus_square` meets its contract: the bounds of the square are added to those of z, each to its own, and no sum
--- is -0.
+-- `plus_square` meets its contract: the sum of z and the bounds of the square.
 use borrow.Author.Needs.{needs}
-use Rattle.interval.proofs.Given.{yes}
-use Rattle.linear.proofs.BoundLaws.{product-sum-below, product-sum-above, product-sum-bounds}
 use Rattle.linear.proofs.bounds.plus_square.Statement.{statement}
 use Rattle.linear.proofs.bounds.plus_square.Tie as tie
 
-step-on-requires : tie.Need-step-on-requires
-step-on-requires c κs =
-    let k = c .before .before .before in
-    let g = k .good .0 .1 .1 in
-    product-sum-below (k .args .z) (k .args .q) (k .args .q) (k .pre) (yes (g .0 .1)) (yes (g .1 .0 .1))
-    (c .before .before .square .ensures) .0
-
-step-on-requires-2 : tie.Need-step-on-requires-2
-step-on-requires-2 c κs =
-    let k = c .before .before .before .before .before .before in
-    let g = k .good .0 .1 .1 in
-    product-sum-above (k .args .z) (k .args .q) (k .args .q) (k .pre) (yes (g .0 .1)) (yes (g .1 .0 .1))
-    (c .before .before .before .before .before .square .ensures) .0
+plus-requires : tie.Need-plus-requires
+plus-requires c κs = let a = c .before .args in
+    (c .before .pre, record { first = a .q; second = a .q; value = c .square .ensures })
 
 returns : tie.Need-returns
-returns c =
-    let k = c .before .before .before .before .before .before .before in
-    let g = k .good .0 .1 .1 in
-    product-sum-bounds (k .args .z) (k .args .q) (k .args .q) (k .pre) (yes (g .0 .1)) (yes (g .1 .0 .1))
-    (c .before .before .before .before .before .before .square .ensures)
-    (c .before .before .before .step-on .ensures) (c .step-on2 .ensures)
+returns c = let a = c .before .before .args in
+    c .plus .ensures (a .q) (a .q) (c .before .square .ensures)
 
 pub plus-square-spec : {M : Type 1} → statement M
-plus-square-spec =
-    tie.close (tie.spec (λ c κs. search needs) step-on-requires step-on-requires-2 returns)
+plus-square-spec = tie.close (tie.spec (λ c κs. search needs) plus-requires returns)

@@ -1,14 +1,15 @@
 -- `minus_factored` meets its contract: each check decides one of the definition's. Behind them stand the values by the
 -- multipliers, which read no more of the array than its first 2 m numbers, and a clear output where those are refused.
-use mathlib.Core.Path.{_≡_}
+use mathlib.Core.Path.{_≡_, sym, _∙_}
 use Prim.Native.Nat.{_*_, _≤_}
 use native.Mathlib.Omega.{arith}
 use borrow.Author.Needs.{needs}
 use borrow.Author.Tests.{le-leb, lt-leb, eq-eqb, ne-eqb}
 use lib.ListN.{length}
 use Rattle.linear.specs.Calls.{minusFactoredReply}
+use Rattle.linear.specs.Cholesky.{factorOf}
 use Rattle.linear.proofs.Cells.{product-small}
-use Rattle.linear.proofs.SolvedLaws.{minus-factored}
+use Rattle.linear.proofs.SolvedLaws.{minus-factored, factored-reply}
 use Rattle.linear.proofs.solved.minus_factored.Statement.{statement}
 use Rattle.linear.proofs.solved.minus_factored.Tie as tie
 
@@ -105,7 +106,6 @@ cleared-requires : tie.Need-cleared-requires
 cleared-requires c κs = tt
 
 returns-9 : tie.Need-returns-9
-unfolding minusFactoredReply
 returns-9 c =
     let w = c .before .before .before .before .before .before in
     let v = w .before .before .before .before in
@@ -120,16 +120,17 @@ returns-9 c =
     omega (arith, v .multipliers .kept, few) in
     let e = minus-factored (a .m) (a .n) (a .jc .now) (a .l .now) (a .left-out .now) (a .rhs .now) (a .from .now) _
     (v .multipliers .result) room (v .multipliers .ensures) in
-    rw (
-      le-leb _ _ few,
-      le-leb _ _ (k .before .before .before .before .before .before .if2 .left),
-      eq-eqb _ _ (k .before .before .before .before .before .if3 .left),
-      eq-eqb _ _ (k .before .before .before .before .if4 .left),
-      eq-eqb _ _ (k .before .before .before .if5 .left),
-      eq-eqb _ _ (k .before .before .if6 .left),
-      eq-eqb _ _ (k .before .if7 .left),
-      eq-eqb _ _ (k .if8 .left),
-    ) (rw (size, w .minus .ensures, e) at (c .before .before .cleared .ensures))
+    (rw (size, w .minus .ensures, e) at (c .before .before .cleared .ensures))
+    ∙ sym (factored-reply (a .m) (a .n) (a .jc .now) (factorOf (a .l .now) (a .left-out .now)) (a .rhs .now)
+    (a .from .now) (a .out .now) (record {
+      rows = few;
+      columns = k .before .before .before .before .before .before .if2 .left;
+      slopes = k .before .before .before .before .before .if3 .left;
+      sides = k .before .before .if6 .left;
+      start = k .before .if7 .left;
+      values = k .if8 .left;
+    }) (k .before .before .before .before .if4 .left)
+    (k .before .before .before .if5 .left))
 
 pub minus-factored-spec : {M : Type 1} → statement M
 minus-factored-spec =
