@@ -20,12 +20,13 @@ use Rattle.run.specs.declared.state.Event.the-variants.{Question, Finish, Refus
 use Rattle.run.specs.declared.state.Stop.{Stop}
 use Rattle.run.specs.declared.state.Stop.the-variants as stop
 use Rattle.sheet.specs.Decimal.{DIGITS, decimalTo, decimalOf}
+use Rattle.sheet.specs.Lines.{lineOf}
 use Rattle.sheet.specs.Numbers.{COMMA, LINE-FEED}
-use Rattle.sheet.specs.Printing.{STOP-KEY, ITERATIONS-KEY, TURNED-KEY, ERROR-KEY, AT-KEY, nameOf, lineOf, middleOf}
+use Rattle.sheet.specs.Printing.{STOP-KEY, ITERATIONS-KEY, TURNED-KEY, ERROR-KEY, nameOf, middleOf}
 use Rattle.sheet.specs.Printing.{pointLine, pointLines, errorOf, finishOf, SLOT, padded}
 use Rattle.sheet.specs.Settling.{pointAt, settledOf, printedOf, printedSheet, printOf}
 use Rattle.sheet.specs.Settling.{AfterText, afterText, settleTextOf}
-use Rattle.sheet.specs.Sheet.{Sheet, readOf}
+use Rattle.sheet.specs.Sheet.{Sheet, AT-KEY, readOf}
 use Rattle.settle.specs.Printed.{beforeZero}
 
 -- no zero stands in a text: the search for one goes on behind it

@@ -1,5 +1,7 @@
-pub mod SlotLaws
+pub mod AppendLaws
+pub mod PrintingLaws
 pub mod DecimalLaws
+pub mod SignedLaws
 pub mod Tests
 pub mod TextLaws
 pub mod NumberLaws

@@ -5,6 +5,7 @@ pub mod Sheet
 pub mod Rows
 pub mod Ranges
 pub mod Decimal
+pub mod Lines
 pub mod Printing
 pub mod Settling
 pub mod Example

@@ -1,9 +1,9 @@
 -- What is printed of a sheet (request (i)): the stop's name, two counts and the midpoints' bits of each point, or the
 -- one line error= and its number. Lines end in a line feed; in a slot of 320 bytes zeros follow.
-use Prim.Native.Nat.{ℕ, zero, suc, _+_, _-_, _*_, _/_}
+use Prim.Native.Nat.{ℕ, zero, suc, _+_, _*_, _/_}
 use mathlib.Core.List.{List, [], _∷_, _++_}
 use lib.Ieee.{Float, binary64, toBits}
-use lib.ListN.{length, replicate}
+use lib.ListN.{length}
 use Rattle.float_bits.specs.Word.{wordOf}
 use Rattle.interval.specs.Scalar.{sharpen}
 use Rattle.interval.specs.declared.Scalar.{Scalar}
@@ -13,7 +13,9 @@ use Rattle.run.specs.declared.state.Event.the-variants as event
 use Rattle.run.specs.declared.state.Stop.{Stop}
 use Rattle.run.specs.declared.state.Stop.the-variants as stop
 use Rattle.sheet.specs.Decimal.{decimalOf}
-use Rattle.sheet.specs.Numbers.{COMMA, LINE-FEED}
+use Rattle.sheet.specs.Lines.{lineOf, paddedTo}
+use Rattle.sheet.specs.Numbers.{COMMA}
+use Rattle.sheet.specs.Sheet.{AT-KEY}
 
 -- ---- words, in ASCII
 
@@ -33,10 +35,6 @@ TURNED-KEY = 116 ∷ 117 ∷ 114 ∷ 110 ∷ 101 ∷ 100 ∷ 61 ∷ []
 abbrev pub ERROR-KEY : List ℕ
 ERROR-KEY = 101 ∷ 114 ∷ 114 ∷ 111 ∷ 114 ∷ 61 ∷ []
 
--- at=
-abbrev pub AT-KEY : List ℕ
-AT-KEY = 97 ∷ 116 ∷ 61 ∷ []
-
 -- infeasible, nochange, undecided, flat, damped, budget
 abbrev pub nameOf : Stop → List ℕ
 nameOf stop.Infeasible = 105 ∷ 110 ∷ 102 ∷ 101 ∷ 97 ∷ 115 ∷ 105 ∷ 98 ∷ 108 ∷ 101 ∷ []
@@ -47,9 +45,6 @@ nameOf (stop.Damped r) = 100 ∷ 97 ∷ 109 ∷ 112 ∷ 101 ∷ 100 ∷ []
 nameOf stop.Budget = 98 ∷ 117 ∷ 100 ∷ 103 ∷ 101 ∷ 116 ∷ []
 
 -- ---- lines
-
-abbrev pub lineOf : List ℕ → List ℕ → List ℕ
-lineOf key value = key ++ (value ++ (LINE-FEED ∷ []))
 
 -- the bits of the midpoint
 abbrev pub middleOf : Scalar → List ℕ
@@ -78,6 +73,5 @@ finishOf s iterations turned p =
 abbrev pub SLOT : ℕ
 SLOT = 320
 
--- a text and zeros behind it
 abbrev pub padded : List ℕ → List ℕ
-padded text = text ++ replicate (SLOT - length text) 0
+padded text = paddedTo SLOT text

@@ -20,6 +20,7 @@ use Rattle.run.specs.declared.state.Sizes.{Sizes}
 use Rattle.sheet.specs.Printing.{errorOf, finishOf, SLOT, padded}
 use Rattle.sheet.specs.Rows.{rowsOf}
 use Rattle.sheet.specs.Sheet.{Sheet, readOf}
+use Rattle.sheet.specs.Text.{WRONG-LENGTH}
 
 -- two variables and two sum rows for each point, a constraint for each rule
 abbrev pub sizesOf : Sheet → Sizes
@@ -95,4 +96,4 @@ afterText number area slot = record { number = number; area = area; slot = slot 
 unfoldable pub settleTextOf : List ℕ → List Float → List ℕ → AfterText
 settleTextOf text area slot =
     pick (eqb (length area) AREA && eqb (length slot) SLOT) (afterText 0 (zeros AREA) (padded (printOf text)))
-    (afterText 2 area slot)
+    (afterText WRONG-LENGTH area slot)

@@ -15,6 +15,10 @@ pub record Part (A : Type 0) : Type 0 where
 abbrev pub part : {A : Type 0} → A → List ℕ → Part A
 part value rest = record { value = value; rest = rest }
 
+-- the refusal of a slice of the wrong length
+abbrev pub WRONG-LENGTH : ℕ
+WRONG-LENGTH = 2
+
 -- error 7: a line missing, surplus or malformed
 abbrev pub MALFORMED : ℕ
 MALFORMED = 7

@@ -2,5 +2,5 @@ pub mod Text
 pub mod Numbers
 pub mod Sheet
 pub mod Rows
-pub mod Printing
+pub mod Lines
 pub mod Settling

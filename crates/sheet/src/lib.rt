@@ -1,4 +1,5 @@
 // Sheets: a text that describes points and the rules between them is read, settled and printed, with no io.
+mod lines;
 mod numbers;
 mod printing;
 mod reader;

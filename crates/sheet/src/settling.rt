@@ -23,6 +23,7 @@ use crate::reader::read;
 use crate::rows::rows_at;
 use crate::sheet::Points;
 use crate::sheet::Sheet;
+use crate::text::WRONG_LENGTH;
 use interval::Scalar;
 use linear::clear;
 use linear::put;
@@ -30,9 +31,6 @@ use run::AREA;
 use run::Event;
 use run::Returned;
 use run::State;
-
-// The refusal of a slice of the wrong length.
-const WRONG_LENGTH: usize = 2;
 
 // No run has more: 5,500 for each of 200 iterations, and the start.
 const MOST_REPLIES: usize = 1100001;

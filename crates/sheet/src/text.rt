@@ -4,6 +4,9 @@ ghost use lib.ListN.{drop};
 ghost use Rattle.sheet.specs.Text.{head, behind, behindKey};
 ghost use Rattle.sheet.specs.program.Text.{restAt};
 
+// The refusal of a slice of the wrong length.
+pub const WRONG_LENGTH: usize = 2;
+
 // A line missing, surplus or malformed.
 pub const MALFORMED: usize = 7;
 

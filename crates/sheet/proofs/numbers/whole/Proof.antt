@@ -1,38 +1,29 @@
 -- `whole` meets its contract: a size below the cap is far from the ends of an i64.
 use borrow.Author.Needs.{needs}
-use Prim.Native.Nat.{ℕ, zero, suc, _≤_, _<_}
-use mathlib.Core.Path.{_≡_, refl, sym, ap, _∙_, subst}
+use Prim.Native.Nat.{ℕ, _≤_}
+use mathlib.Core.Path.{_≡_}
 use native.Mathlib.Omega.{arith}
-use lib.IntN.{ℤ, pos, negℤ, _-ℤ_, +ℤ-idl}
+use lib.IntN.{pos, negℤ}
 use mir.Syntax.{w64}
-use mir.Val.{SFits, toZ, ofZ}
-use mir.ValLaws.{toZ-pos, toZ-ofZ}
+use mir.Val.{SFits, toZ}
+use mir.ValLaws.{toZ-pos}
 use Rattle.sheet.specs.program.Numbers.{CAP}
+use Rattle.sheet.proofs.SignedLaws.{from-zero, fits-as, reads-as, minus-fits}
 use Rattle.sheet.proofs.numbers.whole.Statement.{statement}
 use Rattle.sheet.proofs.numbers.whole.Tie as tie
-
-small : (n : ℕ) → n ≤ CAP → SFits w64 (negℤ (pos n))
-small zero h = record { sfits = omega arith }
-small (suc n) h = record { sfits = omega arith }
 
 module _ (n : ℕ) (h : n ≤ CAP) where
   near : toZ w64 n ≡ pos n
   near = toZ-pos w64 n (omega arith)
 
-  below : pos 0 -ℤ toZ w64 n ≡ negℤ (pos n)
-  below = ap (λ (z : ℤ). pos 0 -ℤ z) near ∙ +ℤ-idl (negℤ (pos n))
-
-  sfits : SFits w64 (pos 0 -ℤ toZ w64 n)
-  sfits = subst (SFits w64) (sym below) (small n h)
-
-  negated : toZ w64 (ofZ w64 (pos 0 -ℤ toZ w64 n)) ≡ negℤ (pos n)
-  negated = toZ-ofZ w64 (pos 0 -ℤ toZ w64 n) sfits ∙ below
+  minus : SFits w64 (negℤ (pos n))
+  minus = minus-fits n (omega arith)
 
 sub-result : tie.Need-sub-result
-sub-result c = sfits _ (c .before .before .pre)
+sub-result c = let h = c .before .before .pre in fits-as (from-zero (near _ h)) (minus _ h)
 
 returns : tie.Need-returns
-returns c = rw (c .if1 .taken) (negated _ (c .before .before .pre))
+returns c = let h = c .before .before .pre in rw (c .if1 .taken) (reads-as (from-zero (near _ h)) (minus _ h))
 
 returns-2 : tie.Need-returns-2
 returns-2 c = rw (c .if1 .left) (near _ (c .before .before .pre))

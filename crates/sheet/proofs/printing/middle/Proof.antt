@@ -1,12 +1,12 @@
 -- `middle` meets its contract: the word is the midpoint's.
 use mathlib.Core.Path.{_≡_, ap, _∙_}
 use Prim.Native.Nat.{ℕ, _+_}
-use mathlib.Core.List.{List, _++_}
+use mathlib.Core.List.{List}
 use lib.ListN.{length}
 use borrow.Author.Needs.{needs}
 use Rattle.float_bits.proofs.WordLaws.{length-word}
 use Rattle.sheet.specs.Printing.{middleOf}
-use Rattle.sheet.proofs.SlotLaws.{printed-as}
+use Rattle.sheet.proofs.AppendLaws.{appends-as}
 use Rattle.sheet.proofs.printing.middle.Statement.{statement}
 use Rattle.sheet.proofs.printing.middle.Tie as tie
 
@@ -20,7 +20,7 @@ returns c =
     let e = word-is (k .before .before .before) in
     let place = k .before .before .before .before .before .before .before .args .place in (
       k .append .ensures .0 ∙ ap (λ (w : List ℕ). place + length w) e ∙ ap (λ (n : ℕ). place + n) (length-word _),
-      λ s p. printed-as (k .append .ensures .1 s p) (ap (λ (w : List ℕ). s ++ w) e),
+      appends-as (k .append .ensures .1) e,
     )
 
 pub middle-spec : {M : Type 1} → statement M

@@ -2,7 +2,7 @@
 -- after the other.
 use native.Mathlib.Omega.{arith}
 use borrow.Author.Needs.{needs}
-use Rattle.sheet.proofs.SlotLaws.{printed-as, five-texts}
+use Rattle.sheet.proofs.AppendLaws.{then}
 use Rattle.sheet.proofs.printing.point_line.Statement.{statement}
 use Rattle.sheet.proofs.printing.point_line.Tie as tie
 
@@ -21,12 +21,9 @@ returns c =
         k₂ .middle .ensures .0,
         k₁ .append .ensures .0,
       ),
-      λ s p.
-          printed-as
-          (k₅ .append3 .ensures .1 _
-          (k₄ .middle2 .ensures .1 _
-          (k₃ .append2 .ensures .1 _ (k₂ .middle .ensures .1 _ (k₁ .append .ensures .1 s p)))))
-          (five-texts s _ _ _ _ _),
+      then (k₁ .append .ensures .1)
+          (then (then (k₂ .middle .ensures .1) (then (k₃ .append2 .ensures .1) (k₄ .middle2 .ensures .1)))
+          (k₅ .append3 .ensures .1)),
     )
 
 pub point-line-spec : {M : Type 1} → statement M

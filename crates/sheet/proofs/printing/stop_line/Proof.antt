@@ -1,7 +1,7 @@
 -- `stop_line` meets its contract: the key, the name and the line's end are three texts one after the other.
 use native.Mathlib.Omega.{arith}
 use borrow.Author.Needs.{needs}
-use Rattle.sheet.proofs.SlotLaws.{printed-as, three-texts}
+use Rattle.sheet.proofs.AppendLaws.{then}
 use Rattle.sheet.proofs.printing.stop_line.Statement.{statement}
 use Rattle.sheet.proofs.printing.stop_line.Tie as tie
 
@@ -11,9 +11,7 @@ returns c =
     let k₂ = k₃ .before .before .before .before .before in
     let k₁ = k₂ .before .before .before .before in (
       omega (arith, k₃ .append2 .ensures .0, k₂ .name .ensures .0, k₁ .append .ensures .0),
-      λ s p.
-          printed-as (k₃ .append2 .ensures .1 _ (k₂ .name .ensures .1 _ (k₁ .append .ensures .1 s p)))
-          (three-texts s _ _ _),
+      then (k₁ .append .ensures .1) (then (k₂ .name .ensures .1) (k₃ .append2 .ensures .1)),
     )
 
 pub stop-line-spec : {M : Type 1} → statement M

@@ -1,11 +1,4 @@
 -- `print_found` meets its contract: a sheet that was read is settled, and of any other the fault is printed.
-use mathlib.Core.Path.{_≡_, sym, ap, _∙_}
-use mathlib.Core.Bool.{Bool}
-use Rattle.interval.specs.Result.{ok, refused}
-use Rattle.interval.specs.Scalar.{pick}
-use Rattle.sheet.specs.Printing.{padded}
-use Rattle.sheet.specs.Settling.{printedSheet}
-use Rattle.sheet.specs.program.Sheet.{sheetBy}
 use borrow.Author.Needs.{needs}
 use Rattle.sheet.proofs.settling.print_found.Statement.{statement}
 use Rattle.sheet.proofs.settling.print_found.Tie as tie
@@ -20,7 +13,9 @@ returns c = rw (c .before .before .before .before .before .before .before .if1 .
     (c .before .before .before .before .settle-sheet .ensures)
 
 returns-2 : tie.Need-returns-2
-returns-2 c = rw (c .before .before .before .before .if1 .left) (c .before .before .print-error .ensures)
+returns-2 c =
+    let s = c .before .before .before .before .before .before .before .before in
+    rw (c .before .before .before .before .if1 .left) (rw (s .pre .1) at (c .before .before .print-error .ensures .1))
 
 pub print-found-spec : {M : Type 1} → statement M
 print-found-spec =

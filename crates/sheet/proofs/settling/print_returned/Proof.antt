@@ -13,9 +13,9 @@ print-finish-requires c κs = (
 
 returns : tie.Need-returns
 returns c =
-    let a = c .before .before .before .before .before .before .before .before .before .args in
-    event-printed (a .out) (a .area .now) (c .before .before .before .before .enum-told .given .1)
-    (c .before .before .print-error .ensures)
+    let s = c .before .before .before .before .before .before .before .before .before in
+    event-printed (s .args .out) (s .args .area .now) (c .before .before .before .before .enum-told .given .1)
+    (rw (s .pre) at (c .before .before .print-error .ensures .1))
 
 returns-2 : tie.Need-returns-2
 returns-2 c =
@@ -25,9 +25,9 @@ returns-2 c =
 
 returns-3 : tie.Need-returns-3
 returns-3 c =
-    let a = c .before .before .before .before .before .before .before .before .before .before .args in
-    event-printed (a .out) (a .area .now) (c .before .before .before .before .before .event2 .given .1)
-    (c .before .before .print-error2 .ensures)
+    let s = c .before .before .before .before .before .before .before .before .before .before in
+    event-printed (s .args .out) (s .args .area .now) (c .before .before .before .before .before .event2 .given .1)
+    (rw (s .pre) at (c .before .before .print-error2 .ensures .1))
 
 pub print-returned-spec : {M : Type 1} → statement M
 print-returned-spec =

@@ -1,15 +1,14 @@
 -- `number` meets its contract: the part of the array from the first digit on has all digits.
-use mathlib.Core.Path.{_≡_, ap, _∙_}
-use Prim.Native.Nat.{ℕ, _-_}
-use mathlib.Core.List.{List, _++_}
+use mathlib.Core.Path.{_≡_, _∙_}
+use Prim.Native.Nat.{_-_}
 use native.Mathlib.Omega.{arith}
 use borrow.Author.Needs.{needs}
-use lib.ListN.{length, take, drop, length-drop}
+use lib.ListN.{take, drop, length-drop}
 use lib.Seq.{take-all}
 use Rattle.sheet.specs.Decimal.{decimalOf}
-use Rattle.sheet.proofs.SlotLaws.{printed-as}
-use Rattle.sheet.proofs.printing.number.Statement.{statement}
-use Rattle.sheet.proofs.printing.number.Tie as tie
+use Rattle.sheet.proofs.AppendLaws.{appends-as}
+use Rattle.sheet.proofs.lines.number.Statement.{statement}
+use Rattle.sheet.proofs.lines.number.Tie as tie
 
 part-append-end : tie.Need-part-append-end
 part-append-end c = omega (arith, c .before .before .before .decimal .ensures .1)
@@ -25,10 +24,8 @@ lent k =
 returns : tie.Need-returns
 returns c =
     let k = c .before .before in
-    let d = k .before .before .before .before .before in (
-      omega (arith, k .append .ensures .0),
-      λ s p. printed-as (k .append .ensures .1 s p) (ap (λ (t : List ℕ). s ++ t) (lent d)),
-    )
+    let d = k .before .before .before .before .before in
+    (omega (arith, k .append .ensures .0), appends-as (k .append .ensures .1) (lent d))
 
 pub number-spec : {M : Type 1} → statement M
 number-spec =

@@ -5,8 +5,8 @@ use native.Mathlib.Omega.{arith}
 use lib.ListN.{length-set}
 use borrow.Author.Needs.{needs}
 use Rattle.sheet.proofs.DecimalLaws.{Stored, stored-none, stored-more, stored-all}
-use Rattle.sheet.proofs.printing.decimal.Statement.{statement}
-use Rattle.sheet.proofs.printing.decimal.Tie as tie
+use Rattle.sheet.proofs.lines.decimal.Statement.{statement}
+use Rattle.sheet.proofs.lines.decimal.Tie as tie
 
 abbrev Inv-loop : tie.InvT-loop
 Inv-loop v digits₀ rest₀ first₀ digits rest first = Stored v digits rest first

@@ -4,9 +4,9 @@ use Prim.Native.Nat.{_-_}
 use native.Mathlib.Omega.{arith}
 use borrow.Author.Needs.{needs}
 use lib.ListN.{length}
-use Rattle.sheet.proofs.SlotLaws.{Appending, appending-none, appending-more, appending-all}
-use Rattle.sheet.proofs.printing.append.Statement.{statement}
-use Rattle.sheet.proofs.printing.append.Tie as tie
+use Rattle.sheet.proofs.AppendLaws.{Appending, appending-none, appending-more, appending-all}
+use Rattle.sheet.proofs.lines.append.Statement.{statement}
+use Rattle.sheet.proofs.lines.append.Tie as tie
 
 abbrev Inv-loop : tie.InvT-loop
 Inv-loop out₀ place text i₀ i-end out i = (i-end ≡ length text) × Appending out₀ place text i out
@@ -21,7 +21,7 @@ loop-again : tie.Need-loop-again Inv-loop μ-loop
 loop-again c = (search needs, appending-more (c .before .before .loop .inv .1) (omega arith) (omega arith))
 
 returns : tie.Need-returns Inv-loop μ-loop
-returns c = (refl, λ s p. appending-all (c .before .loop .inv .1) (omega arith) s p)
+returns c = (refl, appending-all (c .before .loop .inv .1) (omega arith))
 
 pub append-spec : {M : Type 1} → statement M
 append-spec =
