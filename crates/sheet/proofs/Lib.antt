@@ -1,4 +1,5 @@
 pub mod AppendLaws
+pub mod SpellingTextLaws
 pub mod PrintingLaws
 pub mod DecimalLaws
 pub mod SignedLaws
@@ -11,5 +12,9 @@ pub mod SheetLaws
 pub mod RowLaws
 pub mod SettlingLaws
 pub mod RangeLaws
+pub mod FoundLaws
 pub mod RunLaws
 pub mod ExampleLaws
+pub mod ReadBackLaws
+pub mod ShortestLaws
+pub mod SpellingLaws

@@ -31,15 +31,15 @@ capped-small {v} h = rw (le-leb v CAP h)
 capped-large : {v : ℕ} → CAP < v → capped v ≡ CAP
 capped-large {v} h = rw (lt-leb v CAP h)
 
-by-size : {A : Type 0} (v : ℕ) → (v ≤ CAP → A) → (CAP < v → A) → A
-by-size v f g = ⊎-elim (λ h. f (omega arith)) (λ h. g (omega arith)) (eq-zero-or-pos (v - CAP))
+pub by-size : {A : Type 0} (most v : ℕ) → (v ≤ most → A) → (most < v → A) → A
+by-size most v f g = ⊎-elim (λ h. f (omega arith)) (λ h. g (omega arith)) (eq-zero-or-pos (v - most))
 
 pub capped-most : (v : ℕ) → capped v ≤ CAP
-capped-most v = by-size v (λ h. rw (capped-small h) h) (λ h. rw (capped-large h) (omega arith))
+capped-most v = by-size CAP v (λ h. rw (capped-small h) h) (λ h. rw (capped-large h) (omega arith))
 
 capped-turn : (v d : ℕ) → capped (10 * v + d) ≡ capped (10 * capped v + d)
 capped-turn v d =
-    by-size v
+    by-size CAP v
     (λ h. ap (λ (s : ℕ). capped (10 * s + d)) (sym (capped-small h)))
     (λ h.
     let l : CAP < 10 * v + d = omega arith in
@@ -51,7 +51,7 @@ pub far :
     {B : Type 0} (f : Number → B) {z : B} → ((x : Number) → MOST-LENGTH < x .size → f x ≡ z) →
     (x : Number) → f x ≡ f (cappedNumber x)
 far f h x =
-    by-size (x .size)
+    by-size CAP (x .size)
     (λ s. ap (λ (n : ℕ). f (record { negative = x .negative; size = n })) (sym (capped-small s)))
     (λ l. h x (omega arith) ∙ sym (h (cappedNumber x) (rw (capped-large l) (omega arith))))
 

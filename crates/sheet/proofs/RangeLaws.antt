@@ -20,7 +20,7 @@ use Rattle.sheet.specs.Text.{Part, part, head, behindKey}
 use Rattle.sheet.specs.Numbers.{wholeOf, isNatural, isBetween, twoOf, threeOf}
 use Rattle.sheet.specs.Ranges.{RuleInRange, InRange}
 use Rattle.sheet.specs.Rows.{ruleAt}
-use Rattle.sheet.specs.Rule.{level}
+use Rattle.sheet.specs.Rule.{PLUMB, span, level}
 use Rattle.sheet.specs.Sheet.{Sheet, MOST-BYTES, MOST-POINTS, MOST-ITERATIONS, MOST-RULES, MOST-LENGTH}
 use Rattle.sheet.specs.Sheet.{AT-KEY, SPAN-KEY, LEVEL-KEY, PLUMB-KEY, POINTS-KEY, LIMIT-KEY, REACH-KEY, RULES-KEY}
 use Rattle.sheet.specs.Sheet.{isNear, isPresent, areTwo, naturalOf, pointOf, pointsFrom, pointCount, spanOf}
@@ -37,7 +37,7 @@ use Rattle.sheet.proofs.SheetLaws.{checked-ok, same, between-range, nat
 -- ---- lists of which each element has a property
 
 module _ {A : Type 0} (P : A → Type 0) (d : A) where
-  abbrev All : List A → Type 0
+  abbrev pub All : List A → Type 0
   All xs = (k : ℕ) → k < length xs → P (getD xs k d)
 
   none : All []
@@ -56,7 +56,7 @@ at-value : {A : Type 0} (P : A → Type 0) {v : A} {rest : List ℕ} {p : Part A
 at-value P e h = let s = ap (λ p. p .value) (same e) in rw s at h
 
 -- what both of two choices have
-picked : {A : Type 0} {x y z : A} {B : Type 0} (b : Bool) → pick b x y ≡ z → (x ≡ z → B) → (y ≡ z → B) → B
+pub picked : {A : Type 0} {x y z : A} {B : Type 0} (b : Bool) → pick b x y ≡ z → (x ≡ z → B) → (y ≡ z → B) → B
 picked true e f g = f e
 picked false e f g = g e
 
@@ -67,7 +67,7 @@ whole-size true zero = refl
 whole-size true (suc n) = refl
 whole-size false n = refl
 
-abbrev Near : ℤ → Type 0
+abbrev pub Near : ℤ → Type 0
 Near x = natAbs x ≤ MOST-LENGTH
 
 near-is : (x : Number) → isNear x ≡ true → Near (wholeOf x)
@@ -119,8 +119,29 @@ two-is points i j e =
     )
 
 module _ (points : ℕ) where
-  in-range : (r : Rule) → Two points (r .first) (r .second) → r .length ≤ MOST-LENGTH → RuleInRange points r
-  in-range r t h = record { first = t .0; second = t .1; distinct = t .2; length = h }
+  span-in-range : (i j d : ℕ) → Two points i j → (1 ≤ d) × (d ≤ MOST-LENGTH) → RuleInRange points (span i j d)
+  span-in-range i j d t h = record {
+    first = t .0;
+    second = t .1;
+    distinct = t .2;
+    length = h .1;
+    kind = omega arith;
+    some-length = λ e. h .0;
+    no-length = λ n. absurd (n refl);
+  }
+
+  -- a rule without a length
+  aligned-in-range : (r : Rule) → Two points (r .first) (r .second) → r .length ≡ 0 → 1 ≤ r .kind → r .kind ≤ PLUMB
+      → RuleInRange points r
+  aligned-in-range r t l a b = record {
+    first = t .0;
+    second = t .1;
+    distinct = t .2;
+    length = omega (arith, l);
+    kind = b;
+    some-length = λ e. absurd (omega (arith, a, e));
+    no-length = λ n. l;
+  }
 
   span-range : (text : List ℕ) {p : Part Rule} → spanOf points text ≡ ok p → RuleInRange points (p .value)
   unfolding spanOf
@@ -133,7 +154,7 @@ module _ (points : ℕ) where
       let b = checked-ok (isBetween 1 MOST-LENGTH d) _ _ (v .2) in
       let c = checked-ok (areTwo points i j) _ _ (b .1) in
       at-value (RuleInRange points) (c .1)
-      (in-range _ (two-is points i j (c .0)) (between-range 1 MOST-LENGTH d (b .0) .1))
+      (span-in-range _ _ _ (two-is points i j (c .0)) (between-range 1 MOST-LENGTH d (b .0)))
 
   aligned-range : (key text : List ℕ) {p : Part (ℕ × ℕ)} → alignedOf key points text ≡ ok p →
       Two points (p .value .0) (p .value .1)
@@ -150,13 +171,15 @@ module _ (points : ℕ) where
   unfolding levelOf
   level-range text e =
       let q = bind-value (alignedOf LEVEL-KEY points text) _ e in
-      at-value (RuleInRange points) (q .2) (in-range _ (aligned-range LEVEL-KEY text (q .1)) (omega arith))
+      at-value (RuleInRange points) (q .2)
+      (aligned-in-range _ (aligned-range LEVEL-KEY text (q .1)) refl (omega arith) (omega arith))
 
   plumb-range : (text : List ℕ) {p : Part Rule} → plumbOf points text ≡ ok p → RuleInRange points (p .value)
   unfolding plumbOf
   plumb-range text e =
       let q = bind-value (alignedOf PLUMB-KEY points text) _ e in
-      at-value (RuleInRange points) (q .2) (in-range _ (aligned-range PLUMB-KEY text (q .1)) (omega arith))
+      at-value (RuleInRange points) (q .2)
+      (aligned-in-range _ (aligned-range PLUMB-KEY text (q .1)) refl (omega arith) (omega arith))
 
   rule-range : (text : List ℕ) {p : Part Rule} → ruleOf points text ≡ ok p → RuleInRange points (p .value)
   unfolding ruleOf
@@ -164,7 +187,7 @@ module _ (points : ℕ) where
       picked (eqb (head text) (head SPAN-KEY)) e (span-range text)
       (λ d. picked (eqb (head text) (head LEVEL-KEY)) d (level-range text) (plumb-range text))
 
-  abbrev RulesInRange : List Rule → Type 0
+  abbrev pub RulesInRange : List Rule → Type 0
   RulesInRange rules = All (RuleInRange points) (level 0 0) rules
 
   rules-range : (k : ℕ) (before : List Rule) (text : List ℕ) {p : Part (List Rule)} → RulesInRange before →

@@ -8,6 +8,8 @@ pub mod Decimal
 pub mod Lines
 pub mod Printing
 pub mod Settling
+pub mod Spelling
+pub mod OneSpelling
 pub mod Example
 pub mod Runs
 pub mod program

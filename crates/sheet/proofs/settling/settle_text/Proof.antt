@@ -1,15 +1,8 @@
 -- `settle_text` meets its contract: the lengths are checked first, then what was found is printed, and the area is
 -- cleared.
-use mathlib.Core.Path.{_≡_, refl, sym, ap, _∙_}
-use native.Mathlib.Omega.{arith}
-use borrow.Author.Tests.{eq-eqb, ne-eqb}
-use lib.ListN.{length, length-map}
-use Rattle.sheet.specs.Settling.{settleTextOf}
-use Rattle.sheet.proofs.RangeLaws.{read-settles}
+use borrow.Author.Needs.{needs}
+use Rattle.sheet.proofs.FoundLaws.{found-settles}
 use Rattle.sheet.proofs.SettlingLaws.{text-settled, area-refused, slot-refused}
-use borrow.Author.Needs.{needs, length-unmapped}
-use lib.IntN.{ℤ}
-use Rattle.sheet.proofs.sheet.Rule.{the-type}
 use Rattle.sheet.proofs.settling.settle_text.Statement.{statement}
 use Rattle.sheet.proofs.settling.settle_text.Tie as tie
 
@@ -19,24 +12,11 @@ returns c = area-refused _ _ _ (c .if1 .taken)
 returns-2 : tie.Need-returns-2
 returns-2 c = slot-refused _ _ _ (c .if2 .taken)
 
--- the arrays of what was read
-coordinates-long : (k : tie.After-read) → length (k .read .result .sheet .points .coordinates) ≡ 12
-coordinates-long k =
-    length-unmapped ℤ (k .read .result .sheet .points .coordinates) 12
-    (k .read .ok .1 .1 .1 .1 .0 .1 .1 .0 .1 .1 .1 .0 .1 .0 .1)
-
-list-long : (k : tie.After-read) → length (k .read .result .sheet .rules .list) ≡ 12
-list-long k =
-    sym (length-map (k .read .result .sheet .rules .list) (the-type .to))
-    ∙ k .read .ok .1 .1 .1 .1 .0 .1 .1 .1 .1 .1 .0 .1 .1 .1 .0 .1 .0 .1
-
 print-found-requires : tie.Need-print-found-requires
 print-found-requires c κs =
-    let k = c .before .before in
-    let e = k .read .ensures in (
-      λ h. read-settles (c .before .before .before .before .before .before .before .before .args .text .now)
-          (k .read .result) (e .0) (e .1) (e .2)
-          (coordinates-long k) (list-long k) h,
+    let k = c .before .before in (
+      found-settles (c .before .before .before .before .before .before .before .before .args .text .now)
+          (k .read .result) (k .read .ok) (k .read .ensures),
       k .before .if2 .left,
       k .before .before .if1 .left,
     )
