@@ -109,6 +109,25 @@ static void expect_sheets(void)
     expect("nothing written", strcmp(slot, "as it was") == 0 && area[7] == -1, 1);
 }
 
+static void expect_spellings(void)
+{
+    const char *text = "points=+1\nat=-0,004\nlimit=0\nreach=1\nrules=00\n";
+    const char *spelling = "points=1\nat=0,4\nlimit=0\nreach=1\nrules=0\n";
+    char out[YADZVEGO_SHEET + 1], wanted[YADZVEGO_SHEET + 1] = {0};
+    memset(out, 'x', sizeof out);
+    memcpy(wanted, out, sizeof out);
+    expect("bytes short", yadzvego_spell_text(text, strlen(text), out, YADZVEGO_SHEET - 1).number, 2);
+    expect("bytes long", yadzvego_spell_text("", 0, out, YADZVEGO_SHEET + 1).number, 2);
+    expect("no text", yadzvego_spell_text("", 0, out, YADZVEGO_SHEET).number, 7);
+    expect("no bytes", yadzvego_spell_text("", 0, out, YADZVEGO_SHEET).length, 0);
+    expect("nothing written", (size_t)memcmp(out, wanted, sizeof out), 0);
+    memset(wanted, 0, YADZVEGO_SHEET);
+    strcpy(wanted, spelling);
+    YadzvegoSpellResult result = yadzvego_spell_text(text, strlen(text), out, YADZVEGO_SHEET);
+    expect("spelled", result.number == 0 && result.length == strlen(spelling), 1);
+    expect("spelling", (size_t)memcmp(out, wanted, sizeof out), 0);
+}
+
 int main(void)
 {
     const double start[4] = {3, 3, 1, 2};
@@ -135,5 +154,6 @@ int main(void)
     expect_refused("over", run, YADZVEGO_AREA, 18, 4);
     expect_lists();
     expect_sheets();
+    expect_spellings();
     return failures != 0;
 }

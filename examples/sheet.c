@@ -4,7 +4,7 @@
 
 int main(void)
 {
-    static char text[4097]; /* one byte more than a sheet may have: a longer text is refused as a whole */
+    static char text[YADZVEGO_SHEET + 1]; /* one byte more than a sheet may have: a longer text is refused as a whole */
     static char slot[YADZVEGO_SLOT];
     static double area[YADZVEGO_AREA];
     size_t length = fread(text, 1, sizeof text, stdin);

@@ -1,5 +1,5 @@
 /* Least squares under constraints over interval ends: the calls of a run by question and reply, sheets that are settled
- * by one call, the interval arithmetic, and lists and small matrices of intervals, in libyadzvego.a
+ * or spelled by one call, the interval arithmetic, and lists and small matrices of intervals, in libyadzvego.a
  * (`rt staticlib yadzvego`).
  *
  * An interval is two numbers, lo then hi. A slice is a pointer to that many numbers, and none that is written overlaps
@@ -9,7 +9,11 @@
  *   3 an end outside the domain,
  *   4 no open question, or a run that no call leaves,
  *   5 a root of a negative interval,
- *   6 a division by an interval that holds 0. */
+ *   6 a division by an interval that holds 0,
+ * and a text that is no sheet
+ *   7 for a line missing, surplus or malformed, or a text of more than 4,096 bytes,
+ *   8 for a number outside its range,
+ *   9 for a rule with equal points or one not present. */
 #ifndef YADZVEGO_H
 #define YADZVEGO_H
 
@@ -137,10 +141,8 @@ size_t yadzvego_point_length(YadzvegoRun run, size_t area_len);
  * A sheet is a text that describes points and the rules between them, in lines of a fixed order (docs/PROTOCOL.md,
  * Sheets). One call reads and settles it, and writes into the slot the lines that the program settle prints: the stop,
  * the two counts and the bits of each point's coordinates; or the one line error= and its number, which is 5 or 6 for
- * an arithmetic refusal, and for a text that is no sheet
- *   7 a line missing, surplus or malformed, or a text of more than 4,096 bytes,
- *   8 a number outside its range,
- *   9 a rule with equal points or one not present. */
+ * an arithmetic refusal, and 7, 8 or 9 for a text that is no sheet. Another call writes the one spelling of a sheet, so
+ * that texts which say the same are the same bytes. */
 
 /* How many bytes a slot has. No sheet prints as many: zeros follow, so that a slot is a string of C. */
 #define YADZVEGO_SLOT 320
@@ -150,6 +152,22 @@ size_t yadzvego_point_length(YadzvegoRun run, size_t area_len);
  * before the text is read and with nothing written. */
 size_t yadzvego_settle_text(const char *text, size_t text_len, double *area, size_t area_len, char *slot,
                             size_t slot_len);
+
+/* How many bytes a sheet has at most, and how many are lent for its one spelling, which has far fewer: zeros follow, so
+ * that they are a string of C. */
+#define YADZVEGO_SHEET 4096
+
+/* Number 0 and how many bytes were written, or the number of the refusal and 0. */
+typedef struct {
+    size_t number;
+    size_t length;
+} YadzvegoSpellResult;
+
+/* Writes the one spelling of a sheet's text: its numbers without plus signs, leading zeros or minus zero, then zeros.
+ * Two sheets get the same bytes just where their numbers and rules are equal, and what is written is spelled as it is.
+ * Bytes of another length than YADZVEGO_SHEET are refused by 2, then a text that is no sheet by 7, 8 or 9, both with
+ * nothing written. */
+YadzvegoSpellResult yadzvego_spell_text(const char *text, size_t text_len, char *out, size_t out_len);
 
 /* The interval arithmetic: every operation is rounded outward, and takes NaN, infinities and inverted ends too. */
 

@@ -94,6 +94,14 @@ pub struct ReturnedNumbers {
     pub event: EventNumbers,
 }
 
+/// `number` 0 and how many bytes were written, or a refusal's number and 0.
+#[repr(C)]
+#[derive(Clone, Copy, Debug)]
+pub struct SpellResult {
+    pub number: usize,
+    pub length: usize,
+}
+
 // No function asks anything of its caller but that a pointer and its count are those of a slice: a `safe` one takes
 // none.
 unsafe extern "C" {
@@ -216,4 +224,10 @@ unsafe extern "C" {
         slot: *mut u8,
         slot_len: usize,
     ) -> usize;
+    pub fn yadzvego_spell_text(
+        text: *const u8,
+        text_len: usize,
+        out: *mut u8,
+        out_len: usize,
+    ) -> SpellResult;
 }

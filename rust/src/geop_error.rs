@@ -18,6 +18,12 @@ pub enum GeopError {
     SqrtOfNegative = 5,
     /// A division by an interval that holds 0.
     DivisorContainsZero = 6,
+    /// A sheet's line is missing, surplus or malformed, or a sheet has too many bytes.
+    Malformed = 7,
+    /// A sheet's number is outside its range.
+    OutOfRange = 8,
+    /// A sheet's rule has equal points or one that is not present.
+    NoSuchPoint = 9,
 }
 
 /// A value, or the refusal.
@@ -29,7 +35,7 @@ impl GeopError {
         self as usize
     }
 
-    /// The refusal of that number, 1 to 6.
+    /// The refusal of that number, 1 to 9.
     pub(crate) fn numbered(number: usize) -> Self {
         match number {
             1 => GeopError::TooMany,
@@ -37,7 +43,10 @@ impl GeopError {
             3 => GeopError::OutsideDomain,
             4 => GeopError::NoOpenQuestion,
             5 => GeopError::SqrtOfNegative,
-            _ => GeopError::DivisorContainsZero,
+            6 => GeopError::DivisorContainsZero,
+            7 => GeopError::Malformed,
+            8 => GeopError::OutOfRange,
+            _ => GeopError::NoSuchPoint,
         }
     }
 
@@ -50,6 +59,11 @@ impl GeopError {
             GeopError::NoOpenQuestion => "no question is open",
             GeopError::SqrtOfNegative => "the root of a negative interval",
             GeopError::DivisorContainsZero => "a division by an interval that holds 0",
+            GeopError::Malformed => "a line of a sheet is missing, surplus or malformed",
+            GeopError::OutOfRange => "a number of a sheet is outside its range",
+            GeopError::NoSuchPoint => {
+                "a rule of a sheet has equal points or one that is not present"
+            }
         }
     }
 }

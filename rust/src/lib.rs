@@ -2,9 +2,10 @@
 //!
 //! [`begin`], [`reply`], [`reply_none`] and [`point`] are the archive's calls: the caller owns the run and the area,
 //! and hands both on from call to call. [`minimize`] makes a whole run of them, and [`sheets::settle`] that of a text
-//! which describes points and the rules between them. The module [`solvers::least_squares`] has the names and shapes of
-//! geop's module of that name, with its `minimize` by `await`, and [`scalars`] those of its `Scalar`, so that a caller
-//! of geop's changes the crate that it imports. docs/DIFFERENCES.md names what cannot be the same.
+//! which describes points and the rules between them; [`sheets::spell`] has the one spelling of such a text. The module
+//! [`solvers::least_squares`] has the names and shapes of geop's module of that name, with its `minimize` by `await`,
+//! and [`scalars`] those of its `Scalar`, so that a caller of geop's changes the crate that it imports.
+//! docs/DIFFERENCES.md names what cannot be the same.
 //!
 //! ```
 //! use yadzvego::scalars::Scalar;

@@ -1,8 +1,9 @@
-//! Sheets by the archive: the paper's example, each error with the order of errors, and what a call leaves.
+//! Sheets by the archive: the paper's example, each error with the order of errors, the one spelling, and what a call
+//! leaves.
 
 use yadzvego::AREA;
-use yadzvego::geop_error::GeopError::WrongLength;
-use yadzvego::sheets::{MOST_BYTES, SLOT, settle, settle_text};
+use yadzvego::geop_error::GeopError::{self, WrongLength};
+use yadzvego::sheets::{MOST_BYTES, SLOT, settle, settle_text, spell, spell_text};
 
 const ONE_POINT: &str = "points=1\nat=3,4\nlimit=0\nreach=1\nrules=0\n";
 const ONE_POINT_PRINTED: &str =
@@ -15,10 +16,16 @@ fn ruled(rule: &str) -> String {
 
 fn assert_error(text: &str, number: usize) {
     assert_eq!(settle(text), format!("error={number}\n"), "{text:?}");
+    assert_eq!(
+        spell(text).map_err(GeopError::number),
+        Err(number),
+        "{text:?}"
+    );
 }
 
 fn assert_accepted(text: &str) {
     assert!(settle(text).starts_with("stop="), "{text:?}");
+    assert!(spell(text).is_ok(), "{text:?}");
 }
 
 #[test]
@@ -173,4 +180,51 @@ fn what_a_call_leaves() {
         }
         assert_eq!((area, slot), (vec![-1.0; numbers], vec![1; bytes]));
     }
+}
+
+#[test]
+fn the_one_spelling() {
+    let rule = |rule: &str| spell(ruled(rule)).expect("it is a sheet");
+    for spelled in [
+        "span=0,1,50\n",
+        "span=-0,1,50\n",
+        "span=+0,+1,+50\n",
+        "span=000,01,0000000000000000000000050\n",
+    ] {
+        assert_eq!(rule(spelled), ruled("span=0,1,50\n"));
+    }
+    assert_ne!(rule("level=0,1\n"), rule("level=1,0\n"));
+    assert_ne!(rule("level=0,1\n"), rule("plumb=0,1\n"));
+    let spelled = "points=+01\nat=-00,-0010\nlimit=+0\nreach=007\nrules=-0\n";
+    let spelling = "points=1\nat=0,-10\nlimit=0\nreach=7\nrules=0\n";
+    assert_eq!(spell(spelled).as_deref(), Ok(spelling));
+    assert_eq!(settle(spelled), settle(spelling));
+    let far = "points=1\nat=-10000000,10000000\nlimit=200\nreach=10000000\nrules=0\n";
+    assert_eq!(spell(far).as_deref(), Ok(far));
+}
+
+#[test]
+fn what_a_spelling_leaves() {
+    let mut out = [1; MOST_BYTES];
+    let length = spell_text(ONE_POINT.as_bytes(), &mut out).expect("it is a sheet");
+    let (spelling, rest) = out.split_at(length);
+    assert_eq!(spelling, ONE_POINT.as_bytes());
+    assert!(rest.iter().all(|&byte| byte == 0));
+
+    for bytes in [0, MOST_BYTES - 1, MOST_BYTES + 1] {
+        let mut out = vec![1; bytes];
+        for text in [ONE_POINT, ""] {
+            assert_eq!(spell_text(text.as_bytes(), &mut out), Err(WrongLength));
+        }
+        assert_eq!(out, vec![1; bytes]);
+    }
+    let mut out = [1; MOST_BYTES];
+    for (text, error) in [
+        ("points=1\n", GeopError::Malformed),
+        ("points=0\n", GeopError::OutOfRange),
+        (&ruled("level=1,1\n"), GeopError::NoSuchPoint),
+    ] {
+        assert_eq!(spell_text(text.as_bytes(), &mut out), Err(error));
+    }
+    assert_eq!(out, [1; MOST_BYTES]);
 }
