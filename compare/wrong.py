@@ -67,6 +67,15 @@ WRONG = [
     ),
     # One turn-down more before number 4.
     ("rule", "hostile", COMPARE, "hostile/rule.rs", "1100 * (iterations + 1)", "1100 * iterations + 1101"),
+    # A zero kept behind a minus sign.
+    (
+        "spelling",
+        "sheets",
+        COMPARE,
+        "spellings/normalised.rs",
+        "size if sign == b\"-\" => [b\"-\", size].concat(),",
+        "size if sign == b\"-\" => [b\"-0\", size].concat(),",
+    ),
     # Minus zero below zero.
     ("sheet", "sheets", COMPARE, "sheets/reader.rs", "negative: minus && !digits.is_empty(),", "negative: minus,"),
 ]

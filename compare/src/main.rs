@@ -1,7 +1,8 @@
 //! Compares the crates interval, linear and run with the Rust that they follow: function by function, the pieces of a
-//! run, whole runs question by question, calls that must be refused, and whole sheets. A NaN equals a NaN, other
-//! numbers compare by bits, refusals by number. Of what differs the smallest case that is found is printed, as a case
-//! of the fixed list. The exit status is 1 where any answer differs, or where runs or sheets never show what they must.
+//! run, whole runs question by question, calls that must be refused, and whole sheets; and the one spelling of a sheet
+//! with that by its text alone. A NaN equals a NaN, other numbers compare by bits, refusals by number. Of what differs
+//! the smallest case that is found is printed, as a case of the fixed list. The exit status is 1 where any answer
+//! differs, or where runs or sheets never show what they must.
 
 #[path = "../../rust/src/archive.rs"]
 mod archive;
@@ -10,13 +11,14 @@ mod hostile;
 mod interval;
 mod linear;
 mod parts;
+mod programs;
 mod progress;
 mod run;
 mod run_c;
 mod runs;
-mod settle;
 mod sheets;
 mod shrink;
+mod spellings;
 mod words;
 
 use std::process::ExitCode;
@@ -34,6 +36,8 @@ struct Scale {
     hostile: u64,
     /// Sheets that are accepted; damaged ones go with them.
     sheets: u64,
+    /// Sheets that are spelled, each in several ways; damaged ones go with them.
+    spellings: u64,
 }
 
 impl Scale {
@@ -46,15 +50,17 @@ impl Scale {
             runs: random / 50,
             hostile: random / 5 * 2,
             sheets: random / 50,
+            spellings: random / 10,
         }
     }
 
-    /// More runs, hostile calls and sheets.
+    /// More runs, hostile calls, sheets and spellings.
     fn full(random: u64) -> Scale {
         Scale {
             runs: random / 10,
             hostile: random * 10,
             sheets: random / 10,
+            spellings: random / 2,
             ..Scale::test(random)
         }
     }
@@ -146,16 +152,20 @@ fn settings() -> Settings {
 
 fn write_list(name: &str, path: &str, seed: u64) {
     if name == "sheets" {
-        let written = sheets::examples::write(path);
+        let written = programs::write(path);
         let count = written.unwrap_or_else(|error| panic!("{path}: {error}"));
         println!("what {count} sheets print written to {path}");
+        return;
+    }
+    if let Some(printed) = programs::printed(name) {
+        std::fs::write(path, printed).unwrap_or_else(|error| panic!("{path}: {error}"));
+        println!("what {name} prints written to {path}");
         return;
     }
     let lines = match name {
         "interval_replay" => interval::list::lines(seed),
         "linear_replay" => linear::list::lines(seed),
         "run_replay" => runs::list::runs(seed),
-        "settle" => settle::lines(),
         _ => refuse(&format!("no list for {name}")),
     };
     std::fs::write(path, lines.concat()).unwrap_or_else(|error| panic!("{path}: {error}"));
@@ -189,8 +199,9 @@ fn main() -> ExitCode {
     total += run::compare(seed, scale.pieces);
     total += runs::compare(seed, scale.runs);
     total += hostile::compare(seed, scale.hostile);
-    total += settle::compare();
+    total += programs::compare();
     total += sheets::compare(seed, scale.sheets);
+    total += spellings::compare(seed, scale.spellings);
     println!("{} compared, {} differ", total.compared, total.differ);
     if total.differ == 0 {
         ExitCode::SUCCESS

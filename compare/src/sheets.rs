@@ -4,12 +4,11 @@
 pub mod call;
 mod damaged;
 mod drawn;
-pub mod examples;
-mod named;
+pub mod named;
 pub mod reader;
 pub mod rows;
 pub mod settled;
-mod smaller;
+pub mod smaller;
 pub mod spelled;
 
 use crate::Count;
@@ -156,7 +155,10 @@ impl Sum {
     /// Prints what was compared; what never occurred counts as a difference.
     fn told(self) -> Count {
         if let Some((text, fault)) = self.least {
-            print!("{}", smaller::least(text, fault));
+            let mut random = Random::new(0);
+            let mut lent = Lent::new();
+            let fault_of = |text: &[u8]| lent.fault_of(text, &mut random);
+            print!("{}", smaller::least(text, fault, fault_of));
         }
         for wrong in self.told.iter().take(TOLD) {
             println!("{wrong}");

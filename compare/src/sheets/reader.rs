@@ -21,6 +21,7 @@ pub const REACH: Range = ["1", "10000000"];
 pub const RULES: Range = ["0", "12"];
 pub const DISTANCE: Range = ["1", "10000000"];
 
+#[derive(PartialEq)]
 pub struct Sheet {
     /// x0, y0, x1 and so on.
     pub at: Vec<i64>,

@@ -6,7 +6,7 @@ use geop_core_math::solvers::least_squares::Evaluation;
 /// The greatest magnitude of an end, 2^400.
 const MOST: f64 = f64::from_bits(0x58F0_0000_0000_0000);
 
-#[derive(Clone, Copy)]
+#[derive(Clone, Copy, PartialEq)]
 pub enum Rule {
     Span(usize, usize, i64),
     Level(usize, usize),

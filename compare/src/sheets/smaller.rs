@@ -1,8 +1,7 @@
 //! Smaller texts that still differ: lines and bytes left out, digits lowered.
 
-use crate::interval::operands::Random;
-use crate::sheets::call::{Fault, Lent};
 use crate::shrink::{Case, smallest};
+use std::fmt::Display;
 
 #[derive(Clone)]
 struct Text(Vec<u8>);
@@ -86,12 +85,13 @@ impl Case for Text {
 }
 
 /// The smallest text found that differs, and how.
-pub fn least(text: Vec<u8>, fault: Fault) -> String {
-    let mut random = Random::new(0);
-    let mut lent = Lent::new();
-    let mut fault_of = |text: &Text| lent.fault_of(&text.0, &mut random);
-    let least = smallest(Text(text), |text| fault_of(text).is_some());
-    let fault = fault_of(&least).unwrap_or(fault);
+pub fn least<F: Display>(
+    text: Vec<u8>,
+    fault: F,
+    mut fault_of: impl FnMut(&[u8]) -> Option<F>,
+) -> String {
+    let least = smallest(Text(text), |text| fault_of(&text.0).is_some());
+    let fault = fault_of(&least.0).unwrap_or(fault);
     let (bytes, text) = (least.0.len(), least.0.escape_ascii());
     format!("sheet of {bytes} bytes: \"{text}\"\n{fault}\n")
 }
