@@ -15,27 +15,29 @@ use Rattle.run.specs.declared.state.Returned.{Returned}
 use Rattle.run.specs.declared.state.State.{State}
 use Rattle.call_list.specs.CallList.{noArea, isNone, callResultOf, Called}
 
-module _ (st : State) (a xs : List Float) (r : Returned) where
+module _ (st : State) (a : List Float) (m : ℕ) (xs : List Float) (r : Returned) where
   abbrev run : Run
   run = record { state = st; area = a }
 
-  by-same : (b : Bool) (a′ : List Float) (f : Floats xs) → afterCall r a′ ≡ pick b (replyNoneOf st a) (replyOf st a xs)
-      → callResultOf r a′ ≡ callResult run (pick b (none same) (rows same xs f))
+  by-same : (b : Bool) (a′ : List Float) (f : Floats xs)
+      → afterCall r a′ ≡ pick b (replyNoneOf st a) (replyOf st a m xs)
+      → callResultOf r a′ ≡ callResult run (pick b (none same) (rows same m xs f))
   by-same true a′ f e = ap (λ (l : AfterCall). callResultBy l (l .area)) e
   by-same false a′ f e = ap (λ (l : AfterCall). callResultBy l (l .area)) e
 
   pub called-same : (code : ℕ) (a′ : List Float) → code % 2 ≡ 0
-      → afterCall r a′ ≡ pick (isNone code) (replyNoneOf st a) (replyOf st a xs)
-      → Called run code xs (callResultOf r a′)
+      → afterCall r a′ ≡ pick (isNone code) (replyNoneOf st a) (replyOf st a m xs)
+      → Called run code m xs (callResultOf r a′)
   called-same code a′ even e f = rw (eq-eqb _ _ even) (by-same (isNone code) a′ f e)
 
-  by-none : (b : Bool) (f : Floats xs) → afterCall r [] ≡ pick b (replyNoneOf st []) (replyOf st [] xs)
-      → callResultOf r a ≡ callResult run (pick b (none noArea) (rows noArea xs f))
+  by-none : (b : Bool) (f : Floats xs) → afterCall r [] ≡ pick b (replyNoneOf st []) (replyOf st [] m xs)
+      → callResultOf r a ≡ callResult run (pick b (none noArea) (rows noArea m xs f))
   by-none true f e = ap (λ (l : AfterCall). callResultBy l a) e
   by-none false f e = ap (λ (l : AfterCall). callResultBy l a) e
 
   pub called-none : (code : ℕ) (ys : List Float)
-      → (code % 2 ≡ 0 → ⊥) → length ys ≡ 0 → afterCall r ys ≡ pick (isNone code) (replyNoneOf st []) (replyOf st [] xs)
-      → Called run code xs (callResultOf r (ys ++ a))
+      → (code % 2 ≡ 0 → ⊥) → length ys ≡ 0
+      → afterCall r ys ≡ pick (isNone code) (replyNoneOf st []) (replyOf st [] m xs)
+      → Called run code m xs (callResultOf r (ys ++ a))
   called-none code [] odd l e f = rw (ne-eqb _ _ odd) (by-none (isNone code) f e)
-  called-none code (y ∷ ys) odd l e f = absurd (let m : suc (length ys) ≡ 0 = l in omega (arith, m))
+  called-none code (y ∷ ys) odd l e f = absurd (let n : suc (length ys) ≡ 0 = l in omega (arith, n))

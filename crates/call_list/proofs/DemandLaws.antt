@@ -2,7 +2,7 @@
 -- holds there and the claim of the last call.
 use Prim.Native.Nat.{ℕ, _≤_, _%_}
 use mathlib.Core.Bool.{Bool, true, false}
-use mathlib.Core.Logic.{inl}
+use mathlib.Core.Logic.{inl, inr}
 use mathlib.Core.Path.{_≡_, refl, sym, ap, _∙_, subst}
 use mathlib.Core.List.{List, [], _∷_, _++_}
 use native.Mathlib.Omega.{arith}
@@ -54,21 +54,24 @@ use Rattle.call_list.proofs.FoldLaws.{Playing, floats-of, play-all}
 
 -- ---- each call that a code names is allowed: an area of no numbers is refused
 
-code-allowed : (z : Sizes) (code : ℕ) (xs : List Float) (f : Floats xs) → Allowed z (callOf code xs f)
-code-allowed z code xs f = by (isNone code) (eqb (code % 2) 0)
+code-allowed : (z : Sizes) (code m : ℕ) (xs : List Float) (f : Floats xs) → Allowed z (callOf code m xs f)
+code-allowed z code m xs f = by (isNone code) (eqb (code % 2) 0)
   where
-    by : (b e : Bool) → Allowed z (pick b (none (pick e same noArea)) (rows (pick e same noArea) xs f))
+    by : (b e : Bool) → Allowed z (pick b (none (pick e same noArea)) (rows (pick e same noArea) m xs f))
     by true true = tt
     by true false = λ e. absurd (omega (arith, e))
     by false true = tt
-    by false false = inl (λ e. absurd (omega (arith, e)))
+    by false false = inr (inl (λ e. absurd (omega (arith, e))))
 
-calls-allowed : (z : Sizes) (codes : List ℕ) (xs : List Float) (f : Floats xs) → AllAllowed z (callsOf codes xs f)
+calls-allowed :
+    (z : Sizes) (codes ms : List ℕ) (xs : List Float) (f : Floats xs) → AllAllowed z (callsOf codes ms xs f)
 unfolding callsOf
-calls-allowed z [] xs f = tt
-calls-allowed z (code ∷ codes) xs f =
-    let k = countOf code in
-    (code-allowed z code (take k xs) (floats-take k xs f), calls-allowed z codes (drop k xs) (floats-drop k xs f))
+calls-allowed z [] ms xs f = tt
+calls-allowed z (code ∷ codes) ms xs f =
+    let k = countOf code in (
+      code-allowed z code (getD ms 0 0) (take k xs) (floats-take k xs f),
+      calls-allowed z codes (drop 1 ms) (drop k xs) (floats-drop k xs f),
+    )
 
 -- ---- demand 3 at the end of a list
 
@@ -96,20 +99,23 @@ at-last z h p (d ∷ ds) c along free clear =
     at-last z (entered h (p .run) d q) q ds c (along .1 (free .0) (clear .0) .1) (free .1) (clear .1)
 
 -- one more code is one more call
-pub record Snoc (before : List ℕ) (code : ℕ) (xs : List Float) (f : Floats xs) : Type 0 where
+pub record Snoc (before : List ℕ) (code : ℕ) (ms : List ℕ) (xs : List Float) (f : Floats xs) : Type 0 where
   pub call : Call
-  pub calls-are : callsOf (before ++ (code ∷ [])) xs f ≡ callsOf before xs f ++ (call ∷ [])
+  pub calls-are : callsOf (before ++ (code ∷ [])) ms xs f ≡ callsOf before ms xs f ++ (call ∷ [])
 
-snoc : (before : List ℕ) (code : ℕ) (xs : List Float) (f : Floats xs) → Snoc before code xs f
+snoc : (before : List ℕ) (code : ℕ) (ms : List ℕ) (xs : List Float) (f : Floats xs) → Snoc before code ms xs f
 unfolding callsOf
-snoc [] code xs f =
-    record { call = callOf code (take (countOf code) xs) (floats-take (countOf code) xs f); calls-are = refl }
-snoc (d ∷ ds) code xs f =
+snoc [] code ms xs f =
+    record {
+      call = callOf code (getD ms 0 0) (take (countOf code) xs) (floats-take (countOf code) xs f);
+      calls-are = refl;
+    }
+snoc (d ∷ ds) code ms xs f =
     let k = countOf d in
-    let s = snoc ds code (drop k xs) (floats-drop k xs f) in
+    let s = snoc ds code (drop 1 ms) (drop k xs) (floats-drop k xs f) in
     record {
       call = s .call;
-      calls-are = ap (λ (cs : List Call). callOf d (take k xs) (floats-take k xs f) ∷ cs) (s .calls-are);
+      calls-are = ap (λ (cs : List Call). callOf d (getD ms 0 0) (take k xs) (floats-take k xs f) ∷ cs) (s .calls-are);
     }
 
 module _ (z : Sizes) (start : List Float) (max : Scalar) (a : List Float) where
@@ -120,43 +126,43 @@ module _ (z : Sizes) (start : List Float) (max : Scalar) (a : List Float) where
   Last before calls = LastClaim z b before calls (playedFrom b calls)
 
   last :
-      (before : List ℕ) (code : ℕ) (xs : List Float) (f : Floats xs) →
-      Accepted b → Last (callsOf before xs f) (callsOf (before ++ (code ∷ [])) xs f)
+      (before : List ℕ) (code : ℕ) (ms : List ℕ) (xs : List Float) (f : Floats xs) →
+      Accepted b → Last (callsOf before ms xs f) (callsOf (before ++ (code ∷ [])) ms xs f)
   unfolding playedTo
-  last before code xs f ok =
-      let s = snoc before code xs f in
-      let free = subst (AllAllowed z) (s .calls-are) (calls-allowed z (before ++ (code ∷ [])) xs f) in
-      subst (Last (callsOf before xs f)) (sym (s .calls-are))
+  last before code ms xs f ok =
+      let s = snoc before code ms xs f in
+      let free = subst (AllAllowed z) (s .calls-are) (calls-allowed z (before ++ (code ∷ [])) ms xs f) in
+      subst (Last (callsOf before ms xs f)) (sym (s .calls-are))
       (λ clear.
-      at-last z (begun (runOf b)) (playedFrom b []) (callsOf before xs f) (s .call)
-      (demand3 z start max a ok (callsOf before xs f ++ (s .call ∷ []))) free clear)
+      at-last z (begun (runOf b)) (playedFrom b []) (callsOf before ms xs f) (s .call)
+      (demand3 z start max a ok (callsOf before ms xs f ++ (s .call ∷ []))) free clear)
 
   between :
-      (codes : List ℕ) (xs : List Float) (f : Floats xs) →
+      (codes ms : List ℕ) (xs : List Float) (f : Floats xs) →
       Accepted b →
-      Clear (runOf b) (callsOf codes xs f) →
-      Between z (historyFrom b (callsOf codes xs f)) (playedFrom b (callsOf codes xs f) .run)
+      Clear (runOf b) (callsOf codes ms xs f) →
+      Between z (historyFrom b (callsOf codes ms xs f)) (playedFrom b (callsOf codes ms xs f) .run)
   unfolding playedTo
-  between codes xs f ok clear =
-      at-end z (begun (runOf b)) (playedFrom b []) (callsOf codes xs f) (demand3 z start max a ok (callsOf codes xs f))
-      (calls-allowed z codes xs f) clear
+  between codes ms xs f ok clear =
+      at-end z (begun (runOf b)) (playedFrom b []) (callsOf codes ms xs f)
+      (demand3 z start max a ok (callsOf codes ms xs f)) (calls-allowed z codes ms xs f) clear
 
   plays :
-      (codes : List ℕ) (xs : List Float) (p : CallResult) (f : Floats xs) →
-      p ≡ playedFrom b (callsOf codes xs f) → Plays z start max a codes xs p
-  plays codes xs p f e =
+      (codes ms : List ℕ) (xs : List Float) (p : CallResult) (f : Floats xs) →
+      p ≡ playedFrom b (callsOf codes ms xs f) → Plays z start max a codes ms xs p
+  plays codes ms xs p f e =
       record {
         floats = f;
         is-fold = e;
-        along = λ ok. demand3 z start max a ok (callsOf codes xs f);
-        between = λ ok clear. rw e (between codes xs f ok clear);
-        last = λ ok before code codes-are. rw (e, codes-are) (last before code xs f ok);
+        along = λ ok. demand3 z start max a ok (callsOf codes ms xs f);
+        between = λ ok clear. rw e (between codes ms xs f ok clear);
+        last = λ ok before code codes-are. rw (e, codes-are) (last before code ms xs f ok);
       }
 
   -- where the loop ends
-  pub play-ends : (codes : List ℕ) (xs : List Float) (r₀ : Returned) (a₀ : List Float) {p : CallResult} {i at : ℕ}
-      → afterCall r₀ a₀ ≡ b → Playing (callResultOf r₀ a₀) codes xs p i at → length codes ≤ i
-      → ((j : ℕ) → T (fits binary64 (getD xs j nan))) → Plays z start max a codes xs p
-  play-ends codes xs r₀ a₀ {p} begins w over h =
+  pub play-ends : (codes ms : List ℕ) (xs : List Float) (r₀ : Returned) (a₀ : List Float) {p : CallResult} {i at : ℕ}
+      → afterCall r₀ a₀ ≡ b → Playing (callResultOf r₀ a₀) codes ms xs p i at → length codes ≤ i
+      → ((j : ℕ) → T (fits binary64 (getD xs j nan))) → Plays z start max a codes ms xs p
+  play-ends codes ms xs r₀ a₀ {p} begins w over h =
       let f = floats-of xs nan h in
-      plays codes xs p f (play-all w over f ∙ ap (λ (l : AfterCall). playedFrom l (callsOf codes xs f)) begins)
+      plays codes ms xs p f (play-all w over f ∙ ap (λ (l : AfterCall). playedFrom l (callsOf codes ms xs f)) begins)

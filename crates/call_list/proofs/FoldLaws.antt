@@ -8,7 +8,7 @@ use native.Mathlib.Nat.{zero-min, min-zero, suc-min-suc}
 use lib.Dec.{T}
 use lib.Ieee.{Float, binary64, fits}
 use lib.ListN.{length, getD, take, drop, length-drop, drop-of-length-le}
-use lib.Seq.{drop-cons, drop-drop}
+use lib.Seq.{drop-cons, drop-drop, getD-drop}
 use Rattle.run.specs.Demand.{Floats, CallResult}
 use Rattle.call_list.specs.CallList.{countOf, floats-take, floats-drop, callsOf, Called, playedTo}
 
@@ -31,36 +31,38 @@ drop-min (suc k) (y ∷ ys) = ap (λ (j : ℕ). drop j (y ∷ ys)) (suc-min-suc 
 
 -- ---- the loop
 
--- the codes and numbers that are left, played on from p, give whole
-pub record Rest (whole p : CallResult) (codes : List ℕ) (ys : List Float) : Type 0 where
+-- the codes, counts and numbers that are left, played on from p, give whole
+pub record Rest (whole p : CallResult) (codes ms : List ℕ) (ys : List Float) : Type 0 where
   pub floats : Floats ys
-  pub same : playedTo p (callsOf codes ys floats) ≡ whole
+  pub same : playedTo p (callsOf codes ms ys floats) ≡ whole
 
-pub record Playing (p₀ : CallResult) (codes : List ℕ) (xs : List Float) (p : CallResult) (i at : ℕ) : Type 0 where
+pub record Playing (p₀ : CallResult) (codes ms : List ℕ) (xs : List Float) (p : CallResult) (i at : ℕ)
+    : Type 0 where
   pub within : at ≤ length xs
-  pub rest : (g : Floats xs) → Rest (playedTo p₀ (callsOf codes xs g)) p (drop i codes) (drop at xs)
+  pub rest : (g : Floats xs) → Rest (playedTo p₀ (callsOf codes ms xs g)) p (drop i codes) (drop i ms) (drop at xs)
 
-pub playing : (p : CallResult) (codes : List ℕ) (xs : List Float) → Playing p codes xs p 0 0
-playing p codes xs = record { within = omega arith; rest = λ g. record { floats = g; same = refl } }
+pub playing : (p : CallResult) (codes ms : List ℕ) (xs : List Float) → Playing p codes ms xs p 0 0
+playing p codes ms xs = record { within = omega arith; rest = λ g. record { floats = g; same = refl } }
 
--- one code and its numbers
-rest-more : {whole p q : CallResult} (code : ℕ) (codes : List ℕ) (ys : List Float) → Rest whole p (code ∷ codes) ys
-    → Called (p .run) code (take (countOf code) ys) q → Rest whole q codes (drop (countOf code) ys)
+-- one code, its count and its numbers
+rest-more : {whole p q : CallResult} (code : ℕ) (codes ms : List ℕ) (ys : List Float)
+    → Rest whole p (code ∷ codes) ms ys → Called (p .run) code (getD ms 0 0) (take (countOf code) ys) q
+    → Rest whole q codes (drop 1 ms) (drop (countOf code) ys)
 unfolding playedTo callsOf
-rest-more {whole} {p} {q} code codes ys r called =
+rest-more {whole} {p} {q} code codes ms ys r called =
     let k = countOf code in
     record {
       floats = floats-drop k ys (r .floats);
-      same = ap (λ (x : CallResult). playedTo x (callsOf codes (drop k ys) (floats-drop k ys (r .floats))))
+      same = ap (λ (x : CallResult). playedTo x (callsOf codes (drop 1 ms) (drop k ys) (floats-drop k ys (r .floats))))
           (called (floats-take k ys (r .floats))) ∙ r .same;
     }
 
-module _ {p₀ : CallResult} {codes : List ℕ} {xs : List Float} {p : CallResult} {i at : ℕ}
-    (playing : Playing p₀ codes xs p i at) where
-  pub play-more : (d e : ℕ) {q : CallResult} → i < length codes
-      → e ≡ at + min (countOf (getD codes i d)) (length xs - at)
-      → Called (p .run) (getD codes i d) (take (e - at) (drop at xs)) q → Playing p₀ codes xs q (i + 1) e
-  play-more d e {q} h at-end called = record { within = omega (arith, at-end, playing .within); rest = more }
+module _ {p₀ : CallResult} {codes ms : List ℕ} {xs : List Float} {p : CallResult} {i at : ℕ}
+    (playing : Playing p₀ codes ms xs p i at) where
+  pub play-more : (d e m : ℕ) {q : CallResult} → i < length codes
+      → e ≡ at + min (countOf (getD codes i d)) (length xs - at) → m ≡ getD ms i 0
+      → Called (p .run) (getD codes i d) m (take (e - at) (drop at xs)) q → Playing p₀ codes ms xs q (i + 1) e
+  play-more d e m {q} h at-end m-is called = record { within = omega (arith, at-end, playing .within); rest = more }
     where
       ys : List Float
       ys = drop at xs
@@ -84,15 +86,23 @@ module _ {p₀ : CallResult} {codes : List ℕ} {xs : List Float} {p : CallResul
       codes-are : drop i codes ≡ code ∷ drop (i + 1) codes
       codes-are = drop-cons codes i d h ∙ ap (λ (n : ℕ). code ∷ drop n codes) (let u : suc i ≡ i + 1 = omega arith in u)
 
-      more : (g : Floats xs) → Rest (playedTo p₀ (callsOf codes xs g)) q (drop (i + 1) codes) (drop e xs)
-      more g =
-          subst
-          (λ (l : List Float). Rest (playedTo p₀ (callsOf codes xs g)) q (drop (i + 1) codes) l)
-          drop-is
-          (rest-more code (drop (i + 1) codes) ys
-          (subst (λ (l : List ℕ). Rest (playedTo p₀ (callsOf codes xs g)) p l ys) codes-are (playing .rest g))
-          (subst (λ (l : List Float). Called (p .run) code l q) take-is called))
+      first-is : m ≡ getD (drop i ms) 0 0
+      first-is = m-is ∙ ap (λ (n : ℕ). getD ms n 0) (let u : i ≡ i + 0 = omega arith in u) ∙ sym (getD-drop i ms 0 0)
 
-  pub play-all : length codes ≤ i → (g : Floats xs) → p ≡ playedTo p₀ (callsOf codes xs g)
+      rest-is : drop 1 (drop i ms) ≡ drop (i + 1) ms
+      rest-is = drop-drop 1 i ms
+
+      more : (g : Floats xs)
+          → Rest (playedTo p₀ (callsOf codes ms xs g)) q (drop (i + 1) codes) (drop (i + 1) ms) (drop e xs)
+      more g =
+          let whole = playedTo p₀ (callsOf codes ms xs g) in
+          subst (λ (l : List ℕ). Rest whole q (drop (i + 1) codes) l (drop e xs)) rest-is
+          (subst (λ (l : List Float). Rest whole q (drop (i + 1) codes) (drop 1 (drop i ms)) l) drop-is
+          (rest-more code (drop (i + 1) codes) (drop i ms) ys
+          (subst (λ (l : List ℕ). Rest whole p l (drop i ms) ys) codes-are (playing .rest g))
+          (subst (λ (n : ℕ). Called (p .run) code n (take k ys) q) first-is
+          (subst (λ (l : List Float). Called (p .run) code m l q) take-is called))))
+
+  pub play-all : length codes ≤ i → (g : Floats xs) → p ≡ playedTo p₀ (callsOf codes ms xs g)
   unfolding playedTo callsOf
   play-all h g = rw (drop-of-length-le codes h) at (playing .rest g .same)

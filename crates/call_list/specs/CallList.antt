@@ -7,7 +7,7 @@ use mathlib.Core.Bool.{Bool, false}
 use mathlib.Core.List.{List, [], _∷_, _++_}
 use lib.Dec.{ltb, eqb}
 use lib.Ieee.{Float}
-use lib.ListN.{take, drop}
+use lib.ListN.{take, drop, getD}
 use Rattle.interval.specs.declared.Scalar.{Scalar}
 use Rattle.interval.specs.Scalar.{pick}
 use Rattle.run.specs.Calls.{AfterCall, Accepted, beginOf}
@@ -54,8 +54,8 @@ isNone code = ltb code 2
 abbrev pub countOf : ℕ → ℕ
 countOf code = code / 2 - 1
 
-abbrev pub callOf : ℕ → (xs : List Float) → Floats xs → Call
-callOf code xs f = pick (isNone code) (none (lentOf code)) (rows (lentOf code) xs f)
+abbrev pub callOf : ℕ → ℕ → (xs : List Float) → Floats xs → Call
+callOf code m xs f = pick (isNone code) (none (lentOf code)) (rows (lentOf code) m xs f)
 
 -- a part of numbers of binary64 is of binary64
 pub floats-take : (k : ℕ) (xs : List Float) → Floats xs → Floats (take k xs)
@@ -68,12 +68,14 @@ floats-drop zero xs f = f
 floats-drop (suc k) [] f = tt
 floats-drop (suc k) (x ∷ xs) f = floats-drop k xs (f .1)
 
--- one call for each code, whose rows follow each other in xs; where fewer numbers are left, the rows are those
-unfoldable pub callsOf : List ℕ → (xs : List Float) → Floats xs → List Call
-callsOf [] xs f = []
-callsOf (code ∷ codes) xs f =
+-- One call for each code, whose rows follow each other in xs; where fewer numbers are left, the rows are those. The
+-- counts of constraint rows are in ms, one for each call; where fewer are left, there are none.
+unfoldable pub callsOf : List ℕ → List ℕ → (xs : List Float) → Floats xs → List Call
+callsOf [] ms xs f = []
+callsOf (code ∷ codes) ms xs f =
     let k = countOf code in
-    callOf code (take k xs) (floats-take k xs f) ∷ callsOf codes (drop k xs) (floats-drop k xs f)
+    callOf code (getD ms 0 0) (take k xs) (floats-take k xs f)
+    ∷ callsOf codes (drop 1 ms) (drop k xs) (floats-drop k xs f)
 
 -- ---- what they leave
 
@@ -82,8 +84,8 @@ abbrev pub callResultOf : Returned → List Float → CallResult
 callResultOf r a = record { event = r .event; run = record { state = r .state; area = a } }
 
 -- the call that a code names
-abbrev pub Called : Run → ℕ → List Float → CallResult → Type 0
-Called r code xs p = (f : Floats xs) → p ≡ callResult r (callOf code xs f)
+abbrev pub Called : Run → ℕ → ℕ → List Float → CallResult → Type 0
+Called r code m xs p = (f : Floats xs) → p ≡ callResult r (callOf code m xs f)
 
 -- one call after another
 unfoldable pub playedTo : CallResult → List Call → CallResult
@@ -118,38 +120,40 @@ abbrev pub LastClaim : Sizes → AfterCall → List Call → List Call → CallR
 LastClaim z b before calls p =
     Clear (runOf b) calls → Claim z (historyFrom b before) (historyFrom b calls) (playedFrom b before .run) p
 
-pub record ListPlayed (z : Sizes) (b : AfterCall) (codes : List ℕ) (xs : List Float) (p : CallResult) : Type 0 where
+pub record ListPlayed (z : Sizes) (b : AfterCall) (codes ms : List ℕ) (xs : List Float) (p : CallResult)
+    : Type 0 where
   pub floats : Floats xs
-  pub is-fold : p ≡ playedFrom b (callsOf codes xs floats)
+  pub is-fold : p ≡ playedFrom b (callsOf codes ms xs floats)
   -- demand 3 of the begin and all the calls
-  pub along : Accepted b → Along z (begun (runOf b)) (runOf b) (callsOf codes xs floats)
+  pub along : Accepted b → Along z (begun (runOf b)) (runOf b) (callsOf codes ms xs floats)
   -- and of what is left, by any number of calls, also by none
   pub between :
       Accepted b →
-      Clear (runOf b) (callsOf codes xs floats) → Between z (historyFrom b (callsOf codes xs floats)) (p .run)
+      Clear (runOf b) (callsOf codes ms xs floats) → Between z (historyFrom b (callsOf codes ms xs floats)) (p .run)
   pub last :
       Accepted b →
       (before : List ℕ) (code : ℕ) →
-      codes ≡ before ++ (code ∷ []) → LastClaim z b (callsOf before xs floats) (callsOf codes xs floats) p
+      codes ≡ before ++ (code ∷ []) → LastClaim z b (callsOf before ms xs floats) (callsOf codes ms xs floats) p
 
-abbrev pub Plays : Sizes → List Float → Scalar → List Float → List ℕ → List Float → CallResult → Type 0
-Plays z start max a codes xs p = ListPlayed z (beginOf z start max a) codes xs p
+abbrev pub Plays : Sizes → List Float → Scalar → List Float → List ℕ → List ℕ → List Float → CallResult → Type 0
+Plays z start max a codes ms xs p = ListPlayed z (beginOf z start max a) codes ms xs p
 
 -- ---- every list of demand 3 can be played
 
--- another area is lent only to a call that is refused for its length
+-- another area is lent only to a call that is refused for its m or for a length
 abbrev pub AllAllowed : Sizes → List Call → Type 0
 AllAllowed z [] = Unit
 AllAllowed z (c ∷ cs) = Allowed z c × AllAllowed z cs
 
--- codes and numbers whose calls leave what the calls cs leave, from a run of these sizes
+-- codes, counts and numbers whose calls leave what the calls cs leave, from a run of these sizes
 pub record Named (z : Sizes) (cs : List Call) : Type 0 where
   pub codes : List ℕ
+  pub ms : List ℕ
   pub numbers : List Float
   pub floats : Floats numbers
   pub leaves :
       (f : Floats numbers) (p : CallResult) →
-      p .run .state .sizes ≡ z → playedTo p (callsOf codes numbers f) ≡ playedTo p cs
+      p .run .state .sizes ≡ z → playedTo p (callsOf codes ms numbers f) ≡ playedTo p cs
 
 abbrev pub EveryList : Type 0
 EveryList = (z : Sizes) (cs : List Call) → AllAllowed z cs → Named z cs

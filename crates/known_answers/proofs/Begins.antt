@@ -81,6 +81,7 @@ begun-valid z max fit =
     sound-valid (begunState z max)
     (record {
       sizes-fit = fit;
+      contents-fit = refl;
       within = zero-le;
       few-turned = zero-le;
       few-asked = zero-le;

@@ -97,6 +97,6 @@ search-none x rows b moving max y = rw (proposal-none x rows b moving (y .mu) (y
 
 -- in the first iteration
 pub started-none : (mu max : Scalar) (w : Memory) (rows : List Float)
-    → started (stateWith (sizes 0 0 0 5) mu max (Open kind.Start)) w rows .event ≡ Finish (stop.Flat 0 0) 0 0 0
+    → started (stateWith (sizes 0 0 5) mu max (Open kind.Start)) w 0 rows .event ≡ Finish (stop.Flat 0 0) 0 0 0
 unfolding started iterate search violationOf leftAt squaredOf plusTo
 started-none mu max w rows = rw (norm-none _, root-of-zero, search-none _ _ _ _ _ _)

@@ -16,7 +16,7 @@ use Rattle.linear.specs.Flat.{zeros}
 use Rattle.run.specs.Area.{HasRoom}
 use Rattle.run.specs.Rows.{rowNumbers, rowCounts}
 use Rattle.run.specs.Calls.{AfterCall, Accepted, beginOf, replyOf, replyNoneOf}
-use Rattle.run.specs.Checks.{sizesFit, allInDomain}
+use Rattle.run.specs.Checks.{sizesFit, constraintsFit, allInDomain}
 use Rattle.run.specs.Damping.{firstMu}
 use Rattle.run.specs.declared.state.Event.{Event}
 use Rattle.run.specs.declared.state.Event.the-variants.{Finish}
@@ -33,12 +33,12 @@ bits l h = record { lo = float l; hi = float h }
 abbrev pub between : ℤ → ℤ → Scalar
 between l h = record { lo = ofInt binary64 l; hi = ofInt binary64 h }
 
-abbrev pub sizes : ℕ → ℕ → ℕ → ℕ → Sizes
-sizes n m s limit = record { n = n; m = m; s = s; limit = limit }
+abbrev pub sizes : ℕ → ℕ → ℕ → Sizes
+sizes n s limit = record { n = n; s = s; limit = limit }
 
--- what a begun run answers to the start's rows, and to none
-abbrev pub answerTo : AfterCall → List Float → Event
-answerTo b rows = replyOf (b .state) (b .area) rows .event
+-- what a begun run answers to the start's rows, m constraint rows among them, and to none
+abbrev pub answerTo : AfterCall → ℕ → List Float → Event
+answerTo b m rows = replyOf (b .state) (b .area) m rows .event
 
 abbrev pub answerToNone : AfterCall → Event
 answerToNone b = replyNoneOf (b .state) (b .area) .event
@@ -71,9 +71,9 @@ pub record OfScalars : Type 0 where
 pub record OfBegin : Type 0 where
   -- runs begin: from zero, with steps up to 1, in any area that has room for them
   pub accepted :
-      (n m s limit : ℕ) (a : List Float) →
-      sizesFit (sizes n m s limit) ≡ true → HasRoom (sizes n m s limit) a
-      → Accepted (beginOf (sizes n m s limit) (zeros (2 * n)) (between (pos 1) (pos 1)) a)
+      (n s limit : ℕ) (a : List Float) →
+      sizesFit (sizes n s limit) ≡ true → HasRoom (sizes n s limit) a
+      → Accepted (beginOf (sizes n s limit) (zeros (2 * n)) (between (pos 1) (pos 1)) a)
   -- P10 first mu: ends 3F50624DD2F1A9FB, 3F50624DD2F1A9FD; it is the mu of every run that begins
   pub p10 :
       let mu = bits 0x3F50_624D_D2F1_A9FB 0x3F50_624D_D2F1_A9FD in
@@ -86,21 +86,21 @@ pub record OfBegin : Type 0 where
 pub record OfReply : Type 0 where
   -- P11 start none, limit 0: Infeasible, 0, 0
   pub p11 :
-      (n m s : ℕ) (start : List Float) (max : Scalar) (a : List Float) →
-      let b = beginOf (sizes n m s 0) start max a in
+      (n s : ℕ) (start : List Float) (max : Scalar) (a : List Float) →
+      let b = beginOf (sizes n s 0) start max a in
       Accepted b → answerToNone b ≡ Finish stop.Infeasible 0 0 0
   -- P12 start answered, limit 0: Budget; with all rows that are in the domain
   pub p12 :
       (n m s : ℕ) (start : List Float) (max : Scalar) (a rows : List Float) →
-      let b = beginOf (sizes n m s 0) start max a in
-      Accepted b →
-      length rows ≡ rowNumbers (rowCounts (sizes n m s 0)) → allInDomain rows ((m + s) * (n + 1)) ≡ true
-      → answerTo b rows ≡ Finish stop.Budget 0 0 0
+      let b = beginOf (sizes n s 0) start max a in
+      Accepted b → constraintsFit m ≡ true →
+      length rows ≡ rowNumbers (rowCounts (sizes n s 0) m) → allInDomain rows ((m + s) * (n + 1)) ≡ true
+      → answerTo b m rows ≡ Finish stop.Budget 0 0 0
   -- P13 n = m = s = 0, limit 5: Flat, 0 independent, 0 iterations
   pub p13 :
       (start : List Float) (max : Scalar) (a : List Float) →
-      let b = beginOf (sizes 0 0 0 5) start max a in
-      Accepted b → answerTo b [] ≡ Finish (stop.Flat 0 0) 0 0 0
+      let b = beginOf (sizes 0 0 5) start max a in
+      Accepted b → answerTo b 0 [] ≡ Finish (stop.Flat 0 0) 0 0 0
 
 -- the table
 pub record KnownAnswers : Type 0 where

@@ -16,16 +16,16 @@ fn unit() -> Scalar {
 }
 
 // A run of one variable, from 0, with steps up to 1.
-fn begin_one(m: usize, s: usize, limit: usize, area: &mut [f64]) -> Returned {
+fn begin_one(s: usize, limit: usize, area: &mut [f64]) -> Returned {
     let start = [0.0; 2];
-    run::begin(1, m, s, limit, &start, unit(), area)
+    run::begin(1, s, limit, &start, unit(), area)
 }
 
 // ---- P10 to P13
 
 fn print_first_mu() {
     let mut area = [0.0; 8000];
-    let r = begin_one(1, 1, 5, &mut area);
+    let r = begin_one(1, 5, &mut area);
     print(b"P10 first mu = ");
     print_scalar(r.state.search.mu);
     print(b"\n");
@@ -33,7 +33,7 @@ fn print_first_mu() {
 
 fn print_none() {
     let mut area = [0.0; 8000];
-    let r = begin_one(1, 1, 0, &mut area);
+    let r = begin_one(1, 0, &mut area);
     let a = run::reply_none(r.state, &mut area);
     print_case(b"P11 start none, limit 0", a);
 }
@@ -41,51 +41,63 @@ fn print_none() {
 fn print_budget() {
     let mut area = [0.0; 8000];
     let rows = [1.0; 8];
-    let r = begin_one(1, 1, 0, &mut area);
-    let a = run::reply(r.state, &mut area, &rows);
+    let r = begin_one(1, 0, &mut area);
+    let a = run::reply(r.state, &mut area, 1, &rows);
     print_case(b"P12 start answered, limit 0", a);
 }
 
 fn print_flat() {
     let mut area = [0.0; 8000];
     let nothing = [0.0; 0];
-    let r = run::begin(0, 0, 0, 5, &nothing, unit(), &mut area);
-    let a = run::reply(r.state, &mut area, &nothing);
+    let r = run::begin(0, 0, 5, &nothing, unit(), &mut area);
+    let a = run::reply(r.state, &mut area, 0, &nothing);
     print_case(b"P13 n = m = s = 0, limit 5", a);
 }
 
 // ---- counts
 
-fn print_begin(name: &[u8], n: usize, m: usize, s: usize, limit: usize, start: &[f64]) {
+fn print_begin(name: &[u8], n: usize, s: usize, limit: usize, start: &[f64]) {
     let mut area = [0.0; 8000];
-    let r = run::begin(n, m, s, limit, start, unit(), &mut area);
+    let r = run::begin(n, s, limit, start, unit(), &mut area);
     print_case(name, r);
+}
+
+// A reply of 13 constraint rows is refused before the length of its rows is asked, and the question stays open for one
+// of 12.
+fn print_constraints() {
+    let mut area = [0.0; 8000];
+    let r = begin_one(1, 0, &mut area);
+    let refused = run::reply(r.state, &mut area, 13, &[1.0; 56]);
+    print_case(b"m 13", refused);
+    let short = run::reply(refused.state, &mut area, 13, &[1.0; 55]);
+    print_case(b"m 13, rows one short", short);
+    let a = run::reply(short.state, &mut area, 12, &[1.0; 52]);
+    print_case(b"then m 12", a);
 }
 
 fn print_counts() {
     let one = [0.0; 2];
-    print_begin(b"n 12", 12, 1, 1, 5, &[0.0; 24]);
-    print_begin(b"n 13", 13, 1, 1, 5, &[0.0; 26]);
-    print_begin(b"m 12", 1, 12, 1, 5, &one);
-    print_begin(b"m 13", 1, 13, 1, 5, &one);
-    print_begin(b"s 24", 1, 1, 24, 5, &one);
-    print_begin(b"s 25", 1, 1, 25, 5, &one);
-    print_begin(b"limit 200", 1, 1, 1, 200, &one);
-    print_begin(b"limit 201", 1, 1, 1, 201, &one);
+    print_begin(b"n 12", 12, 1, 5, &[0.0; 24]);
+    print_begin(b"n 13", 13, 1, 5, &[0.0; 26]);
+    print_begin(b"s 24", 1, 24, 5, &one);
+    print_begin(b"s 25", 1, 25, 5, &one);
+    print_begin(b"limit 200", 1, 1, 200, &one);
+    print_begin(b"limit 201", 1, 1, 201, &one);
+    print_constraints();
 }
 
 // ---- ends
 
 fn print_start(name: &[u8], lo: f64, hi: f64) {
-    print_begin(name, 1, 1, 1, 5, &[lo, hi]);
+    print_begin(name, 1, 1, 5, &[lo, hi]);
 }
 
 // A reply to the start with this value of the constraint.
 fn print_row(name: &[u8], lo: f64, hi: f64) {
     let mut area = [0.0; 8000];
     let rows = [lo, hi, 0.0, 0.0];
-    let r = begin_one(1, 0, 0, &mut area);
-    let a = run::reply(r.state, &mut area, &rows);
+    let r = begin_one(0, 0, &mut area);
+    let a = run::reply(r.state, &mut area, 1, &rows);
     print_case(name, a);
 }
 
@@ -93,7 +105,7 @@ fn print_max_step(name: &[u8], lo: f64, hi: f64) {
     let mut area = [0.0; 8000];
     let start = [0.0; 2];
     let max = Scalar { lo, hi };
-    let r = run::begin(1, 1, 1, 5, &start, max, &mut area);
+    let r = run::begin(1, 1, 5, &start, max, &mut area);
     print_case(name, r);
 }
 
@@ -120,21 +132,21 @@ fn print_short_rows() {
     let mut area = [0.0; 8000];
     let short = [1.0; 3];
     let rows = [1.0; 4];
-    let r = begin_one(0, 1, 5, &mut area);
-    let refused = run::reply(r.state, &mut area, &short);
+    let r = begin_one(1, 5, &mut area);
+    let refused = run::reply(r.state, &mut area, 0, &short);
     print_case(b"rows one short", refused);
-    let a = run::reply(refused.state, &mut area, &rows);
+    let a = run::reply(refused.state, &mut area, 0, &rows);
     print_case(b"then all rows", a);
 }
 
 fn print_begin_in(name: &[u8], area: &mut [f64]) {
-    print_case(name, begin_one(1, 1, 0, area));
+    print_case(name, begin_one(1, 0, area));
 }
 
 // An area of another length is refused, and the question stays open.
 fn print_reply_in(name: &[u8], other: &mut [f64]) {
     let mut area = [0.0; 8000];
-    let r = begin_one(1, 1, 0, &mut area);
+    let r = begin_one(1, 0, &mut area);
     let refused = run::reply_none(r.state, other);
     print_case(name, refused);
     let a = run::reply_none(refused.state, &mut area);
@@ -155,9 +167,9 @@ fn print_areas() {
 fn print_over() {
     let mut area = [0.0; 8000];
     let rows = [1.0; 8];
-    let r = begin_one(1, 1, 0, &mut area);
+    let r = begin_one(1, 0, &mut area);
     let finished = run::reply_none(r.state, &mut area);
-    let a = run::reply(finished.state, &mut area, &rows);
+    let a = run::reply(finished.state, &mut area, 1, &rows);
     print_case(b"rows to a finished run", a);
     let b = run::reply_none(finished.state, &mut area);
     print_case(b"none to a finished run", b);

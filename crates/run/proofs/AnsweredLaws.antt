@@ -2,7 +2,7 @@
 use mathlib.Core.Bool.{Bool, true, false, not, _&&_, _||_}
 use mathlib.Core.Path.{_≡_, refl, sym, ap, ap₂, subst, _∙_}
 use mathlib.Core.List.{List}
-use Prim.Native.Nat.{ℕ, _+_}
+use Prim.Native.Nat.{ℕ, _+_, _≤_}
 use native.Mathlib.Omega.{arith}
 use borrow.Author.Tests.{ltb-true, ltb-false, le-leb, lt-leb}
 use lib.Dec.{leb, ltb}
@@ -13,14 +13,14 @@ use Rattle.interval.specs.Result.{Res, ok, refused}
 use Rattle.interval.specs.Scalar.{degenerate, pick, divOf, definitelyGreater, definitelyLess}
 use Rattle.interval.specs.Scaling.{three64}
 use Rattle.linear.specs.Results.{bind}
-use Rattle.run.specs.Area.{Memory, withStart, withAsked, withLanded, withTaken, landedCounts, pairsIn, usedIn}
+use Rattle.run.specs.Area.{Memory, withStart, withAsked, withLanded, withTaken, pairsIn, usedIn}
 use Rattle.run.specs.Checks.{phaseFits}
-use Rattle.run.specs.Limits.{CORRECTIONS}
+use Rattle.run.specs.Limits.{CONSTRAINTS, CORRECTIONS}
 use Rattle.run.specs.Corrected.{Shift, to, stay, shiftOf, shiftFrom, shiftedStep}
 use Rattle.run.specs.Curvature.{updateCurvature}
 use Rattle.run.specs.Judgement.{Judged, judgeOf}
 use Rattle.run.specs.program.Area.{Holds, Uses, Working, StandingKnown}
-use Rattle.run.specs.Rows.{rowNumbers}
+use Rattle.run.specs.Rows.{rowNumbers, rowCounts}
 use Rattle.run.specs.Residuals.{movingOf, sumSquared, violationOf}
 use Rattle.run.specs.Endings.{AfterSlots, finish, refuse, question, orRefuse}
 use Rattle.run.specs.program.Endings.{Leaves, Bounded, Underway}
@@ -29,7 +29,7 @@ use Rattle.run.specs.Decide.{linearOf, notLower, take, wasTaken, decide,
 use Rattle.run.specs.Damping.{shrunk}
 use Rattle.run.specs.Radius.{radiusAfter}
 use Rattle.run.specs.Filter.{filterWith}
-use Rattle.run.specs.State.{standingOn, moves, landing}
+use Rattle.run.specs.State.{standingOn, starting, landing}
 use Rattle.run.specs.Iterate.{iterate}
 use Rattle.run.specs.program.Decide.{takenWith}
 use Rattle.run.specs.Corrected.{correct, landTrial, keep, landCorrection}
@@ -202,65 +202,67 @@ abbrev pub landed-with : Memory → List Float → Memory
 landed-with w rows = withLanded w rows (w .step)
 
 -- a correction kept, once its shift is known
-abbrev pub keptBy : State → Memory → List Float → Scalar → List Float → AfterSlots
-keptBy st w rows theta d =
-    let t = landing st (st .counts .corrections + 1) in
+abbrev pub keptBy : State → Memory → ℕ → List Float → Scalar → List Float → AfterSlots
+keptBy st w m rows theta d =
+    let t = landing st m (st .counts .corrections + 1) in
     let v = withLanded w rows (shiftedStep (st .sizes .n) (w .step) d) in
     pick (leb CORRECTIONS (t .counts .corrections)) (judge t v theta) (correct t v theta)
 
 abbrev rose-or : State → Memory → Scalar → Scalar → AfterSlots
 rose-or st v theta new = pick (definitelyGreater new theta) (correct st v theta) (judge st v theta)
 
-module _ (st : State) (w : Memory) (rows : List Float) (theta : Scalar) {o : Returned} {a : List Float} where
+module _ (st : State) (w : Memory) (m : ℕ) (rows : List Float) (theta : Scalar) {o : Returned} {a : List Float} where
   -- a trial's
-  module _ {t : State} (et : t ≡ landing st 0) where
+  module _ {t : State} (et : t ≡ landing st m 0) where
     pub trial-known :
-        {new : Scalar} {b : Bool} → violationOf (landedAt st (landed-with w rows) .constraints) ≡ ok new →
+        {new : Scalar} {b : Bool} → violationOf (rowsAt st m rows .constraints) ≡ ok new →
         b ≡ definitelyGreater new theta →
         Leaves (pick b (correct t (landed-with w rows) theta) (judge t (landed-with w rows) theta)) o a →
-        Leaves (landTrial st w rows theta) o a
+        Leaves (landTrial st w m rows theta) o a
     unfolding landTrial
     trial-known {new} {b} e eb l =
-        or-next (landing st 0) (landed-with w rows) (λ x. rose-or (landing st 0) (landed-with w rows) theta x) e
+        or-next (landing st m 0) (landed-with w rows) (λ x. rose-or (landing st m 0) (landed-with w rows) theta x) e
         (subst (λ (x : State). Leaves (rose-or x (landed-with w rows) theta new) o a) et
         (subst (λ (x : Bool). Leaves
         (pick x (correct t (landed-with w rows) theta) (judge t (landed-with w rows) theta)) o a) eb l))
 
     pub trial-refused :
-        {k : ℕ} → violationOf (landedAt st (landed-with w rows) .constraints) ≡ refused k →
-        Leaves (refuse t (landed-with w rows) k) o a → Leaves (landTrial st w rows theta) o a
+        {k : ℕ} → violationOf (rowsAt st m rows .constraints) ≡ refused k →
+        Leaves (refuse t (landed-with w rows) k) o a → Leaves (landTrial st w m rows theta) o a
     unfolding landTrial
     trial-refused {k} e l =
-        or-refused (landing st 0) (landed-with w rows) (λ x. rose-or (landing st 0) (landed-with w rows) theta x) e
+        or-refused (landing st m 0) (landed-with w rows) (λ x. rose-or (landing st m 0) (landed-with w rows) theta x) e
         (subst (λ (x : State). Leaves (refuse x (landed-with w rows) k) o a) et l)
 
   -- a correction's
-  module _ {m : List Bool} {r : Res (List Float)} (em : m ≡ st .moving)
-      (er : r ≡ shiftOf m (landedAt st w .constraints)) where
+  module _ {marks : List Bool} {r : Res (List Float)} (em : marks ≡ st .moving)
+      (er : r ≡ shiftOf marks (landedAt st w .constraints)) where
     pub keep-known :
-        {d : List Float} → r ≡ ok d → Leaves (keptBy st w rows theta d) o a → Leaves (keep st w rows theta) o a
+        {d : List Float} → r ≡ ok d → Leaves (keptBy st w m rows theta d) o a → Leaves (keep st w m rows theta) o a
     unfolding keep
-    keep-known e l = or-next st w (λ d. keptBy st w rows theta d) (shift-of st w em er ∙ e) l
+    keep-known e l = or-next st w (λ d. keptBy st w m rows theta d) (shift-of st w em er ∙ e) l
 
-    pub keep-refused : {k : ℕ} → r ≡ refused k → Leaves (refuse st w k) o a → Leaves (keep st w rows theta) o a
+    pub keep-refused : {k : ℕ} → r ≡ refused k → Leaves (refuse st w k) o a → Leaves (keep st w m rows theta) o a
     unfolding keep
-    keep-refused e l = or-refused st w (λ d. keptBy st w rows theta d) (shift-of st w em er ∙ e) l
+    keep-refused e l = or-refused st w (λ d. keptBy st w m rows theta d) (shift-of st w em er ∙ e) l
 
   pub correction-by :
       Leaves
-      (orRefuse st w (nearerOf (violationOf (rowsAt st rows .constraints)) (violationOf (landedAt st w .constraints)))
-      (λ kept. pick kept (keep st w rows theta) (judge st w theta))) o a → Leaves (landCorrection st w rows theta) o a
+      (orRefuse st w (nearerOf (violationOf (rowsAt st m rows .constraints)) (violationOf (landedAt st w .constraints)))
+      (λ kept. pick kept (keep st w m rows theta) (judge st w theta))) o a →
+      Leaves (landCorrection st w m rows theta) o a
   unfolding landCorrection bind
-  correction-by l = go (violationOf (rowsAt st rows .constraints)) (violationOf (landedAt st w .constraints)) l
+  correction-by l = go (violationOf (rowsAt st m rows .constraints)) (violationOf (landedAt st w .constraints)) l
     where
       go :
           (x y : Res Scalar) →
           Leaves
           (orRefuse st w (bind x (λ new. bind y (λ old. ok (definitelyLess new old))))
-          (λ kept. pick kept (keep st w rows theta) (judge st w theta))) o a →
+          (λ kept. pick kept (keep st w m rows theta) (judge st w theta))) o a →
           Leaves
           (orRefuse st w x
-          (λ new. orRefuse st w y (λ old. pick (definitelyLess new old) (keep st w rows theta) (judge st w theta)))) o a
+          (λ new. orRefuse st w y
+          (λ old. pick (definitelyLess new old) (keep st w m rows theta) (judge st w theta)))) o a
       go (ok new) (ok old) l = l
       go (ok new) (refused k) l = l
       go (refused k) y l = l
@@ -278,16 +280,16 @@ turned-about {A} n x y = go (ltb n 4) refl
     go false e = rw (e, le-leb 4 n (ltb-false n 4 e))
 
 pub kept-known :
-    (st : State) (w : Memory) (rows : List Float) (theta : Scalar) (d : List Float) {t : State} {o : Returned}
+    (st : State) (w : Memory) (m : ℕ) (rows : List Float) (theta : Scalar) (d : List Float) {t : State} {o : Returned}
     {a : List Float} →
-    t ≡ landing st (st .counts .corrections + 1) →
+    t ≡ landing st m (st .counts .corrections + 1) →
     Leaves (pick (ltb (st .counts .corrections + 1) 4)
     (correct t (withLanded w rows (shiftedStep (st .sizes .n) (w .step) d)) theta)
     (judge t (withLanded w rows (shiftedStep (st .sizes .n) (w .step) d)) theta)) o a →
-    Leaves (keptBy st w rows theta d) o a
-kept-known st w rows theta d {t} {o} {a} e l =
+    Leaves (keptBy st w m rows theta d) o a
+kept-known st w m rows theta d {t} {o} {a} e l =
     let v : Memory = withLanded w rows (shiftedStep (st .sizes .n) (w .step) d) in
-    let u : State = landing st (st .counts .corrections + 1) in
+    let u : State = landing st m (st .counts .corrections + 1) in
     subst (λ (x : AfterSlots). Leaves x o a) (turned-about (st .counts .corrections + 1) (correct u v theta)
     (judge u v theta))
     (subst (λ (x : State). Leaves (pick (ltb (st .counts .corrections + 1) 4) (correct x v theta) (judge x v theta)) o
@@ -296,12 +298,13 @@ kept-known st w rows theta d {t} {o} {a} e l =
 -- ---- an accepted answer
 
 pub started-known :
-    (st : State) (w : Memory) (rows : List Float) {t : State} {m : List Bool} {o : Returned} {a : List Float} →
-    t ≡ moves st m → m ≡ movingOf (st .sizes .n) (rowsAt st rows) → Leaves (iterate t (withStart st w rows)) o a →
-    Leaves (started st w rows) o a
+    (st : State) (w : Memory) (m : ℕ) (rows : List Float) {t : State} {moving : List Bool} {o : Returned}
+    {a : List Float} →
+    t ≡ starting st m moving → moving ≡ movingOf (st .sizes .n) (rowsAt st m rows) →
+    Leaves (iterate t (withStart st w rows)) o a → Leaves (started st w m rows) o a
 unfolding started
-started-known st w rows {t} {m} {o} {a} e q l =
-    subst (λ (x : State). Leaves (iterate x (withStart st w rows)) o a) (e ∙ ap (λ (x : List Bool). moves st x) q) l
+started-known st w m rows {t} {moving} {o} {a} e q l =
+    subst (λ (x : State). Leaves (iterate x (withStart st w rows)) o a) (e ∙ ap (starting st m) q) l
 
 -- between two calls, and with a start's answer
 module _ (st : State) {w : Memory} {a : List Float} (u : Uses (st .sizes) (usedIn st) w a) where
@@ -309,12 +312,13 @@ module _ (st : State) {w : Memory} {a : List Float} (u : Uses (st .sizes) (usedI
   works = record { holds = u .holds; at-most = lengths-at-most st w (u .lengths) }
 
   pub starts :
-      {rows b : List Float} {v : Res Scalar} → length rows ≡ rowNumbers (landedCounts st) →
-      Holds (st .sizes) (withStart st w rows) b → v ≡ violationOf (rowsAt st rows .constraints) →
-      StandingKnown st v (withStart st w rows) b
-  starts {rows} many h e =
-      let s = start-whole st w rows (standing-length st w (u .lengths)) many in
-      measures st
+      (m : ℕ) (moving : List Bool) {rows b : List Float} {v : Res Scalar} →
+      length rows ≡ rowNumbers (rowCounts (st .sizes) m) →
+      Holds (st .sizes) (withStart st w rows) b → v ≡ violationOf (rowsAt st m rows .constraints) →
+      StandingKnown (starting st m moving) v (withStart st w rows) b
+  starts m moving {rows} many h e =
+      let s = start-whole st w m moving rows (standing-length st w (u .lengths)) many in
+      measures (starting st m moving)
       (record {
         holds = h;
         at-most = record {
@@ -331,10 +335,12 @@ module _ (st : State) {w : Memory} {a : List Float} (u : Uses (st .sizes) (usedI
       })
       s e
 
-pub moved-on : {st : State} (m : List Bool) → Bounded 1073741824 st → Bounded 2147483648 (moves st m)
-moved-on m b = record {
+pub moved-on : {st : State} {m : ℕ} (moving : List Bool) → m ≤ CONSTRAINTS → Bounded 1073741824 st
+    → Bounded 2147483648 (starting st m moving)
+moved-on moving h b = record {
   few-variables = b .few-variables;
-  few-constraints = b .few-constraints;
+  few-standing = h;
+  few-landed = omega arith;
   few-sums = b .few-sums;
   few-iterations = b .few-iterations;
   within = b .within;
@@ -356,8 +362,9 @@ module _ {st : State} (b : Bounded 1073741824 st) where
       record { bounded = b; below = ltb-true _ _ (both (ltb (st .counts .iterations) (st .sizes .limit)) _ g .0) }
 
 module _ (st : State) (w : Memory) {k k′ : Kind} {o : Returned} {a : List Float} (e : k ≡ k′) where
-  pub answered-as : (rows : List Float) → Leaves (answered k′ st w rows) o a → Leaves (answered k st w rows) o a
-  answered-as rows l = subst (λ (x : Kind). Leaves (answered x st w rows) o a) (sym e) l
+  pub answered-as : (m : ℕ) (rows : List Float) → Leaves (answered k′ st w m rows) o a
+      → Leaves (answered k st w m rows) o a
+  answered-as m rows l = subst (λ (x : Kind). Leaves (answered x st w m rows) o a) (sym e) l
 
   pub none-as : Leaves (answeredNone k′ st w) o a → Leaves (answeredNone k st w) o a
   none-as l = subst (λ (x : Kind). Leaves (answeredNone x st w) o a) (sym e) l

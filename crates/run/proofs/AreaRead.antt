@@ -4,23 +4,24 @@ use Prim.Native.Nat.{ℕ, _≤_}
 use mathlib.Core.Path.{_≡_, refl, ap}
 use native.Mathlib.Omega.{arith}
 use lib.ListN.{length}
-use Rattle.run.specs.Area.{Slots, areaLength, pairsIn, usedIn, Memory, memoryOf, areaOf}
+use Rattle.run.specs.Area.{Slots, areaLength, usedIn, Memory, memoryOf, areaOf}
 use Rattle.run.specs.declared.state.State.{State}
 use Rattle.run.specs.program.Area.{Holds, Limits, lengthsOf}
 use Rattle.run.proofs.AreaLaws.{laid-of, laid-length}
-use Rattle.run.proofs.CheckLaws.{SizeBounds}
+use Rattle.run.proofs.CheckLaws.{SizeBounds, ContentBounds}
 use Rattle.run.proofs.MemoryLaws.{within-fits, read-standing, read-landed, read-asked, read-standing-rows}
 use Rattle.run.proofs.MemoryLaws.{read-landed-rows, read-step, read-multipliers, read-curvature, read-filter}
 use Rattle.run.proofs.PhaseLengths.{lengths-at-most}
 
-pub limits-from : (st : State) → SizeBounds (st .sizes) → st .counts .iterations ≤ st .sizes .limit
-    → Limits (st .sizes) (pairsIn st)
-limits-from st f h = record {
-  few = record { few-variables = f .n; few-constraints = f .m; few-sums = f .s };
+pub limits-from : (st : State) → SizeBounds (st .sizes) → ContentBounds (st .contents)
+    → st .counts .iterations ≤ st .sizes .limit → Limits st
+limits-from st f b h = record {
+  standing-few = record { few-variables = f .n; few-constraints = b .standing; few-sums = f .s };
+  landed-few = record { few-variables = f .n; few-constraints = b .landed; few-sums = f .s };
   iterations-fit = omega (arith, h, f .limit);
 }
 
-module _ (st : State) (w : Memory) (l : Limits (st .sizes) (pairsIn st)) (e : lengthsOf w ≡ usedIn st) where
+module _ (st : State) (w : Memory) (l : Limits st) (e : lengthsOf w ≡ usedIn st) where
   pub area-holds : Holds (st .sizes) w (areaOf (st .sizes) w)
   area-holds = record { fits = within-fits st l (lengths-at-most st w e); is = refl }
 

@@ -7,7 +7,7 @@ use mathlib.Core.Logic.{⊎-elim, _≢_}
 use mathlib.Core.Path.{_≡_, refl, sym, ap, _∙_}
 use native.Mathlib.Nat.{mul-le-mul}
 use native.Mathlib.Omega.{arith}
-use borrow.Author.Tests.{leb-true, ltb-true, eqb-true, eq-eqb, ne-eqb}
+use borrow.Author.Tests.{leb-true, ltb-true, eqb-true, le-leb, eq-eqb, ne-eqb}
 use denote.Enum.Declared.{tagOf}
 use types.Run.{OneOf}
 use lib.Dec.{leb, ltb, eqb}
@@ -15,22 +15,24 @@ use lib.Ieee.{Float}
 use lib.ListN.{length}
 use Rattle.interval.specs.Scalar.{pick}
 use Rattle.interval.specs.Scaling.{isPositive}
-use Rattle.run.specs.Rows.{rowNumbers}
-use Rattle.run.specs.Limits.{CORRECTIONS}
-use Rattle.run.specs.Area.{memoryOf, landedCounts, areaLength}
+use Rattle.run.specs.Rows.{rowNumbers, rowCounts}
+use Rattle.run.specs.Limits.{CONSTRAINTS, CORRECTIONS}
+use Rattle.run.specs.Area.{memoryOf, areaLength}
 use Rattle.run.specs.Answered.{answered, answeredNone}
-use Rattle.run.specs.Checks.{sizesFit, countsFit, phaseFits, valid, allInDomain, mostTurnDowns, mostQuestions}
+use Rattle.run.specs.Checks.{sizesFit, constraintsFit, contentsFit, countsFit, phaseFits, valid, allInDomain}
+use Rattle.run.specs.Checks.{mostTurnDowns, mostQuestions}
 use Rattle.run.specs.Calls.{AfterCall, unchanged, inArea, checks, replyOpen, replyOf, noneOpen, replyNoneOf}
-use Rattle.run.specs.program.Checks.{checkOpen, checkOf, rowsCheck, thenRows, checkRowsOf}
+use Rattle.run.specs.Endings.{AfterSlots}
+use Rattle.run.specs.program.Checks.{openIn, openOf, thenCheck, areaCheck, checkOf, rowsCheck, checkRowsOf}
 use Rattle.run.specs.declared.checks.Checked.{Checked}
 use Rattle.run.specs.declared.checks.Checked.the-variants.{Refuse, Accept}
+use Rattle.run.specs.declared.state.Contents.{Contents}
 use Rattle.run.specs.declared.state.Kind.{Kind}
 use Rattle.run.specs.declared.state.Kind.the-variants as kind
 use Rattle.run.specs.declared.state.Phase.{Phase}
 use Rattle.run.specs.declared.state.Phase.the-variants.{Open, Over}
 use Rattle.run.specs.declared.state.Sizes.{Sizes}
 use Rattle.run.specs.declared.state.State.{State}
-use Rattle.run.specs.program.Rows.{FewRows}
 use Rattle.run.proofs.Booleans.{and-left, and-right}
 use Rattle.run.proofs.state.Kind.{the-type as the-kind}
 
@@ -57,16 +59,27 @@ compared-other e n = ne-eqb _ _ (λ h. n (h ∙ sym e))
 
 pub record SizeBounds (z : Sizes) : Type 0 where
   pub n : z .n ≤ 12
-  pub m : z .m ≤ 12
   pub s : z .s ≤ 24
   pub limit : z .limit ≤ 200
 
 pub size-bounds : (z : Sizes) → sizesFit z ≡ true → SizeBounds z
 size-bounds z e =
     let a = both (leb (z .n) 12) _ e in
-    let b = both (leb (z .m) 12) _ (a .1) in
-    let d = both (leb (z .s) 24) _ (b .1) in
-    record { n = leb-true _ _ (a .0); m = leb-true _ _ (b .0); s = leb-true _ _ (d .0); limit = leb-true _ _ (d .1) }
+    let d = both (leb (z .s) 24) _ (a .1) in
+    record { n = leb-true _ _ (a .0); s = leb-true _ _ (d .0); limit = leb-true _ _ (d .1) }
+
+-- of each m that a state keeps
+pub record ContentBounds (c : Contents) : Type 0 where
+  pub standing : c .«standing_m» ≤ CONSTRAINTS
+  pub landed : c .«landed_m» ≤ CONSTRAINTS
+
+pub content-bounds : (c : Contents) → contentsFit c ≡ true → ContentBounds c
+content-bounds c e =
+    let a = both (constraintsFit (c .«standing_m»)) _ e in
+    record { standing = leb-true _ _ (a .0); landed = leb-true _ _ (a .1) }
+
+pub contents-fit : {c : Contents} → ContentBounds c → contentsFit c ≡ true
+contents-fit b = rw (le-leb _ _ (b .standing), le-leb _ _ (b .landed))
 
 -- ---- with a question open: what the damping decides, and the iterations where it is not the start's
 
@@ -82,14 +95,15 @@ module _ (st : State) where
   past-start kind.Trial o e = sym (and-true (ltb (st .counts .iterations) (st .sizes .limit)) e)
   past-start kind.Correction o e = sym (and-true (ltb (st .counts .iterations) (st .sizes .limit)) e)
 
-  -- where the sizes and the counts fit, the phase decides
-  pub phase-decides : {r : Bool} → sizesFit (st .sizes) ≡ true → countsFit st ≡ true
-      → r ≡ phaseFits st (st .phase) → r ≡ valid st
+  -- where the sizes, the contents and the counts fit, the phase decides
+  pub phase-decides : {r : Bool} → sizesFit (st .sizes) ≡ true → contentsFit (st .contents) ≡ true
+      → countsFit st ≡ true → r ≡ phaseFits st (st .phase) → r ≡ valid st
   unfolding valid
-  phase-decides a b e = rw (a, b) e
+  phase-decides a b d e = rw (a, b, d) e
 
 pub record Bounds (st : State) : Type 0 where
   pub sizes : SizeBounds (st .sizes)
+  pub contents : ContentBounds (st .contents)
   pub iterations : st .counts .iterations ≤ st .sizes .limit
   pub turnedDown : st .search .«turned_down» ≤ mostTurnDowns st
   pub question : st .counts .question ≤ mostQuestions (st .sizes)
@@ -100,12 +114,14 @@ pub bounds : (st : State) → valid st ≡ true → Bounds st
 unfolding valid
 bounds st e =
     let a = both (sizesFit (st .sizes)) _ e in
-    let b = both (countsFit st) _ (a .1) in
+    let d = both (contentsFit (st .contents)) _ (a .1) in
+    let b = both (countsFit st) _ (d .1) in
     let i = both (leb (st .counts .iterations) (st .sizes .limit)) _ (b .0) in
     let t = both (leb (st .search .«turned_down») (mostTurnDowns st)) _ (i .1) in
     let q = both (leb (st .counts .question) (mostQuestions (st .sizes))) _ (t .1) in
     record {
       sizes = size-bounds (st .sizes) (a .0);
+      contents = content-bounds (st .contents) (d .0);
       iterations = leb-true _ _ (i .0);
       turnedDown = leb-true _ _ (t .0);
       question = leb-true _ _ (q .0);
@@ -163,6 +179,20 @@ abbrev kindIn : Checked → Kind
 kindIn (Refuse k) = kind.Start
 kindIn (Accept k) = k
 
+-- a question is open in a run that passes number 4's test
+open-accepted : (st : State) {k : Kind} → openOf st ≡ Accept k → (valid st ≡ true) × (st .phase ≡ Open k)
+unfolding openOf
+open-accepted st {k} e =
+    let a = passed (valid st) (openIn (st .phase)) 4 e in
+    (a .0, by (st .phase) (a .1))
+  where
+    by : (p : Phase) → openIn p ≡ Accept k → p ≡ Open k
+    by Over x = refuse-accept x
+    by (Open j) x = ap Open (ap kindIn x)
+
+pub open-sizes : (st : State) {k : Kind} → openOf st ≡ Accept k → SizeBounds (st .sizes)
+open-sizes st e = bounds st (open-accepted st e .0) .sizes
+
 -- reply none
 pub record Accepted (st : State) (area : ℕ) (k : Kind) : Type 0 where
   pub run : valid st ≡ true
@@ -170,69 +200,85 @@ pub record Accepted (st : State) (area : ℕ) (k : Kind) : Type 0 where
   pub whole : area ≡ areaLength (st .sizes)
 
 module _ (st : State) (area : ℕ) (k : Kind) where
-  open-accepted : (p : Phase) → checkOpen (st .sizes) area p ≡ Accept k
-      → (p ≡ Open k) × (area ≡ areaLength (st .sizes))
-  open-accepted Over x = refuse-accept x
-  open-accepted (Open j) x =
+  in-area : openOf st ≡ Accept k → eqb area (areaLength (st .sizes)) ≡ true → Accepted st area k
+  in-area h e =
+      let o = open-accepted st h in
+      record { run = o .0; opened = o .1; whole = eqb-true _ _ e }
+
+  then-accepted : (d : Checked) → openOf st ≡ d → thenCheck d (areaCheck (st .sizes) area) ≡ Accept k
+      → Accepted st area k
+  then-accepted (Refuse j) h x = refuse-accept x
+  then-accepted (Accept j) h x =
       let b = passed (eqb area (areaLength (st .sizes))) (Accept j) 2 x in
-      (ap Open (ap kindIn (b .1)), eqb-true _ _ (b .0))
+      in-area (h ∙ b .1) (b .0)
 
   pub accepted : checkOf st area ≡ Accept k → Accepted st area k
   unfolding checkOf
-  accepted e =
-      let a = passed (valid st) (checkOpen (st .sizes) area (st .phase)) 4 e in
-      let o = open-accepted (st .phase) (a .1) in
-      record { run = a .0; opened = o .0; whole = o .1 }
-
-  pub accepted-small : checkOf st area ≡ Accept k → FewRows (landedCounts st)
-  accepted-small e =
-      let b = bounds st (accepted e .run) .sizes in
-      record { few-variables = b .n; few-constraints = b .m; few-sums = b .s }
+  accepted e = then-accepted (openOf st) refl e
 
 -- a reply with rows
-pub record AcceptedRows (st : State) (area : ℕ) (rows : List Float) (k : Kind) : Type 0 where
+pub record AcceptedRows (st : State) (area m : ℕ) (rows : List Float) (k : Kind) : Type 0 where
   pub reply : Accepted st area k
-  pub full : length rows ≡ rowNumbers (landedCounts st)
-  pub inside : allInDomain rows ((st .sizes .m + st .sizes .s) * (st .sizes .n + 1)) ≡ true
+  pub few : m ≤ CONSTRAINTS
+  pub full : length rows ≡ rowNumbers (rowCounts (st .sizes) m)
+  pub inside : allInDomain rows ((m + st .sizes .s) * (st .sizes .n + 1)) ≡ true
 
-module _ (st : State) (area : ℕ) (rows : List Float) (k : Kind) where
-  then-accepted : (d : Checked) → checkOf st area ≡ d → thenRows (landedCounts st) rows d ≡ Accept k
-      → AcceptedRows st area rows k
-  then-accepted (Refuse j) h x = refuse-accept x
-  then-accepted (Accept j) h x =
-      let b = passed (eqb (length rows) (rowNumbers (landedCounts st))) _ 2 x in
-      let d = passed (allInDomain rows ((st .sizes .m + st .sizes .s) * (st .sizes .n + 1))) (Accept j) 3 (b .1) in
-      record { reply = accepted st area k (h ∙ d .1); full = eqb-true _ _ (b .0); inside = d .0 }
+module _ (st : State) (area m : ℕ) (rows : List Float) (k : Kind) where
+  then-rows : (d : Checked) → openOf st ≡ d → thenCheck d (rowsCheck (st .sizes) area m rows) ≡ Accept k
+      → AcceptedRows st area m rows k
+  then-rows (Refuse j) h x = refuse-accept x
+  then-rows (Accept j) h x =
+      let whole = eqb area (areaLength (st .sizes)) in
+      let a = passed (constraintsFit m) _ 1 x in
+      let b = passed (whole && eqb (length rows) (rowNumbers (rowCounts (st .sizes) m))) _ 2 (a .1) in
+      let d = passed (allInDomain rows ((m + st .sizes .s) * (st .sizes .n + 1))) (Accept j) 3 (b .1) in
+      let l = both whole _ (b .0) in
+      record {
+        reply = in-area st area k (h ∙ d .1) (l .0);
+        few = leb-true _ _ (a .0);
+        full = eqb-true _ _ (l .1);
+        inside = d .0;
+      }
 
-  pub accepted-rows : checkRowsOf st area rows ≡ Accept k → AcceptedRows st area rows k
+  pub accepted-rows : checkRowsOf st area m rows ≡ Accept k → AcceptedRows st area m rows k
   unfolding checkRowsOf
-  accepted-rows e = then-accepted (checkOf st area) refl e
+  accepted-rows e = then-rows (openOf st) refl e
 
 -- ---- a reply, after its checks
 
+module _ (st : State) (a : List Float) (next : Kind → AfterSlots) where
+  abbrev after : Checked → AfterCall
+  after (Refuse j) = unchanged st a j
+  after (Accept k) = inArea (next k)
+
+  -- a check that follows, and number 4
+  check-as : (b : Bool) (j : ℕ) (x : AfterCall) (r : Checked) → x ≡ after r
+      → checks b j (unchanged st a) x ≡ after (pick b r (Refuse j))
+  check-as true j x r e = e
+  check-as false j x r e = refl
+
+  open-as : (b : Bool) (x : AfterCall) (p : Phase) (f : Kind → Checked) → x ≡ after (thenCheck (openIn p) f)
+      → checks b 4 (unchanged st a) x ≡ after (thenCheck (pick b (openIn p) (Refuse 4)) f)
+  open-as true x p f e = e
+  open-as false x p f e = refl
+
 module _ (st : State) (a : List Float) where
+  abbrev nextNone : Kind → AfterSlots
+  nextNone k = answeredNone k st (memoryOf st a)
+
   abbrev afterNone : Checked → AfterCall
-  afterNone (Refuse k) = unchanged st a k
-  afterNone (Accept k) = inArea (answeredNone k st (memoryOf st a))
+  afterNone r = after st a nextNone r
 
   none-checked : replyNoneOf st a ≡ afterNone (checkOf st (length a))
-  unfolding replyNoneOf checkOf
-  none-checked = first (valid st)
+  unfolding replyNoneOf checkOf openOf
+  none-checked =
+      open-as st a nextNone (valid st) _ (st .phase) (areaCheck (st .sizes) (length a)) (opened (st .phase))
     where
-      area-checked : (k : Kind) (b : Bool)
-          → checks b 2 (unchanged st a) (inArea (answeredNone k st (memoryOf st a)))
-          ≡ afterNone (pick b (Accept k) (Refuse 2))
-      area-checked k true = refl
-      area-checked k false = refl
-
-      opened : (p : Phase) → noneOpen st a p ≡ afterNone (checkOpen (st .sizes) (length a) p)
+      opened : (p : Phase)
+          → noneOpen st a p ≡ afterNone (thenCheck (openIn p) (areaCheck (st .sizes) (length a)))
       opened Over = refl
-      opened (Open k) = area-checked k (eqb (length a) (areaLength (st .sizes)))
-
-      first : (b : Bool) → checks b 4 (unchanged st a) (noneOpen st a (st .phase))
-          ≡ afterNone (pick b (checkOpen (st .sizes) (length a) (st .phase)) (Refuse 4))
-      first true = opened (st .phase)
-      first false = refl
+      opened (Open k) =
+          check-as st a nextNone (eqb (length a) (areaLength (st .sizes))) 2 _ (Accept k) refl
 
   pub none-refused : (k : ℕ) → checkOf st (length a) ≡ Refuse k → replyNoneOf st a ≡ unchanged st a k
   none-refused k e = none-checked ∙ ap afterNone e
@@ -241,61 +287,31 @@ module _ (st : State) (a : List Float) where
       → replyNoneOf st a ≡ inArea (answeredNone k st (memoryOf st a))
   none-accepted k e = none-checked ∙ ap afterNone e
 
-module _ (st : State) (a rows : List Float) where
+module _ (st : State) (a : List Float) (m : ℕ) (rows : List Float) where
+  abbrev nextRows : Kind → AfterSlots
+  nextRows k = answered k st (memoryOf st a) m rows
+
   abbrev afterRows : Checked → AfterCall
-  afterRows (Refuse k) = unchanged st a k
-  afterRows (Accept k) = inArea (answered k st (memoryOf st a) rows)
+  afterRows r = after st a nextRows r
 
-  rows-checked : replyOf st a rows ≡ afterRows (checkRowsOf st (length a) rows)
-  unfolding replyOf checkOf checkRowsOf
-  rows-checked = first (valid st)
+  rows-checked : replyOf st a m rows ≡ afterRows (checkRowsOf st (length a) m rows)
+  unfolding replyOf checkRowsOf openOf
+  rows-checked =
+      open-as st a nextRows (valid st) _ (st .phase) (rowsCheck (st .sizes) (length a) m rows) (opened (st .phase))
     where
-      inside : (k : Kind) (d : Bool)
-          → checks d 3 (unchanged st a) (inArea (answered k st (memoryOf st a) rows))
-          ≡ afterRows (pick d (Accept k) (Refuse 3))
-      inside k true = refl
-      inside k false = refl
-
-      full : (k : Kind) (c d : Bool)
-          → checks c 2 (unchanged st a)
-          (checks d 3 (unchanged st a) (inArea (answered k st (memoryOf st a) rows)))
-          ≡ afterRows (pick c (pick d (Accept k) (Refuse 3)) (Refuse 2))
-      full k true d = inside k d
-      full k false d = refl
-
-      whole : (k : Kind) (b c d : Bool) (r : Checked)
-          → afterRows r ≡ checks c 2 (unchanged st a)
-          (checks d 3 (unchanged st a) (inArea (answered k st (memoryOf st a) rows)))
-          → checks (b && c) 2 (unchanged st a)
-          (checks d 3 (unchanged st a) (inArea (answered k st (memoryOf st a) rows))) ≡ afterRows (pick b r (Refuse 2))
-      whole k true c d r e = sym e
-      whole k false c d r e = refl
-
-      open-is : (k : Kind) (b : Bool)
-          → thenRows (landedCounts st) rows (pick b (Accept k) (Refuse 2))
-          ≡ pick b (rowsCheck (landedCounts st) rows k) (Refuse 2)
-      open-is k true = refl
-      open-is k false = refl
-
       opened : (p : Phase)
-          → replyOpen st a rows p ≡ afterRows (thenRows (landedCounts st) rows (checkOpen (st .sizes) (length a) p))
+          → replyOpen st a m rows p ≡ afterRows (thenCheck (openIn p) (rowsCheck (st .sizes) (length a) m rows))
       opened Over = refl
       opened (Open k) =
-          let counts = landedCounts st in
-          let c = eqb (length rows) (rowNumbers counts) in
-          let d = allInDomain rows ((counts .m + counts .s) * (counts .n + 1)) in
-          whole k (eqb (length a) (areaLength (st .sizes))) c d (rowsCheck counts rows k) (sym (full k c d))
-          ∙ ap afterRows (sym (open-is k (eqb (length a) (areaLength (st .sizes)))))
+          let c = rowCounts (st .sizes) m in
+          let whole = eqb (length a) (areaLength (st .sizes)) in
+          check-as st a nextRows (constraintsFit m) 1 _ _
+          (check-as st a nextRows (whole && eqb (length rows) (rowNumbers c)) 2 _ _
+          (check-as st a nextRows (allInDomain rows ((c .m + c .s) * (c .n + 1))) 3 _ (Accept k) refl))
 
-      first : (b : Bool) → checks b 4 (unchanged st a) (replyOpen st a rows (st .phase))
-          ≡ afterRows
-          (thenRows (landedCounts st) rows (pick b (checkOpen (st .sizes) (length a) (st .phase)) (Refuse 4)))
-      first true = opened (st .phase)
-      first false = refl
-
-  pub rows-refused : (k : ℕ) → checkRowsOf st (length a) rows ≡ Refuse k → replyOf st a rows ≡ unchanged st a k
+  pub rows-refused : (k : ℕ) → checkRowsOf st (length a) m rows ≡ Refuse k → replyOf st a m rows ≡ unchanged st a k
   rows-refused k e = rows-checked ∙ ap afterRows e
 
-  pub rows-accepted : (k : Kind) → checkRowsOf st (length a) rows ≡ Accept k
-      → replyOf st a rows ≡ inArea (answered k st (memoryOf st a) rows)
+  pub rows-accepted : (k : Kind) → checkRowsOf st (length a) m rows ≡ Accept k
+      → replyOf st a m rows ≡ inArea (answered k st (memoryOf st a) m rows)
   rows-accepted k e = rows-checked ∙ ap afterRows e

@@ -7,7 +7,7 @@ use mathlib.Core.Path.{_≡_, refl, sym, ap, _∙_}
 use mathlib.Core.List.{List, [], _∷_}
 use native.Mathlib.Nat.{not-suc-le-zero, le-of-suc-le-suc}
 use native.Mathlib.Omega.{arith}
-use borrow.Author.Tests.{le-leb, eqb-true}
+use borrow.Author.Tests.{le-leb, leb-true, eqb-true}
 use lib.Dec.{eqb}
 use lib.Ieee.{Float, nan}
 use lib.ListN.{length, drop, getD, getD-replicate, List·getD-map}
@@ -16,13 +16,14 @@ use Rattle.interval.specs.declared.Scalar.{Scalar}
 use Rattle.interval.specs.Scalar.{zero64}
 use Rattle.linear.specs.Flat.{zeros}
 use Rattle.run.specs.Answered.{answered, answeredNone}
-use Rattle.run.specs.Area.{Slots, inOrder, slotSizes, startIn, areaLength, spareAt, HasRoom, pairsIn}
+use Rattle.run.specs.Area.{Slots, inOrder, slotSizes, startIn, areaLength, spareAt, HasRoom}
 use Rattle.run.specs.Area.{usedIn, Memory, memoryOf, padded, paddedSlots, areaOf, begunMemory}
 use Rattle.run.specs.Calls.{AfterCall, unchanged, inArea, refusedByCheck, begunOf, beginOf, Accepted, replyOpen}
 use Rattle.run.specs.Calls.{replyOf, noneOpen, replyNoneOf}
-use Rattle.run.specs.Checks.{sizesFit, allInDomain, stepFits, valid}
+use Rattle.run.specs.Checks.{sizesFit, constraintsFit, allInDomain, stepFits, valid}
 use Rattle.run.specs.Cleared.{Cleared, Replied, Demand1}
 use Rattle.run.specs.Endings.{AfterSlots}
+use Rattle.run.specs.Limits.{CONSTRAINTS}
 use Rattle.run.specs.Rows.{rowNumbers, rowCounts}
 use Rattle.run.specs.State.{noRun}
 use Rattle.run.specs.declared.state.Kind.{Kind}
@@ -36,7 +37,7 @@ use Rattle.run.proofs.AreaLaws.{Laid, laid-of, slot-read, spare-drop}
 use Rattle.run.proofs.AreaRead.{limits-from, area-holds, area-long}
 use Rattle.run.proofs.Booleans.{and-left, and-right}
 use Rattle.run.proofs.CheckLaws.{SizeBounds, size-bounds, bounds, trial-below, correction-below, checked}
-use Rattle.run.proofs.LengthsKept.{Kept, Room, answered-kept, answered-none-kept}
+use Rattle.run.proofs.LengthsKept.{Kept, Room, Few, none-held, answered-kept, answered-none-kept}
 use Rattle.run.proofs.MemoryLaws.{read-lengths}
 use Rattle.run.proofs.PlaceLaws.{all-same}
 use Rattle.run.proofs.PhaseLengths.{whole-read}
@@ -64,7 +65,7 @@ padded-at (n ∷ ns) [] k h l = absurd (not-suc-le-zero l)
 padded-at (n ∷ ns) (x ∷ xs) zero h l = refl
 padded-at (n ∷ ns) (x ∷ xs) (suc k) h l = padded-at ns xs k (le-of-suc-le-suc h) (le-of-suc-le-suc l)
 
-module _ (st : State) (w : Memory) (l : Limits (st .sizes) (pairsIn st)) (e : lengthsOf w ≡ usedIn st) where
+module _ (st : State) (w : Memory) (l : Limits st) (e : lengthsOf w ≡ usedIn st) where
   laid : Laid (st .sizes) (inOrder (paddedSlots (st .sizes) w)) (areaOf (st .sizes) w)
   laid = laid-of (st .sizes) w (area-holds st w l e)
 
@@ -102,26 +103,30 @@ module _ (st : State) (w : Memory) (l : Limits (st .sizes) (pairsIn st)) (e : le
 -- ---- what a call leaves the memory with
 
 module _ (st : State) (a : List Float) (v : valid st ≡ true) (long : HasRoom (st .sizes) a) where
-  own-limits : Limits (st .sizes) (pairsIn st)
-  own-limits = let b = bounds st v in limits-from st (b .sizes) (b .iterations)
+  own-limits : Limits st
+  own-limits = let b = bounds st v in limits-from st (b .sizes) (b .contents) (b .iterations)
+
+  own-few : Few st
+  own-few = let b = bounds st v in (b .sizes .n, b .contents)
 
   has-room : (k : Kind) → st .phase ≡ Open k → Room k st
   has-room kind.Start o = bounds st v .iterations
   has-room kind.Trial o = trial-below st v o
   has-room kind.Correction o = correction-below st v o
 
-  pub reply-kept : (rows : List Float) → length rows ≡ rowNumbers (rowCounts (st .sizes)) → (k : Kind)
-      → st .phase ≡ Open k → Kept (st .sizes) (st .counts .question) (answered k st (memoryOf st a) rows)
-  reply-kept rows many k o =
+  pub reply-kept : (m : ℕ) → m ≤ CONSTRAINTS → (rows : List Float)
+      → length rows ≡ rowNumbers (rowCounts (st .sizes) m) → (k : Kind) → st .phase ≡ Open k
+      → Kept (st .sizes) (st .counts .question) (answered k st (memoryOf st a) m rows)
+  reply-kept m fits rows many k o =
       let w = memoryOf st a in
-      answered-kept st w (own-limits .few) rows many k (has-room k o)
+      answered-kept st w own-few m fits rows many k (has-room k o)
       (whole-read st w (read-lengths st own-limits a long) k o)
 
   pub reply-none-kept : (k : Kind) → st .phase ≡ Open k
       → Kept (st .sizes) (st .counts .question) (answeredNone k st (memoryOf st a))
   reply-none-kept k o =
       let w = memoryOf st a in
-      answered-none-kept st w (own-limits .few) k (has-room k o)
+      answered-none-kept st w own-few k (has-room k o)
       (whole-read st w (read-lengths st own-limits a long) k o)
 
 -- ---- the replies
@@ -143,30 +148,34 @@ module _ (st : State) (a : List Float) where
       let within : o .state .counts .iterations ≤ o .state .sizes .limit = rw (k .sizes-kept) (k .within) in
       record {
         sizes-kept = k .sizes-kept;
-        cleared = λ e. area-cleared (o .state) (o .memory) (limits-from (o .state) own within) (k .lengths);
+        cleared = λ e. area-cleared (o .state) (o .memory) (limits-from (o .state) own (k .few-held) within)
+            (k .lengths);
         unchanged = λ e. absurd (true≢false (sym e ∙ k .past-checks));
         follows = λ e. k .follows;
       }
 
-pub reply-leaves : (st : State) (a rows : List Float) → Replied st a (replyOf st a rows)
+pub reply-leaves : (st : State) (a : List Float) (m : ℕ) (rows : List Float) → Replied st a (replyOf st a m rows)
 unfolding replyOf
-reply-leaves st a rows =
+reply-leaves st a m rows =
     checked (Replied st a) (valid st) 4 (unchanged st a) _ (refused-replied st a 4 (omega arith))
     (λ v. opened v (st .phase) refl)
   where
-    opened : valid st ≡ true → (p : Phase) → st .phase ≡ p → Replied st a (replyOpen st a rows p)
+    opened : valid st ≡ true → (p : Phase) → st .phase ≡ p → Replied st a (replyOpen st a m rows p)
     opened v Over o = refused-replied st a 4 (omega arith)
     opened v (Open k) o =
         let z = st .sizes in
         let fits = eqb (length a) (areaLength z) in
-        let many = eqb (length rows) (rowNumbers (rowCounts z)) in
+        let many = eqb (length rows) (rowNumbers (rowCounts z m)) in
+        checked (Replied st a) (constraintsFit m) 1 (unchanged st a) _ (refused-replied st a 1 (omega arith))
+        (λ f.
         checked (Replied st a) (fits && many) 2 (unchanged st a) _ (refused-replied st a 2 (omega arith))
         (λ e.
-        checked (Replied st a) (allInDomain rows ((z .m + z .s) * (z .n + 1))) 3 (unchanged st a) _
+        checked (Replied st a) (allInDomain rows ((m + z .s) * (z .n + 1))) 3 (unchanged st a) _
         (refused-replied st a 3 (omega arith))
         (λ d.
-        kept-replied st a (bounds st v .sizes) (answered k st (memoryOf st a) rows)
-        (reply-kept st a v (eqb-true _ _ (and-left fits many e)) rows (eqb-true _ _ (and-right fits many e)) k o)))
+        kept-replied st a (bounds st v .sizes) (answered k st (memoryOf st a) m rows)
+        (reply-kept st a v (eqb-true _ _ (and-left fits many e)) m (leb-true _ _ f) rows
+        (eqb-true _ _ (and-right fits many e)) k o))))
 
 pub reply-none-leaves : (st : State) (a : List Float) → Replied st a (replyNoneOf st a)
 unfolding replyNoneOf
@@ -201,8 +210,9 @@ begun-lengths z start max e =
       filter = refl;
     })
 
-pub begun-limits : (z : Sizes) (start : List Float) (max : Scalar) → SizeBounds z → Limits z 0
-begun-limits z start max b = limits-from (begunOf z start max .state) b (omega arith)
+pub begun-limits : (z : Sizes) (start : List Float) (max : Scalar) → SizeBounds z
+    → Limits (begunOf z start max .state)
+begun-limits z start max b = limits-from (begunOf z start max .state) b none-held (omega arith)
 
 abbrev Begun : AfterCall → Type 0
 Begun l = Accepted l → Cleared (l .state) (l .area)

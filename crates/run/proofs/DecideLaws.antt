@@ -14,13 +14,13 @@ use Rattle.interval.specs.Scalar.{two64, zeroS, degenerate, pick, subOf, mulOf,
 use Rattle.interval.specs.Scalar.{definitelyGreater, definitelyLess}
 use Rattle.interval.specs.Scaling.{three64, four64, isPositive}
 use Rattle.run.specs.Area.{Memory, HasRoom, indices, placesOf, partOf, numbersIn, pairsIn}
-use Rattle.run.specs.Area.{withLanded, withTaken, landedCounts, standingAt, landedAt, curvatureOf}
+use Rattle.run.specs.Area.{withLanded, withTaken, standingCounts, landedCounts, standingAt, landedAt, curvatureOf}
 use Rattle.run.specs.Corrected.{Shift, shiftOf, shiftFrom, shiftedStep}
 use Rattle.run.specs.Curvature.{updateCurvature}
 use Rattle.run.specs.Decide.{held, linearOf}
 use Rattle.run.specs.Filter.{filterWith}
 use Rattle.run.specs.Judgement.{Judged, judgeOf}
-use Rattle.run.specs.Limits.{VARIABLES}
+use Rattle.run.specs.Limits.{VARIABLES, CONSTRAINTS}
 use Rattle.run.specs.Radius.{radiusAfter}
 use Rattle.run.specs.Residuals.{sumSquared, violationOf}
 use Rattle.run.specs.Rows.{rowCounts, rowNumbers, constraintsOf, sumOf, evaluationOf}
@@ -59,7 +59,7 @@ curvature-length st a few room =
 -- the sum of the standing point's rows
 pub sum-read :
     (st : State) {w : Memory} {a : List Float} {c : RowCounts} {xs : List Float} {f : Scalar} → Holds (st .sizes) w a →
-    length (w .standingRows) ≡ numbersIn st .standingRows → c ≡ rowCounts (st .sizes) → xs ≡ rowsOf (st .sizes) c a →
+    length (w .standingRows) ≡ numbersIn st .standingRows → c ≡ standingCounts st → xs ≡ rowsOf (st .sizes) c a →
     f ≡ sumSquared (sumOf c xs) → f ≡ sumSquared (standingAt st w .sum)
 sum-read st h long ec ex e = rw (ex ∙ read-standing-rows h (long ∙ ap rowNumbers (sym ec)), ec) at e
 
@@ -99,7 +99,8 @@ stood length mu radius u e =
     let b = u .bounded in
     record {
       few-variables = b .few-variables;
-      few-constraints = b .few-constraints;
+      few-standing = b .few-landed;
+      few-landed = b .few-landed;
       few-sums = b .few-sums;
       few-iterations = b .few-iterations;
       within = omega (arith, u .below);
@@ -109,13 +110,15 @@ stood length mu radius u e =
       damping = e;
     }
 
-pub landed-again : {st : State} (corrections : ℕ) → corrections ≤ 5 → Underway st → Underway (landing st corrections)
-landed-again corrections l u =
+pub landed-again : {st : State} (m corrections : ℕ) → m ≤ CONSTRAINTS → corrections ≤ 5 → Underway st
+    → Underway (landing st m corrections)
+landed-again m corrections few l u =
     let b = u .bounded in
     record {
       bounded = record {
         few-variables = b .few-variables;
-        few-constraints = b .few-constraints;
+        few-standing = b .few-standing;
+        few-landed = few;
         few-sums = b .few-sums;
         few-iterations = b .few-iterations;
         within = b .within;
@@ -170,45 +173,47 @@ module _ (length radius max : Scalar) {reach : Scalar} (e : reach ≡ mulOf (deg
 
 -- the curvature after a step, from the slots
 pub learned-is :
-    (st : State) {w : Memory} {a : List Float} {c : RowCounts} {b d x y l : List Float} {r : Res (List Float)} →
-    st .sizes .n ≤ VARIABLES → ReadAll st w a → c ≡ rowCounts (st .sizes) →
-    b ≡ curvatureFor (st .sizes) (st .search .plain) a → d ≡ partOf a (placesOf (st .sizes) .step) (2 * st .sizes .n) →
-    x ≡ rowsOf (st .sizes) c a → y ≡ partOf a (placesOf (st .sizes) .landedRows) (rowNumbers c) →
+    (st : State) {w : Memory} {a : List Float} {c d : RowCounts} {b s x y l : List Float} {r : Res (List Float)} →
+    st .sizes .n ≤ VARIABLES → ReadAll st w a → c ≡ standingCounts st → d ≡ landedCounts st →
+    b ≡ curvatureFor (st .sizes) (st .search .plain) a → s ≡ partOf a (placesOf (st .sizes) .step) (2 * st .sizes .n) →
+    x ≡ rowsOf (st .sizes) c a → y ≡ partOf a (placesOf (st .sizes) .landedRows) (rowNumbers d) →
     l ≡ partOf a (placesOf (st .sizes) .multipliers) (2 * c .m) →
-    r ≡ updateCurvature (c .n) b d (evaluationOf c x) (evaluationOf c y) l →
+    r ≡ updateCurvature (c .n) b s (evaluationOf c x) (evaluationOf d y) l →
     r ≡ updateCurvature (st .sizes .n) (curvatureOf st w) (w .step) (standingAt st w) (landedAt st w) (w .multipliers)
-learned-is st few t ec eb ed ex ey el e =
+learned-is st few t ec ed eb es ex ey el e =
     let h = t .holds in
     rw (
       eb ∙ curvature-for-read st h few (t .standing-whole .curvature),
-      ed ∙ read-step h (t .trial-whole .step),
+      es ∙ read-step h (t .trial-whole .step),
       ex ∙ read-standing-rows h (t .standing-whole .standing-rows ∙ ap rowNumbers (sym ec)),
-      ey ∙ read-landed-rows h (t .landed-whole .landed-rows ∙ ap rowNumbers (sym ec)),
+      ey ∙ read-landed-rows h (t .landed-whole .landed-rows ∙ ap rowNumbers (sym ed)),
       el ∙ read-multipliers h (t .trial-whole .multipliers ∙ ap (λ (k : RowCounts). 2 * k .m) (sym ec)),
       ec,
+      ed,
     ) at e
 
 -- how a step fares, from the slots
 pub judged-is :
-    (st : State) {w : Memory} {a : List Float} {theta : Scalar} {v : Res Scalar} {c : RowCounts} {pairs : ℕ}
-    {x y f d : List Float} {r : Res Judged} → ViolationsKnown st theta v w a →
-    c ≡ rowCounts (st .sizes) → pairs ≡ pairsIn st → x ≡ rowsOf (st .sizes) c a →
-    y ≡ partOf a (placesOf (st .sizes) .landedRows) (rowNumbers c) →
+    (st : State) {w : Memory} {a : List Float} {theta : Scalar} {v : Res Scalar} {c d : RowCounts} {pairs : ℕ}
+    {x y f s : List Float} {r : Res Judged} → ViolationsKnown st theta v w a →
+    c ≡ standingCounts st → d ≡ landedCounts st → pairs ≡ pairsIn st → x ≡ rowsOf (st .sizes) c a →
+    y ≡ partOf a (placesOf (st .sizes) .landedRows) (rowNumbers d) →
     f ≡ partOf a (placesOf (st .sizes) .filter) (4 * pairs) →
-    d ≡ partOf a (placesOf (st .sizes) .step) (2 * st .sizes .n) →
-    (v ≡ violationOf (constraintsOf c y) →
-    r ≡ judgeOf (c .n) (evaluationOf c x) (evaluationOf c y) theta f pairs (st .last) d) →
+    s ≡ partOf a (placesOf (st .sizes) .step) (2 * st .sizes .n) →
+    (v ≡ violationOf (constraintsOf d y) →
+    r ≡ judgeOf (c .n) (evaluationOf c x) (evaluationOf d y) theta f pairs (st .last) s) →
     r
     ≡ judgeOf (st .sizes .n) (standingAt st w) (landedAt st w) theta (w .filter) (pairsIn st) (st .last) (w .step)
-judged-is st t ec ep ex ey ef ed k =
-    let s = t .from-standing in
-    let h = s .within .holds in
+judged-is st t ec ed ep ex ey ef es k =
+    let u = t .from-standing in
+    let h = u .within .holds in
     (rw (
-      ex ∙ read-standing-rows h (s .standing-whole .standing-rows ∙ ap rowNumbers (sym ec)),
-      ey ∙ read-landed-rows h (t .landed-whole .landed-rows ∙ ap rowNumbers (sym ec)),
-      ef ∙ read-filter h (s .standing-whole .filter ∙ ap (λ (n : ℕ). 4 * n) (sym ep)),
-      ed ∙ read-step h (t .trial-whole .step),
+      ex ∙ read-standing-rows h (u .standing-whole .standing-rows ∙ ap rowNumbers (sym ec)),
+      ey ∙ read-landed-rows h (t .landed-whole .landed-rows ∙ ap rowNumbers (sym ed)),
+      ef ∙ read-filter h (u .standing-whole .filter ∙ ap (λ (n : ℕ). 4 * n) (sym ep)),
+      es ∙ read-step h (t .trial-whole .step),
       ec,
+      ed,
       ep,
     ) at k) (t .landed-is)
 
@@ -250,40 +255,44 @@ module _ (st : State) {w : Memory} {a : List Float} {theta : Scalar} {v : Res Sc
           standing-rows = m .landed-rows;
           landed-rows = m .landed-rows;
           step = m .step;
-          multipliers = m .multipliers;
+          multipliers = omega arith;
           curvature = omega (arith, long);
           filter = omega (arith, whole .filter);
         };
       })
       whole (t .landed-is)
 
--- where the asked point landed, with rows of their whole length and a step
-module _ (st : State) (rows step : List Float) (many : length rows ≡ numbersIn st .landedRows)
+-- where the asked point landed, with m constraint rows, rows of their whole length and a step
+module _ (st : State) (m corrections : ℕ) (rows step : List Float)
+    (many : length rows ≡ rowNumbers (rowCounts (st .sizes) m))
     (long : length step ≡ numbersIn st .step) {w : Memory} {a b : List Float} where
-  pub lands : Working st w a → Holds (st .sizes) (withLanded w rows step) b → Working st (withLanded w rows step) b
+  pub lands : Working st w a → Holds (st .sizes) (withLanded w rows step) b
+      → Working (landing st m corrections) (withLanded w rows step) b
   lands u h =
-      let m = u .at-most in
+      let t = u .at-most in
       record {
         holds = h;
         at-most = record {
-          standing = m .standing;
-          landed = m .asked;
-          asked = m .asked;
-          standing-rows = m .standing-rows;
+          standing = t .standing;
+          landed = t .asked;
+          asked = t .asked;
+          standing-rows = t .standing-rows;
           landed-rows = omega (arith, many);
           step = omega (arith, long);
-          multipliers = m .multipliers;
-          curvature = m .curvature;
-          filter = m .filter;
+          multipliers = t .multipliers;
+          curvature = t .curvature;
+          filter = t .filter;
         };
       }
 
   pub landed-known : {theta : Scalar} {v : Res Scalar} → StandingKnown st (ok theta) w a → TrialWhole (numbersIn st) w →
-      Holds (st .sizes) (withLanded w rows step) b → v ≡ violationOf (constraintsOf (landedCounts st) rows) →
-      ViolationsKnown st theta v (withLanded w rows step) b
+      Holds (st .sizes) (withLanded w rows step) b → v ≡ violationOf (constraintsOf (rowCounts (st .sizes) m) rows) →
+      ViolationsKnown (landing st m corrections) theta v (withLanded w rows step) b
   landed-known s t h e =
-      let r = landed-read st w 0 rows step (record { standing-whole = s .standing-whole; trial-whole = t }) many long in
-      compares st (lands (s .within) h) (r .standing-whole) (r .trial-whole) (r .landed-whole) (s .standing-is) e
+      let r = landed-read st w m corrections rows step
+      (record { standing-whole = s .standing-whole; trial-whole = t }) many long in
+      compares (landing st m corrections) (lands (s .within) h) (r .standing-whole) (r .trial-whole)
+      (r .landed-whole) (s .standing-is) e
 
 -- the step with a shift added, in its slot
 abbrev pub withStep : Memory → List Float → Memory

@@ -18,10 +18,9 @@ use Rattle.interval.specs.Scalar.{pick}
 use Rattle.linear.specs.Flat.{at, inside}
 use Rattle.linear.proofs.FlatLaws.{at-outside}
 use Rattle.run.specs.Vectors.{allTo}
-use Rattle.run.specs.Rows.{rowNumbers, rowCounts}
 use Rattle.run.specs.Limits.{MOST}
 use Rattle.run.specs.Checks.{inDomain, allInDomain}
-use Rattle.run.specs.Demand.{Floats}
+use Rattle.run.specs.Demand.{Floats, Answer, Fitting}
 use Rattle.run.specs.declared.state.Sizes.{Sizes}
 use Rattle.run.proofs.Booleans.{and-left, and-right, never}
 use Rattle.run.proofs.demand3.ExactLaws.{Good}
@@ -94,22 +93,25 @@ none-beyond xs count h =
 
 -- ---- rows
 
-pub domain-rows : (z : Sizes) (xs : List Float) → Floats xs → length xs ≡ rowNumbers (rowCounts z)
-    → allInDomain xs ((z .m + z .s) * (z .n + 1)) ≡ true → Good z xs
-domain-rows z xs f e d =
+pub domain-rows : (z : Sizes) (x : Answer) → Floats (x .numbers) → Fitting z x → Good z x
+domain-rows z x f fit =
     record {
-      size = e;
+      size = fit .length-is;
       constraints-finite = λ i h. value (0 + i) (constraint i h);
-      sum-finite = λ i h. value (z .m * (z .n + 1) + i) (residual i h);
+      sum-finite = λ i h. value (x .m * (z .n + 1) + i) (residual i h);
     }
   where
-    value : (i : ℕ) → i < (z .m + z .s) * (z .n + 1) → Fits (at xs i) × Finite (at xs i)
+    value : (i : ℕ) → i < (x .m + z .s) * (z .n + 1) → Fits (at (x .numbers) i) × Finite (at (x .numbers) i)
     value i h =
-        (at-fits xs f i, domain-finite (at xs i) (all-of (λ j. inDomain (at xs j)) ((z .m + z .s) * (z .n + 1)) d i h))
+        let xs = x .numbers in (
+          at-fits xs f i,
+          domain-finite (at xs i)
+              (all-of (λ j. inDomain (at xs j)) ((x .m + z .s) * (z .n + 1)) (fit .in-domain) i h),
+        )
 
-    constraint : (i : ℕ) → i < z .m → 0 + i < (z .m + z .s) * (z .n + 1)
-    constraint i h = omega (arith, mul-le-mul-left {m = 1} {n = z .n + 1} (z .m + z .s) (omega arith))
+    constraint : (i : ℕ) → i < x .m → 0 + i < (x .m + z .s) * (z .n + 1)
+    constraint i h = omega (arith, mul-le-mul-left {m = 1} {n = z .n + 1} (x .m + z .s) (omega arith))
 
-    residual : (i : ℕ) → i < z .s → z .m * (z .n + 1) + i < (z .m + z .s) * (z .n + 1)
+    residual : (i : ℕ) → i < z .s → x .m * (z .n + 1) + i < (x .m + z .s) * (z .n + 1)
     residual i h =
-        omega (arith, add-mul (z .m) (z .s) (z .n + 1), mul-le-mul-left {m = 1} {n = z .n + 1} (z .s) (omega arith))
+        omega (arith, add-mul (x .m) (z .s) (z .n + 1), mul-le-mul-left {m = 1} {n = z .n + 1} (z .s) (omega arith))

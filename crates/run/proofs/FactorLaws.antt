@@ -26,7 +26,7 @@ use Rattle.linear.proofs.Replied.{done-is, replied-apart}
 use Rattle.linear.proofs.SolvedLaws.{solved-by-factor, solved-refused}
 use Rattle.run.specs.Curvature.{alongOf, updateCurvature}
 use Rattle.run.specs.program.Curvature.{Factored}
-use Rattle.run.specs.Rows.{constraintSet, constraintsOf, evaluationOf}
+use Rattle.run.specs.Rows.{Evaluation, constraintSet, constraintsOf, evaluationOf}
 use Rattle.run.specs.Vectors.{fillTo, chosenOf}
 use Rattle.run.specs.declared.rows.RowCounts.{RowCounts}
 use Rattle.run.specs.declared.rows.RowSet.{RowSet}
@@ -105,9 +105,9 @@ module _ (c : RowCounts) (xs : List Float) (few : FewRows c) where
         rw (ej″, el, ef)
         (record { slopes = written; factor = sym ended ∙ ap (λ (z : Done). doneOf z f) h; entries = kl; marks = kf })
 
-    pub unfactored : (b step next lambda x : List Float) {k : LinearError} → r ≡ done.Refused k →
-        doneOf r x ≡ updateCurvature (c .n) b step (evaluationOf c xs) (evaluationOf c next) lambda
+    pub unfactored : (b step lambda x : List Float) (e′ : Evaluation) {k : LinearError} → r ≡ done.Refused k →
+        doneOf r x ≡ updateCurvature (c .n) b step (evaluationOf c xs) e′ lambda
     unfolding updateCurvature alongOf bind
-    unfactored b step next lambda x {k} h =
+    unfactored b step lambda x e′ {k} h =
         let q : gramFactorOf (c .m) (c .n) jc ≡ refused (numberOf k) = sym ended ∙ ap (λ (z : Done). doneOf z f) h in
         rw (h, ← written, solved-refused (c .m) (c .n) jc _ _ _ q)

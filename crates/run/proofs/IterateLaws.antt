@@ -15,7 +15,7 @@ use Rattle.interval.specs.Scaling.{four64, quadrupled, isPositive}
 use Rattle.linear.specs.Flat.{zeros}
 use Rattle.run.specs.Area.{Memory, placesOf, spareAt, partOf, numbersIn, standingAt, curvatureOf}
 use Rattle.run.specs.Limits.{VARIABLES}
-use Rattle.run.specs.program.Area.{Holds, StandingKnown}
+use Rattle.run.specs.program.Area.{Holds, Limits, StandingKnown}
 use Rattle.run.specs.Curvature.{learnedOf}
 use Rattle.run.specs.Proposal.{Standing}
 use Rattle.run.specs.Vectors.{movedOf}
@@ -55,7 +55,8 @@ pub searched : {t u : ℕ} {st : State} (x : Search) → Bounded t st → x .«t
     Bounded u (searching st x)
 searched x b l e = record {
   few-variables = b .few-variables;
-  few-constraints = b .few-constraints;
+  few-standing = b .few-standing;
+  few-landed = b .few-landed;
   few-sums = b .few-sums;
   few-iterations = b .few-iterations;
   within = b .within;
@@ -64,6 +65,11 @@ searched x b l e = record {
   few-turned = l;
   damping = e;
 }
+
+-- it changes no number in use
+pub limits-searched : {st : State} (x : Search) → Limits st → Limits (searching st x)
+limits-searched x l =
+    record { standing-few = l .standing-few; landed-few = l .landed-few; iterations-fit = l .iterations-fit }
 
 -- what follows more damping, or the stop
 abbrev pub after : {A : Type 0} → (Search → A) → (Search → Stop → A) → Damped → A

@@ -21,7 +21,7 @@ use Rattle.interval.specs.Scaling.{three64, four64}
 use Rattle.linear.specs.Flat.{zeros}
 use Rattle.run.specs.Answered.{started, answered, answeredNone}
 use Rattle.run.specs.Area.{Memory, numbersIn, usedIn, onlyStanding, withStart, withTrial, withAsked}
-use Rattle.run.specs.Area.{withLanded, withTaken, standingCounts, rowsAt, standingAt, landedAt}
+use Rattle.run.specs.Area.{withLanded, withTaken, rowsAt, standingAt, landedAt}
 use Rattle.run.specs.Area.{curvatureOf, pairsIn}
 use Rattle.run.specs.Calls.{refusedByCheck, Follows}
 use Rattle.run.specs.Corrected.{to, stay, shiftOf, shiftFrom, shiftedStep, correct, landTrial, keep}
@@ -34,14 +34,15 @@ use Rattle.run.specs.Endings.{AfterSlots, finish, refuse, orRefuse}
 use Rattle.run.specs.Filter.{filterWith, pairNumbers}
 use Rattle.run.specs.Iterate.{standingOf, leftAt, search, iterate}
 use Rattle.run.specs.Judgement.{Judged, judgeOf}
-use Rattle.run.specs.Limits.{CORRECTIONS, DAMPINGS}
+use Rattle.run.specs.Limits.{VARIABLES, CONSTRAINTS, CORRECTIONS, DAMPINGS}
 use Rattle.run.specs.Proposal as proposal
 use Rattle.run.specs.Proposal.{Standing, Proposal, noDrop, unresolved, noChange, ask, proposalOf}
 use Rattle.run.specs.Radius.{radiusAfter}
 use Rattle.run.specs.Residuals.{sumSquared, violationOf, movingOf}
+use Rattle.run.specs.Rows.{rowNumbers, rowCounts}
 use Rattle.run.specs.Search.{Found, asks, stops, refuses, follow, searchTo, searchOf}
-use Rattle.run.specs.State.{rejectedFor, withRadius, retried, searching, moves, landing, standingOn, over, asking}
-use Rattle.run.specs.State.{trying}
+use Rattle.run.specs.State.{rejectedFor, withRadius, retried, searching, starting, landing, standingOn, over}
+use Rattle.run.specs.State.{asking, trying, holding}
 use Rattle.run.specs.declared.state.Kind.{Kind}
 use Rattle.run.specs.declared.state.Kind.the-variants as kind
 use Rattle.run.specs.declared.state.Rejection.{Rejection}
@@ -52,7 +53,7 @@ use Rattle.run.specs.declared.state.State.{State}
 use Rattle.run.specs.declared.state.Stop.{Stop}
 use Rattle.run.specs.declared.state.Stop.the-variants as stop
 use Rattle.run.specs.program.Area.{lengthsOf, StandingWhole}
-use Rattle.run.specs.program.Rows.{FewRows}
+use Rattle.run.proofs.CheckLaws.{ContentBounds}
 use Rattle.run.proofs.PlaceLaws.{all-same}
 use Rattle.run.proofs.PhaseLengths.{StartRead, TrialRead, AllRead, Read}
 use Rattle.run.proofs.RefusalLaws as yields
@@ -64,6 +65,7 @@ use Rattle.run.proofs.VectorLaws.{length-fillTo}
 -- what a run of these sizes, with the question of that number open, is left as
 pub record Kept (z : Sizes) (question : ℕ) (o : AfterSlots) : Type 0 where
   pub sizes-kept : o .state .sizes ≡ z
+  pub few-held : ContentBounds (o .state .contents)
   pub lengths : lengthsOf (o .memory) ≡ usedIn (o .state)
   pub within : o .state .counts .iterations ≤ z .limit
   pub past-checks : refusedByCheck (o .event) ≡ false
@@ -74,6 +76,13 @@ abbrev pub Room : Kind → State → Type 0
 Room kind.Start st = st .counts .iterations ≤ st .sizes .limit
 Room kind.Trial st = st .counts .iterations < st .sizes .limit
 Room kind.Correction st = st .counts .iterations < st .sizes .limit
+
+-- the variables of a run, and each m that it keeps, within the limits
+abbrev pub Few : State → Type 0
+Few st = (st .sizes .n ≤ VARIABLES) × ContentBounds (st .contents)
+
+pub none-held : ContentBounds (holding 0 0)
+none-held = record { standing = omega arith; landed = omega arith }
 
 up-to : {k n : ℕ} → k < n → k ≤ n
 up-to h = omega (arith, h)
@@ -121,12 +130,20 @@ module _ (st : State) (w : Memory) (m : st .counts .iterations ≤ st .sizes .li
       })
 
   pub finish-kept : (s : Stop) → Kept (st .sizes) (st .counts .question) (finish st w s)
-  finish-kept s = record { sizes-kept = refl; lengths = alone; within = m; past-checks = refl; follows = refl }
+  finish-kept s = record {
+    sizes-kept = refl;
+    few-held = none-held;
+    lengths = alone;
+    within = m;
+    past-checks = refl;
+    follows = refl;
+  }
 
   pub refuse-kept : (k : ℕ) → T (eqb k 5 || eqb k 6) → Kept (st .sizes) (st .counts .question) (refuse st w k)
   refuse-kept k h =
       record {
         sizes-kept = refl;
+        few-held = none-held;
         lengths = alone;
         within = m;
         past-checks = lt-leb k 4 (above (eqb k 5) (eqb k 6) refl refl h);
@@ -183,24 +200,25 @@ search-sized (suc t) S max x =
     follow-sized (λ y. searchTo t S max y) (λ y. search-sized t S max y) (S .e .constraints .count) max x
     (proposalOf S (x .mu) (x .radius)) (proposal-yields S (x .mu) (x .radius))
 
-left-kept : (st : State) (w : Memory) → FewRows (standingCounts st) → st .counts .iterations ≤ st .sizes .limit
+left-kept : (st : State) (w : Memory) → Few st → st .counts .iterations ≤ st .sizes .limit
     → StandingWhole (numbersIn st) w → (f : Found) → FoundSized f
     → Kept (st .sizes) (st .counts .question) (leftAt st w f)
 unfolding leftAt
 left-kept st w few m t (asks x y) h =
     record {
       sizes-kept = refl;
+      few-held = record { standing = few .1 .standing; landed = omega arith };
       lengths =
           all-same {x = lengthsOf (withTrial st w (y .next) (y .delta) (y .lambda))}
           {y = usedIn (asking (trying st x y) kind.Trial 0)}
           (record {
             standing = t .standing;
             landed = refl;
-            asked = length-cut (y .next) (st .sizes .n) (h .next-size) (few .few-variables);
+            asked = length-cut (y .next) (st .sizes .n) (h .next-size) (few .0);
             standing-rows = t .standing-rows;
             landed-rows = refl;
-            step = length-cut (y .delta) (st .sizes .n) (h .delta-size) (few .few-variables);
-            multipliers = length-cut (y .lambda) (st .sizes .m) (h .lambda-size) (few .few-constraints);
+            step = length-cut (y .delta) (st .sizes .n) (h .delta-size) (few .0);
+            multipliers = length-cut (y .lambda) (st .contents .«standing_m») (h .lambda-size) (few .1 .standing);
             curvature = t .curvature;
             filter = t .filter;
           });
@@ -211,7 +229,7 @@ left-kept st w few m t (asks x y) h =
 left-kept st w few m t (stops x s) h = finish-kept (searching st x) w m (t .standing) s
 left-kept st w few m t (refuses x k) h = refuse-kept (searching st x) w m (t .standing) k h
 
-module _ (st : State) (w : Memory) (few : FewRows (standingCounts st)) (m : st .counts .iterations ≤ st .sizes .limit)
+module _ (st : State) (w : Memory) (few : Few st) (m : st .counts .iterations ≤ st .sizes .limit)
     (t : StandingWhole (numbersIn st) w) where
   pub search-kept : Kept (st .sizes) (st .counts .question) (search st w)
   unfolding search searchOf
@@ -231,7 +249,7 @@ module _ (st : State) (w : Memory) (few : FewRows (standingCounts st)) (m : st .
 
 -- ---- a step turned down
 
-module _ (st : State) (w : Memory) (few : FewRows (standingCounts st)) (m : st .counts .iterations ≤ st .sizes .limit)
+module _ (st : State) (w : Memory) (few : Few st) (m : st .counts .iterations ≤ st .sizes .limit)
     (t : StandingWhole (numbersIn st) w) where
   grow-kept : Kept (st .sizes) (st .counts .question) (grow st w)
   unfolding grow
@@ -240,7 +258,7 @@ module _ (st : State) (w : Memory) (few : FewRows (standingCounts st)) (m : st .
       either-kept (st .sizes) (st .counts .question) (isFinite (x .mu)) _ _ (search-kept (searching st x) w few m t)
       (finish-kept (searching st x) w m (t .standing) (stop.Damped (st .search .rejected)))
 
-module _ (st : State) (w : Memory) (few : FewRows (standingCounts st)) (m : st .counts .iterations ≤ st .sizes .limit)
+module _ (st : State) (w : Memory) (few : Few st) (m : st .counts .iterations ≤ st .sizes .limit)
     (t : StandingWhole (numbersIn st) w) where
   pub turn-down-kept : (r : Rejection) → Kept (st .sizes) (st .counts .question) (turnDown st w r)
   unfolding turnDown
@@ -273,7 +291,7 @@ taken-whole st w length mu radius f theta t long =
       filter = length-filter (w .filter) f theta (st .counts .iterations) (t .standing-whole .filter);
     }
 
-module _ (st : State) (w : Memory) (few : FewRows (standingCounts st)) (t : AllRead (numbersIn st) w) where
+module _ (st : State) (w : Memory) (t : AllRead (numbersIn st) w) where
   -- the curvature learned from it
   learned-yields :
       Yields (Long (numbersIn st .curvature))
@@ -288,7 +306,7 @@ module _ (st : State) (w : Memory) (few : FewRows (standingCounts st)) (t : AllR
       → Long (numbersIn st .curvature) b
   learned-length e = given e learned-yields
 
-module _ (st : State) (w : Memory) (few : FewRows (standingCounts st)) (b : st .counts .iterations < st .sizes .limit)
+module _ (st : State) (w : Memory) (few : Few st) (b : st .counts .iterations < st .sizes .limit)
     (t : AllRead (numbersIn st) w) where
   take-kept : (theta length : Scalar) → Kept (st .sizes) (st .counts .question) (run.take st w theta length)
   unfolding run.take
@@ -301,13 +319,14 @@ module _ (st : State) (w : Memory) (few : FewRows (standingCounts st)) (b : st .
       (λ third v.
       or-refuse-kept st w (up-to b) e
       (updateCurvature (st .sizes .n) (curvatureOf st w) (w .step) (standingAt st w) (landedAt st w) (w .multipliers)) _
-      (learned-yields st w few t)
+      (learned-yields st w t)
       (λ learned long.
       let mu = shrunk (st .search .mu) third in
       let radius = radiusAfter length (st .search .radius) (st .«max_step») linear in
       let f = sumSquared (standingAt st w .sum) in
-      iterate-kept (standingOn st length mu radius) (withTaken w learned (filterWith (w .filter) f theta)) few
-      (omega (arith, b)) (taken-whole st w length mu radius f theta t long))))
+      iterate-kept (standingOn st length mu radius) (withTaken w learned (filterWith (w .filter) f theta))
+      (few .0, record { standing = few .1 .landed; landed = few .1 .landed }) (omega (arith, b))
+      (taken-whole st w length mu radius f theta t long))))
 
   -- ---- the judgement
 
@@ -342,13 +361,14 @@ module _ (st : State) (w : Memory) (few : FewRows (standingCounts st)) (b : st .
         | to next ↦ λ h.
             record {
               sizes-kept = refl;
+              few-held = few .1;
               lengths =
                   all-same {x = lengthsOf (withAsked st w next)}
                   {y = usedIn (asking st kind.Correction (st .counts .corrections))}
                   (record {
                     standing = t .standing-whole .standing;
                     landed = t .landed-whole .landed;
-                    asked = length-cut next (st .sizes .n) h (few .few-variables);
+                    asked = length-cut next (st .sizes .n) h (few .0);
                     standing-rows = t .standing-whole .standing-rows;
                     landed-rows = t .landed-whole .landed-rows;
                     step = t .trial-whole .step;
@@ -366,10 +386,10 @@ module _ (st : State) (w : Memory) (few : FewRows (standingCounts st)) (b : st .
 -- ---- where a point lands
 
 -- the asked point landed: with rows of their whole length, and a step
-pub landed-read : (st : State) (w : Memory) (n : ℕ) (rows step : List Float) → TrialRead (numbersIn st) w
-    → length rows ≡ numbersIn st .landedRows → length step ≡ numbersIn st .step
-    → AllRead (numbersIn (landing st n)) (withLanded w rows step)
-landed-read st w n rows step t many long =
+pub landed-read : (st : State) (w : Memory) (m n : ℕ) (rows step : List Float) → TrialRead (numbersIn st) w
+    → length rows ≡ rowNumbers (rowCounts (st .sizes) m) → length step ≡ numbersIn st .step
+    → AllRead (numbersIn (landing st m n)) (withLanded w rows step)
+landed-read st w m n rows step t many long =
     record {
       standing-whole = record {
         standing = t .standing-whole .standing;
@@ -386,9 +406,10 @@ landed-read st w n rows step t many long =
     }
 
 -- a start's answer
-pub start-whole : (st : State) (w : Memory) (rows : List Float) → length (w .standing) ≡ numbersIn st .standing
-    → length rows ≡ numbersIn st .landedRows → StandingWhole (numbersIn st) (withStart st w rows)
-start-whole st w rows e many =
+pub start-whole : (st : State) (w : Memory) (m : ℕ) (moving : List Bool) (rows : List Float)
+    → length (w .standing) ≡ numbersIn st .standing → length rows ≡ rowNumbers (rowCounts (st .sizes) m)
+    → StandingWhole (numbersIn (starting st m moving)) (withStart st w rows)
+start-whole st w m moving rows e many =
     record {
       standing = e;
       standing-rows = many;
@@ -396,46 +417,49 @@ start-whole st w rows e many =
       filter = length-replicate (numbersIn st .filter) zero64;
     }
 
-module _ (st : State) (w : Memory) (few : FewRows (standingCounts st)) (rows : List Float)
-    (many : length rows ≡ numbersIn st .landedRows) where
+module _ (st : State) (w : Memory) (few : Few st) (m : ℕ) (fits : m ≤ CONSTRAINTS) (rows : List Float)
+    (many : length rows ≡ rowNumbers (rowCounts (st .sizes) m)) where
+  landed-few : (n : ℕ) → Few (landing st m n)
+  landed-few n = (few .0, record { standing = few .1 .standing; landed = fits })
+
   land-trial-kept : st .counts .iterations < st .sizes .limit → TrialRead (numbersIn st) w → (theta : Scalar)
-      → Kept (st .sizes) (st .counts .question) (landTrial st w rows theta)
+      → Kept (st .sizes) (st .counts .question) (landTrial st w m rows theta)
   unfolding landTrial
   land-trial-kept b t theta =
-      let s = landing st 0 in
+      let s = landing st m 0 in
       let v = withLanded w rows (w .step) in
-      let u = landed-read st w 0 rows (w .step) t many (t .trial-whole .step) in
+      let u = landed-read st w m 0 rows (w .step) t many (t .trial-whole .step) in
       or-refuse-kept s v (up-to b) (u .standing-whole .standing) (violationOf (landedAt s v .constraints)) _
       (violation-yields (landedAt s v .constraints))
       (λ new p.
-      either-kept (st .sizes) (st .counts .question) (definitelyGreater new theta) _ _ (correct-kept s v few b u theta)
-      (judge-kept s v few b u theta))
+      either-kept (st .sizes) (st .counts .question) (definitelyGreater new theta) _ _
+      (correct-kept s v (landed-few 0) b u theta) (judge-kept s v (landed-few 0) b u theta))
 
   keep-kept : st .counts .iterations < st .sizes .limit → TrialRead (numbersIn st) w → (theta : Scalar)
-      → Kept (st .sizes) (st .counts .question) (keep st w rows theta)
+      → Kept (st .sizes) (st .counts .question) (keep st w m rows theta)
   unfolding keep
   keep-kept b t theta =
       or-refuse-kept st w (up-to b) (t .standing-whole .standing) (shiftOf (st .moving) (landedAt st w .constraints)) _
       (shift-yields (st .moving) (landedAt st w .constraints))
       (λ d p.
       let k = st .counts .corrections + 1 in
-      let s = landing st k in
+      let s = landing st m k in
       let step = shiftedStep (st .sizes .n) (w .step) d in
       let v = withLanded w rows step in
-      let u = landed-read st w k rows step t many (length-shifted (st .sizes .n) (w .step) d ∙ t .trial-whole .step) in
-      either-kept (st .sizes) (st .counts .question) (leb CORRECTIONS k) _ _ (judge-kept s v few b u theta)
-      (correct-kept s v few b u theta))
+      let u = landed-read st w m k rows step t many
+      (length-shifted (st .sizes .n) (w .step) d ∙ t .trial-whole .step) in
+      either-kept (st .sizes) (st .counts .question) (leb CORRECTIONS k) _ _
+      (judge-kept s v (landed-few k) b u theta) (correct-kept s v (landed-few k) b u theta))
 
   land-correction-kept : st .counts .iterations < st .sizes .limit → AllRead (numbersIn st) w → (theta : Scalar)
-      → Kept (st .sizes) (st .counts .question) (landCorrection st w rows theta)
+      → Kept (st .sizes) (st .counts .question) (landCorrection st w m rows theta)
   unfolding landCorrection
   land-correction-kept b t theta =
       let e = t .standing-whole .standing in
-      let m = up-to b in
-      or-refuse-kept st w m e (violationOf (rowsAt st rows .constraints)) _
-      (violation-yields (rowsAt st rows .constraints))
+      or-refuse-kept st w (up-to b) e (violationOf (rowsAt st m rows .constraints)) _
+      (violation-yields (rowsAt st m rows .constraints))
       (λ new p.
-      or-refuse-kept st w m e (violationOf (landedAt st w .constraints)) _
+      or-refuse-kept st w (up-to b) e (violationOf (landedAt st w .constraints)) _
       (violation-yields (landedAt st w .constraints))
       (λ old q. either-kept (st .sizes) (st .counts .question) (definitelyLess new old) _ _
       (keep-kept b (record { standing-whole = t .standing-whole; trial-whole = t .trial-whole }) theta)
@@ -444,15 +468,17 @@ module _ (st : State) (w : Memory) (few : FewRows (standingCounts st)) (rows : L
   -- ---- an accepted answer
 
   start-kept : st .counts .iterations ≤ st .sizes .limit → StartRead (numbersIn st) w
-      → Kept (st .sizes) (st .counts .question) (started st w rows)
+      → Kept (st .sizes) (st .counts .question) (started st w m rows)
   unfolding started
-  start-kept m t =
-      iterate-kept (moves st (movingOf (st .sizes .n) (rowsAt st rows))) (withStart st w rows) few m
-      (start-whole st w rows (t .standing) many)
+  start-kept i t =
+      let moving = movingOf (st .sizes .n) (rowsAt st m rows) in
+      iterate-kept (starting st m moving) (withStart st w rows)
+      (few .0, record { standing = fits; landed = omega arith }) i
+      (start-whole st w m moving rows (t .standing) many)
 
   pub answered-kept : (k : Kind) → Room k st → Read k (numbersIn st) w
-      → Kept (st .sizes) (st .counts .question) (answered k st w rows)
-  answered-kept kind.Start m t = start-kept m t
+      → Kept (st .sizes) (st .counts .question) (answered k st w m rows)
+  answered-kept kind.Start i t = start-kept i t
   answered-kept kind.Trial b t =
       or-refuse-kept st w (up-to b) (t .standing-whole .standing) (violationOf (standingAt st w .constraints)) _
       (violation-yields (standingAt st w .constraints)) (λ theta p. land-trial-kept b t theta)
@@ -460,7 +486,7 @@ module _ (st : State) (w : Memory) (few : FewRows (standingCounts st)) (rows : L
       or-refuse-kept st w (up-to b) (t .standing-whole .standing) (violationOf (standingAt st w .constraints)) _
       (violation-yields (standingAt st w .constraints)) (λ theta p. land-correction-kept b t theta)
 
-pub answered-none-kept : (st : State) (w : Memory) → FewRows (standingCounts st) → (k : Kind) → Room k st
+pub answered-none-kept : (st : State) (w : Memory) → Few st → (k : Kind) → Room k st
     → Read k (numbersIn st) w → Kept (st .sizes) (st .counts .question) (answeredNone k st w)
 answered-none-kept st w few kind.Start m t = finish-kept st w m (t .standing) stop.Infeasible
 answered-none-kept st w few kind.Trial b t =

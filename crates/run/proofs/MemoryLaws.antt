@@ -1,6 +1,6 @@
 -- An area that holds a memory: reading a slot gives its list, clearing what is not in use leaves what the definitions
 -- read, and clearing all but the standing point leaves that point. And what a call hands on while it works: the lengths
--- of the memory and the violations that are known depend on the sizes and the iterations of the run alone.
+-- of the memory and the violations that are known depend on the sizes, contents and iterations of the run alone.
 use Prim.Native.Nat.{ℕ, zero, suc, _+_, _-_, _<_, _≤_}
 use mathlib.Core.Bool.{Bool, true, false}
 use mathlib.Core.Path.{_≡_, refl, sym, ap, subst, _∙_}
@@ -15,9 +15,10 @@ use Rattle.interval.specs.declared.Scalar.{Scalar}
 use Rattle.linear.specs.Flat.{zeros}
 use Rattle.run.specs.Area.{POINT-LEN, ROWS-LEN, CURVATURE-LEN, FILTER-LEN, Slots, inOrder, indices, slotSizes}
 use Rattle.run.specs.Area.{startOf}
-use Rattle.run.specs.Area.{startIn, placesOf, areaLength, spareAt, HasRoom, standingCounts, landedCounts, pairsIn}
+use Rattle.run.specs.Area.{startIn, placesOf, areaLength, spareAt, HasRoom, standingCounts, landedCounts}
 use Rattle.run.specs.Area.{numbersIn, usedIn, Memory, partOf, memoryOf, padded, paddedSlots, areaOf, joined}
 use Rattle.run.specs.Area.{onlyStanding, isOpen, isTried, isCorrected}
+use Rattle.run.specs.Limits.{CONSTRAINTS}
 use Rattle.run.specs.Residuals.{violationOf}
 use Rattle.run.specs.Rows.{rowNumbers, constraintsOf, rowCounts}
 use Rattle.run.specs.declared.state.Sizes.{Sizes}
@@ -82,18 +83,21 @@ module _ {z : Sizes} {w : Memory} {a : List Float} (h : Holds z w a) where
 
 -- ---- numbers in use fit their slots
 
-module _ (st : State) (l : Limits (st .sizes) (pairsIn st)) where
+module _ (st : State) (l : Limits st) where
   pub point-fits : numbersIn st .standing ≤ POINT-LEN
-  point-fits = omega (arith, l .few .few-variables)
+  point-fits = omega (arith, l .standing-few .few-variables)
 
-  pub rows-fit : rowNumbers (rowCounts (st .sizes)) ≤ ROWS-LEN
-  rows-fit = places.rows-fit (st .sizes) (rowCounts (st .sizes)) (l .few)
+  pub standing-rows-fit : numbersIn st .standingRows ≤ ROWS-LEN
+  standing-rows-fit = places.rows-fit (st .sizes) (standingCounts st) (l .standing-few)
+
+  pub landed-rows-fit : numbersIn st .landedRows ≤ ROWS-LEN
+  landed-rows-fit = places.rows-fit (st .sizes) (landedCounts st) (l .landed-few)
 
   pub multipliers-fit : numbersIn st .multipliers ≤ POINT-LEN
-  multipliers-fit = omega (arith, l .few .few-constraints)
+  multipliers-fit = omega (arith, l .standing-few .few-constraints)
 
   pub curvature-fits : numbersIn st .curvature ≤ CURVATURE-LEN
-  curvature-fits = places.curvature-fits (st .sizes) (st .sizes .n) (l .few .few-variables)
+  curvature-fits = places.curvature-fits (st .sizes) (st .sizes .n) (l .standing-few .few-variables)
 
   pub filter-fits : numbersIn st .filter ≤ FILTER-LEN
   filter-fits = omega (arith, l .iterations-fit)
@@ -104,8 +108,8 @@ module _ (st : State) (l : Limits (st .sizes) (pairsIn st)) where
         standing = omega (arith, t .standing, point-fits);
         landed = omega (arith, t .landed, point-fits);
         asked = omega (arith, t .asked, point-fits);
-        standing-rows = omega (arith, t .standing-rows, rows-fit);
-        landed-rows = omega (arith, t .landed-rows, rows-fit);
+        standing-rows = omega (arith, t .standing-rows, standing-rows-fit);
+        landed-rows = omega (arith, t .landed-rows, landed-rows-fit);
         step = omega (arith, t .step, point-fits);
         multipliers = omega (arith, t .multipliers, multipliers-fit);
         curvature = omega (arith, t .curvature, curvature-fits);
@@ -131,7 +135,7 @@ pick-below : (b : Bool) {count size : ℕ} → count ≤ size → pick b count 0
 pick-below true h = h
 pick-below false h = omega arith
 
-module _ (st : State) (l : Limits (st .sizes) (pairsIn st)) (a : List Float) (long : HasRoom (st .sizes) a) where
+module _ (st : State) (l : Limits st) (a : List Float) (long : HasRoom (st .sizes) a) where
   -- where slot k has so many numbers in use
   module _ (k : ℕ) (b : k < 9) (used : ℕ) (f : used ≤ getD (inOrder (slotSizes (st .sizes))) k 0) where
     part-cleared :
@@ -158,10 +162,10 @@ module _ (st : State) (l : Limits (st .sizes) (pairsIn st)) (a : List Float) (lo
   asked-used = pick-below (isOpen (st .phase)) (point-fits st l)
 
   standing-rows-used : usedIn st .standingRows ≤ ROWS-LEN
-  standing-rows-used = pick-below (isTried (st .phase)) (rows-fit st l)
+  standing-rows-used = pick-below (isTried (st .phase)) (standing-rows-fit st l)
 
   landed-rows-used : usedIn st .landedRows ≤ ROWS-LEN
-  landed-rows-used = pick-below (isCorrected (st .phase)) (rows-fit st l)
+  landed-rows-used = pick-below (isCorrected (st .phase)) (landed-rows-fit st l)
 
   step-used : usedIn st .step ≤ POINT-LEN
   step-used = pick-below (isTried (st .phase)) (point-fits st l)
@@ -230,7 +234,7 @@ module _ (st : State) (l : Limits (st .sizes) (pairsIn st)) (a : List Float) (lo
 
 -- ---- an area with all but the standing point cleared
 
-module _ (st : State) (l : Limits (st .sizes) (pairsIn st)) (w : Memory) (a : List Float) (u : Working st w a) where
+module _ (st : State) (l : Limits st) (w : Memory) (a : List Float) (u : Working st w a) where
   laid : Laid (st .sizes) (inOrder (paddedSlots (st .sizes) w)) a
   laid = laid-of (st .sizes) w (u .holds)
 
@@ -259,9 +263,9 @@ module _ (st : State) (l : Limits (st .sizes) (pairsIn st)) (w : Memory) (a : Li
             (t .landed),
         slot-cleared (indices .asked) (omega arith) (w .asked) (numbersIn st .asked) refl (point-fits st l) (t .asked),
         slot-cleared (indices .standingRows) (omega arith) (w .standingRows) (numbersIn st .standingRows) refl
-            (rows-fit st l) (t .standing-rows),
+            (standing-rows-fit st l) (t .standing-rows),
         slot-cleared (indices .landedRows) (omega arith) (w .landedRows) (numbersIn st .landedRows) refl
-            (rows-fit st l) (t .landed-rows),
+            (landed-rows-fit st l) (t .landed-rows),
         slot-cleared (indices .step) (omega arith) (w .step) (numbersIn st .step) refl (point-fits st l) (t .step),
         slot-cleared (indices .multipliers) (omega arith) (w .multipliers) (numbersIn st .multipliers) refl
             (multipliers-fit st l) (t .multipliers),
@@ -303,15 +307,15 @@ module _ (st : State) (l : Limits (st .sizes) (pairsIn st)) (w : Memory) (a : Li
 
 -- ---- the places between which slots are cleared, slot by slot
 
-module _ (st : State) (l : Limits (st .sizes) (pairsIn st)) where
+module _ (st : State) (l : Limits st) where
   numbers-ordered : Slots Ordered
   numbers-ordered =
       record {
         standing = record { low = numbersIn st .standing; high = POINT-LEN; ordered = point-fits st l };
         landed = record { low = numbersIn st .landed; high = POINT-LEN; ordered = point-fits st l };
         asked = record { low = numbersIn st .asked; high = POINT-LEN; ordered = point-fits st l };
-        standingRows = record { low = numbersIn st .standingRows; high = ROWS-LEN; ordered = rows-fit st l };
-        landedRows = record { low = numbersIn st .landedRows; high = ROWS-LEN; ordered = rows-fit st l };
+        standingRows = record { low = numbersIn st .standingRows; high = ROWS-LEN; ordered = standing-rows-fit st l };
+        landedRows = record { low = numbersIn st .landedRows; high = ROWS-LEN; ordered = landed-rows-fit st l };
         step = record { low = numbersIn st .step; high = POINT-LEN; ordered = point-fits st l };
         multipliers = record { low = numbersIn st .multipliers; high = POINT-LEN; ordered = multipliers-fit st l };
         curvature = record { low = numbersIn st .curvature; high = CURVATURE-LEN; ordered = curvature-fits st l };
@@ -354,8 +358,8 @@ module _ (st : State) (l : Limits (st .sizes) (pairsIn st)) where
         standing = record { low = numbersIn st .standing; high = POINT-LEN; ordered = point-fits st l };
         landed = used-ordered (isCorrected p) (point-fits st l);
         asked = used-ordered (isOpen p) (point-fits st l);
-        standingRows = used-ordered (isTried p) (rows-fit st l);
-        landedRows = used-ordered (isCorrected p) (rows-fit st l);
+        standingRows = used-ordered (isTried p) (standing-rows-fit st l);
+        landedRows = used-ordered (isCorrected p) (landed-rows-fit st l);
         step = used-ordered (isTried p) (point-fits st l);
         multipliers = used-ordered (isTried p) (multipliers-fit st l);
         curvature = used-ordered (isTried p) (curvature-fits st l);
@@ -367,7 +371,7 @@ module _ (st : State) (l : Limits (st .sizes) (pairsIn st)) where
   used-below k = ordered-at (inOrder slots-ordered) k
 
 -- what clears the slots is given places that are in order, within the slots, and slots within the area
-module _ (st : State) (l : Limits (st .sizes) (pairsIn st)) (a : List Float) (long : HasRoom (st .sizes) a) where
+module _ (st : State) (l : Limits st) (a : List Float) (long : HasRoom (st .sizes) a) where
   pub unused-fit :
       let sizes = inOrder (slotSizes (st .sizes)) in
       let used = inOrder (usedIn st) in
@@ -387,15 +391,27 @@ module _ (st : State) (l : Limits (st .sizes) (pairsIn st)) (a : List Float) (lo
 
 -- ---- what a call hands on
 
-pub rows-of : {t : ℕ} {st : State} → Bounded t st → FewRows (rowCounts (st .sizes))
-rows-of b = record {
-  few-variables = b .few-variables;
-  few-constraints = b .few-constraints;
-  few-sums = b .few-sums;
-}
+module _ {t : ℕ} {st : State} (b : Bounded t st) where
+  -- the counts of an answer with so many constraint rows
+  pub rows-of : {m : ℕ} → m ≤ CONSTRAINTS → FewRows (rowCounts (st .sizes) m)
+  rows-of h = record { few-variables = b .few-variables; few-constraints = h; few-sums = b .few-sums }
 
-pub limits-of : {t : ℕ} {st : State} → Bounded t st → Limits (st .sizes) (pairsIn st)
-limits-of b = record { few = rows-of b; iterations-fit = omega (arith, b .within, b .few-iterations) }
+  -- and their numbers
+  pub rows-fit : {m k : ℕ} → m ≤ CONSTRAINTS → k ≡ rowNumbers (rowCounts (st .sizes) m) → k ≤ ROWS-LEN
+  rows-fit {m} h e = omega (arith, e, places.rows-fit (st .sizes) (rowCounts (st .sizes) m) (rows-of h))
+
+  pub standing-rows-of : FewRows (standingCounts st)
+  standing-rows-of = rows-of (b .few-standing)
+
+  pub landed-rows-of : FewRows (landedCounts st)
+  landed-rows-of = rows-of (b .few-landed)
+
+  pub limits-of : Limits st
+  limits-of = record {
+    standing-few = standing-rows-of;
+    landed-few = landed-rows-of;
+    iterations-fit = omega (arith, b .within, b .few-iterations);
+  }
 
 -- for another state of the run, of the same sizes and iterations
 module _ {s t : State} (e : t ≡ s) {w : Memory} {a : List Float} where

@@ -4,7 +4,7 @@ use mathlib.Core.Bool.{Bool, true, false, _&&_}
 use mathlib.Core.Logic.{⊎-elim}
 use mathlib.Core.Path.{_≡_, refl, sym, _∙_}
 use mathlib.Core.List.{List, [], _∷_}
-use native.Mathlib.Nat.{le-refl, mul-le-mul, not-suc-le-zero, eq-or-lt-of-le}
+use native.Mathlib.Nat.{mul-le-mul, not-suc-le-zero, eq-or-lt-of-le}
 use native.Mathlib.Omega.{arith}
 use borrow.Author.Tests.{leb-true, eqb-true}
 use denote.Enum.Declared.{tagOf}
@@ -22,7 +22,7 @@ use Rattle.linear.specs.declared.results.Done.{Done}
 use Rattle.linear.specs.declared.results.Done.the-variants as done
 use Rattle.run.specs.Rows.{rowNumbers}
 use Rattle.run.specs.Checks.{sizesFit}
-use Rattle.run.specs.Pieces.{sizedOf, wantsOf, stepReplied, stepReplyOf}
+use Rattle.run.specs.Pieces.{sizedOf, nextCounts, bothSized, wantsOf, stepReplied, stepReplyOf}
 use Rattle.run.specs.program.Rows.{FewRows}
 use Rattle.run.specs.program.Step.{endOf}
 use Rattle.run.specs.declared.rows.RowCounts.{RowCounts}
@@ -40,7 +40,7 @@ answer-small {n} {m} {s} hn hm hs =
 
 -- sizes of which one is above its limit
 one-refused :
-    (a b d : Bool) (r : Res (Unit {0})) → (a && (b && (d && true))) ≡ false →
+    (a b d : Bool) (r : Res (Unit {0})) → (a && (d && true)) ≡ false →
     refused 1 ≡ checkedValue a 1 (checkedValue b 1 (checkedValue d 1 r))
 one-refused true true true r e = never (sym e)
 one-refused true true false r e = refl
@@ -48,7 +48,7 @@ one-refused true false d r e = refl
 one-refused false b d r e = refl
 
 pub too-many :
-    (c : RowCounts) (count : ℕ) → sizesFit (record { n = c .n; m = c .m; s = c .s; limit = 0 }) ≡ false →
+    (c : RowCounts) (count : ℕ) → sizesFit (record { n = c .n; s = c .s; limit = 0 }) ≡ false →
     refused 1 ≡ sizedOf c count
 unfolding sizedOf
 too-many c count e = one-refused (leb (c .n) 12) (leb (c .m) 12) (leb (c .s) 24) _ e
@@ -78,11 +78,28 @@ sized-ok {c} {count} e =
       whole = eqb-true _ _ (f .0);
     }
 
--- of a check after others
+-- of checks after others
+then-ok : (r s : Res (Unit {0})) → bind r (λ _. s) ≡ ok tt → (r ≡ ok tt) × (s ≡ ok tt)
+unfolding bind
+then-ok (ok _) s e = (refl, e)
+then-ok (refused k) s e = absurd (refused-ok e)
+
 wants-ok : (count wanted : ℕ) (r : Res (Unit {0})) → wantsOf r count wanted ≡ ok tt → (r ≡ ok tt) × (count ≡ wanted)
-unfolding wantsOf bind
-wants-ok count wanted (ok _) e = (refl, eqb-true _ _ (checked-ok (eqb count wanted) 2 (ok tt) e .0))
-wants-ok count wanted (refused k) e = absurd (refused-ok e)
+unfolding wantsOf
+wants-ok count wanted r e =
+    let p = then-ok r _ e in (p .0, eqb-true _ _ (checked-ok (eqb count wanted) 2 (ok tt) (p .1) .0))
+
+-- of the rows of two answers
+pub record Both (c : RowCounts) (rows : List Float) (m : ℕ) (next : List Float) : Type 0 where
+  pub first : Sized c (length rows)
+  pub second : Sized (nextCounts c m) (length next)
+
+both-ok : {c : RowCounts} {rows : List Float} {m : ℕ} {next : List Float} → bothSized c rows m next ≡ ok tt
+    → Both c rows m next
+unfolding bothSized
+both-ok {c} {rows} {m} {next} e =
+    let p = then-ok (sizedOf c (length rows)) _ (checked-ok (leb m 12) 1 _ e .1) in
+    record { first = sized-ok (p .0); second = sized-ok (p .1) }
 
 -- of the rows and two counts
 pub record Fitting (c : RowCounts) (count a wanted b wanted′ : ℕ) : Type 0 where
@@ -105,6 +122,10 @@ finished e = rw e
 module _ {x : Res (Unit {0})} where
   pub sized-passed : {c : RowCounts} {count : ℕ} → x ≡ ok tt → x ≡ sizedOf c count → Sized c count
   sized-passed h e = sized-ok (sym e ∙ h)
+
+  pub both-passed : {c : RowCounts} {rows : List Float} {m : ℕ} {next : List Float} → x ≡ ok tt
+      → x ≡ bothSized c rows m next → Both c rows m next
+  both-passed h e = both-ok (sym e ∙ h)
 
   pub wants-passed :
       (count wanted : ℕ) (before : Res (Unit {0})) → x ≡ ok tt → x ≡ wantsOf before count wanted →

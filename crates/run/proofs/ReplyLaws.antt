@@ -28,7 +28,8 @@ module _ (st : State) (k : Kind) (v : valid st ≡ true) (p : st .phase ≡ Open
       let z = b .sizes in
       record {
         few-variables = z .n;
-        few-constraints = z .m;
+        few-standing = b .contents .standing;
+        few-landed = b .contents .landed;
         few-sums = z .s;
         few-iterations = z .limit;
         within = b .iterations;

@@ -3,21 +3,23 @@
 use Prim.Native.Nat.{ℕ, _+_, _*_, _/_, _%_, _<_, _≤_}
 use mathlib.Core.Bool.{Bool, true, false}
 use mathlib.Core.Logic.{⊎-elim}
-use mathlib.Core.Path.{_≡_, refl, _∙_}
-use mathlib.Core.List.{List}
+use mathlib.Core.Path.{_≡_, refl, ap, _∙_}
+use mathlib.Core.List.{List, []}
 use native.Mathlib.Nat.{mul-le-mul, le-of-lt, not-suc-le-zero, eq-or-lt-of-le, div-add-mod'}
 use native.Mathlib.Omega.{arith}
 use borrow.Author.Tests.{ltb-true, ltb-false}
 use lib.Dec.{ltb}
+use lib.Ieee.{Float}
 use lib.ListN.{length, getD, set, replicate, length-set, getD-replicate}
 use lib.Seq.{getD-set-same, getD-set-other}
 use Rattle.interval.specs.Scalar.{pick}
 use Rattle.linear.specs.Cholesky.{marksTo}
 use Rattle.linear.specs.Flat.{at}
 use Rattle.linear.proofs.Marks.{is-marksTo}
-use Rattle.run.specs.Rows.{Rows, constraintSet, sumSet, slopeAt}
+use Rattle.run.specs.Rows.{Rows, rowsIn, firstRows, constraintSet, sumSet, slopeAt}
 use Rattle.run.specs.program.Rows.{Small, FewRows}
 use Rattle.run.specs.declared.rows.RowCounts.{RowCounts}
+use Rattle.run.specs.declared.rows.RowSet.{RowSet}
 
 -- products of counts
 pub few : {m n : ℕ} → m ≤ 12 → n ≤ 12 → m * n ≤ 144
@@ -45,6 +47,22 @@ sum-small {c} f =
       values-near = omega (arith, p);
       slopes-near = omega (arith, p, f .few-sums);
     }
+
+-- of the first k rows, which stand where the rows do
+pub first-small :
+    (k : ℕ) {e f : RowSet} → ((xs : List Float) → rowsIn xs f ≡ firstRows k (rowsIn xs e)) → Small e → Small f
+first-small k {e} {f} h s =
+    let q = h [] in
+    record {
+      few-variables = rw (ap (λ (r : Rows). r .n) q) (s .few-variables);
+      few-rows = rw (ap (λ (r : Rows). r .count) q) (fewer (ltb k (e .count)) refl);
+      values-near = rw (ap (λ (r : Rows). r .values) q) (s .values-near);
+      slopes-near = rw (ap (λ (r : Rows). r .slopes) q) (s .slopes-near);
+    }
+  where
+    fewer : (b : Bool) → ltb k (e .count) ≡ b → pick b k (e .count) ≤ 24
+    fewer true l = omega (arith, ltb-true k (e .count) l, s .few-rows)
+    fewer false l = s .few-rows
 
 -- the start of row i
 pub row-near : {i n : ℕ} → i < 65536 → n ≤ 12 → i * n ≤ 786432

@@ -1,4 +1,5 @@
 -- What follows an accepted answer (PROTOCOL, An iteration), by the kind of its question.
+use Prim.Native.Nat.{ℕ}
 use mathlib.Core.List.{List}
 use lib.Ieee.{Float}
 use Rattle.interval.specs.declared.Scalar.{Scalar}
@@ -9,7 +10,7 @@ use Rattle.run.specs.Endings.{AfterSlots, orRefuse, finish}
 use Rattle.run.specs.Iterate.{iterate}
 use Rattle.run.specs.Proposal.{Trial}
 use Rattle.run.specs.Residuals.{violationOf, movingOf}
-use Rattle.run.specs.State.{moves}
+use Rattle.run.specs.State.{starting}
 use Rattle.run.specs.declared.state.Kind.{Kind}
 use Rattle.run.specs.declared.state.Kind.the-variants as kind
 use Rattle.run.specs.declared.state.Rejection.the-variants as why
@@ -22,13 +23,14 @@ use Rattle.run.specs.declared.state.Stop.the-variants as stop
 abbrev pub fromStanding : State → Memory → (Scalar → AfterSlots) → AfterSlots
 fromStanding st w next = orRefuse st w (violationOf (standingAt st w .constraints)) next
 
-unfoldable pub started : State → Memory → List Float → AfterSlots
-started st w rows = iterate (moves st (movingOf (st .sizes .n) (rowsAt st rows))) (withStart st w rows)
+unfoldable pub started : State → Memory → ℕ → List Float → AfterSlots
+started st w m rows = iterate (starting st m (movingOf (st .sizes .n) (rowsAt st m rows))) (withStart st w rows)
 
-abbrev pub answered : Kind → State → Memory → List Float → AfterSlots
-answered kind.Start st w rows = started st w rows
-answered kind.Trial st w rows = fromStanding st w (landTrial st w rows)
-answered kind.Correction st w rows = fromStanding st w (landCorrection st w rows)
+-- with rows, m constraint rows among them
+abbrev pub answered : Kind → State → Memory → ℕ → List Float → AfterSlots
+answered kind.Start st w m rows = started st w m rows
+answered kind.Trial st w m rows = fromStanding st w (landTrial st w m rows)
+answered kind.Correction st w m rows = fromStanding st w (landCorrection st w m rows)
 
 abbrev pub answeredNone : Kind → State → Memory → AfterSlots
 answeredNone kind.Start st w = finish st w stop.Infeasible

@@ -134,12 +134,12 @@ HasRoom z a = length a ≡ areaLength z
 
 -- ---- what is in use
 
--- the counts of the standing answer, and of the landed one, which a reply brings: both are the run's
+-- the counts of the standing answer and of the landed one, each with its own m
 abbrev pub standingCounts : State → RowCounts
-standingCounts st = rowCounts (st .sizes)
+standingCounts st = rowCounts (st .sizes) (st .contents .«standing_m»)
 
 abbrev pub landedCounts : State → RowCounts
-landedCounts st = rowCounts (st .sizes)
+landedCounts st = rowCounts (st .sizes) (st .contents .«landed_m»)
 
 -- how many pairs the filter has: one for each point that stood before
 abbrev pub pairsIn : State → ℕ
@@ -312,7 +312,7 @@ withLanded w rows step = record {
   filter = w .filter;
 }
 
--- the landed point stands, with the curvature and the filter after it
+-- the landed point stands, with the curvature and the filter after it; the multipliers were those of the rows before
 abbrev pub withTaken : Memory → List Float → List Float → Memory
 withTaken w curvature filter = record {
   standing = w .landed;
@@ -321,21 +321,21 @@ withTaken w curvature filter = record {
   standingRows = w .landedRows;
   landedRows = w .landedRows;
   step = w .step;
-  multipliers = w .multipliers;
+  multipliers = [];
   curvature = curvature;
   filter = filter;
 }
 
--- ---- what it reads: the rows of the standing point, those that a reply brings, and those of the landed point
+-- ---- what it reads: the rows of the standing point, those that a reply brings with its m, those of the landed point
 
 abbrev pub standingAt : State → Memory → Evaluation
 standingAt st w = evaluationOf (standingCounts st) (w .standingRows)
 
-abbrev pub rowsAt : State → List Float → Evaluation
-rowsAt st rows = evaluationOf (landedCounts st) rows
+abbrev pub rowsAt : State → ℕ → List Float → Evaluation
+rowsAt st m rows = evaluationOf (rowCounts (st .sizes) m) rows
 
 abbrev pub landedAt : State → Memory → Evaluation
-landedAt st w = rowsAt st (w .landedRows)
+landedAt st w = rowsAt st (st .contents .«landed_m») (w .landedRows)
 
 -- the curvature that a proposal goes by: none in plain
 abbrev pub curvatureOf : State → Memory → List Float

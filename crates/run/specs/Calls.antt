@@ -10,12 +10,12 @@ use lib.ListN.{length}
 use Rattle.interval.specs.Scalar.{pick}
 use Rattle.interval.specs.declared.Scalar.{Scalar}
 use Rattle.run.specs.Answered.{answered, answeredNone}
-use Rattle.run.specs.Area.{areaOf, begunMemory, memoryOf, areaLength, pointAt, landedCounts}
+use Rattle.run.specs.Area.{areaOf, begunMemory, memoryOf, areaLength, pointAt}
 use Rattle.run.specs.Area.{numbersIn, partOf}
-use Rattle.run.specs.Checks.{sizesFit, allInDomain, stepFits, valid}
+use Rattle.run.specs.Checks.{sizesFit, constraintsFit, allInDomain, stepFits, valid}
 use Rattle.run.specs.Damping.{firstMu}
 use Rattle.run.specs.Endings.{AfterSlots}
-use Rattle.run.specs.Rows.{rowNumbers}
+use Rattle.run.specs.Rows.{rowNumbers, rowCounts}
 use Rattle.run.specs.State.{stateWith, noRun}
 use Rattle.run.specs.declared.state.Event.{Event}
 use Rattle.run.specs.declared.state.Event.the-variants as event
@@ -89,16 +89,18 @@ Accepted b = b .event ≡ event.Question 0 kind.Start 0
 
 -- ---- the replies
 
-abbrev pub replyOpen : State → List Float → List Float → Phase → AfterCall
-replyOpen st a rows Over = unchanged st a 4
-replyOpen st a rows (Open k) =
-    let c = landedCounts st in
-    checks (eqb (length a) (areaLength (st .sizes)) && eqb (length rows) (rowNumbers c)) 2 (unchanged st a)
+-- rows with m constraint rows among them
+abbrev pub replyOpen : State → List Float → ℕ → List Float → Phase → AfterCall
+replyOpen st a m rows Over = unchanged st a 4
+replyOpen st a m rows (Open k) =
+    let c = rowCounts (st .sizes) m in
+    checks (constraintsFit m) 1 (unchanged st a)
+    (checks (eqb (length a) (areaLength (st .sizes)) && eqb (length rows) (rowNumbers c)) 2 (unchanged st a)
     (checks (allInDomain rows ((c .m + c .s) * (c .n + 1))) 3 (unchanged st a)
-    (inArea (answered k st (memoryOf st a) rows)))
+    (inArea (answered k st (memoryOf st a) m rows))))
 
-unfoldable pub replyOf : State → List Float → List Float → AfterCall
-replyOf st a rows = checks (valid st) 4 (unchanged st a) (replyOpen st a rows (st .phase))
+unfoldable pub replyOf : State → List Float → ℕ → List Float → AfterCall
+replyOf st a m rows = checks (valid st) 4 (unchanged st a) (replyOpen st a m rows (st .phase))
 
 abbrev pub noneOpen : State → List Float → Phase → AfterCall
 noneOpen st a Over = unchanged st a 4

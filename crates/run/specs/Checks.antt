@@ -11,6 +11,7 @@ use Rattle.linear.specs.Flat.{at}
 use Rattle.run.specs.Limits.{VARIABLES, CONSTRAINTS, SUM-ROWS, ITERATIONS, TURN-DOWNS, QUESTIONS, CORRECTIONS}
 use Rattle.run.specs.Limits.{MOST}
 use Rattle.run.specs.Vectors.{allTo}
+use Rattle.run.specs.declared.state.Contents.{Contents}
 use Rattle.run.specs.declared.state.Kind.the-variants as kind
 use Rattle.run.specs.declared.state.Phase.{Phase}
 use Rattle.run.specs.declared.state.Phase.the-variants.{Open, Over}
@@ -19,10 +20,13 @@ use Rattle.run.specs.declared.state.State.{State}
 
 -- ---- limits
 
--- n, m, s and the limit
+-- n, s and the limit
 abbrev pub sizesFit : Sizes → Bool
-sizesFit z =
-    leb (z .n) VARIABLES && (leb (z .m) CONSTRAINTS && (leb (z .s) SUM-ROWS && leb (z .limit) ITERATIONS))
+sizesFit z = leb (z .n) VARIABLES && (leb (z .s) SUM-ROWS && leb (z .limit) ITERATIONS)
+
+-- the m of an answer
+abbrev pub constraintsFit : ℕ → Bool
+constraintsFit m = leb m CONSTRAINTS
 
 -- an end in the domain: finite with magnitude at most 2^400, lo ≤ hi
 abbrev pub inDomain : Scalar → Bool
@@ -40,6 +44,10 @@ mostTurnDowns st = TURN-DOWNS * (st .counts .iterations + 1)
 abbrev pub mostQuestions : Sizes → ℕ
 mostQuestions z = QUESTIONS * z .limit
 
+-- each m that the state keeps, in use or not
+abbrev pub contentsFit : Contents → Bool
+contentsFit c = constraintsFit (c .«standing_m») && constraintsFit (c .«landed_m»)
+
 abbrev pub countsFit : State → Bool
 countsFit st =
     leb (st .counts .iterations) (st .sizes .limit)
@@ -55,7 +63,8 @@ phaseFits st (Open kind.Correction) = ltb (st .counts .iterations) (st .sizes .l
 phaseFits st Over = true
 
 unfoldable pub valid : State → Bool
-valid st = sizesFit (st .sizes) && (countsFit st && phaseFits st (st .phase))
+valid st =
+    sizesFit (st .sizes) && (contentsFit (st .contents) && (countsFit st && phaseFits st (st .phase)))
 
 -- `max_step` in the domain, with lo > 0
 abbrev pub stepFits : Scalar → Bool

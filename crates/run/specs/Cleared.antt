@@ -40,5 +40,5 @@ pub record Demand1 : Type 0 where
       (z : Sizes) (start : List Float) (max : Scalar) (a : List Float) →
       let b = beginOf z start max a in
       refusedByCheck (b .event) ≡ true → b .area ≡ a
-  pub replied : (st : State) (a rows : List Float) → Replied st a (replyOf st a rows)
+  pub replied : (st : State) (a : List Float) (m : ℕ) (rows : List Float) → Replied st a (replyOf st a m rows)
   pub replied-none : (st : State) (a : List Float) → Replied st a (replyNoneOf st a)

@@ -65,26 +65,26 @@ correct st w theta = orRefuse st w (shiftFrom (st .moving) (landedAt st w .const
     shifted (to next) = question st (withAsked st w next) kind.Correction (st .counts .corrections)
     shifted stay = judge st w theta
 
--- a trial's rows: corrections only where the violation definitely rose
-unfoldable pub landTrial : State → Memory → List Float → Scalar → AfterSlots
-landTrial st w rows theta =
-    let t = landing st 0 in
+-- a trial's rows, m constraint rows among them: corrections only where the violation definitely rose
+unfoldable pub landTrial : State → Memory → ℕ → List Float → Scalar → AfterSlots
+landTrial st w m rows theta =
+    let t = landing st m 0 in
     let v = withLanded w rows (w .step) in
     orRefuse t v (violationOf (landedAt t v .constraints))
     (λ new. pick (definitelyGreater new theta) (correct t v theta) (judge t v theta))
 
 -- a correction's rows, nearer the constraints: kept
-unfoldable pub keep : State → Memory → List Float → Scalar → AfterSlots
-keep st w rows theta =
+unfoldable pub keep : State → Memory → ℕ → List Float → Scalar → AfterSlots
+keep st w m rows theta =
     orRefuse st w (shiftOf (st .moving) (landedAt st w .constraints))
     (λ d.
-    let t = landing st (st .counts .corrections + 1) in
+    let t = landing st m (st .counts .corrections + 1) in
     let v = withLanded w rows (shiftedStep (st .sizes .n) (w .step) d) in
     pick (leb CORRECTIONS (t .counts .corrections)) (judge t v theta) (correct t v theta))
 
-unfoldable pub landCorrection : State → Memory → List Float → Scalar → AfterSlots
-landCorrection st w rows theta =
-    orRefuse st w (violationOf (rowsAt st rows .constraints))
+unfoldable pub landCorrection : State → Memory → ℕ → List Float → Scalar → AfterSlots
+landCorrection st w m rows theta =
+    orRefuse st w (violationOf (rowsAt st m rows .constraints))
     (λ new.
     orRefuse st w (violationOf (landedAt st w .constraints))
-    (λ old. pick (definitelyLess new old) (keep st w rows theta) (judge st w theta)))
+    (λ old. pick (definitelyLess new old) (keep st w m rows theta) (judge st w theta)))

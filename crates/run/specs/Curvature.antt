@@ -14,7 +14,7 @@ use Rattle.linear.specs.Results.{foldR, bind}
 use Rattle.linear.specs.Solved.{minusSolvedOf}
 use Rattle.linear.specs.Substitution.{storeR}
 use Rattle.run.specs.Residuals.{transposedAt}
-use Rattle.run.specs.Rows.{Rows, Evaluation}
+use Rattle.run.specs.Rows.{Rows, firstRows, Evaluation}
 use Rattle.run.specs.Vectors.{anyTo, vector, fillTo, chosenOf}
 
 -- the place of entry (i, j), the entry and the row
@@ -41,10 +41,12 @@ alongOf c v =
     let rhs = listTo (λ i. dotTo (along jc (i * c .n) 1) (at v) (c .n)) (c .count) in
     minusSolvedOf (c .count) (c .n) jc rhs (listTo (at v) (c .n))
 
--- by how much the gradient of the Lagrangian turned, beyond what J_rᵀ J_r explains; r has the sum's new values, chosen
+-- by how much the gradient of the Lagrangian turned, beyond what J_rᵀ J_r explains; r has the sum's new values, chosen.
+-- The multipliers are those of the constraints before: of the new ones only as many are weighed
 abbrev pub lagrangianChangeAt : Evaluation → Evaluation → List Float → List Float → ℕ → Scalar
 lagrangianChangeAt e e′ lambda r j =
-    let held = subOf (transposedAt (e′ .constraints) lambda j) (transposedAt (e .constraints) lambda j) in
+    let next = firstRows (e .constraints .count) (e′ .constraints) in
+    let held = subOf (transposedAt next lambda j) (transposedAt (e .constraints) lambda j) in
     subOf (addOf held (transposedAt (e′ .sum) r j)) (transposedAt (e .sum) r j)
 
 unfoldable pub lagrangianChange : ℕ → Evaluation → Evaluation → List Float → List Float

@@ -2,7 +2,7 @@
 -- calls. It speaks of what the calls
 -- answer, of the points they asked and of the rows they were given; lengths and damping are those that demand 2's
 -- definition (specs/Calls.antt) has for begin's numbers and the replies.
-use Prim.Native.Nat.{ℕ, _+_, _*_, _≤_}
+use Prim.Native.Nat.{ℕ, _+_, _*_, _≤_, _<_}
 use mathlib.Core.Bool.{Bool, false, _||_, cond, true, not, _&&_}
 use mathlib.Core.List.{List, [], _∷_}
 use mathlib.Core.Logic.{_⊎_, _≢_}
@@ -22,7 +22,7 @@ use Rattle.run.specs.Checks.{allInDomain, valid, mostQuestions}
 use Rattle.run.specs.Area.{areaLength, placesOf, partOf}
 use Rattle.run.specs.Damping.{firstMu}
 use Rattle.run.specs.Judgement.{sumChange, indefinite, contracts}
-use Rattle.run.specs.Limits.{TURN-DOWNS}
+use Rattle.run.specs.Limits.{CONSTRAINTS, TURN-DOWNS}
 use Rattle.run.specs.Residuals.{violationOf}
 use Rattle.run.specs.Rows.{rowNumbers, Rows, valueAt, constraintsOf, sumOf, rowCounts}
 use Rattle.run.specs.declared.state.Event.{Event}
@@ -45,15 +45,16 @@ abbrev pub Floats : List Float → Type 0
 Floats [] = Unit
 Floats (x ∷ xs) = T (fits binary64 x) × Floats xs
 
--- a reply with rows, of any length and contents, or none
+-- a reply with rows, of any m, length and contents, or none
 pub data Call : Type 0 where
-  rows : LentArea → (xs : List Float) → Floats xs → Call
+  rows : LentArea → (m : ℕ) (xs : List Float) → Floats xs → Call
   none : LentArea → Call
 
--- another area is lent only to a call that is refused for its length, that of the area or that of the rows
+-- another area is lent only to a call that is refused for its m, or for a length, that of the area or that of the rows
 abbrev pub Allowed : Sizes → Call → Type 0
-Allowed z (rows same xs f) = Unit
-Allowed z (rows (other a) xs f) = (length a ≢ areaLength z) ⊎ (length xs ≢ rowNumbers (rowCounts z))
+Allowed z (rows same m xs f) = Unit
+Allowed z (rows (other a) m xs f) =
+    (CONSTRAINTS < m) ⊎ ((length a ≢ areaLength z) ⊎ (length xs ≢ rowNumbers (rowCounts z m)))
 Allowed z (none same) = Unit
 Allowed z (none (other a)) = length a ≢ areaLength z
 
@@ -73,8 +74,8 @@ abbrev pub callResultBy : AfterCall → List Float → CallResult
 callResultBy l area = record { event = l .event; run = record { state = l .state; area = area } }
 
 abbrev pub callResult : Run → Call → CallResult
-callResult r (rows same xs f) = let l = replyOf (r .state) (r .area) xs in callResultBy l (l .area)
-callResult r (rows (other a) xs f) = callResultBy (replyOf (r .state) a xs) (r .area)
+callResult r (rows same m xs f) = let l = replyOf (r .state) (r .area) m xs in callResultBy l (l .area)
+callResult r (rows (other a) m xs f) = callResultBy (replyOf (r .state) a m xs) (r .area)
 callResult r (none same) = let l = replyNoneOf (r .state) (r .area) in callResultBy l (l .area)
 callResult r (none (other a)) = callResultBy (replyNoneOf (r .state) a) (r .area)
 
@@ -109,18 +110,26 @@ isRefused (Question k t s) = false
 isRefused (Finish e i t s) = false
 isRefused (Refused k) = true
 
+-- an answer's numbers, with as many constraint rows as it says itself
+pub record Answer : Type 0 where
+  pub m : ℕ
+  pub numbers : List Float
+
+abbrev pub answer : ℕ → List Float → Answer
+answer m xs = record { m = m; numbers = xs }
+
 -- what a question was answered: rows that were accepted, or none
 pub data AnsweredRows : Type 0 where
   noRows : AnsweredRows
-  hasRows : List Float → AnsweredRows
+  hasRows : Answer → AnsweredRows
 
 -- the rows that a call brought, where it was not refused
 abbrev pub accepted : Call → Event → Bool
-accepted (rows l xs f) a = not (isRefused a)
+accepted (rows l m xs f) a = not (isRefused a)
 accepted (none l) a = false
 
 abbrev pub answeredBy : Call → AnsweredRows
-answeredBy (rows l xs f) = hasRows xs
+answeredBy (rows l m xs f) = hasRows (answer m xs)
 answeredBy (none l) = noRows
 
 -- the damping that an iteration begins with, after a step taken with the damping mu
@@ -176,20 +185,28 @@ In e (x ∷ xs) = (e ≡ x) ⊎ In e xs
 
 -- ---- a point that stands was answered with rows
 
--- rows of the right length, with every end in the domain
-pub record Fitting (z : Sizes) (xs : List Float) : Type 0 where
-  pub length-is : length xs ≡ rowNumbers (rowCounts z)
-  pub in-domain : allInDomain xs ((z .m + z .s) * (z .n + 1)) ≡ true
+-- at most 12 constraint rows, and numbers of the length that they ask for, with every end in the domain
+pub record Fitting (z : Sizes) (x : Answer) : Type 0 where
+  pub few : x .m ≤ CONSTRAINTS
+  pub length-is : length (x .numbers) ≡ rowNumbers (rowCounts z (x .m))
+  pub in-domain : allInDomain (x .numbers) ((x .m + z .s) * (z .n + 1)) ≡ true
 
 abbrev pub Answered : Sizes → AnsweredRows → Type 0
 Answered z noRows = ⊥
-Answered z (hasRows xs) = Fitting z xs
+Answered z (hasRows x) = Fitting z x
 
 -- two questions had rows, and P holds of them
-abbrev pub BothWith : (List Float → List Float → Type 0) → AnsweredRows → AnsweredRows → Type 0
-BothWith P (hasRows xs) (hasRows ys) = P xs ys
-BothWith P (hasRows xs) noRows = ⊥
+abbrev pub BothWith : (Answer → Answer → Type 0) → AnsweredRows → AnsweredRows → Type 0
+BothWith P (hasRows x) (hasRows y) = P x y
+BothWith P (hasRows x) noRows = ⊥
 BothWith P noRows y = ⊥
+
+-- the rows of an answer, read by its own m
+abbrev pub constraintsIn : Sizes → Answer → Rows
+constraintsIn z x = constraintsOf (rowCounts z (x .m)) (x .numbers)
+
+abbrev pub sumIn : Sizes → Answer → Rows
+sumIn z x = sumOf (rowCounts z (x .m)) (x .numbers)
 
 -- ---- exact progress
 
@@ -202,11 +219,9 @@ Falls e e′ =
     ChosenEach (valueAt e′) (e′ .count) q k c →
     T (ltZ (squaresTo (rescaledAll q k c) (e′ .count)) (squaresTo (rescaledAll p j c) (e .count)))
 
--- one and the same of a point's two sums is lower
-abbrev pub LowerRows : Sizes → List Float → List Float → Type 0
-LowerRows z xs ys =
-    Falls (sumOf (rowCounts z) xs) (sumOf (rowCounts z) ys)
-    ⊎ Falls (constraintsOf (rowCounts z) xs) (constraintsOf (rowCounts z) ys)
+-- one and the same of a point's two sums is lower; each is whole, whatever the counts of the two
+abbrev pub LowerRows : Sizes → Answer → Answer → Type 0
+LowerRows z x y = Falls (sumIn z x) (sumIn z y) ⊎ Falls (constraintsIn z x) (constraintsIn z y)
 
 abbrev pub Lower : Sizes → AnsweredRows → AnsweredRows → Type 0
 Lower z = BothWith (LowerRows z)
@@ -218,12 +233,12 @@ Progress z h h′ = (e : ℕ) → In e (h .stood) → Lower z (h′ .rows e) (h�
 -- ---- an undecided step that halves
 
 -- neither the sum's change nor the violation's fall is definite: each interval holds 0
-pub record UndecidedRows (z : Sizes) (xs ys : List Float) : Type 0 where
+pub record UndecidedRows (z : Sizes) (x y : Answer) : Type 0 where
   pub before : Scalar
   pub after : Scalar
-  pub before-is : violationOf (constraintsOf (rowCounts z) xs) ≡ ok before
-  pub after-is : violationOf (constraintsOf (rowCounts z) ys) ≡ ok after
-  pub sum-undecided : T (indefinite (sumChange (sumOf (rowCounts z) xs) (sumOf (rowCounts z) ys)))
+  pub before-is : violationOf (constraintsIn z x) ≡ ok before
+  pub after-is : violationOf (constraintsIn z y) ≡ ok after
+  pub sum-undecided : T (indefinite (sumChange (sumIn z x) (sumIn z y)))
   pub violation-undecided : T (indefinite (subOf before after))
 
 abbrev pub Undecided : Sizes → AnsweredRows → AnsweredRows → Type 0

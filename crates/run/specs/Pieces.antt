@@ -40,6 +40,17 @@ sizedOf c count =
     (checkedValue (leb (c .s) SUM-ROWS) 1
     (checkedValue (eqb count (rowNumbers c)) 2 (ok tt))))
 
+-- the counts of a second answer, which has an m of its own
+abbrev pub nextCounts : RowCounts → ℕ → RowCounts
+nextCounts c m = record { n = c .n; m = m; s = c .s }
+
+-- the counts of both answers within the limits, then as many numbers as the rows of each have
+unfoldable pub bothSized : RowCounts → List Float → ℕ → List Float → Res (Unit {0})
+unfolding bind
+bothSized c rows m next =
+    checkedValue (leb m CONSTRAINTS) 1
+    (bind (sizedOf c (length rows)) (λ _. sizedOf (nextCounts c m) (length next)))
+
 -- what was checked before, then that a count is the one wanted
 unfoldable pub wantsOf : Res (Unit {0}) → ℕ → ℕ → Res (Unit {0})
 unfolding bind
@@ -90,11 +101,11 @@ movingReply c rows marks =
 
 -- at most as many pairs of the filter as a run has iterations
 unfoldable pub judgeReply :
-    RowCounts → List Float → List Float → Scalar → List Float → ℕ → Last → List Float → Res Judged
-judgeReply c rows next theta filter count last step =
+    RowCounts → List Float → ℕ → List Float → Scalar → List Float → ℕ → Last → List Float → Res Judged
+judgeReply c rows m next theta filter count last step =
     checkedValue (leb count ITERATIONS) 1
-    (then (wantsOf (fitsTwo c rows (length next) (length rows) (length filter) FILTER-LEN) (length step) POINT-LEN)
-    (judgeOf (c .n) (evaluationOf c rows) (evaluationOf c next) theta filter count last step))
+    (then (wantsOf (wantsOf (bothSized c rows m next) (length filter) FILTER-LEN) (length step) POINT-LEN)
+    (judgeOf (c .n) (evaluationOf c rows) (evaluationOf (nextCounts c m) next) theta filter count last step))
 
 -- ---- of a step proposed, its correction, and the curvature: 12 rows of 12 scalars, of which n rows of n are used
 
@@ -120,11 +131,12 @@ shiftReply c rows moving d =
     (replyOf vector (shiftOf moving (evaluationOf c rows .constraints)))
 
 unfoldable pub updateReply :
-    RowCounts → List Float → List Float → List Float → List Float → List Float → Reply (List Float)
-updateReply c b step rows next lambda =
-    let rowsFit = fitsTwo c rows (length next) (length rows) (length b) CURVATURE-LEN in
+    RowCounts → List Float → List Float → List Float → ℕ → List Float → List Float → Reply (List Float)
+updateReply c b step rows m next lambda =
+    let rowsFit = wantsOf (bothSized c rows m next) (length b) CURVATURE-LEN in
     thenWrites (wantsOf (wantsOf rowsFit (length step) POINT-LEN) (length lambda) POINT-LEN) b
-    (replyOf (zeros CURVATURE-LEN) (updateCurvature (c .n) b step (evaluationOf c rows) (evaluationOf c next) lambda))
+    (replyOf (zeros CURVATURE-LEN)
+    (updateCurvature (c .n) b step (evaluationOf c rows) (evaluationOf (nextCounts c m) next) lambda))
 
 unfoldable pub learnedReply : ℕ → List Float → Res Bool
 learnedReply n b = checkedValue (leb n VARIABLES) 1 (checkedValue (eqb (length b) CURVATURE-LEN) 2 (ok (learnedOf n b)))

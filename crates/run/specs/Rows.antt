@@ -2,7 +2,9 @@
 -- their slopes row by row, then the sum's. All is read at its place in the answered list.
 use Prim.Native.Nat.{ℕ, _+_, _*_}
 use mathlib.Core.List.{List}
+use lib.Dec.{ltb}
 use lib.Ieee.{Float}
+use Rattle.interval.specs.Scalar.{pick}
 use Rattle.interval.specs.declared.Scalar.{Scalar}
 use Rattle.linear.specs.Flat.{at, along}
 use Rattle.run.specs.declared.rows.RowCounts.{RowCounts}
@@ -13,9 +15,9 @@ use Rattle.run.specs.declared.state.Sizes.{Sizes}
 abbrev pub rowNumbers : RowCounts → ℕ
 rowNumbers c = 2 * ((c .m + c .s) * (c .n + 1))
 
--- the counts of an answer in a run of these sizes
-abbrev pub rowCounts : Sizes → RowCounts
-rowCounts z = record { n = z .n; m = z .m; s = z .s }
+-- the counts of an answer with m constraint rows in a run of these sizes
+abbrev pub rowCounts : Sizes → ℕ → RowCounts
+rowCounts z m = record { n = z .n; m = m; s = z .s }
 
 -- rows of one kind: `count` values from the place `values` on, and from the place `slopes` on n slopes for each
 pub record Rows : Type 0 where
@@ -46,6 +48,16 @@ constraintsOf c xs = rowsIn xs (constraintSet c)
 
 abbrev pub sumOf : RowCounts → List Float → Rows
 sumOf c xs = rowsIn xs (sumSet c)
+
+-- the first k rows, or all where there are fewer
+abbrev pub firstRows : ℕ → Rows → Rows
+firstRows k e = record {
+  list = e .list;
+  n = e .n;
+  count = pick (ltb k (e .count)) k (e .count);
+  values = e .values;
+  slopes = e .slopes;
+}
 
 -- what an answer says at a point (the Rust's `Evaluation`)
 pub record Evaluation : Type 0 where

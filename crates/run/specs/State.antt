@@ -1,4 +1,5 @@
--- The state of a run as it begins, and changed in one part.
+-- The state of a run as it begins, and changed in one part. It keeps how many constraint rows the standing and the
+-- landed answer have, 0 where their slots are not in use.
 use Prim.Native.Nat.{_+_, ℕ}
 use mathlib.Core.Bool.{true, false, Bool}
 use mathlib.Core.List.{List}
@@ -6,7 +7,7 @@ use lib.ListN.{replicate}
 use Rattle.interval.specs.Scalar.{zeroS}
 use Rattle.interval.specs.declared.Scalar.{Scalar}
 use Rattle.run.specs.Proposal.{Trial}
-use Rattle.run.specs.declared.state.Counts.{Counts}
+use Rattle.run.specs.declared.state.Contents.{Contents}
 use Rattle.run.specs.declared.state.Kind.{Kind}
 use Rattle.run.specs.declared.state.Last.the-variants as last
 use Rattle.run.specs.declared.state.Phase.{Phase}
@@ -70,20 +71,8 @@ searching st x =
     record {
       sizes = st .sizes;
       counts = st .counts;
+      contents = st .contents;
       search = x;
-      trial = st .trial;
-      «max_step» = st .«max_step»;
-      last = st .last;
-      phase = st .phase;
-      moving = st .moving;
-    }
-
-abbrev pub counting : State → Counts → State
-counting st c =
-    record {
-      sizes = st .sizes;
-      counts = c;
-      search = st .search;
       trial = st .trial;
       «max_step» = st .«max_step»;
       last = st .last;
@@ -96,6 +85,7 @@ inPhase st phase =
     record {
       sizes = st .sizes;
       counts = st .counts;
+      contents = st .contents;
       search = st .search;
       trial = st .trial;
       «max_step» = st .«max_step»;
@@ -104,14 +94,32 @@ inPhase st phase =
       moving = st .moving;
     }
 
-abbrev pub over : State → State
-over st = inPhase st Over
+-- how many constraint rows the standing and the landed answer have
+abbrev pub holding : ℕ → ℕ → Contents
+holding standing landed = record { «standing_m» = standing; «landed_m» = landed }
 
-abbrev pub moves : State → List Bool → State
-moves st moving =
+-- no question is open: of the slots only that of the standing point is in use
+abbrev pub over : State → State
+over st =
     record {
       sizes = st .sizes;
       counts = st .counts;
+      contents = holding 0 0;
+      search = st .search;
+      trial = st .trial;
+      «max_step» = st .«max_step»;
+      last = st .last;
+      phase = Over;
+      moving = st .moving;
+    }
+
+-- the start was answered with m constraint rows
+abbrev pub starting : State → ℕ → List Bool → State
+starting st m moving =
+    record {
+      sizes = st .sizes;
+      counts = st .counts;
+      contents = holding m 0;
       search = st .search;
       trial = st .trial;
       «max_step» = st .«max_step»;
@@ -132,6 +140,7 @@ asking st k corrections = record {
         landed = st .counts .landed;
         corrections = corrections;
       };
+  contents = st .contents;
   search = st .search;
   trial = st .trial;
   «max_step» = st .«max_step»;
@@ -140,23 +149,33 @@ asking st k corrections = record {
   moving = st .moving;
 }
 
--- the open question's point landed, after so many corrections
-abbrev pub landing : State → ℕ → State
-landing st corrections =
-    counting st
-    (record {
-      iterations = st .counts .iterations;
-      question = st .counts .question;
-      standing = st .counts .standing;
-      landed = st .counts .question;
-      corrections = corrections;
-    })
+-- the open question's point landed, with m constraint rows and after so many corrections
+abbrev pub landing : State → ℕ → ℕ → State
+landing st m corrections = record {
+  sizes = st .sizes;
+  counts =
+      record {
+        iterations = st .counts .iterations;
+        question = st .counts .question;
+        standing = st .counts .standing;
+        landed = st .counts .question;
+        corrections = corrections;
+      };
+  contents = holding (st .contents .«standing_m») m;
+  search = st .search;
+  trial = st .trial;
+  «max_step» = st .«max_step»;
+  last = st .last;
+  phase = st .phase;
+  moving = st .moving;
+}
 
--- a search left with a trial
+-- a search left with a trial: nothing has landed
 abbrev pub trying : State → Search → Trial → State
 trying st x t = record {
   sizes = st .sizes;
   counts = st .counts;
+  contents = holding (st .contents .«standing_m») 0;
   search = x;
   trial = record { predicted = t .predicted; tried = t .tried };
   «max_step» = st .«max_step»;
@@ -177,6 +196,7 @@ standingOn st length mu radius = record {
         landed = st .counts .landed;
         corrections = st .counts .corrections;
       };
+  contents = holding (st .contents .«landed_m») (st .contents .«landed_m»);
   search = anew (st .search) mu radius;
   trial = st .trial;
   «max_step» = st .«max_step»;
@@ -189,6 +209,7 @@ abbrev pub stateWith : Sizes → Scalar → Scalar → Phase → State
 stateWith z mu max p = record {
   sizes = z;
   counts = record { iterations = 0; question = 0; standing = 0; landed = 0; corrections = 0 };
+  contents = holding 0 0;
   search = record { mu = mu; radius = max; «turned_down» = 0; first = true; plain = false; rejected = why.NoneYet };
   trial = record { predicted = zeroS; tried = zeroS };
   «max_step» = max;
@@ -199,4 +220,4 @@ stateWith z mu max p = record {
 
 -- beside a refused begin: no run, so any reply to it gets 4
 abbrev pub noRun : State
-noRun = stateWith (record { n = 0; m = 0; s = 0; limit = 0 }) zeroS zeroS Over
+noRun = stateWith (record { n = 0; s = 0; limit = 0 }) zeroS zeroS Over

@@ -10,7 +10,7 @@ ghost use Rattle.run.specs.declared.state.Kind.the-variants as kinds;
 ghost use Rattle.run.specs.declared.state.Phase.the-variants.{Open};
 ghost use Rattle.run.specs.Limits.{VARIABLES, CONSTRAINTS, ITERATIONS};
 ghost use Rattle.run.specs.Area.{slotSizes, placesOf, areaLength, inOrder, numbersIn, usedIn, HasRoom, partOf};
-ghost use Rattle.run.specs.Area.{pairsIn, landedCounts, pointAt};
+ghost use Rattle.run.specs.Area.{pairsIn, pointAt, ROWS-LEN};
 ghost use Rattle.run.specs.Area.{startOf, spareAt, POINT-LEN, Memory, memoryOf, begunMemory, onlyStanding};
 ghost use Rattle.run.specs.Area.{withStart, withTrial, withLanded, withTaken};
 ghost use Rattle.run.specs.Filter.{filterWith};
@@ -217,7 +217,7 @@ pub fn pairs_in(st: State) -> usize
 
 // How many numbers of each slot its contents have.
 fn numbers_in(st: State) -> SlotNumbers
-    requires { ⌜ Limits (st .sizes) (pairsIn st) ⌝ }
+    requires { ⌜ Limits st ⌝ }
     ensures { λ r. ⌜ numbersOf r ≡ numbersIn st ⌝ }
 {
     let c = standing_counts(st);
@@ -254,7 +254,7 @@ fn standing_alone(x: SlotNumbers) -> SlotNumbers
 
 // How many numbers of each slot are in use between two calls.
 fn used_in(st: State) -> SlotNumbers
-    requires { ⌜ Limits (st .sizes) (pairsIn st) ⌝ }
+    requires { ⌜ Limits st ⌝ }
     ensures { λ r. ⌜ numbersOf r ≡ usedIn st ⌝ }
 {
     let phase = st.phase;
@@ -287,7 +287,7 @@ fn used_in(st: State) -> SlotNumbers
 
 // Clears every place that is not in use. A caller may have written anything there, and the definitions read +0.
 pub fn clear_unused(area: &mut [f64], st: State)
-    requires { ⌜ HasRoom (st .sizes) (now area) × Limits (st .sizes) (pairsIn st) ⌝ }
+    requires { ⌜ HasRoom (st .sizes) (now area) × Limits st ⌝ }
     ensures { λ _. ⌜ Uses (st .sizes) (usedIn st) (memoryOf st (now (area .entry))) (now (area .exit)) ⌝ }
 {
     let z = st.sizes;
@@ -386,7 +386,7 @@ pub fn write_begun(area: &mut [f64], z: Sizes, start: &[f64])
 // After a finish, or refusal 5 or 6: only the standing point. Behind the numbers in use all is +0 already, and at the
 // smallest drawings clearing is most of a call's time.
 pub fn keep_standing(area: &mut [f64], st: State)
-    requires { ⌜ HasRoom (st .sizes) (now area) × Limits (st .sizes) (pairsIn st) ⌝ }
+    requires { ⌜ HasRoom (st .sizes) (now area) × Limits st ⌝ }
     ensures { λ _. ⌜ ((w : Memory) → Working st w (now (area .entry)) →
         Holds (st .sizes) (onlyStanding w) (now (area .exit))) ⌝ }
 {
@@ -399,8 +399,8 @@ pub fn keep_standing(area: &mut [f64], st: State)
 
 // A start's answer. Before it only the two points are in use, so all else is +0 already.
 pub fn write_start(area: &mut [f64], st: State, rows: &[f64])
-    requires { ⌜ HasRoom (st .sizes) (now area) × Limits (st .sizes) (pairsIn st) ×
-        (length (now rows) ≡ rowNumbers (landedCounts st)) × (st .phase ≡ Open kinds.Start) ⌝ }
+    requires { ⌜ HasRoom (st .sizes) (now area) × Limits st ×
+        (length (now rows) ≤ ROWS-LEN) × (st .phase ≡ Open kinds.Start) ⌝ }
     ensures { λ _. ⌜ ((w : Memory) → Uses (st .sizes) (usedIn st) w (now (area .entry)) →
         Holds (st .sizes) (withStart st w (now (rows .entry))) (now (area .exit))) ⌝ }
 {
@@ -432,7 +432,7 @@ fn write_next(area: &mut [f64], z: Sizes, delta: &[f64])
 
 // A trial asked, where the step leads: nothing has landed. Of what landed before the numbers in use are cleared.
 pub fn write_trial(area: &mut [f64], st: State, delta: &[f64], lambda: &[f64])
-    requires { ⌜ HasRoom (st .sizes) (now area) × Limits (st .sizes) (pairsIn st) ×
+    requires { ⌜ HasRoom (st .sizes) (now area) × Limits st ×
         StepLengths (now delta) (now lambda) ⌝ }
     ensures { λ _. ⌜ ((w : Memory) → Working st w (now (area .entry)) → StandingWhole (numbersIn st) w →
         Holds (st .sizes)
@@ -448,21 +448,23 @@ pub fn write_trial(area: &mut [f64], st: State, delta: &[f64], lambda: &[f64])
     write(area, at.multipliers, &lambda[..count.multipliers]);
 }
 
-// The asked point landed, with its rows.
+// The asked point landed, with its rows. Those that landed before may have been more.
 pub fn write_landed(area: &mut [f64], st: State, rows: &[f64])
-    requires { ⌜ HasRoom (st .sizes) (now area) × Limits (st .sizes) (pairsIn st) ×
-        (length (now rows) ≡ rowNumbers (landedCounts st)) ⌝ }
+    requires { ⌜ HasRoom (st .sizes) (now area) × Limits st × (length (now rows) ≤ ROWS-LEN) ⌝ }
     ensures { λ _. ⌜ ((w : Memory) → Working st w (now (area .entry)) → TrialWhole (numbersIn st) w →
         Holds (st .sizes) (withLanded w (now (rows .entry)) (w .step)) (now (area .exit))) ⌝ }
 {
     let at = places(st.sizes);
-    copy(area, at.asked, at.landed, 2 * st.sizes.n);
+    let count = numbers_in(st);
+    copy(area, at.asked, at.landed, count.landed);
+    clear_from(area, at.landed_rows, count.landed_rows);
     write(area, at.landed_rows, rows);
 }
 
-// The landed point stands, with the curvature after it; the filter has the pair of the point that stood.
+// The landed point stands, with the curvature after it; the filter has the pair of the point that stood. Its rows may
+// have been more, and the multipliers are theirs.
 pub fn write_taken(area: &mut [f64], st: State, curvature: &[f64], f: Scalar, theta: Scalar)
-    requires { ⌜ HasRoom (st .sizes) (now area) × Limits (st .sizes) (pairsIn st) × (pairsIn st < ITERATIONS) ×
+    requires { ⌜ HasRoom (st .sizes) (now area) × Limits st × (pairsIn st < ITERATIONS) ×
         (length (now curvature) ≡ numbersIn st .curvature) ⌝ }
     ensures { λ _. ⌜ ((w : Memory) → Working st w (now (area .entry)) → StandingWhole (numbersIn st) w →
         LandedWhole (numbersIn st) w →
@@ -472,7 +474,9 @@ pub fn write_taken(area: &mut [f64], st: State, curvature: &[f64], f: Scalar, th
     let at = places(st.sizes);
     let count = numbers_in(st);
     copy(area, at.landed, at.standing, count.landed);
+    clear_from(area, at.standing_rows, count.standing_rows);
     copy(area, at.landed_rows, at.standing_rows, count.landed_rows);
+    clear_from(area, at.multipliers, count.multipliers);
     write(area, at.curvature, curvature);
     let pair = pair_numbers(f, theta);
     write(area, at.filter + count.filter, &pair);

@@ -42,7 +42,6 @@ fn not_begun(number: usize) -> Returned
 {
     let z = Sizes {
         n: 0,
-        m: 0,
         s: 0,
         limit: 0,
     };
@@ -53,11 +52,10 @@ fn not_begun(number: usize) -> Returned
     }
 }
 
-// Begins a run of n variables, m constraint rows and s sum rows from the point `start`, with at most `limit`
-// iterations: its first question asks for the rows of `start`.
+// Begins a run of n variables and s sum rows from the point `start`, with at most `limit` iterations: its first
+// question asks for the rows of `start`.
 pub fn begin(
     n: usize,
-    m: usize,
     s: usize,
     limit: usize,
     start: &[f64],
@@ -65,10 +63,10 @@ pub fn begin(
     area: &mut [f64],
 ) -> Returned
     ensures { λ r. ⌜ afterCall r (now (area .exit))
-        ≡ beginOf (record { n = n; m = m; s = s; limit = limit }) (now (start .entry)) «max_step»
+        ≡ beginOf (record { n = n; s = s; limit = limit }) (now (start .entry)) «max_step»
         (now (area .entry)) ⌝ }
 {
-    let z = Sizes { n, m, s, limit };
+    let z = Sizes { n, s, limit };
     let number = refusal(z, start, max_step, area.len());
     if number != 0 {
         return not_begun(number);
@@ -82,11 +80,11 @@ pub fn begin(
     }
 }
 
-// Answers the open question with rows.
-pub fn reply(st: State, area: &mut [f64], rows: &[f64]) -> Returned
-    ensures { λ r. ⌜ afterCall r (now (area .exit)) ≡ replyOf st (now (area .entry)) (now (rows .entry)) ⌝ }
+// Answers the open question with rows, m constraint rows and then the sum's. Each answer has an m of its own.
+pub fn reply(st: State, area: &mut [f64], m: usize, rows: &[f64]) -> Returned
+    ensures { λ r. ⌜ afterCall r (now (area .exit)) ≡ replyOf st (now (area .entry)) m (now (rows .entry)) ⌝ }
 {
-    let asked = match checks::check_rows(st, area.len(), rows) {
+    let asked = match checks::check_rows(st, area.len(), m, rows) {
         Checked::Accept(kind) => kind,
         Checked::Refuse(number) => {
             return Returned {
@@ -96,7 +94,7 @@ pub fn reply(st: State, area: &mut [f64], rows: &[f64]) -> Returned
         }
     };
     clear_unused(area, st);
-    answered(asked, st, area, rows)
+    answered(asked, st, area, m, rows)
 }
 
 // Answers the open question with none: the point cannot be evaluated.

@@ -4,9 +4,9 @@ ghost use Prim.Native.Nat.{_≤_};
 ghost use mathlib.Core.Path.{_≡_};
 ghost use Rattle.interval.specs.Scaling.{isPositive};
 ghost use Rattle.run.specs.Checks.{inDomain, allInDomain, sizesFit, countsFit, valid, mostTurnDowns};
-ghost use Rattle.run.specs.Checks.{mostQuestions};
+ghost use Rattle.run.specs.Checks.{mostQuestions, contentsFit};
 ghost use Rattle.run.specs.Limits.{ITERATIONS};
-ghost use Rattle.run.specs.program.Checks.{checkOf, checkRowsOf, refusalOf};
+ghost use Rattle.run.specs.program.Checks.{openOf, checkOf, checkRowsOf, refusalOf};
 use crate::area::area_length;
 use crate::limits::CONSTRAINTS;
 use crate::limits::CORRECTIONS;
@@ -16,7 +16,7 @@ use crate::limits::QUESTIONS;
 use crate::limits::SUM_ROWS;
 use crate::limits::TURN_DOWNS;
 use crate::limits::VARIABLES;
-use crate::rows::landed_counts;
+use crate::state::Contents;
 use crate::state::Kind;
 use crate::state::Phase;
 use crate::state::Sizes;
@@ -63,13 +63,20 @@ pub fn sizes_fit(z: Sizes) -> bool
     if z.n > VARIABLES {
         return false;
     }
-    if z.m > CONSTRAINTS {
-        return false;
-    }
     if z.s > SUM_ROWS {
         return false;
     }
     z.limit <= ITERATIONS
+}
+
+// Whether each m that the state keeps is within its limit.
+fn contents_fit(c: Contents) -> bool
+    ensures { λ r. ⌜ r ≡ contentsFit c ⌝ }
+{
+    if c.standing_m > CONSTRAINTS {
+        return false;
+    }
+    c.landed_m <= CONSTRAINTS
 }
 
 // The most turn-downs that a run may have, and the most questions.
@@ -124,6 +131,9 @@ pub fn valid(st: State) -> bool
     if !sizes_fit(st.sizes) {
         return false;
     }
+    if !contents_fit(st.contents) {
+        return false;
+    }
     if !counts_fit(st) {
         return false;
     }
@@ -140,9 +150,9 @@ pub fn valid(st: State) -> bool
     true
 }
 
-// The checks of reply none, with an area of that length.
-pub fn check(st: State, area: usize) -> Checked
-    ensures { λ r. ⌜ r ≡ checkOf st area ⌝ }
+// The open question of a run that a call could have left, or 4.
+fn check_open(st: State) -> Checked
+    ensures { λ r. ⌜ r ≡ openOf st ⌝ }
 {
     if !valid(st) {
         return Checked::Refuse(4);
@@ -151,22 +161,39 @@ pub fn check(st: State, area: usize) -> Checked
     let Phase::Open(kind) = phase else {
         return Checked::Refuse(4);
     };
-    if area != area_length(st.sizes) {
-        return Checked::Refuse(2);
-    }
     Checked::Accept(kind)
 }
 
-// The checks of a reply with rows, with an area of that length.
-pub fn check_rows(st: State, area: usize, rows: &[f64]) -> Checked
-    ensures { λ r. ⌜ r ≡ checkRowsOf st area (now (rows .entry)) ⌝ }
+// The checks of reply none, with an area of that length.
+pub fn check(st: State, area: usize) -> Checked
+    ensures { λ r. ⌜ r ≡ checkOf st area ⌝ }
 {
-    let first = check(st, area);
+    let first = check_open(st);
     let Checked::Accept(_) = first else {
         return first;
     };
-    let c = landed_counts(st);
-    let count = (c.m + c.s) * (c.n + 1);
+    if area != area_length(st.sizes) {
+        return Checked::Refuse(2);
+    }
+    first
+}
+
+// The checks of a reply with rows, m constraint rows among them, with an area of that length. How many rows there must
+// be is known only once m is within its limit.
+pub fn check_rows(st: State, area: usize, m: usize, rows: &[f64]) -> Checked
+    ensures { λ r. ⌜ r ≡ checkRowsOf st area m (now (rows .entry)) ⌝ }
+{
+    let first = check_open(st);
+    let Checked::Accept(_) = first else {
+        return first;
+    };
+    if m > CONSTRAINTS {
+        return Checked::Refuse(1);
+    }
+    if area != area_length(st.sizes) {
+        return Checked::Refuse(2);
+    }
+    let count = (m + st.sizes.s) * (st.sizes.n + 1);
     if rows.len() != 2 * count {
         return Checked::Refuse(2);
     }

@@ -36,11 +36,12 @@ use crate::results::TruthResult;
 use crate::rows::RowCounts;
 use crate::rows::constraints;
 use crate::rows::landed_counts;
+use crate::rows::row_counts;
 use crate::rows::slope_of;
 use crate::state::Kind;
 use crate::state::Returned;
 use crate::state::State;
-use crate::state::with_landed_number;
+use crate::state::with_landed;
 use crate::vectors::all_finite;
 use crate::vectors::choose_if;
 use crate::vectors::moved;
@@ -200,12 +201,19 @@ fn correct_or_judge(
 
 // A correction's rows that are nearer the constraints are kept, and the step is shifted as well, since its length and
 // the curvature are taken from where it led.
-fn keep(st: State, area: &mut [f64], rows: &[f64], theta: Scalar, landed: LinearResult) -> Returned
-    requires { ⌜ RowsToLand st (now area) (length (now rows)) × (st .counts .corrections ≤ CORRECTIONS) ⌝ }
+fn keep(
+    st: State,
+    area: &mut [f64],
+    m: usize,
+    rows: &[f64],
+    theta: Scalar,
+    landed: LinearResult,
+) -> Returned
+    requires { ⌜ RowsToLand st (now area) m (length (now rows)) × (st .counts .corrections ≤ CORRECTIONS) ⌝ }
     ensures { λ r. ⌜ ((w : Memory) → StandingKnown st (ok theta) w (now (area .entry)) →
         TrialWhole (numbersIn st) w → LandedWhole (numbersIn st) w →
-        resultOf landed ≡ violationOf (rowsAt st (now (rows .entry)) .constraints) →
-        Leaves (keep st w (now (rows .entry)) theta) r (now (area .exit))) ⌝ }
+        resultOf landed ≡ violationOf (rowsAt st m (now (rows .entry)) .constraints) →
+        Leaves (keep st w m (now (rows .entry)) theta) r (now (area .exit))) ⌝ }
 {
     let moving = st.moving;
     let mut d = [0.0; 24];
@@ -222,7 +230,7 @@ fn keep(st: State, area: &mut [f64], rows: &[f64], theta: Scalar, landed: Linear
     shifted_step(n, &mut area[at..at + 2 * n], &d);
     area::write_landed(area, st, rows);
     let corrections = st.counts.corrections + 1;
-    let t = with_landed_number(st, corrections);
+    let t = with_landed(st, m, corrections);
     correct_or_judge(t, area, theta, landed, corrections < CORRECTIONS)
 }
 
@@ -246,18 +254,24 @@ fn is_nearer(new: LinearResult, old: LinearResult) -> TruthResult
 }
 
 // A correction's rows, from a standing point with violation theta: kept where they are nearer than the landed ones.
-pub fn land_correction(st: State, area: &mut [f64], rows: &[f64], theta: Scalar) -> Returned
-    requires { ⌜ RowsToLand st (now area) (length (now rows)) × (st .counts .corrections ≤ CORRECTIONS) ⌝ }
+pub fn land_correction(
+    st: State,
+    area: &mut [f64],
+    m: usize,
+    rows: &[f64],
+    theta: Scalar,
+) -> Returned
+    requires { ⌜ RowsToLand st (now area) m (length (now rows)) × (st .counts .corrections ≤ CORRECTIONS) ⌝ }
     ensures { λ r. ⌜ ((w : Memory) → StandingKnown st (ok theta) w (now (area .entry)) →
         TrialWhole (numbersIn st) w → LandedWhole (numbersIn st) w →
-        Leaves (landCorrection st w (now (rows .entry)) theta) r (now (area .exit))) ⌝ }
+        Leaves (landCorrection st w m (now (rows .entry)) theta) r (now (area .exit))) ⌝ }
 {
-    let new = residuals::violation(rows, landed_counts(st));
+    let new = residuals::violation(rows, row_counts(st.sizes, m));
     let old = landed_violation(st, area);
     match is_nearer(new, old) {
         TruthResult::Value(kept) => {
             if kept {
-                return keep(st, area, rows, theta, new);
+                return keep(st, area, m, rows, theta, new);
             }
             return judge_landed(st, area, theta, old);
         }
@@ -268,14 +282,14 @@ pub fn land_correction(st: State, area: &mut [f64], rows: &[f64], theta: Scalar)
 }
 
 // A trial's rows, from a standing point with violation theta: corrected where the violation rose.
-pub fn land_trial(st: State, area: &mut [f64], rows: &[f64], theta: Scalar) -> Returned
-    requires { ⌜ RowsToLand st (now area) (length (now rows)) ⌝ }
+pub fn land_trial(st: State, area: &mut [f64], m: usize, rows: &[f64], theta: Scalar) -> Returned
+    requires { ⌜ RowsToLand st (now area) m (length (now rows)) ⌝ }
     ensures { λ r. ⌜ ((w : Memory) → StandingKnown st (ok theta) w (now (area .entry)) →
-        TrialWhole (numbersIn st) w → Leaves (landTrial st w (now (rows .entry)) theta) r (now (area .exit))) ⌝ }
+        TrialWhole (numbersIn st) w → Leaves (landTrial st w m (now (rows .entry)) theta) r (now (area .exit))) ⌝ }
 {
     area::write_landed(area, st, rows);
-    let t = with_landed_number(st, 0);
-    let landed = landed_violation(st, area);
+    let t = with_landed(st, m, 0);
+    let landed = residuals::violation(rows, row_counts(st.sizes, m));
     match landed {
         LinearResult::Value(new) => {
             return correct_or_judge(t, area, theta, landed, new.definitely_greater(theta));

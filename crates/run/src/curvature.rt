@@ -29,6 +29,7 @@ use crate::residuals::chosen_values;
 use crate::residuals::transposed_at;
 use crate::rows::RowCounts;
 use crate::rows::constraints;
+use crate::rows::first_rows;
 use crate::rows::sum;
 use crate::vectors::quotient;
 use interval::Scalar;
@@ -125,41 +126,53 @@ fn along_factored(
     minus_factored(m, n, slopes, l, left_out, &rhs[..k], &v[..w], out)
 }
 
-// One entry of how far the gradient of the Lagrangian turned; r has the sum's new values, chosen.
+// One entry of how far the gradient of the Lagrangian turned; r has the sum's new values, chosen. There is a multiplier
+// for each constraint of xs, so of those of `next` no more are weighed.
 fn lagrangian_change_at(
     c: RowCounts,
     xs: &[f64],
+    d: RowCounts,
     next: &[f64],
     lambda: &[f64],
     r: &[f64],
     j: usize,
 ) -> Scalar
-    requires { ⌜ FewRows c × (j < 65536) ⌝ }
+    requires { ⌜ FewRows c × FewRows d × (j < 65536) ⌝ }
     ensures { λ y. ⌜ y
-        ≡ lagrangianChangeAt (evaluationOf c (now (xs .entry))) (evaluationOf c (now (next .entry)))
+        ≡ lagrangianChangeAt (evaluationOf c (now (xs .entry))) (evaluationOf d (now (next .entry)))
         (now (lambda .entry)) (now (r .entry)) j ⌝ }
 {
-    let held = constraints(c);
-    let summed = sum(c);
-    let a = transposed_at(next, held, lambda, j).sub(transposed_at(xs, held, lambda, j));
-    let b = a.add(transposed_at(next, summed, r, j));
-    b.sub(transposed_at(xs, summed, r, j))
+    let held = transposed_at(next, first_rows(constraints(d), c.m), lambda, j);
+    let a = held.sub(transposed_at(xs, constraints(c), lambda, j));
+    let b = a.add(transposed_at(next, sum(d), r, j));
+    b.sub(transposed_at(xs, sum(c), r, j))
 }
 
 // By how much the gradient of the Lagrangian turned between two points with their rows, beyond what the sum's slopes
 // explain, into a clear vector.
-fn lagrangian_change(c: RowCounts, xs: &[f64], next: &[f64], lambda: &[f64], y: &mut [f64])
-    requires { ⌜ FewRows c × (now y ≡ vector) ⌝ }
+fn lagrangian_change(
+    c: RowCounts,
+    xs: &[f64],
+    d: RowCounts,
+    next: &[f64],
+    lambda: &[f64],
+    y: &mut [f64],
+)
+    requires { ⌜ FewRows c × FewRows d × (now y ≡ vector) ⌝ }
     ensures { λ _. ⌜ now (y .exit)
-        ≡ lagrangianChange (c .n) (evaluationOf c (now (xs .entry))) (evaluationOf c (now (next .entry)))
+        ≡ lagrangianChange (c .n) (evaluationOf c (now (xs .entry))) (evaluationOf d (now (next .entry)))
         (now (lambda .entry)) ⌝ }
 {
     let n = c.n;
     let mut r = [0.0; 48];
-    chosen_values(next, sum(c), &mut r);
+    chosen_values(next, sum(d), &mut r);
     let values: &[f64] = &r;
     for j in 0..n {
-        put(y, j, lagrangian_change_at(c, xs, next, lambda, values, j));
+        put(
+            y,
+            j,
+            lagrangian_change_at(c, xs, d, next, lambda, values, j),
+        );
     }
 }
 
@@ -296,20 +309,21 @@ fn update_factored(
     updated(c, slopes, l, left_out, b, y, &s_along[..w])
 }
 
-// The curvature b, updated from the step between two points with their rows, so that along the step it turns the
-// gradient as the step did.
+// The curvature b, updated from the step between two points with their rows and counts, so that along the step it turns
+// the gradient as the step did.
 pub fn update_curvature(
     c: RowCounts,
     step: &[f64],
     xs: &[f64],
+    d: RowCounts,
     next: &[f64],
     lambda: &[f64],
     b: &mut [f64],
 ) -> Done
-    requires { ⌜ FewRows c × (2 * c .n ≤ length (now step)) ⌝ }
+    requires { ⌜ FewRows c × FewRows d × (2 * c .n ≤ length (now step)) ⌝ }
     ensures { λ r. ⌜ doneOf r (now (b .exit))
         ≡ updateCurvature (c .n) (now (b .entry)) (now (step .entry)) (evaluationOf c (now (xs .entry)))
-        (evaluationOf c (now (next .entry))) (now (lambda .entry)) ⌝ }
+        (evaluationOf d (now (next .entry))) (now (lambda .entry)) ⌝ }
 {
     let n = c.n;
     let m = c.m;
@@ -320,7 +334,7 @@ pub fn update_curvature(
     let mut g = [0.0; 288];
     let mut l = [0.0; 288];
     let mut left_out = [false; 12];
-    lagrangian_change(c, xs, next, lambda, &mut y);
+    lagrangian_change(c, xs, d, next, lambda, &mut y);
     chosen_slopes(xs, constraints(c), &mut jc[..q]);
     let end = gram_factor(m, n, &jc[..q], &mut g[..e], &mut l[..e], &mut left_out[..m]);
     let Done::Finished = end else {

@@ -7,13 +7,13 @@ ghost use Rattle.interval.specs.Scaling.{isPositive};
 ghost use Rattle.linear.specs.LinearResult.{resultOf, doneOf};
 ghost use Rattle.run.specs.Limits.{VARIABLES};
 ghost use Rattle.run.specs.Area.{Memory, landedAt, standingAt, curvatureOf, numbersIn, pairsIn, HasRoom};
+ghost use Rattle.run.specs.Area.{standingCounts, landedCounts};
 ghost use Rattle.run.specs.Curvature.{learnedOf, updateCurvature};
 ghost use Rattle.run.specs.Decide.{held, linearOf, take, wasTaken, decide, judge};
 ghost use Rattle.run.specs.Decide as run;
 ghost use Rattle.run.specs.Judgement.{judgeOf};
 ghost use Rattle.run.specs.Residuals.{violationOf};
 ghost use Rattle.run.specs.Results.{truthOf};
-ghost use Rattle.run.specs.Rows.{rowCounts};
 ghost use Rattle.run.specs.State.{searching, rejectedFor, withRadius};
 ghost use Rattle.run.specs.program.Area.{StandingKnown, ReadAll, ViolationsKnown};
 ghost use Rattle.run.specs.program.Decide.{takenWith};
@@ -40,7 +40,7 @@ use crate::judgement::judge;
 use crate::radius::radius_after;
 use crate::residuals;
 use crate::results::TruthResult;
-use crate::rows::row_counts;
+use crate::rows::landed_counts;
 use crate::rows::standing_counts;
 use crate::state::Last;
 use crate::state::Rejection;
@@ -157,7 +157,7 @@ fn linear_of(st: State, theta: Scalar, landed: LinearResult) -> TruthResult
 // The curvature after the step into b, which holds as many numbers as it has: from that before the step, or from none
 // in plain.
 fn learn(st: State, area: &[f64], b: &mut [f64]) -> Done
-    requires { ⌜ HasRoom (st .sizes) (now area) × FewRows (rowCounts (st .sizes)) ×
+    requires { ⌜ HasRoom (st .sizes) (now area) × FewRows (standingCounts st) × FewRows (landedCounts st) ×
         (length (now b) ≡ numbersIn st .curvature) ⌝ }
     ensures { λ r. ⌜ ((w : Memory) → ReadAll st w (now (area .entry)) →
         doneOf r (now (b .exit))
@@ -165,13 +165,15 @@ fn learn(st: State, area: &[f64], b: &mut [f64]) -> Done
         (w .multipliers)) ⌝ }
 {
     let z = st.sizes;
-    let c = row_counts(z);
+    let c = standing_counts(st);
+    let d = landed_counts(st);
     area::write(b, 0, area::curvature_for(st.search.plain, area, z));
     update_curvature(
         c,
         area::step(area, z),
         area::standing_rows(area, z, c),
-        area::landed_rows(area, z, c),
+        d,
+        area::landed_rows(area, z, d),
         area::multipliers(area, z, c),
         b,
     )
@@ -306,11 +308,13 @@ fn judge_in(st: State, area: &[f64], theta: Scalar, landed: LinearResult) -> Jud
     let z = st.sizes;
     let pairs = pairs_in(st);
     let base = Baseline { theta, pairs, last };
-    let c = row_counts(z);
+    let c = standing_counts(st);
+    let d = landed_counts(st);
     judge(
         c,
         area::standing_rows(area, z, c),
-        area::landed_rows(area, z, c),
+        d,
+        area::landed_rows(area, z, d),
         landed,
         base,
         area::filter(area, z, pairs),

@@ -5,18 +5,17 @@ ghost use mathlib.Core.List.{List};
 ghost use mathlib.Core.Path.{_≡_};
 ghost use lib.Ieee.{Float};
 ghost use Rattle.linear.specs.LinearResult.{numberOf};
-ghost use Rattle.run.specs.Area.{Memory, HasRoom, pairsIn};
+ghost use Rattle.run.specs.Area.{Memory, HasRoom};
 ghost use Rattle.run.specs.Endings as run;
 ghost use Rattle.run.specs.program.Area.{Limits, Working, Holds};
 ghost use Rattle.run.specs.program.Endings.{Leaves};
 use crate::area::keep_standing;
 use crate::state::Event;
 use crate::state::Kind;
-use crate::state::Phase;
 use crate::state::Returned;
 use crate::state::State;
 use crate::state::Stop;
-use crate::state::with_phase;
+use crate::state::with_none_open;
 use crate::state::with_question;
 use interval::GeopError;
 use linear::LinearError;
@@ -37,13 +36,13 @@ fn number_of(e: LinearError) -> usize
 
 // The run is over with its counts; the area keeps the standing point alone.
 pub fn finish(st: State, area: &mut [f64], stop: Stop) -> Returned
-    requires { ⌜ HasRoom (st .sizes) (now area) × Limits (st .sizes) (pairsIn st) ⌝ }
+    requires { ⌜ HasRoom (st .sizes) (now area) × Limits st ⌝ }
     ensures { λ r. ⌜ ((w : Memory) → Working st w (now (area .entry)) →
         Leaves (run.finish st w stop) r (now (area .exit))) ⌝ }
 {
     keep_standing(area, st);
     Returned {
-        state: with_phase(st, Phase::Over),
+        state: with_none_open(st),
         event: Event::Finish(
             stop,
             st.counts.iterations,
@@ -55,13 +54,13 @@ pub fn finish(st: State, area: &mut [f64], stop: Stop) -> Returned
 
 // The run is over with the number of a refusal; the area keeps the standing point alone.
 pub fn refuse(st: State, area: &mut [f64], e: LinearError) -> Returned
-    requires { ⌜ HasRoom (st .sizes) (now area) × Limits (st .sizes) (pairsIn st) ⌝ }
+    requires { ⌜ HasRoom (st .sizes) (now area) × Limits st ⌝ }
     ensures { λ r. ⌜ ((w : Memory) → Working st w (now (area .entry)) →
         Leaves (run.refuse st w (numberOf e)) r (now (area .exit))) ⌝ }
 {
     keep_standing(area, st);
     Returned {
-        state: with_phase(st, Phase::Over),
+        state: with_none_open(st),
         event: Event::Refused(number_of(e)),
     }
 }

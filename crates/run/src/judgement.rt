@@ -39,18 +39,18 @@ pub enum Judgement {
     Refused(LinearError),
 }
 
-// By how much the sum of squares falls from the rows of xs to those of ys, Σ (r - r') (r + r'). Where the sum stays
-// large, as near its minimum, the difference of the two sums is lost to their rounding; here what the two values share
-// goes before anything is squared.
-fn sum_change(xs: &[f64], ys: &[f64], e: RowSet) -> Scalar
+// By how much the sum of squares falls from the rows e of xs to the rows f of ys, Σ (r - r') (r + r'). Where the sum
+// stays large, as near its minimum, the difference of the two sums is lost to their rounding; here what the two values
+// share goes before anything is squared.
+fn sum_change(xs: &[f64], e: RowSet, ys: &[f64], f: RowSet) -> Scalar
     requires { ⌜ Small e ⌝ }
-    ensures { λ r. ⌜ r ≡ sumChange (rowsIn (now (xs .entry)) e) (rowsIn (now (ys .entry)) e) ⌝ }
+    ensures { λ r. ⌜ r ≡ sumChange (rowsIn (now (xs .entry)) e) (rowsIn (now (ys .entry)) f) ⌝ }
 {
     let mut total = Scalar::ZERO;
     let count = e.count;
     for i in 0..count {
         let a = value_of(xs, e, i);
-        let b = value_of(ys, e, i);
+        let b = value_of(ys, f, i);
         total = total.add(a.sub(b).mul(a.add(b)));
     }
     total
@@ -125,21 +125,22 @@ fn judged_by(
     }
 }
 
-// How the step from the rows xs to the rows `next`, with violation `landed`, fares against the baseline and the first
-// pairs of the filter.
+// How the step from the rows xs with counts c to the rows `next` with counts d and violation `landed` fares against the
+// baseline and the first pairs of the filter.
 pub fn judge(
     c: RowCounts,
     xs: &[f64],
+    d: RowCounts,
     next: &[f64],
     landed: LinearResult,
     base: Baseline,
     filter: &[f64],
     step: &[f64],
 ) -> Judgement
-    requires { ⌜ Judging c base (length (now step)) ⌝ }
-    ensures { λ r. ⌜ (resultOf landed ≡ violationOf (constraintsOf c (now (next .entry))) →
+    requires { ⌜ Judging c d base (length (now step)) ⌝ }
+    ensures { λ r. ⌜ (resultOf landed ≡ violationOf (constraintsOf d (now (next .entry))) →
         judgementOf r
-        ≡ judgeOf (c .n) (evaluationOf c (now (xs .entry))) (evaluationOf c (now (next .entry))) (base .theta)
+        ≡ judgeOf (c .n) (evaluationOf c (now (xs .entry))) (evaluationOf d (now (next .entry))) (base .theta)
         (now (filter .entry)) (base .pairs) (base .last) (now (step .entry))) ⌝ }
 {
     match norm_of(step, c.n) {
@@ -151,8 +152,8 @@ pub fn judge(
                 return Judgement::Refused(e);
             }
             LinearResult::Value(theta) => {
-                let change = sum_change(xs, next, rows::sum(c));
-                let f = residuals::sum_squared(next, c);
+                let change = sum_change(xs, rows::sum(c), next, rows::sum(d));
+                let f = residuals::sum_squared(next, d);
                 return Judgement::Of(judged_by(change, f, theta, base, filter, length));
             }
         },

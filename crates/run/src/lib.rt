@@ -51,6 +51,7 @@ pub use pieces::transposed;
 pub use pieces::update_curvature;
 pub use results::TruthResult;
 pub use rows::RowCounts;
+pub use state::Contents;
 pub use state::Counts;
 pub use state::Event;
 pub use state::Kind;

@@ -6,7 +6,8 @@ ghost use lib.ListN.{length};
 ghost use Rattle.linear.specs.LinearResult.{doneOf, resultOf};
 ghost use Rattle.linear.specs.Flat.{zeros};
 ghost use Rattle.linear.specs.Replies.{replied, replyOf};
-ghost use Rattle.run.specs.Pieces.{sizedOf, wantsOf, fitsTwo, variablesRead, squaredReply, predictedReply};
+ghost use Rattle.run.specs.Pieces.{sizedOf, bothSized, wantsOf, fitsTwo, variablesRead, squaredReply};
+ghost use Rattle.run.specs.Pieces.{predictedReply};
 ghost use Rattle.run.specs.Pieces.{transposedReply, movingReply, judgeReply, expectsReply, cutReply};
 ghost use Rattle.run.specs.Pieces.{alongReply, shiftReply, updateReply, stepReplied, stepReply, learnedReply};
 ghost use Rattle.run.specs.Results.{truthOf};
@@ -20,6 +21,7 @@ use crate::curvature;
 use crate::judgement;
 use crate::judgement::Baseline;
 use crate::judgement::Judgement;
+use crate::limits::CONSTRAINTS;
 use crate::limits::ITERATIONS;
 use crate::limits::VARIABLES;
 use crate::proposal;
@@ -46,17 +48,33 @@ fn sized(c: RowCounts, count: usize) -> Done
 {
     let sizes = Sizes {
         n: c.n,
-        m: c.m,
         s: c.s,
         limit: 0,
     };
     if !sizes_fit(sizes) {
         return Done::Refused(LinearError::TooMany);
     }
+    if c.m > CONSTRAINTS {
+        return Done::Refused(LinearError::TooMany);
+    }
     if count != 2 * ((c.m + c.s) * (c.n + 1)) {
         return Done::Refused(LinearError::WrongLength);
     }
     Done::Finished
+}
+
+// Whether the counts of both answers fit, and each has the numbers of its rows; the second has an m of its own.
+fn both_sized(c: RowCounts, xs: &[f64], m: usize, next: &[f64]) -> Done
+    ensures { λ r. ⌜ doneOf r tt ≡ bothSized c (now (xs .entry)) m (now (next .entry)) ⌝ }
+{
+    if m > CONSTRAINTS {
+        return Done::Refused(LinearError::TooMany);
+    }
+    let first = sized(c, xs.len());
+    let Done::Finished = first else {
+        return first;
+    };
+    sized(RowCounts { m, ..c }, next.len())
 }
 
 // What was checked before, then that a count is the one wanted.
@@ -149,11 +167,12 @@ pub fn moving(c: RowCounts, xs: &[f64], marks: &mut [bool]) -> Done
     fit
 }
 
-// How a step fares, from the rows xs with violation theta to the rows `next`, against the first pairs of the filter: at
-// most 200 pairs, of 800 numbers.
+// How a step fares, from the rows xs with violation theta to the rows `next`, which have an m of their own, against the
+// first pairs of the filter: at most 200 pairs, of 800 numbers.
 pub fn judge(
     c: RowCounts,
     xs: &[f64],
+    m: usize,
     next: &[f64],
     theta: Scalar,
     filter: &[f64],
@@ -162,26 +181,27 @@ pub fn judge(
     step: &[f64],
 ) -> Judgement
     ensures { λ r. ⌜ judgementOf r
-        ≡ judgeReply c (now (xs .entry)) (now (next .entry)) theta (now (filter .entry)) count last
+        ≡ judgeReply c (now (xs .entry)) m (now (next .entry)) theta (now (filter .entry)) count last
         (now (step .entry)) ⌝ }
 {
     if count > ITERATIONS {
         return Judgement::Refused(LinearError::TooMany);
     }
-    let fit = fits(c, xs, next.len(), xs.len(), filter.len(), FILTER_LEN);
+    let fit = wants(both_sized(c, xs, m, next), filter.len(), FILTER_LEN);
     match wants(fit, step.len(), POINT_LEN) {
         Done::Refused(e) => {
             return Judgement::Refused(e);
         }
         Done::Finished => {}
     }
-    let landed = residuals::violation(next, c);
+    let d = RowCounts { m, ..c };
+    let landed = residuals::violation(next, d);
     let base = Baseline {
         theta,
         pairs: count,
         last,
     };
-    judgement::judge(c, xs, next, landed, base, filter, step)
+    judgement::judge(c, xs, d, next, landed, base, filter, step)
 }
 
 // Whether the model expects the step to lower the sum or the violation, from f and theta: 288 numbers of curvature.
@@ -262,25 +282,31 @@ pub fn shift(c: RowCounts, xs: &[f64], moving: &[bool], d: &mut [f64]) -> Done
     cleared(corrected::shift(c, xs, moving, d), d)
 }
 
-// The curvature b, updated from the step between two points with their rows: 288 numbers in b, 24 in step and lambda.
+// The curvature b, updated from the step between two points with their rows, of which `next` has an m of its own: 288
+// numbers in b, 24 in step and lambda.
 pub fn update_curvature(
     c: RowCounts,
     b: &mut [f64],
     step: &[f64],
     xs: &[f64],
+    m: usize,
     next: &[f64],
     lambda: &[f64],
 ) -> Done
     ensures { λ r. ⌜ replied r (now (b .exit))
-        ≡ updateReply c (now (b .entry)) (now (step .entry)) (now (xs .entry)) (now (next .entry))
+        ≡ updateReply c (now (b .entry)) (now (step .entry)) (now (xs .entry)) m (now (next .entry))
         (now (lambda .entry)) ⌝ }
 {
-    let rows = fits(c, xs, next.len(), xs.len(), b.len(), CURVATURE_LEN);
+    let rows = wants(both_sized(c, xs, m, next), b.len(), CURVATURE_LEN);
     let fit = wants(wants(rows, step.len(), POINT_LEN), lambda.len(), POINT_LEN);
     let Done::Finished = fit else {
         return fit;
     };
-    cleared(curvature::update_curvature(c, step, xs, next, lambda, b), b)
+    let d = RowCounts { m, ..c };
+    cleared(
+        curvature::update_curvature(c, step, xs, d, next, lambda, b),
+        b,
+    )
 }
 
 // The step of the problem linearized at the rows, with curvature b and damping mu, and its multipliers: 288 numbers in

@@ -1,12 +1,14 @@
 // One answer's rows: where the values and the slopes of the constraints and of the sum stand, and a view that reads
 // them.
 ghost use Prim.Native.Nat.{_≤_, _+_, _*_, _<_};
+ghost use mathlib.Core.List.{List};
 ghost use mathlib.Core.Path.{_≡_};
+ghost use lib.Ieee.{Float};
 ghost use lib.ListN.{drop};
 ghost use Rattle.linear.specs.Flat.{at};
 ghost use Rattle.run.specs.Limits.{VARIABLES};
 ghost use Rattle.run.specs.Area.{standingCounts, landedCounts};
-ghost use Rattle.run.specs.Rows.{rowCounts, constraintSet, sumSet, rowsIn, valueAt, slopeAt};
+ghost use Rattle.run.specs.Rows.{rowCounts, constraintSet, sumSet, rowsIn, firstRows, valueAt, slopeAt};
 ghost use Rattle.run.specs.program.Rows.{Small, FewRows};
 use crate::state::Sizes;
 use crate::state::State;
@@ -20,37 +22,25 @@ pub struct RowCounts {
     pub s: usize,
 }
 
-// The counts of an answer in a run of these sizes.
-pub fn row_counts(z: Sizes) -> RowCounts
-    ensures { λ r. ⌜ r ≡ rowCounts z ⌝ }
+// The counts of an answer with m constraint rows in a run of these sizes.
+pub fn row_counts(z: Sizes, m: usize) -> RowCounts
+    ensures { λ r. ⌜ r ≡ rowCounts z m ⌝ }
 {
-    RowCounts {
-        n: z.n,
-        m: z.m,
-        s: z.s,
-    }
+    RowCounts { n: z.n, m, s: z.s }
 }
 
-// The counts of the standing answer in this state: the run's.
+// The counts of the standing answer in this state.
 pub fn standing_counts(st: State) -> RowCounts
     ensures { λ r. ⌜ r ≡ standingCounts st ⌝ }
 {
-    RowCounts {
-        n: st.sizes.n,
-        m: st.sizes.m,
-        s: st.sizes.s,
-    }
+    row_counts(st.sizes, st.contents.standing_m)
 }
 
-// The counts of the landed answer, which a reply brings: the run's.
+// The counts of the landed answer.
 pub fn landed_counts(st: State) -> RowCounts
     ensures { λ r. ⌜ r ≡ landedCounts st ⌝ }
 {
-    RowCounts {
-        n: st.sizes.n,
-        m: st.sizes.m,
-        s: st.sizes.s,
-    }
+    row_counts(st.sizes, st.contents.landed_m)
 }
 
 // Rows of one kind: `count` values from the place `values` on, and n slopes for each from the place `slopes` on.
@@ -85,6 +75,16 @@ pub fn sum(c: RowCounts) -> RowSet
         values,
         slopes: values + c.s,
     }
+}
+
+// The first k of the rows, or all where there are fewer.
+pub fn first_rows(e: RowSet, k: usize) -> RowSet
+    ensures { λ r. ⌜ ((xs : List Float) → rowsIn xs r ≡ firstRows k (rowsIn xs e)) ⌝ }
+{
+    if k < e.count {
+        return RowSet { count: k, ..e };
+    }
+    e
 }
 
 // Rows of one kind in the slice that a caller lent.

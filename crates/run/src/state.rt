@@ -3,8 +3,8 @@ ghost use Prim.Native.Nat.{_<_, _^_};
 ghost use mathlib.Core.List.{List};
 ghost use mathlib.Core.Path.{_≡_};
 ghost use lib.Ieee.{Float};
-ghost use Rattle.run.specs.State.{searching, moves, asking, landing, trying, standingOn, anew, rejectedFor};
-ghost use Rattle.run.specs.State.{stateWith, inPhase};
+ghost use Rattle.run.specs.State.{searching, starting, asking, landing, trying, standingOn, anew, rejectedFor};
+ghost use Rattle.run.specs.State.{stateWith, inPhase, over};
 use interval::Scalar;
 
 // What a question asks the rows of: the start, a trial, or a trial moved back onto the constraints.
@@ -53,10 +53,9 @@ pub enum Event {
     Refused(usize),
 }
 
-// Variables, constraint rows, sum rows, and the most iterations.
+// Variables, sum rows, and the most iterations.
 pub struct Sizes {
     pub n: usize,
-    pub m: usize,
     pub s: usize,
     pub limit: usize,
 }
@@ -69,6 +68,13 @@ pub struct Counts {
     pub standing: usize,
     pub landed: usize,
     pub corrections: usize,
+}
+
+// What the area holds: how many constraint rows the standing and the landed answer have, 0 where their slots are not in
+// use. Each answer has an m of its own, since a stop is a constraint only while the parts meet.
+pub struct Contents {
+    pub standing_m: usize,
+    pub landed_m: usize,
 }
 
 // What a search for a proposal changes. `first` tells a proposal made with the damping that its iteration began with,
@@ -92,6 +98,7 @@ pub struct Trial {
 pub struct State {
     pub sizes: Sizes,
     pub counts: Counts,
+    pub contents: Contents,
     pub search: Search,
     pub trial: Trial,
     pub max_step: Scalar,
@@ -120,12 +127,32 @@ pub fn with_phase(st: State, phase: Phase) -> State
     State { phase, ..st }
 }
 
-pub fn with_moving(st: State, moving: [bool; 12]) -> State
-    ensures { λ r. ⌜ r ≡ moves st moving ⌝ }
+// No question is open: of the slots only that of the standing point is in use.
+pub fn with_none_open(st: State) -> State
+    ensures { λ r. ⌜ r ≡ over st ⌝ }
 {
-    let mut t = st;
-    t.moving = moving;
-    t
+    State {
+        contents: Contents {
+            standing_m: 0,
+            landed_m: 0,
+        },
+        phase: Phase::Over,
+        ..st
+    }
+}
+
+// The start was answered with m constraint rows.
+pub fn with_start(st: State, m: usize, moving: [bool; 12]) -> State
+    ensures { λ r. ⌜ r ≡ starting st m moving ⌝ }
+{
+    State {
+        contents: Contents {
+            standing_m: m,
+            landed_m: 0,
+        },
+        moving,
+        ..st
+    }
 }
 
 // The next question, of that kind and after so many corrections.
@@ -140,17 +167,18 @@ pub fn with_question(st: State, kind: Kind, corrections: usize) -> State
     with_phase(t, Phase::Open(kind))
 }
 
-// The open question's point landed, after so many corrections.
-pub fn with_landed_number(st: State, corrections: usize) -> State
-    ensures { λ r. ⌜ r ≡ landing st corrections ⌝ }
+// The open question's point landed, with m constraint rows and after so many corrections.
+pub fn with_landed(st: State, m: usize, corrections: usize) -> State
+    ensures { λ r. ⌜ r ≡ landing st m corrections ⌝ }
 {
     let mut t = st;
     t.counts.landed = st.counts.question;
     t.counts.corrections = corrections;
+    t.contents.landed_m = m;
     t
 }
 
-// A search left with a trial, whose step, multipliers and point stand elsewhere.
+// A search left with a trial, whose step, multipliers and point stand elsewhere: nothing has landed.
 pub fn with_trial_of(st: State, search: Search, trial: Trial) -> State
     ensures { λ r. ⌜ ((delta lambda next : List Float) → r ≡ trying st search (record {
       delta = delta;
@@ -161,6 +189,7 @@ pub fn with_trial_of(st: State, search: Search, trial: Trial) -> State
     })) ⌝ }
 {
     let mut t = st;
+    t.contents.landed_m = 0;
     t.search = search;
     t.trial = trial;
     t
@@ -172,11 +201,16 @@ pub fn standing_on(st: State, length: Scalar, mu: Scalar, radius: Scalar) -> Sta
     ensures { λ r. ⌜ r ≡ standingOn st length mu radius ⌝ }
 {
     let c = st.counts;
+    let held = st.contents.landed_m;
     State {
         counts: Counts {
             iterations: c.iterations + 1,
             standing: c.landed,
             ..c
+        },
+        contents: Contents {
+            standing_m: held,
+            landed_m: held,
         },
         search: renew(st.search, mu, radius),
         last: Last::Taken(length),
@@ -217,6 +251,10 @@ pub fn state_with(z: Sizes, mu: Scalar, max: Scalar, phase: Phase) -> State
         landed: 0,
         corrections: 0,
     };
+    let contents = Contents {
+        standing_m: 0,
+        landed_m: 0,
+    };
     let search = Search {
         mu,
         radius: max,
@@ -232,6 +270,7 @@ pub fn state_with(z: Sizes, mu: Scalar, max: Scalar, phase: Phase) -> State
     State {
         sizes: z,
         counts,
+        contents,
         search,
         trial,
         max_step: max,

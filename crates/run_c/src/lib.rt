@@ -169,6 +169,7 @@ pub extern "C" fn run_judge(
     m: usize,
     s: usize,
     rows: &[f64],
+    next_m: usize,
     next: &[f64],
     theta: Scalar,
     filter: &[f64],
@@ -178,12 +179,13 @@ pub extern "C" fn run_judge(
     step: &[f64],
 ) -> JudgedStep
     ensures { λ r. ⌜ r
-        ≡ judgedOf (judgeReply (countsOf n m s) (now (rows .entry)) (now (next .entry)) theta
+        ≡ judgedOf (judgeReply (countsOf n m s) (now (rows .entry)) «next_m» (now (next .entry)) theta
         (now (filter .entry)) count (lastOf taken last) (now (step .entry))) ⌝ }
 {
     judged_of(run::judge(
         RowCounts { n, m, s },
         rows,
+        next_m,
         next,
         theta,
         filter,
@@ -256,14 +258,23 @@ pub extern "C" fn run_update_curvature(
     b: &mut [f64],
     step: &[f64],
     rows: &[f64],
+    next_m: usize,
     next: &[f64],
     lambda: &[f64],
 ) -> u64
     ensures { λ r. ⌜ written r (now (b .exit))
         ≡ writtenOf (updateReply (countsOf n m s) (now (b .entry)) (now (step .entry))
-        (now (rows .entry)) (now (next .entry)) (now (lambda .entry))) ⌝ }
+        (now (rows .entry)) «next_m» (now (next .entry)) (now (lambda .entry))) ⌝ }
 {
-    number_of_done(run::update_curvature(RowCounts { n, m, s }, b, step, rows, next, lambda))
+    number_of_done(run::update_curvature(
+        RowCounts { n, m, s },
+        b,
+        step,
+        rows,
+        next_m,
+        next,
+        lambda,
+    ))
 }
 
 #[no_mangle]

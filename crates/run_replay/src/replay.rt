@@ -1,5 +1,6 @@
 // A run of the list: `run` with its counts, limit, longest step and start, and the answer to its beginning;
-// then for each reply `r` with the numbers of its rows, or `n`, and the answer to it; then `end`.
+// then for each reply `r` with its constraint rows and the numbers of its rows, or `n`, and the answer to it;
+// then `end`.
 use crate::answer::first_of;
 use crate::answer::same_answer;
 use float_bits::float_of;
@@ -12,7 +13,6 @@ use replay_text::tally::no_cases;
 use replay_text::tally::one_more;
 use replay_text::tally::with_case;
 use replay_text::tokens::Token;
-use replay_text::tokens::is_number;
 use replay_text::tokens::next_token;
 use replay_text::tokens::read_floats;
 use replay_text::tokens::read_numbers;
@@ -47,7 +47,6 @@ struct Progress {
 // What begins a run, but for its start.
 struct Head {
     n: usize,
-    m: usize,
     s: usize,
     limit: usize,
     max_step: Scalar,
@@ -55,7 +54,7 @@ struct Head {
 
 // What the list has next in a run.
 enum Reply {
-    Rows(usize),
+    Rows(usize, usize),
     NoRows,
     End,
     Malformed,
@@ -104,22 +103,22 @@ fn compared(k: Counts, out: Returned, area: &[f64], numbers: usize) -> Counts {
     counted(k, same_answer(answer, run::point(state, area), numbers))
 }
 
-fn read_cut(count: usize, rows: &mut [f64]) -> Reply {
+fn read_cut(m: usize, count: usize, rows: &mut [f64]) -> Reply {
     if count > rows.len() {
         return Reply::Malformed;
     }
     if !read_floats(&mut rows[..count]) {
         return Reply::Malformed;
     }
-    Reply::Rows(count)
+    Reply::Rows(m, count)
 }
 
 fn read_rows(rows: &mut [f64]) -> Reply {
-    let t = next_token();
-    if !is_number(t) {
+    let mut w = [0u64; 2];
+    if !read_numbers(&mut w) {
         return Reply::Malformed;
     }
-    read_cut(t.number as usize, rows)
+    read_cut(w[0] as usize, w[1] as usize, rows)
 }
 
 fn read_reply(rows: &mut [f64]) -> Reply {
@@ -136,7 +135,7 @@ fn read_reply(rows: &mut [f64]) -> Reply {
 // The run goes on with a reply.
 fn after(k: Counts, reply: Reply) -> Counts {
     match reply {
-        Reply::Rows(_) => k,
+        Reply::Rows(_, _) => k,
         Reply::NoRows => k,
         Reply::End => Counts { more: false, ..k },
         Reply::Malformed => malformed(k),
@@ -145,7 +144,7 @@ fn after(k: Counts, reply: Reply) -> Counts {
 
 fn made(reply: Reply, st: State, rows: &[f64], area: &mut [f64]) -> Returned {
     match reply {
-        Reply::Rows(count) => run::reply(st, area, first_of(rows, count)),
+        Reply::Rows(m, count) => run::reply(st, area, m, first_of(rows, count)),
         Reply::NoRows => run::reply_none(st, area),
         Reply::End => run::reply_none(st, area),
         Reply::Malformed => run::reply_none(st, area),
@@ -197,7 +196,7 @@ fn replay_from(
     if !read_floats(start) {
         return malformed(k);
     }
-    let first = run::begin(h.n, h.m, h.s, h.limit, start, h.max_step, area);
+    let first = run::begin(h.n, h.s, h.limit, start, h.max_step, area);
     replay_replies(k, first, start.len(), rows, area)
 }
 
@@ -211,21 +210,20 @@ fn replay_cut(k: Counts, h: Head, start: &mut [f64], rows: &mut [f64], area: &mu
     replay_from(k, h, &mut start[..numbers], rows, area)
 }
 
-fn head_of(w: &[u64; 6]) -> Head {
+fn head_of(w: &[u64; 5]) -> Head {
     Head {
         n: w[0] as usize,
-        m: w[1] as usize,
-        s: w[2] as usize,
-        limit: w[3] as usize,
+        s: w[1] as usize,
+        limit: w[2] as usize,
         max_step: Scalar {
-            lo: float_of(w[4]),
-            hi: float_of(w[5]),
+            lo: float_of(w[3]),
+            hi: float_of(w[4]),
         },
     }
 }
 
 fn replay_run(k: Counts, start: &mut [f64], rows: &mut [f64], area: &mut [f64]) -> Counts {
-    let mut w = [0u64; 6];
+    let mut w = [0u64; 5];
     if !read_numbers(&mut w) {
         return malformed(k);
     }

@@ -19,13 +19,13 @@ use Rattle.linear.proofs.Lists.{length-listTo}
 use Rattle.run.specs.Answered.{started}
 use Rattle.run.specs.Area.{Memory, areaOf, begunMemory, memoryOf, onlyStanding, withStart, usedIn, rowsAt}
 use Rattle.run.specs.Calls.{AfterCall, begunOf, inArea, replyOf, pointOf}
-use Rattle.run.specs.Checks.{sizesFit, allInDomain, valid}
+use Rattle.run.specs.Checks.{sizesFit, constraintsFit, allInDomain, valid}
 use Rattle.run.specs.Endings.{AfterSlots, finish}
 use Rattle.run.specs.Iterate.{iterate}
 use Rattle.run.specs.Limits.{AREA}
 use Rattle.run.specs.Residuals.{movingOf}
 use Rattle.run.specs.Rows.{rowNumbers, rowCounts}
-use Rattle.run.specs.State.{moves}
+use Rattle.run.specs.State.{starting}
 use Rattle.run.specs.Vectors.{allTo}
 use Rattle.run.specs.declared.state.Sizes.{Sizes}
 use Rattle.run.specs.declared.state.State.{State}
@@ -49,7 +49,7 @@ use Rattle.sheet.specs.Sheet.{Sheet, readOf, sheetOf, allPointsOf, natur
 use Rattle.sheet.specs.Sheet.{allRulesOf, rulesFrom}
 use Rattle.sheet.specs.Text.{behind, behindKey}
 use Rattle.sheet.proofs.RangeLaws.{read-in-range}
-use Rattle.sheet.proofs.RunLaws.{sizes-fit, begin-is, rows-length}
+use Rattle.sheet.proofs.RunLaws.{sizes-fit, rules-fit, begin-is, rows-length}
 use Rattle.sheet.proofs.SettlingLaws.{answer-rows, answers-more, answers-over}
 
 -- ---- a run without iterations
@@ -62,7 +62,7 @@ module _ (z : Sizes) (start : List Float) (max : Scalar) (fit : sizesFit z ≡ t
     abbrev area : List Float
     area = begunOf z start max .area
 
-    limits : Limits z 0
+    limits : Limits first
     limits = begun-limits z start max (size-bounds z fit)
 
     first-valid : valid first ≡ true
@@ -70,6 +70,7 @@ module _ (z : Sizes) (start : List Float) (max : Scalar) (fit : sizesFit z ≡ t
         sound-valid first
         (record {
           sizes-fit = fit;
+          contents-fit = refl;
           within = zero-le;
           few-turned = zero-le;
           few-asked = zero-le;
@@ -87,23 +88,24 @@ module _ (z : Sizes) (start : List Float) (max : Scalar) (fit : sizesFit z ≡ t
     asked = asked-given first area first-valid room refl ∙ ap (λ (w : Memory). w .asked) back
 
     -- what an answer leaves: the start alone
-    abbrev ending : List Float → AfterSlots
-    ending rows =
-        finish (moves first (movingOf (z .n) (rowsAt first rows))) (withStart first (begunMemory start) rows)
+    abbrev ending : ℕ → List Float → AfterSlots
+    ending m rows =
+        finish (starting first m (movingOf (z .n) (rowsAt first m rows))) (withStart first (begunMemory start) rows)
         stop.Budget
 
-    abbrev last : List Float → State
-    last rows = ending rows .state
+    abbrev last : ℕ → List Float → State
+    last m rows = ending m rows .state
 
     abbrev left : Memory
     left = onlyStanding (begunMemory start)
 
-    module _ (rows : List Float) where
-      last-valid : valid (last rows) ≡ true
+    module _ (m : ℕ) (rows : List Float) where
+      last-valid : valid (last m rows) ≡ true
       last-valid =
-          sound-valid (last rows)
+          sound-valid (last m rows)
           (record {
             sizes-fit = fit;
+            contents-fit = refl;
             within = zero-le;
             few-turned = zero-le;
             few-asked = zero-le;
@@ -111,9 +113,16 @@ module _ (z : Sizes) (start : List Float) (max : Scalar) (fit : sizesFit z ≡ t
             phase-fits = refl;
           })
 
-      last-lengths : lengthsOf left ≡ usedIn (last rows)
+      last-limits : Limits (last m rows)
+      last-limits = record {
+        standing-few = limits .standing-few;
+        landed-few = limits .landed-few;
+        iterations-fit = limits .iterations-fit;
+      }
+
+      last-lengths : lengthsOf left ≡ usedIn (last m rows)
       last-lengths =
-          all-same {x = lengthsOf left} {y = usedIn (last rows)}
+          all-same {x = lengthsOf left} {y = usedIn (last m rows)}
           (record {
             standing = many;
             landed = refl;
@@ -126,24 +135,27 @@ module _ (z : Sizes) (start : List Float) (max : Scalar) (fit : sizesFit z ≡ t
             filter = refl;
           })
 
-      point-left : pointOf (last rows) (areaOf z left) ≡ start
+      point-left : pointOf (last m rows) (areaOf z left) ≡ start
       point-left =
-          standing-given (last rows) (areaOf z left) last-valid (area-long (last rows) left limits last-lengths) refl
-          ∙ ap (λ (w : Memory). w .standing) (memory-back (last rows) left limits last-lengths)
+          standing-given (last m rows) (areaOf z left) last-valid
+          (area-long (last m rows) left last-limits last-lengths) refl
+          ∙ ap (λ (w : Memory). w .standing) (memory-back (last m rows) left last-limits last-lengths)
 
-      accepted : length rows ≡ rowNumbers (rowCounts z) → allInDomain rows ((z .m + z .s) * (z .n + 1)) ≡ true
-          → replyOf first area rows ≡ inArea (started first (memoryOf first area) rows)
+      accepted : constraintsFit m ≡ true → length rows ≡ rowNumbers (rowCounts z m)
+          → allInDomain rows ((m + z .s) * (z .n + 1)) ≡ true
+          → replyOf first area m rows ≡ inArea (started first (memoryOf first area) m rows)
       unfolding replyOf
-      accepted l d = rw (first-valid, eq-eqb _ _ room, eq-eqb _ _ l, d) refl
+      accepted few l d = rw (first-valid, few, eq-eqb _ _ room, eq-eqb _ _ l, d) refl
 
-      finished : z .limit ≡ 0 → started first (begunMemory start) rows ≡ ending rows
+      finished : z .limit ≡ 0 → started first (begunMemory start) m rows ≡ ending m rows
       unfolding started iterate
       finished none = rw none refl
 
-      replied : z .limit ≡ 0 → length rows ≡ rowNumbers (rowCounts z)
-          → allInDomain rows ((z .m + z .s) * (z .n + 1)) ≡ true → inArea (ending rows) ≡ replyOf first area rows
-      replied none l d =
-          sym (accepted l d ∙ ap (λ (w : Memory). inArea (started first w rows)) back ∙ ap inArea (finished none))
+      replied : z .limit ≡ 0 → constraintsFit m ≡ true → length rows ≡ rowNumbers (rowCounts z m)
+          → allInDomain rows ((m + z .s) * (z .n + 1)) ≡ true → inArea (ending m rows) ≡ replyOf first area m rows
+      replied none few l d =
+          sym
+          (accepted few l d ∙ ap (λ (w : Memory). inArea (started first w m rows)) back ∙ ap inArea (finished none))
 
 -- ---- a sheet whose limit is 0
 
@@ -163,7 +175,7 @@ module _ (s : Sheet) (r : InRange s) (none : s .limit ≡ 0) where
   module _ (d : allInDomain rows ((length (s .rules) + length (s .coordinates)) * (length (s .coordinates) + 1)) ≡ true)
     where
       abbrev done : AfterCall
-      done = inArea (ending (sizesOf s) start reach (sizes-fit s r) full rows)
+      done = inArea (ending (sizesOf s) start reach (sizes-fit s r) full (length (s .rules)) rows)
 
       answer-is : answerOf s start (begunOf (sizesOf s) start reach) ≡ done
       unfolding answerOf
@@ -172,8 +184,8 @@ module _ (s : Sheet) (r : InRange s) (none : s .limit ≡ 0) where
           let b = begunOf z start reach in
           let p : pointOf (b .state) (b .area) ≡ start = asked z start reach (sizes-fit s r) full in
           sym (answer-rows s start (b .state) (b .area) rows {l = done}
-          (ap (λ (x : List Float). rowsOf (length (s .coordinates)) (s .rules) x start) (sym p))
-          (replied z start reach (sizes-fit s r) full rows none
+          (ap (λ (x : List Float). rowsOf (length (s .coordinates)) (s .rules) x start) (sym p)) refl
+          (replied z start reach (sizes-fit s r) full (length (s .rules)) rows none (rules-fit s r)
           (rows-length (length (s .coordinates)) (s .rules) start start) d)
           refl)
 
@@ -183,7 +195,8 @@ module _ (s : Sheet) (r : InRange s) (none : s .limit ≡ 0) where
           ap printedOf
           (answers-more s start n (begunOf (sizesOf s) start reach) refl ∙ ap (answersTo n s start) answer-is
           ∙ answers-over s start n done refl)
-          ∙ ap (finishOf stop.Budget 0 0) (point-left (sizesOf s) start reach (sizes-fit s r) full rows)
+          ∙ ap (finishOf stop.Budget 0 0)
+          (point-left (sizesOf s) start reach (sizes-fit s r) full (length (s .rules)) rows)
 
       printed-start : printedSheet (ok s) ≡ finishOf stop.Budget 0 0 start
       unfolding settledOf

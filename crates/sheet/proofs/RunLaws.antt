@@ -8,7 +8,7 @@ use mathlib.Core.List.{List, [], _∷_, _++_}
 use mathlib.Core.Path.{_≡_, refl, sym, ap, _∙_, subst}
 use native.Mathlib.Nat.{le-trans, mul-le-mul-right, mul-add, add-mul, mul-one}
 use native.Mathlib.Omega.{arith}
-use borrow.Author.Tests.{le-leb, lt-ltb, eq-eqb}
+use borrow.Author.Tests.{le-leb, leb-true, lt-ltb, eq-eqb}
 use lib.Dec.{eqb, leb, lit≤}
 use lib.Ieee.{Float, nan, inf, fin, binary64, fits, up, down, round, ofInt, ofBits, neg, lt, le, eq, level}
 use lib.Ieee.Back.{round-whole}
@@ -26,11 +26,11 @@ use Rattle.interval.proofs.OneSided.Ends.{outward-fits, zero-fits}
 use Rattle.linear.specs.Flat.{at, listTo}
 use Rattle.linear.proofs.Lists.{length-listTo, at-listTo}
 use Rattle.run.specs.Answered.{started, answered, answeredNone}
-use Rattle.run.specs.Area.{Memory, memoryOf, areaLength, landedCounts, standingAt, landedAt, rowsAt, curvatureOf}
+use Rattle.run.specs.Area.{Memory, memoryOf, areaLength, standingAt, landedAt, rowsAt, curvatureOf}
 use Rattle.run.specs.Area.{pairsIn, withStart, withTaken, withLanded}
 use Rattle.run.specs.Calls.{AfterCall, unchanged, Accepted, begunOf, beginOf, checks, replyOpen, replyOf, noneOpen}
 use Rattle.run.specs.Calls.{replyNoneOf, pointOf, refusedByCheck, Follows}
-use Rattle.run.specs.Checks.{sizesFit, inDomain, allInDomain, stepFits, valid, mostQuestions}
+use Rattle.run.specs.Checks.{sizesFit, constraintsFit, inDomain, allInDomain, stepFits, valid, mostQuestions}
 use Rattle.run.specs.Cleared.{Replied}
 use Rattle.run.specs.Corrected.{to, stay, shiftOf, shiftFrom, shiftedStep, correct, landTrial, keep, landCorrection}
 use Rattle.run.specs.Curvature.{learnedOf, updateCurvature}
@@ -49,7 +49,7 @@ use Rattle.run.specs.Radius.{radiusAfter}
 use Rattle.run.specs.Residuals.{sumSquared, violationOf, movingOf}
 use Rattle.run.specs.Rows.{rowNumbers, rowCounts}
 use Rattle.run.specs.Search.{Found, asks, stops, refuses, searchOf}
-use Rattle.run.specs.State.{rejectedFor, withRadius, retried, searching, moves, landing, standingOn}
+use Rattle.run.specs.State.{rejectedFor, withRadius, retried, searching, starting, landing, standingOn}
 use Rattle.run.specs.Vectors.{allTo}
 use Rattle.run.specs.declared.state.Event.{Event}
 use Rattle.run.specs.declared.state.Event.the-variants.{Question, Finish, Refused}
@@ -187,10 +187,12 @@ sizes-fit s r =
     let e = r .even in
     rw (
       le-leb (length (s .coordinates)) 12 (omega (arith, p, e)),
-      le-leb (length (s .rules)) 12 (r .few-rules),
       le-leb (length (s .coordinates)) 24 (omega (arith, p, e)),
       le-leb (s .limit) 200 (r .few-iterations),
     ) refl
+
+pub rules-fit : (s : Sheet) → InRange s → constraintsFit (length (s .rules)) ≡ true
+rules-fit s r = le-leb (length (s .rules)) 12 (r .few-rules)
 
 pub begin-is : (s : Sheet) → InRange s → (a : List Float) → length a ≡ AREA
     → beginAt s a ≡ begunOf (sizesOf s) (pointAt (s .coordinates)) (fromI64 (pos (s .reach)))
@@ -307,35 +309,36 @@ module _ (st : State) (w : Memory) (theta : Scalar) where
         | stay ↦ judge-asks
       ])
 
-module _ (st : State) (w : Memory) (rows : List Float) where
-  land-trial-asks : (theta : Scalar) → AsksOpen (landTrial st w rows theta)
+module _ (st : State) (w : Memory) (m : ℕ) (rows : List Float) where
+  land-trial-asks : (theta : Scalar) → AsksOpen (landTrial st w m rows theta)
   unfolding landTrial
   land-trial-asks theta =
-      let t = landing st 0 in
+      let t = landing st m 0 in
       let v = withLanded w rows (w .step) in
       or-refuse-asks t v (violationOf (landedAt t v .constraints)) _
       (λ new. either-asks (definitelyGreater new theta) _ _ (correct-asks t v theta) (judge-asks t v theta))
 
-  keep-asks : (theta : Scalar) → AsksOpen (keep st w rows theta)
+  keep-asks : (theta : Scalar) → AsksOpen (keep st w m rows theta)
   unfolding keep
   keep-asks theta =
       or-refuse-asks st w (shiftOf (st .moving) (landedAt st w .constraints)) _
       (λ d.
-      let t = landing st (st .counts .corrections + 1) in
+      let t = landing st m (st .counts .corrections + 1) in
       let v = withLanded w rows (shiftedStep (st .sizes .n) (w .step) d) in
       either-asks (leb CORRECTIONS (t .counts .corrections)) _ _ (judge-asks t v theta) (correct-asks t v theta))
 
-  land-correction-asks : (theta : Scalar) → AsksOpen (landCorrection st w rows theta)
+  land-correction-asks : (theta : Scalar) → AsksOpen (landCorrection st w m rows theta)
   unfolding landCorrection
   land-correction-asks theta =
-      or-refuse-asks st w (violationOf (rowsAt st rows .constraints)) _
+      or-refuse-asks st w (violationOf (rowsAt st m rows .constraints)) _
       (λ new.
       or-refuse-asks st w (violationOf (landedAt st w .constraints)) _
       (λ old. either-asks (definitelyLess new old) _ _ (keep-asks theta) (judge-asks st w theta)))
 
-  answered-asks : (k : Kind) → AsksOpen (answered k st w rows)
+  answered-asks : (k : Kind) → AsksOpen (answered k st w m rows)
   unfolding started
-  answered-asks kind.Start = iterate-asks (moves st (movingOf (st .sizes .n) (rowsAt st rows))) (withStart st w rows)
+  answered-asks kind.Start =
+      iterate-asks (starting st m (movingOf (st .sizes .n) (rowsAt st m rows))) (withStart st w rows)
   answered-asks kind.Trial =
       or-refuse-asks st w (violationOf (standingAt st w .constraints)) _ (λ theta. land-trial-asks theta)
   answered-asks kind.Correction =
@@ -487,54 +490,58 @@ module _ (z : Sizes) (b : AfterCall) (g : Going z b) where
           (passes Past (eqb (length a) (areaLength (s .sizes))) 2 (unchanged s a) _ (eq-eqb _ _ (g .whole))
           (reply-none-kept s a is-valid (g .whole) k (g .opened .1) .past-checks, none-asks s (memoryOf s a) k)))
 
-  rows-turn : (xs : List Float) → Floats xs → length xs ≡ rowNumbers (rowCounts z)
-      → isOutside (replyOf (b .state) (b .area) xs .event) ≡ false → Turn z b (replyOf (b .state) (b .area) xs)
-  rows-turn xs f many inside =
-      turned (replyOf (b .state) (b .area) xs) (reply-leaves (b .state) (b .area) xs) (past inside .0) (past inside .1)
+  rows-turn : (m : ℕ) → constraintsFit m ≡ true → (xs : List Float) → Floats xs
+      → length xs ≡ rowNumbers (rowCounts z m) → isOutside (replyOf (b .state) (b .area) m xs .event) ≡ false
+      → Turn z b (replyOf (b .state) (b .area) m xs)
+  rows-turn m few xs f many inside =
+      turned (replyOf (b .state) (b .area) m xs) (reply-leaves (b .state) (b .area) m xs) (past inside .0)
+      (past inside .1)
       (λ q. (
-        entered (g .history) (runOf b) (rows same xs f) (callResult (runOf b) (rows same xs f)),
-        call-step exact-laws z (g .history) (runOf b) (rows same xs f) (g .inv) tt q .0,
+        entered (g .history) (runOf b) (rows same m xs f) (callResult (runOf b) (rows same m xs f)),
+        call-step exact-laws z (g .history) (runOf b) (rows same m xs f) (g .inv) tt q .0,
       ))
     where
       Past : AfterCall → Type 0
       Past l = isOutside (l .event) ≡ false
           → (refusedByCheck (l .event) ≡ false) × Asks (l .event) (l .state .phase)
 
-      own : length xs ≡ rowNumbers (rowCounts (b .state .sizes))
-      own = many ∙ ap (λ (y : Sizes). rowNumbers (rowCounts y)) (sym (g .inv .sizes-are))
+      own : length xs ≡ rowNumbers (rowCounts (b .state .sizes) m)
+      own = many ∙ ap (λ (y : Sizes). rowNumbers (rowCounts y m)) (sym (g .inv .sizes-are))
 
-      past : Past (replyOf (b .state) (b .area) xs)
+      past : Past (replyOf (b .state) (b .area) m xs)
       past =
           let s = b .state in
           let a = b .area in
           let k = g .opened .0 in
           unfold replyOf in
           passes Past (valid s) 4 (unchanged s a) _ is-valid
-          (subst (λ (p : Phase). Past (replyOpen s a xs p)) (sym (g .opened .1))
-          (passes Past (eqb (length a) (areaLength (s .sizes)) && eqb (length xs) (rowNumbers (landedCounts s))) 2
-          (unchanged s a) _ (rw (eq-eqb _ _ (g .whole), eq-eqb _ _ own) refl)
-          (checked Past (allInDomain xs ((s .sizes .m + s .sizes .s) * (s .sizes .n + 1))) 3 (unchanged s a) _
+          (subst (λ (p : Phase). Past (replyOpen s a m xs p)) (sym (g .opened .1))
+          (passes Past (constraintsFit m) 1 (unchanged s a) _ few
+          (passes Past (eqb (length a) (areaLength (s .sizes)) && eqb (length xs) (rowNumbers (rowCounts (s .sizes) m)))
+          2 (unchanged s a) _ (rw (eq-eqb _ _ (g .whole), eq-eqb _ _ own) refl)
+          (checked Past (allInDomain xs ((m + s .sizes .s) * (s .sizes .n + 1))) 3 (unchanged s a) _
           (λ e. absurd (true≢false e))
           (λ d e. (
-            reply-kept s a is-valid (g .whole) xs own k (g .opened .1) .past-checks,
-            answered-asks s (memoryOf s a) xs k,
-          )))))
+            reply-kept s a is-valid (g .whole) m (leb-true _ _ few) xs own k (g .opened .1) .past-checks,
+            answered-asks s (memoryOf s a) m xs k,
+          ))))))
 
 -- ---- the loop
 
-module _ (s : Sheet) (aims : List Float) where
+module _ (s : Sheet) (r : InRange s) (aims : List Float) where
   turn : (b : AfterCall) → Going (sizesOf s) b → Turn (sizesOf s) b (answerOf s aims b)
   unfolding answerOf
-  turn b g = by (isOutside (replyOf (b .state) (b .area) xs .event)) refl
+  turn b g = by (isOutside (replyOf (b .state) (b .area) (length (s .rules)) xs .event)) refl
     where
       xs : List Float
       xs = rowsOf (length (s .coordinates)) (s .rules) (pointOf (b .state) (b .area)) aims
 
-      by : (o : Bool) → isOutside (replyOf (b .state) (b .area) xs .event) ≡ o
-          → Turn (sizesOf s) b (pick o (replyNoneOf (b .state) (b .area)) (replyOf (b .state) (b .area) xs))
+      by : (o : Bool) → isOutside (replyOf (b .state) (b .area) (length (s .rules)) xs .event) ≡ o
+          → Turn (sizesOf s) b
+          (pick o (replyNoneOf (b .state) (b .area)) (replyOf (b .state) (b .area) (length (s .rules)) xs))
       by true e = none-turn (sizesOf s) b g
       by false e =
-          rows-turn (sizesOf s) b g xs
+          rows-turn (sizesOf s) b g (length (s .rules)) (rules-fit s r) xs
           (rows-floats (length (s .coordinates)) (s .rules) (pointOf (b .state) (b .area)) aims)
           (rows-length (length (s .coordinates)) (s .rules) (pointOf (b .state) (b .area)) aims) e
 
@@ -576,12 +583,12 @@ module _ (s : Sheet) (r : InRange s) (a : List Float) (l : length a ≡ AREA) wh
         whole = begin-cleared z start max a q .whole;
       }
 
-  all-ended : (aims : List Float) → Ended s aims (settledAt s aims a)
+  all-ended : (aims : List Float) → Ended s r aims (settledAt s aims a)
   all-ended aims =
       let few = r .few-iterations in
       let none : beginAt s a .state .counts .question ≡ 0 =
       ap (λ (b : AfterCall). b .state .counts .question) (begin-is s r a l) in
-      ends s aims MOST-REPLIES (beginAt s a) begin-going (ap isQuestion (begin-accepted s r a l))
+      ends s r aims MOST-REPLIES (beginAt s a) begin-going (ap isQuestion (begin-accepted s r a l))
       (omega (arith, few, none))
 
 pub runs-end : RunsEnd

@@ -52,11 +52,12 @@ outside-refused (Question k t s) h = cc
 outside-refused (Finish e i t s) h = cc
 outside-refused (Refused k) h = rw (eqb-true k 3 h) refl
 
-module _ (s : Sheet) (aims : List Float) (st : State) (a rows : List Float) {l : AfterCall}
-    (r : rows ≡ rowsOf (length (s .coordinates)) (s .rules) (pointOf st a) aims) (e : l ≡ replyOf st a rows) where
+module _ (s : Sheet) (aims : List Float) (st : State) (a rows : List Float) {m : ℕ} {l : AfterCall}
+    (r : rows ≡ rowsOf (length (s .coordinates)) (s .rules) (pointOf st a) aims) (each : m ≡ length (s .rules))
+    (e : l ≡ replyOf st a m rows) where
   chosen : replyTo s aims st a ≡ pick (isOutside (l .event)) (replyNoneOf st a) l
   unfolding answerOf
-  chosen = rw (e, r) refl
+  chosen = rw (e, r, each) refl
 
   pub answer-rows : isOutside (l .event) ≡ false → l ≡ replyTo s aims st a
   answer-rows h = sym (chosen ∙ ap (λ (b : Bool). pick b (replyNoneOf st a) l) h)
@@ -64,9 +65,9 @@ module _ (s : Sheet) (aims : List Float) (st : State) (a rows : List Float) {l :
   -- what was refused left the area as it was
   pub answer-none : isOutside (l .event) ≡ true → replyNoneOf st (l .area) ≡ replyTo s aims st a
   answer-none h =
-      let f : isOutside (replyOf st a rows .event) ≡ true = rw e at h in
-      let k : replyOf st a rows .area ≡ a =
-      reply-leaves st a rows .unchanged (outside-refused (replyOf st a rows .event) f) .1 in
+      let f : isOutside (replyOf st a m rows .event) ≡ true = rw e at h in
+      let k : replyOf st a m rows .area ≡ a =
+      reply-leaves st a m rows .unchanged (outside-refused (replyOf st a m rows .event) f) .1 in
       ap (λ (x : List Float). replyNoneOf st x) (ap (λ (y : AfterCall). y .area) e ∙ k)
       ∙ sym (chosen ∙ ap (λ (b : Bool). pick b (replyNoneOf st a) l) h)
 
@@ -202,14 +203,14 @@ event-printed o a t q = q ∙ ap (λ (x : Event). padded (printedEvent x (pointO
 
 sizes-are : {s : declared.Sheet} {rows : ℕ} → InRange s rows
     → _≡_ {A = Sizes}
-    (record { n = 2 * s .points .count; m = s .rules .count; s = 2 * s .points .count; limit = s .limit })
+    (record { n = 2 * s .points .count; s = 2 * s .points .count; limit = s .limit })
     (sizesOf (sheetBy s))
-sizes-are r = rw (r .settles .all-coordinates, r .settles .all-rules) refl
+sizes-are r = rw (r .settles .all-coordinates) refl
 
 pub begun-as : {s : declared.Sheet} {rows : ℕ} → InRange s rows → (start a : List Float) {x : Scalar} {b : AfterCall}
     → x ≡ fromI64 (pos (s .reach))
-    → b ≡ beginOf (record { n = 2 * s .points .count; m = s .rules .count; s = 2 * s .points .count; limit = s .limit })
-    start x a → b ≡ beginOf (sizesOf (sheetBy s)) start (fromI64 (pos (s .reach))) a
+    → b ≡ beginOf (record { n = 2 * s .points .count; s = 2 * s .points .count; limit = s .limit }) start x a
+    → b ≡ beginOf (sizesOf (sheetBy s)) start (fromI64 (pos (s .reach))) a
 begun-as r start a e f =
     f ∙ ap₂ (λ (z : Sizes) (x : Scalar). beginOf z start x a) (sizes-are r) e
 

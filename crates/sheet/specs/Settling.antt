@@ -22,14 +22,9 @@ use Rattle.sheet.specs.Rows.{rowsOf}
 use Rattle.sheet.specs.Sheet.{Sheet, readOf}
 use Rattle.sheet.specs.Text.{WRONG-LENGTH}
 
--- two variables and two sum rows for each point, a constraint for each rule
+-- two variables and two sum rows for each point
 abbrev pub sizesOf : Sheet → Sizes
-sizesOf s = record {
-  n = length (s .coordinates);
-  m = length (s .rules);
-  s = length (s .coordinates);
-  limit = s .limit;
-}
+sizesOf s = record { n = length (s .coordinates); s = length (s .coordinates); limit = s .limit }
 
 -- the coordinates as a point
 abbrev pub pointAt : List ℤ → List Float
@@ -41,11 +36,11 @@ isOutside (Question k t s) = false
 isOutside (Finish e i t s) = false
 isOutside (Refused k) = eqb k 3
 
--- the reply to the open question of a run that aims at a point
+-- the reply to the open question of a run that aims at a point, with a constraint for each rule
 unfoldable pub answerOf : Sheet → List Float → AfterCall → AfterCall
 answerOf s aims b =
     let rows = rowsOf (length (s .coordinates)) (s .rules) (pointOf (b .state) (b .area)) aims in
-    let r = replyOf (b .state) (b .area) rows in
+    let r = replyOf (b .state) (b .area) (length (s .rules)) rows in
     pick (isOutside (r .event)) (replyNoneOf (b .state) (b .area)) r
 
 -- replies while a question is open, at most so many

@@ -76,7 +76,7 @@ fn answer(sheet: Sheet, st: State, aims: &[f64], rows: &mut [f64], area: &mut [f
     let n = 2 * sheet.points.count;
     let rules = sheet.rules;
     rows_at(n, rules, run::point(st, area), aims, rows);
-    let out = run::reply(st, area, rows);
+    let out = run::reply(st, area, sheet.rules.count, rows);
     let event = out.event;
     if is_outside(event) {
         return run::reply_none(st, area);
@@ -123,7 +123,7 @@ fn settle_from(
 {
     let n = 2 * sheet.points.count;
     let reach = Scalar::from_i64(sheet.reach as i64);
-    let first = run::begin(n, sheet.rules.count, n, sheet.limit, start, reach, area);
+    let first = run::begin(n, n, sheet.limit, start, reach, area);
     answers(sheet, first, aims, rows, area)
 }
 

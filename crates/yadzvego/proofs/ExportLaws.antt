@@ -73,9 +73,9 @@ module _ (r : Run) (a : List Float) (call : State → AfterCall) (leaves : (st :
   as-it-was (ok st) e = let h = refused-beneath (call st .event) e in (rw h, leaves st .unchanged h .1)
 
 module _ (r : Run) (a : List Float) where
-  pub reply-refused : (rows : List Float) → AsItWas r a (replyExport r a rows)
+  pub reply-refused : (m : ℕ) (rows : List Float) → AsItWas r a (replyExport r a m rows)
   unfolding replyExport
-  reply-refused rows = as-it-was r a (λ st. replyOf st a rows) (λ st. reply-leaves st a rows) (stateOf r)
+  reply-refused m rows = as-it-was r a (λ st. replyOf st a m rows) (λ st. reply-leaves st a m rows) (stateOf r)
 
   pub reply-none-refused : AsItWas r a (replyNoneExport r a)
   unfolding replyNoneExport
@@ -93,9 +93,10 @@ after-c-state st a l p = by (refusedByCheck (l .event)) refl
     by false e = rw e
 
 module _ (st : State) (a : List Float) where
-  pub reply-again : (rows : List Float) → replyExport (cStateOf st) a rows ≡ afterExportOf (replyOf st a rows)
+  pub reply-again : (m : ℕ) (rows : List Float)
+      → replyExport (cStateOf st) a m rows ≡ afterExportOf (replyOf st a m rows)
   unfolding replyExport
-  reply-again rows = rw (there-and-back st) (after-c-state st a (replyOf st a rows) (reply-leaves st a rows))
+  reply-again m rows = rw (there-and-back st) (after-c-state st a (replyOf st a m rows) (reply-leaves st a m rows))
 
   pub reply-none-again : replyNoneExport (cStateOf st) a ≡ afterExportOf (replyNoneOf st a)
   unfolding replyNoneExport

@@ -15,6 +15,7 @@ use Rattle.run.specs.declared.state.Phase.{Phase}
 use Rattle.run.specs.declared.state.Phase.the-variants.{Open, Over}
 use Rattle.run.specs.declared.state.Rejection.{Rejection}
 use Rattle.run.specs.declared.state.Rejection.the-variants as why
+use Rattle.run.specs.declared.state.Contents.{Contents}
 use Rattle.run.specs.declared.state.Counts.{Counts}
 use Rattle.run.specs.declared.state.Search.{Search}
 use Rattle.run.specs.declared.state.Sizes.{Sizes}
@@ -50,7 +51,6 @@ lastLength (last.Taken x) = x
 unfoldable pub cStateOf : State → Run
 cStateOf st = record {
   n = st .sizes .n;
-  m = st .sizes .m;
   s = st .sizes .s;
   limit = st .sizes .limit;
   iterations = st .counts .iterations;
@@ -58,6 +58,8 @@ cStateOf st = record {
   standing = st .counts .standing;
   landed = st .counts .landed;
   corrections = st .counts .corrections;
+  «standing_m» = st .contents .«standing_m»;
+  «landed_m» = st .contents .«landed_m»;
   «turned_down» = st .search .«turned_down»;
   mu = st .search .mu;
   radius = st .search .radius;
@@ -91,7 +93,7 @@ abbrev pub lastAt : ℕ → Scalar → Last
 lastAt k length = pick (eqb k 0) last.NoneYet (last.Taken length)
 
 abbrev pub sizesAt : Run → Sizes
-sizesAt r = record { n = r .n; m = r .m; s = r .s; limit = r .limit }
+sizesAt r = record { n = r .n; s = r .s; limit = r .limit }
 
 abbrev pub countsAt : Run → Counts
 countsAt r = record {
@@ -101,6 +103,9 @@ countsAt r = record {
   landed = r .landed;
   corrections = r .corrections;
 }
+
+abbrev pub contentsAt : Run → Contents
+contentsAt r = record { «standing_m» = r .«standing_m»; «landed_m» = r .«landed_m» }
 
 abbrev pub searchAt : Run → Search
 searchAt r = record {
@@ -117,6 +122,7 @@ unfoldable pub stateAt : Run → State
 stateAt r = record {
   sizes = sizesAt r;
   counts = countsAt r;
+  contents = contentsAt r;
   search = searchAt r;
   trial = record { predicted = r .predicted; tried = r .tried };
   «max_step» = r .«max_step»;

@@ -67,8 +67,8 @@ calledWith r a call (refused k) = afterExport (refusedWith r k) a
 unfoldable pub beginExport : Sizes → List Float → Scalar → List Float → AfterExport
 beginExport z start max a = afterExportOf (beginOf z start max a)
 
-unfoldable pub replyExport : Run → List Float → List Float → AfterExport
-replyExport r a rows = calledWith r a (λ st. replyOf st a rows) (stateOf r)
+unfoldable pub replyExport : Run → List Float → ℕ → List Float → AfterExport
+replyExport r a m rows = calledWith r a (λ st. replyOf st a m rows) (stateOf r)
 
 unfoldable pub replyNoneExport : Run → List Float → AfterExport
 replyNoneExport r a = calledWith r a (λ st. replyNoneOf st a) (stateOf r)

@@ -3,8 +3,9 @@
 ghost use mathlib.Core.Path.{_≡_};
 ghost use Rattle.yadzvego.specs.CState.{kindNumber, phaseNumber, rejectionNumber, lastNumber, lastLength};
 ghost use Rattle.yadzvego.specs.CState.{cStateOf, numbersFit, phaseAt, rejectionAt, lastAt, sizesAt, countsAt};
-ghost use Rattle.yadzvego.specs.CState.{searchAt, stateAt};
+ghost use Rattle.yadzvego.specs.CState.{contentsAt, searchAt, stateAt};
 use interval::Scalar;
+use run::Contents;
 use run::Counts;
 use run::Kind;
 use run::Last;
@@ -18,7 +19,6 @@ use run::Trial;
 #[repr(C)]
 pub struct Run {
     pub n: usize,
-    pub m: usize,
     pub s: usize,
     pub limit: usize,
     pub iterations: usize,
@@ -26,6 +26,8 @@ pub struct Run {
     pub standing: usize,
     pub landed: usize,
     pub corrections: usize,
+    pub standing_m: usize,
+    pub landed_m: usize,
     pub turned_down: usize,
     pub mu: Scalar,
     pub radius: Scalar,
@@ -140,6 +142,7 @@ pub fn c_state_of(st: State) -> Run
 {
     let z = st.sizes;
     let c = st.counts;
+    let held = st.contents;
     let x = st.search;
     let t = st.trial;
     let rejected = x.rejected;
@@ -153,7 +156,6 @@ pub fn c_state_of(st: State) -> Run
     let tried = t.tried;
     Run {
         n: z.n,
-        m: z.m,
         s: z.s,
         limit: z.limit,
         iterations: c.iterations,
@@ -161,6 +163,8 @@ pub fn c_state_of(st: State) -> Run
         standing: c.standing,
         landed: c.landed,
         corrections: c.corrections,
+        standing_m: held.standing_m,
+        landed_m: held.landed_m,
         turned_down: x.turned_down,
         mu,
         radius,
@@ -182,7 +186,6 @@ fn sizes_at(r: Run) -> Sizes
 {
     Sizes {
         n: r.n,
-        m: r.m,
         s: r.s,
         limit: r.limit,
     }
@@ -197,6 +200,15 @@ fn counts_at(r: Run) -> Counts
         standing: r.standing,
         landed: r.landed,
         corrections: r.corrections,
+    }
+}
+
+fn contents_at(r: Run) -> Contents
+    ensures { λ c. ⌜ c ≡ contentsAt r ⌝ }
+{
+    Contents {
+        standing_m: r.standing_m,
+        landed_m: r.landed_m,
     }
 }
 
@@ -228,6 +240,7 @@ pub fn state_at(r: Run) -> State
     State {
         sizes: sizes_at(r),
         counts: counts_at(r),
+        contents: contents_at(r),
         search: search_at(r),
         trial,
         max_step,

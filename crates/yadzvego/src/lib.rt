@@ -24,28 +24,27 @@ use interval::Scalar;
 #[no_mangle]
 pub extern "C" fn yadzvego_begin(
     n: usize,
-    m: usize,
     s: usize,
     limit: usize,
     start: &[f64],
     max_step: Scalar,
     area: &mut [f64],
 ) -> CReturned
-    ensures { λ r. ⌜ afterExport r (now (area .exit)) ≡ beginExport (record { n = n; m = m; s = s; limit = limit })
+    ensures { λ r. ⌜ afterExport r (now (area .exit)) ≡ beginExport (record { n = n; s = s; limit = limit })
         (now (start .entry)) «max_step» (now (area .entry)) ⌝ }
 {
-    returned_of(run::begin(n, m, s, limit, start, max_step, area))
+    returned_of(run::begin(n, s, limit, start, max_step, area))
 }
 
-// Answers the open question with rows.
+// Answers the open question with rows, m constraint rows and then the sum's.
 #[no_mangle]
-pub extern "C" fn yadzvego_reply(run: Run, area: &mut [f64], rows: &[f64]) -> CReturned
-    ensures { λ r. ⌜ afterExport r (now (area .exit)) ≡ replyExport run (now (area .entry)) (now (rows .entry)) ⌝ }
+pub extern "C" fn yadzvego_reply(run: Run, area: &mut [f64], m: usize, rows: &[f64]) -> CReturned
+    ensures { λ r. ⌜ afterExport r (now (area .exit)) ≡ replyExport run (now (area .entry)) m (now (rows .entry)) ⌝ }
 {
     if !numbers_fit(run) {
         return altered(run);
     }
-    returned_after(run, run::reply(state_at(run), area, rows))
+    returned_after(run, run::reply(state_at(run), area, m, rows))
 }
 
 // Answers the open question with none: the point cannot be evaluated.

@@ -15,7 +15,7 @@ use Rattle.run.specs.Residuals.{violationOf, movingOf}
 use Rattle.run.specs.Area.{numbersIn, usedIn, Memory, memoryOf, withLanded, withStart}
 use Rattle.run.specs.Endings.{AfterSlots}
 use Rattle.run.specs.Area.{rowsAt, standingAt}
-use Rattle.run.specs.State.{landing, moves}
+use Rattle.run.specs.State.{landing, starting}
 use Rattle.run.specs.Answered.{started, answered, answeredNone}
 use Rattle.run.specs.Decide.{turnDown}
 use Rattle.run.specs.Demand.{
@@ -25,6 +25,7 @@ use Rattle.run.specs.Demand.{
   Run,
   History,
   In,
+  Answer,
   AnsweredRows,
   hasRows,
   Fitting,
@@ -49,6 +50,8 @@ use Rattle.run.proofs.RefusalLaws.{violation-yields}
 use Rattle.run.proofs.demand3.ExactLaws.{Good, ExactLaws}
 use Rattle.run.proofs.demand3.Invariant.{
   FittingRows,
+  standingAnswer,
+  landedAnswer,
   Stands,
   Sound,
   Tried,
@@ -70,34 +73,34 @@ use Rattle.run.proofs.demand3.Corrected.{land-trial-after, land-correct
 -- ---- the call that answers
 
 -- rows that a check let pass
-pub record CheckedRows (z : Sizes) (xs : List Float) : Type 0 where
-  pub fitting : Fitting z xs
-  pub good : Good z xs
+pub record CheckedRows (z : Sizes) (x : Answer) : Type 0 where
+  pub fitting : Fitting z x
+  pub good : Good z x
 
-rowed : {z : Sizes} {x : AnsweredRows} {xs : List Float} → CheckedRows z xs → x ≡ hasRows xs → FittingRows z x xs
+rowed : {z : Sizes} {x : AnsweredRows} {a : Answer} → CheckedRows z a → x ≡ hasRows a → FittingRows z x a
 rowed p e = record { given-is = e; fitting = p .fitting; good = p .good }
 
 -- the rows entered for the open question
-abbrev with-rows : History → List Float → ℕ → AnsweredRows
-with-rows h xs k = cond (eqb k (h .asked)) (hasRows xs) (h .rows k)
+abbrev with-rows : History → Answer → ℕ → AnsweredRows
+with-rows h x k = cond (eqb k (h .asked)) (hasRows x) (h .rows k)
 
 enters-rows :
-    (h : History) (xs : List Float) (f : Floats xs) (a : Event) →
-    isRefused a ≡ false → rowsBy h (demand.rows same xs f) a ≡ with-rows h xs
-enters-rows h xs f (event.Question k t s) e = refl
-enters-rows h xs f (event.Finish s i t n) e = refl
-enters-rows h xs f (event.Refused k) e = absurd (let z : _≡_ {A = ℕ} 0 1 = cc in omega arith)
+    (h : History) (x : Answer) (f : Floats (x .numbers)) (a : Event) →
+    isRefused a ≡ false → rowsBy h (demand.rows same (x .m) (x .numbers) f) a ≡ with-rows h x
+enters-rows h x f (event.Question k t s) e = refl
+enters-rows h x f (event.Finish s i t n) e = refl
+enters-rows h x f (event.Refused k) e = absurd (let z : _≡_ {A = ℕ} 0 1 = cc in omega arith)
 
 abbrev rows-context :
-    (h : History) → Run → (xs : List Float) → Floats xs →
+    (h : History) → Run → (x : Answer) → Floats (x .numbers) →
     (before : List ℕ) → h .stood ≡ h .standing ∷ before → h .changes ≡ length before → CallContext
-rows-context h r xs f before s c = record {
+rows-context h r x f before s c = record {
   history = h;
-  call = demand.rows same xs f;
+  call = demand.rows same (x .m) (x .numbers) f;
   run = r;
-  rows = with-rows h xs;
+  rows = with-rows h x;
   before = before;
-  enters = enters-rows h xs f;
+  enters = enters-rows h x f;
   stood-is = s;
   changes-are = c;
 }
@@ -116,11 +119,11 @@ none-context h r before s c = record {
   changes-are = c;
 }
 
-asked-rows : (h : History) (xs : List Float) (k : ℕ) → k ≡ h .asked → with-rows h xs k ≡ hasRows xs
-asked-rows h xs k e = rw (eq-eqb k (h .asked) e)
+asked-rows : (h : History) (x : Answer) (k : ℕ) → k ≡ h .asked → with-rows h x k ≡ hasRows x
+asked-rows h x k e = rw (eq-eqb k (h .asked) e)
 
-other-rows : (h : History) (xs : List Float) (k : ℕ) → k < h .asked → h .rows k ≡ with-rows h xs k
-other-rows h xs k l = let d : eqb k (h .asked) ≡ false = ne-eqb k (h .asked) (λ e. omega arith) in rw d
+other-rows : (h : History) (x : Answer) (k : ℕ) → k < h .asked → h .rows k ≡ with-rows h x k
+other-rows h x k l = let d : eqb k (h .asked) ≡ false = ne-eqb k (h .asked) (λ e. omega arith) in rw d
 
 -- ---- a trial or correction is open
 
@@ -140,23 +143,23 @@ module _ (S : CallContext) (since top : ℕ) (sound : Sound (S .run .state)) (T 
       T .below e
       (subst (In e) (sym (T .stood-is)) (subst (λ (s : ℕ). In e (s ∷ T .before)) (sym (T .standing-is)) i))
 
-  tried-stands : Stands (st .sizes) (S .rows) (st .counts .standing) (T .before) (w .standingRows) (w .filter)
+  tried-stands : Stands (st .sizes) (S .rows) (st .counts .standing) (T .before) (standingAnswer st w) (w .filter)
   unfolding st w In
   tried-stands =
       let s = T .stands in
       let k = S .history .standing in
-      let rowed : FittingRows (st .sizes) (S .rows k) (w .standingRows) =
-      subst (λ (x : AnsweredRows). FittingRows (st .sizes) x (w .standingRows))
+      let rowed : FittingRows (st .sizes) (S .rows k) (standingAnswer st w) =
+      subst (λ (g : AnsweredRows). FittingRows (st .sizes) g (standingAnswer st w))
       (agree k (T .below k (subst (In k) (sym (T .stood-is)) (inl refl)))) (s .rowed) in
       record {
-        rowed = subst (λ (n : ℕ). FittingRows (st .sizes) (S .rows n) (w .standingRows)) (T .standing-is) rowed;
+        rowed = subst (λ (n : ℕ). FittingRows (st .sizes) (S .rows n) (standingAnswer st w)) (T .standing-is) rowed;
         pairs =
             pairs-rows (st .sizes) (S .history .rows) (S .rows) (w .filter) (T .before)
             (λ e i. agree e (T .below e (subst (In e) (sym (T .stood-is)) (inr i)))) (s .pairs);
         long = s .long;
       }
 
-  tried-consistent : Consistent S (st .sizes) (st .counts) (st .last) (S .history .mu) w
+  tried-consistent : Consistent S st (S .history .mu) w
   unfolding st w
   tried-consistent =
       record {
@@ -176,12 +179,12 @@ module _ (S : CallContext) (since top : ℕ) (sound : Sound (S .run .state)) (T 
   landed-landing :
       (n : ℕ) →
       n ≤ 4 →
-      (xs : List Float) →
-      CheckedRows (st .sizes) xs →
-      S .rows (st .counts .question) ≡ hasRows xs →
-      (step : List Float) → Landing S (landing st n) (withLanded w xs step) since
+      (x : Answer) →
+      CheckedRows (st .sizes) x →
+      S .rows (st .counts .question) ≡ hasRows x →
+      (step : List Float) → Landing S (landing st (x .m) n) (withLanded w (x .numbers) step) since
   unfolding st w tried-consistent
-  landed-landing n few xs passed is step =
+  landed-landing n few x passed is step =
       let v = tried-consistent in
       record {
         consistent = record {
@@ -217,7 +220,7 @@ module _ (S : CallContext) (since top : ℕ) (sound : Sound (S .run .state)) (T 
   -- the point that landed before stays
   stayed-landing :
       st .counts .landed ≡ top →
-      FittingRows (st .sizes) (S .rows (st .counts .landed)) (w .landedRows) →
+      FittingRows (st .sizes) (S .rows (st .counts .landed)) (landedAnswer st w) →
       w .landed ≡ S .history .points (st .counts .landed) → Landing S st w since
   unfolding st w tried-consistent
   stayed-landing e rows landed =
@@ -259,58 +262,58 @@ module _ (law : ExactLaws) (h : History) (r : Run) (sound : Sound (r .state))
   own = memoryOf (r .state) (r .area)
 
   -- the call, while a trial or correction is open
-  abbrev rows-tried : {since top : ℕ} → Tried h r since top → (xs : List Float) → Floats xs → CallContext
-  rows-tried T xs f = rows-context h r xs f (T .before) (T .stood-is) (many (T .before) (T .before-many))
+  abbrev rows-tried : {since top : ℕ} → Tried h r since top → (x : Answer) → Floats (x .numbers) → CallContext
+  rows-tried T x f = rows-context h r x f (T .before) (T .stood-is) (many (T .before) (T .before-many))
 
   abbrev none-tried : {since top : ℕ} → Tried h r since top → CallContext
   none-tried T = none-context h r (T .before) (T .stood-is) (many (T .before) (T .before-many))
 
   trial-rows :
-      (T : Tried h r 1 (r .state .counts .question)) (xs : List Float) (f : Floats xs) →
-      CheckedRows (r .state .sizes) xs →
-      After (rows-tried T xs f) (r .state .sizes) (answered kind.Trial (r .state) own xs)
+      (T : Tried h r 1 (r .state .counts .question)) (x : Answer) (f : Floats (x .numbers)) →
+      CheckedRows (r .state .sizes) x →
+      After (rows-tried T x f) (r .state .sizes) (answered kind.Trial (r .state) own (x .m) (x .numbers))
   unfolding st w
-  trial-rows T xs f passed =
-      let S = rows-tried T xs f in
+  trial-rows T x f passed =
+      let S = rows-tried T x f in
       let q = r .state .counts .question in
       let asked = T .asked-is in
-      let agree : (e : ℕ) → e < q → h .rows e ≡ with-rows h xs e = λ e l. other-rows h xs e (omega arith) in
-      let L : Landing S (landing (r .state) 0) (withLanded own xs (own .step)) 1 =
-      landed-landing S 1 q sound T refl agree (omega arith) point 0 zero-le xs passed
-      (asked-rows h xs q (sym asked)) (own .step) in
+      let agree : (e : ℕ) → e < q → h .rows e ≡ with-rows h x e = λ e l. other-rows h x e (omega arith) in
+      let L : Landing S (landing (r .state) (x .m) 0) (withLanded own (x .numbers) (own .step)) 1 =
+      landed-landing S 1 q sound T refl agree (omega arith) point 0 zero-le x passed
+      (asked-rows h x q (sym asked)) (own .step) in
       or-refuse-after S (r .state .sizes) (r .state) own (violationOf (standingAt (r .state) own .constraints)) _
       (violation-yields (standingAt (r .state) own .constraints))
-      (λ theta e u. land-trial-after law S (r .state) own xs L theta e)
+      (λ theta e u. land-trial-after law S (r .state) own (x .m) (x .numbers) L theta e)
 
   correction-rows :
-      (C : Corrected h r) (xs : List Float) (f : Floats xs) →
-      CheckedRows (r .state .sizes) xs →
-      After (rows-tried (C .tried) xs f) (r .state .sizes) (answered kind.Correction (r .state) own xs)
+      (C : Corrected h r) (x : Answer) (f : Floats (x .numbers)) →
+      CheckedRows (r .state .sizes) x →
+      After (rows-tried (C .tried) x f) (r .state .sizes) (answered kind.Correction (r .state) own (x .m) (x .numbers))
   unfolding st w
-  correction-rows C xs f passed =
+  correction-rows C x f passed =
       let T = C .tried in
-      let S = rows-tried T xs f in
+      let S = rows-tried T x f in
       let q = r .state .counts .question in
       let n = r .state .counts .corrections in
       let k = r .state .counts .landed in
       let asked = T .asked-is in
       let under = C .landed-below in
       let few = C .few in
-      let agree : (e : ℕ) → e < k → h .rows e ≡ with-rows h xs e = λ e l. other-rows h xs e (omega arith) in
+      let agree : (e : ℕ) → e < k → h .rows e ≡ with-rows h x e = λ e l. other-rows h x e (omega arith) in
       let two : 2 + n ≡ 1 + (n + 1) = omega arith in
-      let rows : FittingRows (r .state .sizes) (with-rows h xs k) (own .landedRows) =
-      subst (λ (x : AnsweredRows). FittingRows (r .state .sizes) x (own .landedRows)) (other-rows h xs k (omega arith))
-      (C .landed-rows) in
+      let rows : FittingRows (r .state .sizes) (with-rows h x k) (landedAnswer (r .state) own) =
+      subst (λ (g : AnsweredRows). FittingRows (r .state .sizes) g (landedAnswer (r .state) own))
+      (other-rows h x k (omega arith)) (C .landed-rows) in
       let L : Landing S (r .state) own (2 + n) =
       stayed-landing S (2 + n) k sound T refl agree (omega arith) point refl rows (C .landed-point) in
       let land : (step : List Float)
-      → Landing S (landing (r .state) (n + 1)) (withLanded own xs step) (1 + (n + 1)) = λ step.
-      subst (Landing S (landing (r .state) (n + 1)) (withLanded own xs step)) two
-      (landed-landing S (2 + n) k sound T refl agree (omega arith) point (n + 1) (omega arith) xs passed
-      (asked-rows h xs q (sym asked)) step) in
+      → Landing S (landing (r .state) (x .m) (n + 1)) (withLanded own (x .numbers) step) (1 + (n + 1)) = λ step.
+      subst (Landing S (landing (r .state) (x .m) (n + 1)) (withLanded own (x .numbers) step)) two
+      (landed-landing S (2 + n) k sound T refl agree (omega arith) point (n + 1) (omega arith) x passed
+      (asked-rows h x q (sym asked)) step) in
       or-refuse-after S (r .state .sizes) (r .state) own (violationOf (standingAt (r .state) own .constraints)) _
       (violation-yields (standingAt (r .state) own .constraints))
-      (λ theta e u. land-correction-after law S (r .state) own xs L land few theta e)
+      (λ theta e u. land-correction-after law S (r .state) own (x .m) (x .numbers) L land few theta e)
 
   trial-none :
       (T : Tried h r 1 (r .state .counts .question)) →
@@ -318,7 +321,7 @@ module _ (law : ExactLaws) (h : History) (r : Run) (sound : Sound (r .state))
   unfolding st w
   trial-none T =
       let S = none-tried T in
-      let v : Consistent S (r .state .sizes) (r .state .counts) (r .state .last) (h .mu) own =
+      let v : Consistent S (r .state) (h .mu) own =
       tried-consistent S 1 (r .state .counts .question) sound T refl (λ e h. refl) (omega arith) point in
       let f = T .count-bounds .few in
       subst (After S (r .state .sizes)) (sym (none-turned-down (r .state) own))
@@ -361,18 +364,19 @@ module _ (law : ExactLaws) (h : History) (r : Run) (sound : Sound (r .state))
 
   -- the start point stands, with its rows
   start-rows :
-      (s : Started h r) (xs : List Float) (f : Floats xs) →
-      CheckedRows (r .state .sizes) xs →
-      After (rows-context h r xs f [] (start-stood s) (s .changes-are)) (r .state .sizes)
-      (answered kind.Start (r .state) own xs)
+      (s : Started h r) (x : Answer) (f : Floats (x .numbers)) →
+      CheckedRows (r .state .sizes) x →
+      After (rows-context h r x f [] (start-stood s) (s .changes-are)) (r .state .sizes)
+      (answered kind.Start (r .state) own (x .m) (x .numbers))
   unfolding started In
-  start-rows s xs f passed =
-      let S = rows-context h r xs f [] (start-stood s) (s .changes-are) in
+  start-rows s x f passed =
+      let S = rows-context h r x f [] (start-stood s) (s .changes-are) in
       let z = r .state .sizes in
       let none : 4 * r .state .counts .iterations ≡ 0 = omega (arith, counted, s .changes-are) in
-      let is : with-rows h xs (r .state .counts .standing) ≡ hasRows xs =
-      asked-rows h xs (r .state .counts .standing) (s .own-standing ∙ sym (s .asked-is)) in
-      iterate-after S (moves (r .state) (movingOf (z .n) (rowsAt (r .state) xs))) (withStart (r .state) own xs) (h .mu)
+      let is : with-rows h x (r .state .counts .standing) ≡ hasRows x =
+      asked-rows h x (r .state .counts .standing) (s .own-standing ∙ sym (s .asked-is)) in
+      iterate-after S (starting (r .state) (x .m) (movingOf (z .n) (rowsAt (r .state) (x .m) (x .numbers))))
+      (withStart (r .state) own (x .numbers)) (h .mu)
       (record {
         before = [];
         way = unmoved (start-same s) refl refl;
@@ -408,6 +412,7 @@ module _ (law : ExactLaws) (h : History) (r : Run) (sound : Sound (r .state))
         point = start-point s;
         sound = record {
           sizes-fit = sound .sizes-fit;
+          contents-fit = refl;
           within = sound .within;
           few-turned = sound .few-turned;
           few-asked = sound .few-asked;
@@ -420,12 +425,13 @@ module _ (law : ExactLaws) (h : History) (r : Run) (sound : Sound (r .state))
   pub rows-kept :
       (k : Kind) →
       Phased h r (Open k) →
-      (xs : List Float) (f : Floats xs) →
-      CheckedRows (r .state .sizes) xs →
-      Keeps h r (demand.rows same xs f) (answered k (r .state) (memoryOf (r .state) (r .area)) xs)
-  rows-kept kind.Start p xs f passed = start-rows p xs f passed
-  rows-kept kind.Trial p xs f passed = trial-rows p xs f passed
-  rows-kept kind.Correction p xs f passed = correction-rows p xs f passed
+      (x : Answer) (f : Floats (x .numbers)) →
+      CheckedRows (r .state .sizes) x →
+      Keeps h r (demand.rows same (x .m) (x .numbers) f)
+      (answered k (r .state) (memoryOf (r .state) (r .area)) (x .m) (x .numbers))
+  rows-kept kind.Start p x f passed = start-rows p x f passed
+  rows-kept kind.Trial p x f passed = trial-rows p x f passed
+  rows-kept kind.Correction p x f passed = correction-rows p x f passed
 
   pub none-kept :
       (k : Kind) →

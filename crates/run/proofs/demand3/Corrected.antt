@@ -52,12 +52,12 @@ correct-after law S st w L few theta theta-is =
 
 -- ---- where a point lands
 
-pub land-trial-after : (law : ExactLaws) (S : CallContext) (st : State) (w : Memory) (rows : List Float)
-    → Landing S (landing st 0) (withLanded w rows (w .step)) 1 → (theta : Scalar)
-    → violationOf (standingAt st w .constraints) ≡ ok theta → After S (st .sizes) (landTrial st w rows theta)
+pub land-trial-after : (law : ExactLaws) (S : CallContext) (st : State) (w : Memory) (m : ℕ) (rows : List Float)
+    → Landing S (landing st m 0) (withLanded w rows (w .step)) 1 → (theta : Scalar)
+    → violationOf (standingAt st w .constraints) ≡ ok theta → After S (st .sizes) (landTrial st w m rows theta)
 unfolding landTrial
-land-trial-after law S st w rows L theta theta-is =
-    let t = landing st 0 in
+land-trial-after law S st w m rows L theta theta-is =
+    let t = landing st m 0 in
     let v = withLanded w rows (w .step) in
     or-refuse-after S (st .sizes) t v (violationOf (landedAt t v .constraints)) _
     (violation-yields (landedAt t v .constraints))
@@ -65,18 +65,19 @@ land-trial-after law S st w rows L theta theta-is =
     (λ h. correct-after law S t v L zero-le theta theta-is)
     (λ h. judge-after law S t v 1 L (omega arith) theta theta-is))
 
-keep-after : (law : ExactLaws) (S : CallContext) (st : State) (w : Memory) (rows : List Float)
+keep-after : (law : ExactLaws) (S : CallContext) (st : State) (w : Memory) (m : ℕ) (rows : List Float)
     → ((step : List Float)
-    → Landing S (landing st (st .counts .corrections + 1)) (withLanded w rows step) (1 + (st .counts .corrections + 1)))
+    → Landing S (landing st m (st .counts .corrections + 1)) (withLanded w rows step)
+    (1 + (st .counts .corrections + 1)))
     → st .counts .corrections ≤ 3
     → (theta : Scalar) → violationOf (standingAt st w .constraints) ≡ ok theta
-    → After S (st .sizes) (keep st w rows theta)
+    → After S (st .sizes) (keep st w m rows theta)
 unfolding keep
-keep-after law S st w rows land few theta theta-is =
+keep-after law S st w m rows land few theta theta-is =
     or-refuse-after S (st .sizes) st w (shiftOf (st .moving) (landedAt st w .constraints)) _
     (shift-yields (st .moving) (landedAt st w .constraints))
     (λ d e u.
-    let t = landing st (st .counts .corrections + 1) in
+    let t = landing st m (st .counts .corrections + 1) in
     let v = withLanded w rows (shiftedStep (st .sizes .n) (w .step) d) in
     let L = land (shiftedStep (st .sizes .n) (w .step) d) in
     either-after S (st .sizes) (leb CORRECTIONS (st .counts .corrections + 1)) (judge t v theta) (correct t v theta)
@@ -84,21 +85,22 @@ keep-after law S st w rows land few theta theta-is =
     (λ h. let l = leb-false CORRECTIONS (st .counts .corrections + 1) h in
     correct-after law S t v L (omega arith) theta theta-is))
 
-pub land-correction-after : (law : ExactLaws) (S : CallContext) (st : State) (w : Memory) (rows : List Float)
+pub land-correction-after : (law : ExactLaws) (S : CallContext) (st : State) (w : Memory) (m : ℕ) (rows : List Float)
     → Landing S st w (2 + st .counts .corrections)
     → ((step : List Float)
-    → Landing S (landing st (st .counts .corrections + 1)) (withLanded w rows step) (1 + (st .counts .corrections + 1)))
+    → Landing S (landing st m (st .counts .corrections + 1)) (withLanded w rows step)
+    (1 + (st .counts .corrections + 1)))
     → st .counts .corrections ≤ 3
     → (theta : Scalar) → violationOf (standingAt st w .constraints) ≡ ok theta
-    → After S (st .sizes) (landCorrection st w rows theta)
+    → After S (st .sizes) (landCorrection st w m rows theta)
 unfolding landCorrection
-land-correction-after law S st w rows L land few theta theta-is =
-    or-refuse-after S (st .sizes) st w (violationOf (rowsAt st rows .constraints)) _
-    (violation-yields (rowsAt st rows .constraints))
+land-correction-after law S st w m rows L land few theta theta-is =
+    or-refuse-after S (st .sizes) st w (violationOf (rowsAt st m rows .constraints)) _
+    (violation-yields (rowsAt st m rows .constraints))
     (λ new e u.
     or-refuse-after S (st .sizes) st w (violationOf (landedAt st w .constraints)) _
     (violation-yields (landedAt st w .constraints))
     (λ old d v.
-    either-after S (st .sizes) (definitelyLess new old) (keep st w rows theta) (judge st w theta)
-    (λ h. keep-after law S st w rows land few theta theta-is)
+    either-after S (st .sizes) (definitelyLess new old) (keep st w m rows theta) (judge st w theta)
+    (λ h. keep-after law S st w m rows land few theta theta-is)
     (λ h. judge-after law S st w (2 + st .counts .corrections) L (omega arith) theta theta-is)))

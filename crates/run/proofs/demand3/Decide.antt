@@ -32,8 +32,10 @@ use Rattle.run.specs.State.{standingOn}
 use Rattle.linear.specs.Norm.{normOf}
 use Rattle.run.specs.Demand.{
   In,
+  Answer,
   AnsweredRows,
   Answered,
+  sumIn,
   LowerRows,
   Lower,
   UndecidedRows,
@@ -52,6 +54,8 @@ use Rattle.run.proofs.DampingGrowth.{growth-none, growth-third, next-mu
 use Rattle.run.proofs.demand3.ExactLaws.{ExactLaws}
 use Rattle.run.proofs.demand3.Invariant.{
   FittingRows,
+  standingAnswer,
+  landedAnswer,
   Pairs,
   Stands,
   CountBounds,
@@ -65,17 +69,17 @@ use Rattle.run.proofs.demand3.Invariant.{
 }
 use Rattle.run.proofs.demand3.Endings.{either-after, or-refuse-after, finish-after}
 use Rattle.run.proofs.demand3.Iterate.{bounds-few, iterate-after, not-lower-after}
-use Rattle.run.proofs.demand3.Judgement.{of-rows, sums, constraints, lower-definite, undecided-rows, lower-pairs}
+use Rattle.run.proofs.demand3.Judgement.{of-rows, lower-definite, undecided-rows, lower-pairs}
 
 -- A point has landed, with so many questions since the last turn-down or iteration; what stood before the call still
 -- stands, in its iteration.
 pub record Landing (S : CallContext) (st : State) (w : Memory) (since : ℕ) : Type 0 where
-  pub consistent : Consistent S (st .sizes) (st .counts) (st .last) (S .history .mu) w
+  pub consistent : Consistent S st (S .history .mu) w
   pub still : st .counts .standing ≡ S .history .standing
   pub still-before : consistent .before ≡ S .before
   pub newer : (e : ℕ) → In e (S .history .stood) → e < st .counts .landed
   pub landed-asked : st .counts .landed ≤ st .counts .question
-  pub landed-rows : FittingRows (st .sizes) (S .rows (st .counts .landed)) (w .landedRows)
+  pub landed-rows : FittingRows (st .sizes) (S .rows (st .counts .landed)) (landedAnswer st w)
   pub landed-point : w .landed ≡ S .history .points (st .counts .landed)
   pub count-bounds : CountBounds (S .history .mu) (st .counts) (st .search) since
   pub below-limit : st .counts .iterations < st .sizes .limit
@@ -84,7 +88,7 @@ pub record Landing (S : CallContext) (st : State) (w : Memory) (since : ℕ) : T
 
 -- ---- rows of points that stood
 
-rowed-answered : {z : Sizes} {x : AnsweredRows} {xs : List Float} → FittingRows z x xs → Answered z x
+rowed-answered : {z : Sizes} {x : AnsweredRows} {a : Answer} → FittingRows z x a → Answered z x
 rowed-answered {z} r = subst (Answered z) (sym (r .given-is)) (r .fitting)
 
 pairs-answered :
@@ -139,8 +143,8 @@ module _ (S : CallContext) (st : State) (w : Memory) (since : ℕ) (L : Landing 
 
   -- the point that stood, as the newest pair, and those before it
   taken-stands :
-      Stands (st .sizes) (S .rows) (st .counts .landed) (st .counts .standing ∷ L .consistent .before) (w .landedRows)
-      filter′
+      Stands (st .sizes) (S .rows) (st .counts .landed) (st .counts .standing ∷ L .consistent .before)
+      (landedAnswer st w) filter′
   unfolding filter′
   taken-stands =
       let f = sumSquared (standingAt st w .sum) in
@@ -151,7 +155,7 @@ module _ (S : CallContext) (st : State) (w : Memory) (since : ℕ) (L : Landing 
         rowed = L .landed-rows;
         pairs = (
           record {
-            rows = w .standingRows;
+            rows = standingAnswer st w;
             rowed = s .rowed;
             pair-sum = filter-sum (w .filter) count f theta (s .long);
             pair-violation = theta-is ∙ ap ok (sym (filter-violation (w .filter) count f theta (s .long)));
@@ -193,7 +197,7 @@ module _ (S : CallContext) (st : State) (w : Memory) (since : ℕ) (L : Landing 
       (length mu radius : Scalar) (b : List Float) →
       mu ≡ nextMu (S .run .state .search .mu) →
       Forward S (st .sizes) (st .counts .landed) (last.Taken length) →
-      Consistent S (st .sizes) (standingOn st length mu radius .counts) (last.Taken length) mu (withTaken w b filter′)
+      Consistent S (standingOn st length mu radius) mu (withTaken w b filter′)
   unfolding filter′
   taken-consistent length mu radius b next f =
       let v = L .consistent in
@@ -276,11 +280,11 @@ module _ (law : ExactLaws) (S : CallContext) (st : State) (w : Memory) (since : 
   z : Sizes
   z = st .sizes
 
-  x : FittingRows z (S .rows (st .counts .standing)) (w .standingRows)
+  x : FittingRows z (S .rows (st .counts .standing)) (standingAnswer st w)
   unfolding z
   x = L .consistent .stands .rowed
 
-  y : FittingRows z (S .rows (st .counts .landed)) (w .landedRows)
+  y : FittingRows z (S .rows (st .counts .landed)) (landedAnswer st w)
   unfolding z
   y = L .landed-rows
 
@@ -312,7 +316,8 @@ module _ (law : ExactLaws) (S : CallContext) (st : State) (w : Memory) (since : 
   unfolding j z x y change beats In
   lower-all h e i = by (subst (In e) (S .stood-is) i)
     where
-      beaten : beatsTo (w .filter) (sumSquared (sums z (w .landedRows))) new (lib.ListN.length (L .consistent .before))
+      beaten :
+          beatsTo (w .filter) (sumSquared (sumIn z (landedAnswer st w))) new (lib.ListN.length (L .consistent .before))
           ≡ true
       beaten = rw (L .consistent .before-many) (and-right (rises change || rises (subOf theta new)) beats h)
 
@@ -320,10 +325,10 @@ module _ (law : ExactLaws) (S : CallContext) (st : State) (w : Memory) (since : 
       by (inl q) =
           subst (λ (k : ℕ). Lower z (S .rows k) (S .rows (st .counts .landed))) (L .still ∙ sym q)
           (of-rows (LowerRows z) (x .given-is) (y .given-is)
-          (lower-definite law z (w .standingRows) (w .landedRows) (x .good) (y .good) theta new theta-is new-is
+          (lower-definite law z (standingAnswer st w) (landedAnswer st w) (x .good) (y .good) theta new theta-is new-is
           (and-left (rises change || rises (subOf theta new)) beats h)))
       by (inr k) =
-          lower-pairs law z (S .rows) (w .filter) (S .rows (st .counts .landed)) (w .landedRows) y new new-is
+          lower-pairs law z (S .rows) (w .filter) (S .rows (st .counts .landed)) (landedAnswer st w) y new new-is
           (L .consistent .before) (L .consistent .stands .pairs) beaten e (subst (In e) (sym (L .still-before)) k)
 
   -- undecided, before the damping grew, and half as long as the last
@@ -341,8 +346,8 @@ module _ (law : ExactLaws) (S : CallContext) (st : State) (w : Memory) (since : 
         undecided =
             subst (λ (k : ℕ). Undecided z (S .rows k) (S .rows (st .counts .landed))) (L .still)
             (of-rows (UndecidedRows z) (x .given-is) (y .given-is)
-            (undecided-rows law z (w .standingRows) (w .landedRows) (x .good) (y .good) theta new theta-is new-is
-            (and-right f u fu)));
+            (undecided-rows law z (standingAnswer st w) (landedAnswer st w) (x .good) (y .good) theta new theta-is
+            new-is (and-right f u fu)));
         shorter = yes (ap (λ (b : Last). contracts b length) (L .last-same) ∙ and-right (f && u) c h);
       }
 

@@ -6,7 +6,7 @@ use mathlib.Core.Logic.{⊎-elim}
 use mathlib.Core.Path.{_≡_, refl, sym, ap, _∙_, subst}
 use mathlib.Core.List.{List, [], _∷_}
 use native.Mathlib.Omega.{arith}
-use borrow.Author.Tests.{eq-eqb, eqb-true}
+use borrow.Author.Tests.{leb-true, eq-eqb, eqb-true}
 use lib.Dec.{eqb}
 use lib.Ieee.{Float}
 use lib.ListN.{length}
@@ -14,7 +14,8 @@ use Rattle.interval.specs.declared.Scalar.{Scalar}
 use Rattle.run.specs.Rows.{rowNumbers, rowCounts}
 use Rattle.run.specs.Area.{areaLength, Memory, memoryOf, areaOf, begunMemory}
 use Rattle.run.specs.Calls.{AfterCall, unchanged, beginOf, replyOpen, replyOf, noneOpen, replyNoneOf}
-use Rattle.run.specs.Checks.{sizesFit, allInDomain, stepFits, valid}
+use Rattle.run.specs.Checks.{sizesFit, constraintsFit, allInDomain, stepFits, valid}
+use Rattle.run.specs.Limits.{CONSTRAINTS}
 use Rattle.run.specs.State.{stateWith, noRun}
 use Rattle.run.specs.Damping.{firstMu}
 use Rattle.run.specs.Demand.{
@@ -37,6 +38,8 @@ use Rattle.run.specs.Demand.{
   entered,
   changed,
   isArithmetic,
+  answer,
+  Fitting,
   Claim,
   Along,
   Demand3,
@@ -108,7 +111,7 @@ entered-refused h r c k = by c
         n)
 
     by : (c : Call) → entered h r c (refusedBy r k) ≡ h
-    by (rows lent xs f) = as-before (λ n. h .rows n) refl
+    by (rows lent m xs f) = as-before (λ n. h .rows n) refl
     by (none lent) = as-before (λ n. h .rows n) refl
 
 refused-kept :
@@ -143,26 +146,32 @@ module _ (law : ExactLaws) (h : History) (r : Run) (v : Inv (r .state .sizes) h 
   EndsOther c left = Kept h r c (callResultBy left (r .area))
 
   rows-open :
-      (xs : List Float) (f : Floats xs) →
+      (m : ℕ) (xs : List Float) (f : Floats xs) →
       valid (r .state) ≡ true →
-      (p : Phase) → r .state .phase ≡ p → Phased h r p → Ends (rows same xs f) (replyOpen (r .state) (r .area) xs p)
+      (p : Phase) → r .state .phase ≡ p → Phased h r p →
+      Ends (rows same m xs f) (replyOpen (r .state) (r .area) m xs p)
   unfolding Ends
-  rows-open xs f e Over o q = refused-same (rows same xs f) 4
-  rows-open xs f e (Open k) o q =
+  rows-open m xs f e Over o q = refused-same (rows same m xs f) 4
+  rows-open m xs f e (Open k) o q =
       let z = r .state .sizes in
       let fits = eqb (length (r .area)) (areaLength z) in
-      let count = rowNumbers (rowCounts z) in
-      checked (Ends (rows same xs f)) (fits && eqb (length xs) count) 2 (unchanged (r .state) (r .area)) _
-      (refused-same (rows same xs f) 2)
+      let count = rowNumbers (rowCounts z m) in
+      checked (Ends (rows same m xs f)) (constraintsFit m) 1 (unchanged (r .state) (r .area)) _
+      (refused-same (rows same m xs f) 1)
+      (λ few.
+      checked (Ends (rows same m xs f)) (fits && eqb (length xs) count) 2 (unchanged (r .state) (r .area)) _
+      (refused-same (rows same m xs f) 2)
       (λ lengths.
       let long = eqb-true (length (r .area)) (areaLength z) (and-left fits (eqb (length xs) count) lengths) in
       let size = eqb-true (length xs) count (and-right fits (eqb (length xs) count) lengths) in
-      checked (Ends (rows same xs f)) (allInDomain xs ((z .m + z .s) * (z .n + 1))) 3 (unchanged (r .state) (r .area)) _
-      (refused-same (rows same xs f) 3)
+      checked (Ends (rows same m xs f)) (allInDomain xs ((m + z .s) * (z .n + 1))) 3 (unchanged (r .state) (r .area)) _
+      (refused-same (rows same m xs f) 3)
       (λ d g.
-      rows-kept law h r (v .sound) (v .counted) (v .point) k q xs f
-      (record { fitting = record { length-is = size; in-domain = d }; good = domain-rows z xs f size d }) g
-      (reply-kept (r .state) (r .area) e long xs size k o .lengths)))
+      let fit : Fitting z (answer m xs) =
+      record { few = leb-true m CONSTRAINTS few; length-is = size; in-domain = d } in
+      rows-kept law h r (v .sound) (v .counted) (v .point) k q (answer m xs) f
+      (record { fitting = fit; good = domain-rows z (answer m xs) f fit }) g
+      (reply-kept (r .state) (r .area) e long m (fit .few) xs size k o .lengths))))
 
   none-open :
       valid (r .state) ≡ true →
@@ -177,24 +186,30 @@ module _ (law : ExactLaws) (h : History) (r : Run) (v : Inv (r .state .sizes) h 
       none-kept law h r (v .sound) (v .counted) (v .point) k q g
       (reply-none-kept (r .state) (r .area) e (eqb-true (length (r .area)) whole long) k o .lengths))
 
-  -- a call that is refused for its length
+  -- a call that is refused for its m or a length
   rows-other :
-      (a xs : List Float) (f : Floats xs) →
-      Allowed (r .state .sizes) (rows (other a) xs f) →
-      (p : Phase) → EndsOther (rows (other a) xs f) (replyOpen (r .state) a xs p)
+      (a : List Float) (m : ℕ) (xs : List Float) (f : Floats xs) →
+      Allowed (r .state .sizes) (rows (other a) m xs f) →
+      (p : Phase) → EndsOther (rows (other a) m xs f) (replyOpen (r .state) a m xs p)
   unfolding EndsOther
-  rows-other a xs f x Over = refused-other (rows (other a) xs f) a 4
-  rows-other a xs f x (Open k) =
+  rows-other a m xs f x Over = refused-other (rows (other a) m xs f) a 4
+  rows-other a m xs f x (Open k) =
       let z = r .state .sizes in
-      let count = rowNumbers (rowCounts z) in
+      let count = rowNumbers (rowCounts z m) in
       let fits = eqb (length a) (areaLength z) in
       let long = eqb (length xs) count in
-      checked (EndsOther (rows (other a) xs f)) (fits && long) 2 (unchanged (r .state) a) _
-      (refused-other (rows (other a) xs f) a 2)
+      checked (EndsOther (rows (other a) m xs f)) (constraintsFit m) 1 (unchanged (r .state) a) _
+      (refused-other (rows (other a) m xs f) a 1)
+      (λ few.
+      checked (EndsOther (rows (other a) m xs f)) (fits && long) 2 (unchanged (r .state) a) _
+      (refused-other (rows (other a) m xs f) a 2)
       (λ e.
       absurd
-      (⊎-elim (λ n. n (eqb-true (length a) (areaLength z) (and-left fits long e)))
-      (λ n. n (eqb-true (length xs) count (and-right fits long e))) x))
+      (⊎-elim (λ l. omega (arith, l, leb-true m CONSTRAINTS few))
+      (λ y.
+      ⊎-elim (λ n. n (eqb-true (length a) (areaLength z) (and-left fits long e)))
+      (λ n. n (eqb-true (length xs) count (and-right fits long e))) y)
+      x)))
 
   none-other :
       (a : List Float) →
@@ -209,12 +224,12 @@ module _ (law : ExactLaws) (h : History) (r : Run) (v : Inv (r .state .sizes) h 
 
   call-kept : (c : Call) → Allowed (r .state .sizes) c → Kept h r c (callResult r c)
   unfolding replyOf replyNoneOf Ends EndsOther
-  call-kept (rows same xs f) x =
-      checked (Ends (rows same xs f)) (valid (r .state)) 4 (unchanged (r .state) (r .area)) _
-      (refused-same (rows same xs f) 4) (λ e. rows-open xs f e (r .state .phase) refl (v .phased))
-  call-kept (rows (other a) xs f) x =
-      checked (EndsOther (rows (other a) xs f)) (valid (r .state)) 4 (unchanged (r .state) a) _
-      (refused-other (rows (other a) xs f) a 4) (λ e. rows-other a xs f x (r .state .phase))
+  call-kept (rows same m xs f) x =
+      checked (Ends (rows same m xs f)) (valid (r .state)) 4 (unchanged (r .state) (r .area)) _
+      (refused-same (rows same m xs f) 4) (λ e. rows-open m xs f e (r .state .phase) refl (v .phased))
+  call-kept (rows (other a) m xs f) x =
+      checked (EndsOther (rows (other a) m xs f)) (valid (r .state)) 4 (unchanged (r .state) a) _
+      (refused-other (rows (other a) m xs f) a 4) (λ e. rows-other a m xs f x (r .state .phase))
   call-kept (none same) x =
       checked (Ends (none same)) (valid (r .state)) 4 (unchanged (r .state) (r .area)) _
       (refused-same (none same) 4) (λ e. none-open e (r .state .phase) refl (v .phased))
@@ -261,6 +276,7 @@ module _ (z : Sizes) (start : List Float) (max : Scalar) (fit : sizesFit z ≡ t
   begun-sound =
       record {
         sizes-fit = fit;
+        contents-fit = refl;
         within = zero-le;
         few-turned = zero-le;
         few-asked = zero-le;

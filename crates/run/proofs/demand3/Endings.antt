@@ -14,10 +14,11 @@ use lib.ListN.{length}
 use Rattle.interval.specs.Result.{Res, ok, refused}
 use Rattle.interval.specs.declared.Scalar.{Scalar}
 use Rattle.interval.specs.Scalar.{pick}
-use Rattle.run.specs.Area.{HasRoom, pairsIn, usedIn, Memory, memoryOf, areaOf, onlyStanding}
+use Rattle.run.specs.Area.{HasRoom, usedIn, Memory, memoryOf, areaOf, onlyStanding}
 use Rattle.run.specs.Endings.{AfterSlots, finish, refuse, question, orRefuse}
 use Rattle.run.specs.State.{over, asking}
 use Rattle.run.specs.Checks.{valid, phaseFits}
+use Rattle.run.specs.Limits.{CONSTRAINTS}
 use Rattle.run.specs.Calls.{pointOf}
 use Rattle.run.specs.Demand.{
   Run,
@@ -47,12 +48,13 @@ use Rattle.run.specs.declared.state.State.{State}
 use Rattle.run.specs.declared.state.Stop.{Stop}
 use Rattle.run.specs.program.Area.{Limits, lengthsOf}
 use Rattle.run.proofs.Booleans.{clash}
-use Rattle.run.proofs.CheckLaws.{size-bounds}
+use Rattle.run.proofs.CheckLaws.{size-bounds, ContentBounds, content-bounds, contents-fit}
 use Rattle.run.proofs.AreaRead.{limits-from, area-long, memory-back}
 use Rattle.run.proofs.RefusalLaws.{Yields, gives, refuses}
 use Rattle.run.proofs.DampingGrowth.{growth-few, growth-positive}
 use Rattle.run.proofs.demand3.Invariant.{
   FittingRows,
+  landedAnswer,
   Pair,
   Pairs,
   once-few,
@@ -79,6 +81,7 @@ unfolding valid
 sound-valid st s =
     rw (
       s .sizes-fit,
+      s .contents-fit,
       le-leb _ _ (s .within),
       le-leb _ _ (s .few-turned),
       le-leb _ _ (s .few-asked),
@@ -210,8 +213,10 @@ module _ (st : State) (a : List Float) (v : valid st ≡ true) (l : HasRoom (st 
   unfolding pointOf memoryOf
   standing-given e = rw (v, eq-eqb _ _ l, e)
 
-pub sound-limits : {st : State} → Sound st → Limits (st .sizes) (pairsIn st)
-sound-limits {st} s = limits-from st (size-bounds (st .sizes) (s .sizes-fit)) (s .within)
+pub sound-limits : {st : State} → Sound st → Limits st
+sound-limits {st} s =
+    limits-from st (size-bounds (st .sizes) (s .sizes-fit)) (content-bounds (st .contents) (s .contents-fit))
+    (s .within)
 
 -- ---- a finish
 
@@ -253,7 +258,7 @@ finish-counts S st w s mu E q e =
 
 pub finish-after :
     (S : CallContext) (st : State) (w : Memory) (s : Stop) (mu : Scalar) →
-    Consistent S (st .sizes) (st .counts) (st .last) mu w →
+    Consistent S st mu w →
     st .search .«turned_down» ≤ 1100 * (st .counts .iterations + 1) → After S (st .sizes) (finish st w s)
 finish-after S st w s mu v few =
     finish-counts S st w s mu
@@ -264,6 +269,7 @@ finish-after S st w s mu v few =
       point = v .point;
       sound = record {
         sizes-fit = v .sizes-fit;
+        contents-fit = refl;
         within = v .within;
         few-turned = few;
         few-asked = v .few-asked;
@@ -278,7 +284,7 @@ no-finish : {A : Type 0} {k i t s n : ℕ} {e : Stop} {q : _} → event.Question
 no-finish p = absurd (let z : _≡_ {A = ℕ} 0 1 = cc in omega arith)
 
 module _ (S : CallContext) (st : State) (w : Memory) (k : Kind) (corrections since : ℕ) (mu : Scalar)
-    (v : Consistent S (st .sizes) (st .counts) (st .last) mu w)
+    (v : Consistent S st mu w) (landed-few : st .contents .«landed_m» ≤ CONSTRAINTS)
     (count-bounds : CountBounds mu (st .counts) (st .search) since)
     (below-limit : st .counts .iterations < st .sizes .limit)
     (lengths : lengthsOf w ≡ usedIn (asking st k corrections)) where
@@ -304,6 +310,10 @@ module _ (S : CallContext) (st : State) (w : Memory) (k : Kind) (corrections sin
   unfolding h′ p
   older e l = rw (ne-eqb e (st .counts .question + 1) (λ i. omega arith))
 
+  -- the standing answer's m was checked with its rows
+  contents-few : ContentBounds (st .contents)
+  contents-few = record { standing = v .stands .rowed .fitting .few; landed = landed-few }
+
   asked-sound : since ≤ 4 → corrections ≤ 4 → phaseFits st′ (Open k) ≡ true → Sound st′
   unfolding st′
   asked-sound few c q =
@@ -314,6 +324,7 @@ module _ (S : CallContext) (st : State) (w : Memory) (k : Kind) (corrections sin
       let turned : st .search .«turned_down» ≤ 1049 * (st .counts .iterations + 1) = omega arith in
       record {
         sizes-fit = v .sizes-fit;
+        contents-fit = contents-fit contents-few;
         within = v .within;
         few-turned = omega arith;
         few-asked = omega arith;
@@ -334,8 +345,9 @@ module _ (S : CallContext) (st : State) (w : Memory) (k : Kind) (corrections sin
       })
 
   -- the next call reads what this one leaves
-  limits : Limits (st .sizes) (st .counts .iterations)
-  limits = limits-from st (size-bounds (st .sizes) (v .sizes-fit)) (v .within)
+  limits : Limits (asking st k corrections)
+  limits =
+      limits-from (asking st k corrections) (size-bounds (st .sizes) (v .sizes-fit)) contents-few (v .within)
 
   read-back : memoryOf st′ (areaOf (st .sizes) w) ≡ w
   unfolding st′
@@ -369,8 +381,8 @@ module _ (S : CallContext) (st : State) (w : Memory) (k : Kind) (corrections sin
 
   landed-back :
       (n : ℕ) →
-      FittingRows (st .sizes) (S .rows n) (w .landedRows) →
-      FittingRows (st .sizes) (h′ .rows n) (memoryOf st′ (areaOf (st .sizes) w) .landedRows)
+      FittingRows (st .sizes) (S .rows n) (landedAnswer st w) →
+      FittingRows (st .sizes) (h′ .rows n) (landedAnswer st (memoryOf st′ (areaOf (st .sizes) w)))
   landed-back n rowed = rw (read-back, rows-are) rowed
 
   asked-after :
@@ -400,25 +412,25 @@ module _ (S : CallContext) (st : State) (w : Memory) (k : Kind) (corrections sin
 
 pub trial-after :
     (S : CallContext) (st : State) (w : Memory) (mu : Scalar) →
-    Consistent S (st .sizes) (st .counts) (st .last) mu w →
+    Consistent S st mu w →
+    st .contents .«landed_m» ≤ CONSTRAINTS →
     CountBounds mu (st .counts) (st .search) 0 →
     st .counts .iterations < st .sizes .limit → After S (st .sizes) (question st w kind.Trial 0)
-trial-after S st w mu v count-bounds lim q e =
+trial-after S st w mu v landed-few count-bounds lim q e =
     unfold st′ p h′ in
     let sound =
-    asked-sound S st w kind.Trial 0 0 mu v count-bounds lim e zero-le zero-le
+    asked-sound S st w kind.Trial 0 0 mu v landed-few count-bounds lim e zero-le zero-le
     (rw (lt-ltb _ _ lim) (growth-positive (count-bounds .growth))) in
-    asked-after S st w kind.Trial 0 0 mu v count-bounds lim e sound
-    (asked-tried S st w kind.Trial 0 0 mu v count-bounds lim e 1 (st .counts .question + 1) sound (omega arith)
-    (λ e i. let h = v .below e i in omega arith))
+    asked-after S st w kind.Trial 0 0 mu v landed-few count-bounds lim e sound
+    (asked-tried S st w kind.Trial 0 0 mu v landed-few count-bounds lim e 1 (st .counts .question + 1) sound
+    (omega arith) (λ e i. let h = v .below e i in omega arith))
 
 pub correction-after :
-    (S : CallContext) (st : State) (w : Memory) (mu : Scalar)
-    (v : Consistent S (st .sizes) (st .counts) (st .last) mu w) →
+    (S : CallContext) (st : State) (w : Memory) (mu : Scalar) (v : Consistent S st mu w) →
     CountBounds mu (st .counts) (st .search) (1 + st .counts .corrections) →
     st .counts .iterations < st .sizes .limit →
     st .counts .corrections ≤ 3 →
-    FittingRows (st .sizes) (S .rows (st .counts .landed)) (w .landedRows) →
+    FittingRows (st .sizes) (S .rows (st .counts .landed)) (landedAnswer st w) →
     w .landed ≡ S .history .points (st .counts .landed) →
     st .counts .landed ≤ st .counts .question →
     ((e : ℕ) → In e (st .counts .standing ∷ v .before) → e < st .counts .landed) →
@@ -426,17 +438,18 @@ pub correction-after :
 correction-after S st w mu v count-bounds lim few rows point asked below q e =
     let n = st .counts .corrections in
     let k = st .counts .landed in
-    let rowed = landed-back S st w kind.Correction n (1 + n) mu v count-bounds lim e k rows in
-    let back = read-back S st w kind.Correction n (1 + n) mu v count-bounds lim e in
-    let old = older S st w kind.Correction n (1 + n) mu v count-bounds lim e k asked in
+    let m = rows .fitting .few in
+    let rowed = landed-back S st w kind.Correction n (1 + n) mu v m count-bounds lim e k rows in
+    let back = read-back S st w kind.Correction n (1 + n) mu v m count-bounds lim e in
+    let old = older S st w kind.Correction n (1 + n) mu v m count-bounds lim e k asked in
     unfold st′ p h′ in
     let sound =
-    asked-sound S st w kind.Correction n (1 + n) mu v count-bounds lim e (omega arith) (omega arith)
+    asked-sound S st w kind.Correction n (1 + n) mu v m count-bounds lim e (omega arith) (omega arith)
     (rw (lt-ltb _ _ lim) (growth-positive (count-bounds .growth))) in
-    asked-after S st w kind.Correction n (1 + n) mu v count-bounds lim e sound
+    asked-after S st w kind.Correction n (1 + n) mu v m count-bounds lim e sound
     (record {
       tried =
-          asked-tried S st w kind.Correction n (1 + n) mu v count-bounds lim e (2 + n) k sound (omega arith) below;
+          asked-tried S st w kind.Correction n (1 + n) mu v m count-bounds lim e (2 + n) k sound (omega arith) below;
       landed-below = omega arith;
       few = few;
       landed-rows = rowed;

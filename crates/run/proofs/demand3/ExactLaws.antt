@@ -2,9 +2,7 @@
 -- judgement makes one exact sum lower.
 use Prim.Native.Nat.{ℕ}
 use mathlib.Core.Path.{_≡_}
-use mathlib.Core.List.{List}
 use lib.Dec.{T}
-use lib.Ieee.{Float}
 use lib.IntN.{ℤ}
 use lib.ListN.{length}
 use lib.Signed.{ltZ}
@@ -14,10 +12,10 @@ use Rattle.interval.specs.Scalar.{subOf, definitelyLess}
 use Rattle.linear.specs.Squares as squares
 use Rattle.linear.specs.Squares.{squaresTo, Chosen}
 use Rattle.linear.proofs.SquareLaws.{chosen-rescaled}
-use Rattle.run.specs.Rows.{Rows, rowNumbers, valueAt, constraintsOf, sumOf, rowCounts}
+use Rattle.run.specs.Rows.{Rows, rowNumbers, valueAt, rowCounts}
 use Rattle.run.specs.Residuals.{sumSquared, violationOf}
 use Rattle.run.specs.Judgement.{sumChange, rises}
-use Rattle.run.specs.Demand.{Falls}
+use Rattle.run.specs.Demand.{Answer, constraintsIn, sumIn, Falls}
 use Rattle.run.specs.declared.state.Sizes.{Sizes}
 
 -- the values are pairs of finite floats
@@ -36,10 +34,10 @@ falls-each e e′ h p q j k c a b =
     h _ _ c (chosen-rescaled (valueAt e) (e .count) p j c a) (chosen-rescaled (valueAt e′) (e′ .count) q k c b)
 
 -- rows as they are answered: of the right length, with finite values
-pub record Good (z : Sizes) (xs : List Float) : Type 0 where
-  pub size : length xs ≡ rowNumbers (rowCounts z)
-  pub constraints-finite : FiniteRows (constraintsOf (rowCounts z) xs)
-  pub sum-finite : FiniteRows (sumOf (rowCounts z) xs)
+pub record Good (z : Sizes) (x : Answer) : Type 0 where
+  pub size : length (x .numbers) ≡ rowNumbers (rowCounts z (x .m))
+  pub constraints-finite : FiniteRows (constraintsIn z x)
+  pub sum-finite : FiniteRows (sumIn z x)
 
 pub record ExactLaws : Type 0 where
   pub change-falls : (e e′ : Rows) → e .count ≡ e′ .count → FiniteRows e → FiniteRows e′ → T (rises (sumChange e e′))

@@ -11,12 +11,11 @@ use lib.Ieee.{Float}
 use lib.ListN.{length}
 use Rattle.interval.specs.declared.Scalar.{Scalar}
 use Rattle.interval.specs.Result.{ok}
-use Rattle.run.specs.Rows.{constraintsOf, sumOf, rowCounts}
 use Rattle.run.specs.Residuals.{sumSquared, violationOf}
 use Rattle.run.specs.Filter.{filterSum, filterViolation}
 use Rattle.run.specs.Area.{usedIn, Memory, memoryOf}
 use Rattle.run.specs.Endings.{AfterSlots}
-use Rattle.run.specs.Checks.{sizesFit, phaseFits}
+use Rattle.run.specs.Checks.{sizesFit, contentsFit, phaseFits}
 use Rattle.run.specs.Calls.{inArea}
 use Rattle.run.specs.Demand.{
   Call,
@@ -25,10 +24,14 @@ use Rattle.run.specs.Demand.{
   callResultBy,
   History,
   In,
+  Answer,
+  answer,
   AnsweredRows,
   hasRows,
   Fitting,
   Answered,
+  constraintsIn,
+  sumIn,
   Lower,
   Undecided,
   halves,
@@ -55,26 +58,33 @@ use Rattle.run.proofs.demand3.ExactLaws.{Good}
 -- ---- rows and pairs
 
 -- a question was answered with these rows
-pub record FittingRows (z : Sizes) (given : AnsweredRows) (rows : List Float) : Type 0 where
+pub record FittingRows (z : Sizes) (given : AnsweredRows) (rows : Answer) : Type 0 where
   pub given-is : given ≡ hasRows rows
   pub fitting : Fitting z rows
   pub good : Good z rows
 
 -- the i-th pair is f and the violation of the rows that a question was answered with
 pub record Pair (z : Sizes) (given : AnsweredRows) (filter : List Float) (i : ℕ) : Type 0 where
-  pub rows : List Float
+  pub rows : Answer
   pub rowed : FittingRows z given rows
-  pub pair-sum : filterSum filter i ≡ sumSquared (sumOf (rowCounts z) rows)
-  pub pair-violation : violationOf (constraintsOf (rowCounts z) rows) ≡ ok (filterViolation filter i)
+  pub pair-sum : filterSum filter i ≡ sumSquared (sumIn z rows)
+  pub pair-violation : violationOf (constraintsIn z rows) ≡ ok (filterViolation filter i)
 
 -- a pair for each number that stood before, the last one first
 abbrev pub Pairs : Sizes → (ℕ → AnsweredRows) → List Float → List ℕ → Type 0
 Pairs z rows filter [] = Unit
 Pairs z rows filter (e ∷ es) = Pair z (rows e) filter (length es) × Pairs z rows filter es
 
--- the rows of the point that stands, and the filter, as the memory has them
-pub record Stands (z : Sizes) (rows : ℕ → AnsweredRows) (standing : ℕ) (before : List ℕ) (own filter : List Float)
-    : Type 0 where
+-- the answers of the standing point and of the landed one, as the memory has them
+abbrev pub standingAnswer : State → Memory → Answer
+standingAnswer st w = answer (st .contents .«standing_m») (w .standingRows)
+
+abbrev pub landedAnswer : State → Memory → Answer
+landedAnswer st w = answer (st .contents .«landed_m») (w .landedRows)
+
+-- the rows of the point that stands, and the filter
+pub record Stands (z : Sizes) (rows : ℕ → AnsweredRows) (standing : ℕ) (before : List ℕ) (own : Answer)
+    (filter : List Float) : Type 0 where
   pub rowed : FittingRows z (rows standing) own
   pub pairs : Pairs z rows filter before
   pub long : length filter ≡ 4 * length before
@@ -102,6 +112,7 @@ once-few false = omega arith
 -- what number 4 asks
 pub record Sound (st : State) : Type 0 where
   pub sizes-fit : sizesFit (st .sizes) ≡ true
+  pub contents-fit : contentsFit (st .contents) ≡ true
   pub within : st .counts .iterations ≤ st .sizes .limit
   pub few-turned : st .search .«turned_down» ≤ 1100 * (st .counts .iterations + 1)
   pub few-asked : st .counts .question ≤ 5500 * st .sizes .limit
@@ -121,7 +132,8 @@ pub record Tried (h : History) (r : Run) (since top : ℕ) : Type 0 where
   pub below-limit : r .state .counts .iterations < r .state .sizes .limit
   pub stands :
       let w = memoryOf (r .state) (r .area) in
-      Stands (r .state .sizes) (h .rows) (h .standing) before (w .standingRows) (w .filter)
+      Stands (r .state .sizes) (h .rows) (h .standing) before
+      (standingAnswer (r .state) w) (w .filter)
   pub asked-point : memoryOf (r .state) (r .area) .asked ≡ h .points (r .state .counts .question)
 
 pub record Corrected (h : History) (r : Run) : Type 0 where
@@ -129,7 +141,8 @@ pub record Corrected (h : History) (r : Run) : Type 0 where
   pub landed-below : r .state .counts .landed < r .state .counts .question
   pub few : r .state .counts .corrections ≤ 3
   pub landed-rows :
-      FittingRows (r .state .sizes) (h .rows (r .state .counts .landed)) (memoryOf (r .state) (r .area) .landedRows)
+      FittingRows (r .state .sizes) (h .rows (r .state .counts .landed))
+      (landedAnswer (r .state) (memoryOf (r .state) (r .area)))
   pub landed-point : memoryOf (r .state) (r .area) .landed ≡ h .points (r .state .counts .landed)
 
 pub record Started (h : History) (r : Run) : Type 0 where
@@ -189,7 +202,7 @@ pub data Way (S : CallContext) (z : Sizes) (standing : ℕ) (before : List ℕ) 
 -- A state, by its sizes, counts, last length and the damping that its iteration began with, with the standing point,
 -- its rows and the filter.
 pub record ConsistentWith (S : CallContext) (z : Sizes) (k : Counts) (last : Last) (mu : Scalar)
-    (own rows filter : List Float) : Type 0 where
+    (own : List Float) (rows : Answer) (filter : List Float) : Type 0 where
   pub before : List ℕ
   pub way : Way S z (k .standing) before last mu
   pub before-many : length before ≡ k .iterations
@@ -201,8 +214,9 @@ pub record ConsistentWith (S : CallContext) (z : Sizes) (k : Counts) (last : Las
   pub few-asked : k .question ≤ 5500 * z .limit
   pub few-corrections : k .corrections ≤ 4
 
-abbrev pub Consistent : CallContext → Sizes → Counts → Last → Scalar → Memory → Type 0
-Consistent S z k last mu w = ConsistentWith S z k last mu (w .standing) (w .standingRows) (w .filter)
+abbrev pub Consistent : CallContext → State → Scalar → Memory → Type 0
+Consistent S st mu w =
+    ConsistentWith S (st .sizes) (st .counts) (st .last) mu (w .standing) (standingAnswer st w) (w .filter)
 
 -- what a call over the area that the call before left, left itself
 abbrev pub playedTo : AfterSlots → CallResult

@@ -1,6 +1,6 @@
 -- From an answer to the next question or the finish: the search, a new iteration, and a step turned down. Each keeps
 -- what stands, and the bounds of turn-downs and questions.
-use Prim.Native.Nat.{ℕ, suc, _+_, _*_, _≤_, _<_}
+use Prim.Native.Nat.{ℕ, suc, _+_, _*_, _≤_, _<_, zero-le}
 use mathlib.Core.Bool.{Bool, true, false, not, _&&_}
 use mathlib.Core.Path.{_≡_, refl, sym, ap}
 use native.Mathlib.Omega.{arith}
@@ -57,15 +57,14 @@ grown-bounds mu k x y since d p g w =
     }
 
 -- A call goes on from the state st and its memory w, in an iteration that began with the damping mu.
-module _ (S : CallContext) (st : State) (w : Memory) (mu : Scalar)
-    (v : Consistent S (st .sizes) (st .counts) (st .last) mu w) where
+module _ (S : CallContext) (st : State) (w : Memory) (mu : Scalar) (v : Consistent S st mu w) where
   left-after :
       (p : CountBounds mu (st .counts) (st .search) 0) →
       st .counts .iterations < st .sizes .limit →
       (f : Found) → Leaves mu (st .search) (p .growths) f → After S (st .sizes) (leftAt st w f)
   unfolding leftAt
   left-after p lim (asks y t) h =
-      trial-after S (trying st y t) (withTrial st w (t .next) (t .delta) (t .lambda)) mu v
+      trial-after S (trying st y t) (withTrial st w (t .next) (t .delta) (t .lambda)) mu v zero-le
       (grown-bounds mu (st .counts) (st .search) y 0 (h .more) p (h .grew) (h .growth)) lim
   left-after p lim (stops y s) h =
       finish-after S (searching st y) w s mu v
@@ -95,7 +94,7 @@ module _ (S : CallContext) (st : State) (w : Memory) (mu : Scalar)
 
 pub grow-after :
     (S : CallContext) (st : State) (w : Memory) (mu : Scalar) →
-    Consistent S (st .sizes) (st .counts) (st .last) mu w →
+    Consistent S st mu w →
     CountBounds mu (st .counts) (st .search) 5 →
     st .counts .iterations < st .sizes .limit → After S (st .sizes) (grow st w)
 unfolding grow
@@ -121,7 +120,7 @@ grow-after S st w mu v p lim =
 
 pub turn-down-after :
     (S : CallContext) (st : State) (w : Memory) (r : Rejection) (mu : Scalar) →
-    Consistent S (st .sizes) (st .counts) (st .last) mu w →
+    Consistent S st mu w →
     CountBounds mu (st .counts) (st .search) 5 →
     st .counts .iterations < st .sizes .limit → After S (st .sizes) (turnDown st w r)
 unfolding turnDown
@@ -135,7 +134,7 @@ turn-down-after S st w r mu v p lim =
 
 pub not-lower-after :
     (S : CallContext) (st : State) (w : Memory) (mu : Scalar) →
-    Consistent S (st .sizes) (st .counts) (st .last) mu w →
+    Consistent S st mu w →
     CountBounds mu (st .counts) (st .search) 5 →
     st .counts .iterations < st .sizes .limit → After S (st .sizes) (notLower st w)
 unfolding notLower

@@ -11,12 +11,12 @@ use Rattle.interval.specs.declared.Scalar.{Scalar}
 use Rattle.interval.specs.Result.{ok}
 use Rattle.interval.specs.Scalar.{subOf, definitelyLess}
 use Rattle.interval.proofs.Given.{yes}
-use Rattle.run.specs.Rows.{Rows, constraintsOf, sumOf, rowCounts}
 use Rattle.run.specs.Residuals.{sumSquared, violationOf}
 use Rattle.run.specs.Vectors.{allTo}
 use Rattle.run.specs.Judgement.{sumChange, rises, indefinite}
 use Rattle.run.specs.Filter.{beatsTo, filterSum, filterViolation}
-use Rattle.run.specs.Demand.{In, AnsweredRows, hasRows, BothWith, LowerRows, Lower, UndecidedRows}
+use Rattle.run.specs.Demand.{In, Answer, AnsweredRows, hasRows, BothWith, constraintsIn, sumIn, LowerRows}
+use Rattle.run.specs.Demand.{Lower, UndecidedRows}
 use Rattle.run.specs.declared.state.Sizes.{Sizes}
 use Rattle.run.proofs.Booleans.{and-left, and-right, or-either}
 use Rattle.run.proofs.demand3.ExactLaws.{Good, ExactLaws}
@@ -24,49 +24,42 @@ use Rattle.run.proofs.demand3.Invariant.{FittingRows, Pairs}
 
 -- of the rows that two questions were answered with
 pub of-rows :
-    (P : List Float → List Float → Type 0) {x y : AnsweredRows} {xs ys : List Float} →
-    x ≡ hasRows xs → y ≡ hasRows ys → P xs ys → BothWith P x y
-of-rows P {x} {y} {xs} {ys} e e′ p =
+    (P : Answer → Answer → Type 0) {x y : AnsweredRows} {a b : Answer} →
+    x ≡ hasRows a → y ≡ hasRows b → P a b → BothWith P x y
+of-rows P {x} {y} {a} {b} e e′ p =
     subst (λ (g : AnsweredRows). BothWith P g y) (sym e)
-    (subst (λ (g : AnsweredRows). BothWith P (hasRows xs) g) (sym e′) p)
+    (subst (λ (g : AnsweredRows). BothWith P (hasRows a) g) (sym e′) p)
 
--- the sum's rows and the constraints' of an answer
-abbrev pub sums : Sizes → List Float → Rows
-sums z xs = sumOf (rowCounts z) xs
-
-abbrev pub constraints : Sizes → List Float → Rows
-constraints z xs = constraintsOf (rowCounts z) xs
-
-module _ (law : ExactLaws) (z : Sizes) (xs ys : List Float) (gx : Good z xs) (gy : Good z ys) (theta theta′ : Scalar)
-    (e : violationOf (constraints z xs) ≡ ok theta) (e′ : violationOf (constraints z ys) ≡ ok theta′) where
+module _ (law : ExactLaws) (z : Sizes) (x y : Answer) (gx : Good z x) (gy : Good z y) (theta theta′ : Scalar)
+    (e : violationOf (constraintsIn z x) ≡ ok theta) (e′ : violationOf (constraintsIn z y) ≡ ok theta′) where
   -- the sum change or the fall of the violation is definite
   pub lower-definite :
-      (rises (sumChange (sums z xs) (sums z ys)) || rises (subOf theta theta′)) ≡ true → LowerRows z xs ys
+      (rises (sumChange (sumIn z x) (sumIn z y)) || rises (subOf theta theta′)) ≡ true → LowerRows z x y
   lower-definite h =
-      let a = rises (sumChange (sums z xs) (sums z ys)) in
+      let a = rises (sumChange (sumIn z x) (sumIn z y)) in
       let b = rises (subOf theta theta′) in
-      ⊎-elim (λ r. inl (law .change-falls (sums z xs) (sums z ys) refl (gx .sum-finite) (gy .sum-finite) (yes r)))
-      (λ r. inr (law .violation-falls (constraints z xs) (constraints z ys) (gx .constraints-finite)
+      ⊎-elim (λ r. inl (law .change-falls (sumIn z x) (sumIn z y) refl (gx .sum-finite) (gy .sum-finite) (yes r)))
+      (λ r. inr (law .violation-falls (constraintsIn z x) (constraintsIn z y) (gx .constraints-finite)
       (gy .constraints-finite) theta theta′ e e′ (yes r)))
       (or-either a b h)
 
   -- f or the violation is definitely less
   lower-less :
-      (definitelyLess (sumSquared (sums z ys)) (sumSquared (sums z xs)) || definitelyLess theta′ theta) ≡ true →
-      LowerRows z xs ys
+      (definitelyLess (sumSquared (sumIn z y)) (sumSquared (sumIn z x)) || definitelyLess theta′ theta) ≡ true →
+      LowerRows z x y
   lower-less h =
-      let a = definitelyLess (sumSquared (sums z ys)) (sumSquared (sums z xs)) in
+      let a = definitelyLess (sumSquared (sumIn z y)) (sumSquared (sumIn z x)) in
       let b = definitelyLess theta′ theta in
-      ⊎-elim (λ r. inl (law .sum-less (sums z xs) (sums z ys) (gx .sum-finite) (gy .sum-finite) (yes r)))
-      (λ r. inr (law .violation-less (constraints z xs) (constraints z ys) (gx .constraints-finite)
+      ⊎-elim (λ r. inl (law .sum-less (sumIn z x) (sumIn z y) (gx .sum-finite) (gy .sum-finite) (yes r)))
+      (λ r. inr (law .violation-less (constraintsIn z x) (constraintsIn z y) (gx .constraints-finite)
       (gy .constraints-finite) theta theta′ e e′ (yes r)))
       (or-either a b h)
 
   pub undecided-rows :
-      (indefinite (sumChange (sums z xs) (sums z ys)) && indefinite (subOf theta theta′)) ≡ true →
-      UndecidedRows z xs ys
+      (indefinite (sumChange (sumIn z x) (sumIn z y)) && indefinite (subOf theta theta′)) ≡ true →
+      UndecidedRows z x y
   undecided-rows h =
-      let a = indefinite (sumChange (sums z xs) (sums z ys)) in
+      let a = indefinite (sumChange (sumIn z x) (sumIn z y)) in
       let b = indefinite (subOf theta theta′) in
       record {
         before = theta;
@@ -79,25 +72,26 @@ module _ (law : ExactLaws) (z : Sizes) (xs ys : List Float) (gx : Good z xs) (gy
 
 -- against the points that stood before, by their pairs
 module _ (law : ExactLaws) (z : Sizes) (rows : ℕ → AnsweredRows) (filter : List Float) (y : AnsweredRows)
-    (ys : List Float) (r : FittingRows z y ys) (theta′ : Scalar) (e′ : violationOf (constraints z ys) ≡ ok theta′) where
-  beats : List ℕ → Bool
-  beats es = beatsTo filter (sumSquared (sums z ys)) theta′ (length es)
+    (own : Answer) (r : FittingRows z y own) (theta′ : Scalar) (e′ : violationOf (constraintsIn z own) ≡ ok theta′)
+  where
+    beats : List ℕ → Bool
+    beats es = beatsTo filter (sumSquared (sumIn z own)) theta′ (length es)
 
-  one : List ℕ → Bool
-  one es =
-      definitelyLess (sumSquared (sums z ys)) (filterSum filter (length es))
-      || definitelyLess theta′ (filterViolation filter (length es))
+    one : List ℕ → Bool
+    one es =
+        definitelyLess (sumSquared (sumIn z own)) (filterSum filter (length es))
+        || definitelyLess theta′ (filterViolation filter (length es))
 
-  pub lower-pairs :
-      (es : List ℕ) →
-      Pairs z rows filter es →
-      beatsTo filter (sumSquared (sums z ys)) theta′ (length es) ≡ true → (e : ℕ) → In e es → Lower z (rows e) y
-  unfolding beatsTo allTo In beats one
-  lower-pairs [] p b e i = absurd i
-  lower-pairs (d ∷ es) p b e (inl q) =
-      let own = p .0 .rowed in
-      subst (λ (k : ℕ). Lower z (rows k) y) (sym q)
-      (of-rows (LowerRows z) (own .given-is) (r .given-is)
-      (lower-less law z (p .0 .rows) ys (own .good) (r .good) (filterViolation filter (length es)) theta′
-      (p .0 .pair-violation) e′ (rw (← p .0 .pair-sum) (and-right (beats es) (one es) b))))
-  lower-pairs (d ∷ es) p b e (inr i) = lower-pairs es (p .1) (and-left (beats es) (one es) b) e i
+    pub lower-pairs :
+        (es : List ℕ) →
+        Pairs z rows filter es →
+        beatsTo filter (sumSquared (sumIn z own)) theta′ (length es) ≡ true → (e : ℕ) → In e es → Lower z (rows e) y
+    unfolding beatsTo allTo In beats one
+    lower-pairs [] p b e i = absurd i
+    lower-pairs (d ∷ es) p b e (inl q) =
+        let stood = p .0 .rowed in
+        subst (λ (k : ℕ). Lower z (rows k) y) (sym q)
+        (of-rows (LowerRows z) (stood .given-is) (r .given-is)
+        (lower-less law z (p .0 .rows) own (stood .good) (r .good) (filterViolation filter (length es)) theta′
+        (p .0 .pair-violation) e′ (rw (← p .0 .pair-sum) (and-right (beats es) (one es) b))))
+    lower-pairs (d ∷ es) p b e (inr i) = lower-pairs es (p .1) (and-left (beats es) (one es) b) e i

@@ -33,16 +33,16 @@ call-follows :
     (r : Run) (c : Call) →
     refusedByCheck (callResult r c .event) ≡ false →
     Follows (r .state .counts .question) (callResult r c .run .state) (callResult r c .event)
-call-follows r (rows same xs f) = reply-leaves (r .state) (r .area) xs .follows
-call-follows r (rows (other a) xs f) = reply-leaves (r .state) a xs .follows
+call-follows r (rows same m xs f) = reply-leaves (r .state) (r .area) m xs .follows
+call-follows r (rows (other a) m xs f) = reply-leaves (r .state) a m xs .follows
 call-follows r (none same) = reply-none-leaves (r .state) (r .area) .follows
 call-follows r (none (other a)) = reply-none-leaves (r .state) a .follows
 
 -- what a check refuses keeps the state
 refused-state :
     (r : Run) (c : Call) → refusedByCheck (callResult r c .event) ≡ true → callResult r c .run .state ≡ r .state
-refused-state r (rows same xs f) e = reply-leaves (r .state) (r .area) xs .unchanged e .0
-refused-state r (rows (other a) xs f) e = reply-leaves (r .state) a xs .unchanged e .0
+refused-state r (rows same m xs f) e = reply-leaves (r .state) (r .area) m xs .unchanged e .0
+refused-state r (rows (other a) m xs f) e = reply-leaves (r .state) a m xs .unchanged e .0
 refused-state r (none same) e = reply-none-leaves (r .state) (r .area) .unchanged e .0
 refused-state r (none (other a)) e = reply-none-leaves (r .state) a .unchanged e .0
 
@@ -53,10 +53,11 @@ either-check : (b : Bool) (st : State) (a : List Float)
 either-check true st a = refl
 either-check false st a = refl
 
-reply-closed : (st : State) (a xs : List Float) → st .phase ≡ Over → replyOf st a xs ≡ unchanged st a 4
+reply-closed :
+    (st : State) (a : List Float) (m : ℕ) (xs : List Float) → st .phase ≡ Over → replyOf st a m xs ≡ unchanged st a 4
 unfolding replyOf
-reply-closed st a xs e =
-    ap (λ (p : Phase). checks (valid st) 4 (unchanged st a) (replyOpen st a xs p)) e ∙ either-check (valid st) st a
+reply-closed st a m xs e =
+    ap (λ (p : Phase). checks (valid st) 4 (unchanged st a) (replyOpen st a m xs p)) e ∙ either-check (valid st) st a
 
 none-closed : (st : State) (a : List Float) → st .phase ≡ Over → replyNoneOf st a ≡ unchanged st a 4
 unfolding replyNoneOf
@@ -69,14 +70,14 @@ pub record Closed (r : Run) (c : Call) : Type 0 where
   pub still : callResult r c .run .state .phase ≡ Over
 
 closed : (r : Run) (c : Call) → r .state .phase ≡ Over → Closed r c
-closed r (rows same xs f) o =
-    let e = reply-closed (r .state) (r .area) xs o in
+closed r (rows same m xs f) o =
+    let e = reply-closed (r .state) (r .area) m xs o in
     record {
       refused = ap (λ (l : AfterCall). l .event) e;
       still = ap (λ (l : AfterCall). l .state .phase) e ∙ o;
     }
-closed r (rows (other a) xs f) o =
-    let e = reply-closed (r .state) a xs o in
+closed r (rows (other a) m xs f) o =
+    let e = reply-closed (r .state) a m xs o in
     record {
       refused = ap (λ (l : AfterCall). l .event) e;
       still = ap (λ (l : AfterCall). l .state .phase) e ∙ o;

@@ -12,9 +12,9 @@ use Rattle.interval.specs.declared.Scalar.{Scalar}
 use Rattle.linear.specs.Flat.{zeros}
 use Rattle.run.specs.Limits.{ITERATIONS}
 use Rattle.run.specs.Area.{Slots, Memory, areaOf, startOf, slotSizes, numbersIn, partOf, standingCounts}
-use Rattle.run.specs.Area.{landedCounts}
+use Rattle.run.specs.Area.{landedCounts, pairsIn}
 use Rattle.run.specs.Residuals.{violationOf}
-use Rattle.run.specs.Rows.{constraintsOf, rowCounts}
+use Rattle.run.specs.Rows.{constraintsOf}
 use Rattle.run.specs.declared.area.SlotNumbers.{SlotNumbers}
 use Rattle.run.specs.declared.rows.RowCounts.{RowCounts}
 use Rattle.run.specs.declared.state.Sizes.{Sizes}
@@ -168,7 +168,8 @@ pub record AllWhole (z : Sizes) (used : Slots ℕ) (w : Memory) (a : List Float)
 abbrev pub ReadAll : State → Memory → List Float → Type 0
 ReadAll st w a = AllWhole (st .sizes) (numbersIn st) w a
 
--- sizes and iterations whose numbers in use fit the slots
-pub record Limits (z : Sizes) (iterations : ℕ) : Type 0 where
-  pub few : FewRows (rowCounts z)
-  pub iterations-fit : iterations ≤ ITERATIONS
+-- a state whose numbers in use fit the slots
+pub record Limits (st : State) : Type 0 where
+  pub standing-few : FewRows (standingCounts st)
+  pub landed-few : FewRows (landedCounts st)
+  pub iterations-fit : pairsIn st ≤ ITERATIONS

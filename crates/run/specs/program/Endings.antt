@@ -22,7 +22,8 @@ pub record Leaves (o : AfterSlots) (r : Returned) (a : List Float) : Type 0 wher
 -- the numbers of an open run are small, with fewer than t turn-downs, and its damping is positive
 pub record Bounded (t : ℕ) (st : State) : Type 0 where
   pub few-variables : st .sizes .n ≤ VARIABLES
-  pub few-constraints : st .sizes .m ≤ CONSTRAINTS
+  pub few-standing : st .contents .«standing_m» ≤ CONSTRAINTS
+  pub few-landed : st .contents .«landed_m» ≤ CONSTRAINTS
   pub few-sums : st .sizes .s ≤ SUM-ROWS
   pub few-iterations : st .sizes .limit ≤ ITERATIONS
   pub within : st .counts .iterations ≤ st .sizes .limit

@@ -9,9 +9,10 @@ use Rattle.run.specs.declared.judgement.Judgement.the-variants as judgem
 use Rattle.run.specs.declared.rows.RowCounts.{RowCounts}
 use Rattle.run.specs.program.Rows.{FewRows}
 
--- counts within the limits, and a step of so many numbers
-pub record Judging (c : RowCounts) (b : Baseline) (step : ℕ) : Type 0 where
+-- the counts of both answers within the limits, and a step of so many numbers
+pub record Judging (c d : RowCounts) (b : Baseline) (step : ℕ) : Type 0 where
   pub counts : FewRows c
+  pub next-counts : FewRows d
   pub few-pairs : b .pairs < 65536
   pub step-is : 2 * c .n ≤ step
 

@@ -25,7 +25,7 @@ returns-2 c =
     let fits = sym (read .before .before .numbers-fit .ensures) ∙ not-false _ (read .before .if1 .left) in
     rw (c .returned-after .ensures)
     (ap (afterExportOver (a .run)) (made .reply .ensures)
-    ∙ ap (λ (st : State). afterExportOver (a .run) (replyOf st (now (a .area)) (now (a .rows))))
+    ∙ ap (λ (st : State). afterExportOver (a .run) (replyOf st (now (a .area)) (a .m) (now (a .rows))))
     (read .state-at .ensures)
     ∙ sym (called _ _ _ fits))
 

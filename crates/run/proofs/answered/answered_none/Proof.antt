@@ -2,7 +2,7 @@
 use mathlib.Core.Path.{ap, _∙_}
 use Rattle.run.specs.declared.state.Phase.the-variants.{Open}
 use Rattle.run.proofs.AnsweredLaws.{works, correction-underway, none-as}
-use Rattle.run.proofs.MemoryLaws.{limits-of, rows-of, measures}
+use Rattle.run.proofs.MemoryLaws.{limits-of, standing-rows-of, measures}
 use Rattle.run.proofs.PhaseLengths.{trial-read, correction-read}
 use borrow.Author.Needs.{needs}
 use Rattle.run.proofs.answered.answered_none.Statement.{statement}
@@ -18,7 +18,7 @@ returns c w h =
     st h))
 
 standing-violation-requires : tie.Need-standing-violation-requires
-standing-violation-requires c κs = let p = c .before .before .before .before .pre in (p .0, rows-of (p .1 .0))
+standing-violation-requires c κs = let p = c .before .before .before .before .pre in (p .0, standing-rows-of (p .1 .0))
 
 turn-down-requires : tie.Need-turn-down-requires
 turn-down-requires c κs =

@@ -7,7 +7,7 @@ use Rattle.run.specs.Area.{Memory}
 use Rattle.run.specs.Endings.{AfterSlots}
 use Rattle.run.specs.Corrected.{landTrial, landCorrection}
 use Rattle.run.proofs.EndingLaws.{or-next, or-refused, when, unless}
-use Rattle.run.proofs.MemoryLaws.{limits-of, rows-of, measures}
+use Rattle.run.proofs.MemoryLaws.{limits-of, standing-rows-of, measures}
 use borrow.Author.Needs.{needs}
 use Rattle.run.proofs.answered.land.Statement.{statement}
 use Rattle.run.proofs.answered.land.Tie as tie
@@ -16,12 +16,13 @@ use Rattle.run.proofs.answered.land.Tie as tie
 abbrev next : tie.Start → Memory → Scalar → AfterSlots
 next s w theta =
     let a = s .args in
-    pick (a .trial) (landTrial (a .st) w (a .rows .now) theta) (landCorrection (a .st) w (a .rows .now) theta)
+    pick (a .trial) (landTrial (a .st) w (a .m) (a .rows .now) theta)
+    (landCorrection (a .st) w (a .m) (a .rows .now) theta)
 
 standing-violation-requires : tie.Need-standing-violation-requires
 standing-violation-requires c κs =
     let p = c .before .before .before .pre .0 in
-    (p .whole-area, rows-of (p .underway .bounded))
+    (p .whole-area, standing-rows-of (p .underway .bounded))
 
 land-trial-requires : tie.Need-land-trial-requires
 land-trial-requires c κs = c .before .before .before .before .before .before .before .before .before .pre .0

@@ -8,7 +8,7 @@ use lib.Ieee.{Float}
 use Rattle.linear.specs.Flat.{zeros}
 use Rattle.run.specs.Area.{indices}
 use Rattle.run.specs.program.Area.{written}
-use Rattle.run.proofs.MemoryLaws.{point-fits, rows-fit}
+use Rattle.run.proofs.MemoryLaws.{point-fits}
 use Rattle.run.proofs.PlaceLaws.{each-same, place-room}
 use Rattle.run.proofs.WriterLaws.{started-holds}
 use borrow.Author.Needs.{needs}
@@ -16,7 +16,7 @@ use Rattle.run.proofs.area.write_start.Statement.{statement}
 use Rattle.run.proofs.area.write_start.Tie as tie
 
 mul-clear-from : tie.Need-mul-clear-from
-mul-clear-from c = omega (arith, c .before .before .before .before .before .pre .1 .few .few-variables)
+mul-clear-from c = omega (arith, c .before .before .before .before .before .pre .1 .standing-few .few-variables)
 
 clear-from-requires : tie.Need-clear-from-requires
 clear-from-requires c κs =
@@ -29,7 +29,7 @@ write-requires c κs =
     let s = c .before .before .before .before .before .before .before .before .before in
     place-room (s .args .st .sizes) (indices .standingRows) (lit< tt)
     (each-same (c .before .before .before .before .before .before .places .ensures) .standing-rows)
-    (omega (arith, s .pre .2, rows-fit (s .args .st) (s .pre .1)))
+    (s .pre .2)
     (omega (arith, c .before .before .before .clear-from .kept, s .pre .0))
 
 returns : tie.Need-returns

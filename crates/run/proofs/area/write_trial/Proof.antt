@@ -10,7 +10,7 @@ use lib.Seq.{length-take-le}
 use Rattle.linear.specs.Flat.{zeros}
 use Rattle.run.specs.Area.{indices}
 use Rattle.run.specs.program.Area.{written}
-use Rattle.run.proofs.MemoryLaws.{point-fits, rows-fit, multipliers-fit}
+use Rattle.run.proofs.MemoryLaws.{point-fits, landed-rows-fit, multipliers-fit}
 use Rattle.run.proofs.PlaceLaws.{each-same, place-room}
 use Rattle.run.proofs.WriterLaws.{trial-holds}
 use borrow.Author.Needs.{needs}
@@ -23,7 +23,7 @@ numbers-in-requires c κs = c .before .before .before .before .pre .1
 write-next-requires : tie.Need-write-next-requires
 write-next-requires c κs = (
   c .before .before .before .before .before .before .pre .0,
-  c .before .before .before .before .before .before .pre .1 .few .few-variables,
+  c .before .before .before .before .before .before .pre .1 .standing-few .few-variables,
 )
 
 clear-from-requires : tie.Need-clear-from-requires
@@ -50,7 +50,7 @@ clear-from-requires-2 c κs =
       arith,
       each-same
           (c .before .before .before .before .before .before .before .before .before .numbers-in .ensures) .landed-rows,
-      rows-fit (s .args .st) (s .pre .1),
+      landed-rows-fit (s .args .st) (s .pre .1),
     ))
     (omega (
       arith,

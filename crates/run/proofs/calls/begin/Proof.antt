@@ -29,19 +29,19 @@ returns : tie.Need-returns
 returns c =
     let a = c .before .before .before .before .before .args in
     ap (λ (r : Returned). afterCall r (now (a .area))) (c .not-begun .ensures)
-    ∙ begin-refused (record { n = a .n; m = a .m; s = a .s; limit = a .limit }) (now (a .start)) (a .max-step)
+    ∙ begin-refused (record { n = a .n; s = a .s; limit = a .limit }) (now (a .start)) (a .max-step)
     (now (a .area)) (c .before .before .refusal .ensures) (c .before .if1 .taken)
 
 write-begun-requires : tie.Need-write-begun-requires
 write-begun-requires c κs =
     let a = c .before .before .before .before .before .args in
-    begin-lengths (record { n = a .n; m = a .m; s = a .s; limit = a .limit }) (now (a .start)) (a .max-step)
+    begin-lengths (record { n = a .n; s = a .s; limit = a .limit }) (now (a .start)) (a .max-step)
     (now (a .area)) (c .before .before .refusal .ensures) (c .before .if1 .left)
 
 returns-2 : tie.Need-returns-2
 returns-2 c =
     let a = c .before .before .before .before .before .before .before .before .before .before .args in
-    let z : Sizes = record { n = a .n; m = a .m; s = a .s; limit = a .limit } in
+    let z : Sizes = record { n = a .n; s = a .s; limit = a .limit } in
     begun (now (a .start)) (c .state-with .ensures) (c .before .first-damping .ensures)
     (c .before .before .before .before .write-begun .ensures .is)
     ∙ begin-passed z (now (a .start)) (a .max-step) (now (a .area))

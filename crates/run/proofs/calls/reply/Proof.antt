@@ -14,14 +14,14 @@ use Rattle.run.proofs.calls.reply.Tie as tie
 returns : tie.Need-returns
 returns c =
     let a = c .before .before .before .before .before .before .args in
-    sym (rows-refused (a .st) (a .area .now) (a .rows .now) _
+    sym (rows-refused (a .st) (a .area .now) (a .m) (a .rows .now) _
     (sym (c .before .before .before .check-rows .ensures) ∙ c .before .number .given .1))
 
 clear-unused-requires : tie.Need-clear-unused-requires
 clear-unused-requires c κs =
     let a = c .before .before .before .before .before .before .before .args in
     let r =
-    accepted-rows (a .st) (length (a .area .now)) (a .rows .now) _
+    accepted-rows (a .st) (length (a .area .now)) (a .m) (a .rows .now) _
     (sym (c .before .before .before .before .check-rows .ensures) ∙ c .before .before .kind .given .1) .reply in
     let b = reply-bounded (a .st) _ (r .run) (r .opened) in
     (r .whole, limits-of b)
@@ -30,16 +30,19 @@ answered-requires : tie.Need-answered-requires
 answered-requires c κs =
     let a = c .before .before .before .before .before .before .before .before .before .before .before .args in
     let w =
-    accepted-rows (a .st) (length (a .area .now)) (a .rows .now) _
+    accepted-rows (a .st) (length (a .area .now)) (a .m) (a .rows .now) _
     (sym (c .before .before .before .before .before .before .before .before .check-rows .ensures)
     ∙ c .before .before .before .before .before .before .kind .given .1) in
     let v = w .reply .run in (
       omega (arith, c .before .before .before .clear-unused .kept, w .reply .whole),
       (
-        w .full,
+        w .few,
         (
-          reply-bounded (a .st) _ v (w .reply .opened),
-          (bounds (a .st) v .corrections, (reply-phase (a .st) _ v (w .reply .opened), w .reply .opened)),
+          w .full,
+          (
+            reply-bounded (a .st) _ v (w .reply .opened),
+            (bounds (a .st) v .corrections, (reply-phase (a .st) _ v (w .reply .opened), w .reply .opened)),
+          ),
         ),
       ),
     )
@@ -52,7 +55,7 @@ returns-2 c =
     leaves-left _ _ _
     (c .before .before .answered .ensures (memoryOf (a .st) (a .area .now))
     (c .before .before .before .before .before .before .clear-unused .ensures))
-    ∙ sym (rows-accepted (a .st) (a .area .now) (a .rows .now) _ is)
+    ∙ sym (rows-accepted (a .st) (a .area .now) (a .m) (a .rows .now) _ is)
 
 pub reply-spec : {M : Type 1} → statement M
 reply-spec =

@@ -9,7 +9,7 @@ use Rattle.run.specs.program.Corrected.{shiftedOf}
 use Rattle.run.specs.declared.corrected.Shifted.{Shifted}
 use Rattle.run.proofs.AnsweredLaws.{correct-asks, correct-stays, correct-refused}
 use Rattle.run.proofs.DecideLaws.{marks-count, shifted-read}
-use Rattle.run.proofs.MemoryLaws.{limits-of, rows-of}
+use Rattle.run.proofs.MemoryLaws.{limits-of, landed-rows-of}
 use Rattle.run.proofs.WriterLaws.{asked-holds}
 use borrow.Author.Needs.{needs}
 use Rattle.run.proofs.corrected.correct.Statement.{statement}
@@ -17,12 +17,12 @@ use Rattle.run.proofs.corrected.correct.Tie as tie
 
 -- there are twelve marks
 marks : (s : tie.Start) → length (s .args .st .moving) ≡ 12
-marks s = marks-count (s .args .st .moving) (s .good .0 .1 .1 .1 .1 .1 .1 .1 .1 .1 .0 .1 .0 .1)
+marks s = marks-count (s .args .st .moving) (s .good .0 .1 .1 .1 .1 .1 .1 .1 .1 .1 .1 .0 .1 .0 .1)
 
 landed-rows-requires : tie.Need-landed-rows-requires
 landed-rows-requires c κs =
     let p = c .before .before .before .before .before .pre in
-    (p .0, rw (c .landed-counts2 .ensures) (rows-of (p .1 .bounded)))
+    (p .0, rw (c .landed-counts2 .ensures) (landed-rows-of (p .1 .bounded)))
 
 slice-aggregate-shift-from : tie.Need-slice-aggregate-shift-from
 slice-aggregate-shift-from c = sym (marks (c .before .before .before .before .before .before .before))
@@ -36,8 +36,8 @@ shift-from-requires : tie.Need-shift-from-requires
 shift-from-requires c κs =
     let s = c .before .before .before .before .before .before .before .before .before in (
       record {
-        few = rw (c .before .before .before .before .before .before .landed-counts .ensures) (rows-of (s .pre .1
-            .bounded));
+        few = rw (c .before .before .before .before .before .before .landed-counts .ensures)
+            (landed-rows-of (s .pre .1 .bounded));
         marks = marks s;
       },
       refl,

@@ -3,18 +3,18 @@ use mathlib.Core.Path.{sym, ap, _∙_}
 use Rattle.linear.specs.LinearResult.{resultOf}
 use Rattle.run.specs.Decide.{judge}
 use Rattle.run.proofs.EndingLaws.{or-next, or-refused}
-use Rattle.run.proofs.MemoryLaws.{limits-of, rows-of, compares}
+use Rattle.run.proofs.MemoryLaws.{limits-of, standing-rows-of, landed-rows-of, compares}
 use borrow.Author.Needs.{needs}
 use Rattle.run.proofs.corrected.correction_none.Statement.{statement}
 use Rattle.run.proofs.corrected.correction_none.Tie as tie
 
 standing-violation-requires : tie.Need-standing-violation-requires
-standing-violation-requires c κs = let p = c .before .before .pre in (p .0, rows-of (p .1 .bounded))
+standing-violation-requires c κs = let p = c .before .before .pre in (p .0, standing-rows-of (p .1 .bounded))
 
 landed-violation-requires : tie.Need-landed-violation-requires
 landed-violation-requires c κs =
     let p = c .before .before .before .before .before .before .before .pre in
-    (p .0, rows-of (p .1 .bounded))
+    (p .0, landed-rows-of (p .1 .bounded))
 
 judge-landed-requires : tie.Need-judge-landed-requires
 judge-landed-requires c κs = c .before .before .before .before .before .before .before .before .before .pre

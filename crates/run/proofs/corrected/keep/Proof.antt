@@ -11,7 +11,7 @@ use Rattle.run.specs.Corrected.{shiftedStep}
 use Rattle.run.proofs.AnsweredLaws.{keep-known, keep-refused, kept-known}
 use Rattle.run.proofs.DecideLaws.{marks-count, shift-read, landed-again, landed-known, withStep, stepped}
 use Rattle.run.proofs.DecideLaws.{step-length, step-whole}
-use Rattle.run.proofs.MemoryLaws.{limits-of, judges-as, rows-of}
+use Rattle.run.proofs.MemoryLaws.{limits-of, judges-as, landed-rows-of, rows-fit}
 use Rattle.run.proofs.PlaceLaws.{each-same, place-room}
 use borrow.Rule.Slice.PartMut.{putMid, same-len-mid}
 use borrow.Author.Needs.{needs}
@@ -20,12 +20,12 @@ use Rattle.run.proofs.corrected.keep.Tie as tie
 
 -- there are twelve marks
 marks : (s : tie.Start) → length (s .args .st .moving) ≡ 12
-marks s = marks-count (s .args .st .moving) (s .good .0 .1 .1 .1 .1 .1 .1 .1 .1 .1 .0 .1 .0 .1)
+marks s = marks-count (s .args .st .moving) (s .good .0 .1 .1 .1 .1 .1 .1 .1 .1 .1 .1 .0 .1 .0 .1)
 
 landed-rows-requires : tie.Need-landed-rows-requires
 landed-rows-requires c κs =
     let p = c .before .before .before .before .before .pre .0 in
-    (p .whole-area, rw (c .before .landed-counts .ensures) (rows-of (p .underway .bounded)))
+    (p .whole-area, rw (c .before .landed-counts .ensures) (landed-rows-of (p .underway .bounded)))
 
 slice-aggregate-shift : tie.Need-slice-aggregate-shift
 slice-aggregate-shift c = sym (marks (c .before .before .before .before .before .before .before))
@@ -34,7 +34,10 @@ shift-requires : tie.Need-shift-requires
 shift-requires c κs =
     let s = c .before .before .before .before .before .before .before .before in
     let b = s .pre .0 .underway .bounded in (
-      record { few = rw (c .before .before .before .before .landed-counts .ensures) (rows-of b); marks = marks s },
+      record {
+        few = rw (c .before .before .before .before .landed-counts .ensures) (landed-rows-of b);
+        marks = marks s;
+      },
       refl,
     )
 
@@ -49,7 +52,7 @@ returns c w h t l v =
     let k = c .before .before .before .before .before .before .before .before in
     let a = k .before .before .before .before .before .before .before .before .before .args in
     let x = k .shift in
-    keep-refused (a .st) w (a .rows .now) (a .theta) refl
+    keep-refused (a .st) w (a .m) (a .rows .now) (a .theta) refl
     (shift-read (a .st) (h .within .holds) l (k .before .before .before .before .before .landed-counts .ensures) (k
     .before .before .before .landed-rows .ensures) (x .ensures))
     (ap (λ (r : Done). doneOf r (x .last .1 .1 .1 .0)) (c .before .before .before .before .before .shift2 .given .1))
@@ -98,7 +101,11 @@ write-landed-requires : tie.Need-write-landed-requires
 write-landed-requires c κs =
     let p = c .before .before .before .before .before .before .before .before .before .before .before .before .before
     .before .before .before .before .before .before .pre .0 in
-    (stays-long (c .before .before .before) ∙ p .whole-area, limits-of (p .underway .bounded), p .whole-rows)
+    let b = p .underway .bounded in (
+      stays-long (c .before .before .before) ∙ p .whole-area,
+      limits-of b,
+      rows-fit b (p .few-constraints) (p .whole-rows),
+    )
 
 add-corrections : tie.Need-add-corrections
 add-corrections c =
@@ -112,10 +119,10 @@ correct-or-judge-requires : tie.Need-correct-or-judge-requires
 correct-or-judge-requires c κs =
     let p = c .before .before .before .before .before .before .before .before .before .before .before .before .before
     .before .before .before .before .before .before .before .before .before .before .before .before .pre in
-    rw (c .before .with-landed-number .ensures) (
+    rw (c .before .with-landed .ensures) (
       c .before .before .before .before .before .write-landed .kept .0 ∙ stays-long (c .before .before .before .before
           .before .before .before .before .before) ∙ p .0 .whole-area,
-      landed-again _ (omega (arith, p .1)) (p .0 .underway),
+      landed-again _ _ (p .0 .few-constraints) (omega (arith, p .1)) (p .0 .underway),
     )
 
 same-length-2 : tie.Need-same-length-2
@@ -136,18 +143,19 @@ returns-2 c w h t l v =
     let x = k .shift in
     let d = x .last .1 .1 .1 .0 in
     let step = shiftedStep (st .sizes .n) (w .step) d in
-    let n = c .before .before .before .before .with-landed-number .ensures in
+    let n = c .before .before .before .before .with-landed .ensures in
     let u = stepped st d t (p .underway .bounded .few-variables) (h .within) (each-same (j .before .before .before
     .places .ensures) .step)
     (j .shifted-step .ensures) in
     let held = c .before .before .before .before .before .before .before .before .write-landed .ensures (withStep w
     step) u (step-whole st d t) in
-    let known = landed-known st rows step (p .whole-rows) (step-length st d t) h t held v in
-    keep-known st w rows (a .theta) refl
+    let known = landed-known st (a .m) (st .counts .corrections + 1) rows step (p .whole-rows) (step-length st d t) h t
+    held v in
+    keep-known st w (a .m) rows (a .theta) refl
     (shift-read st (h .within .holds) l (k .before .before .before .before .before .landed-counts .ensures) (k .before
     .before .before .landed-rows .ensures) (x .ensures))
     (ap (λ (r : Done). doneOf r d) (j .before .before .before .before .enum-told .given .1))
-    (kept-known st w rows (a .theta) d n
+    (kept-known st w (a .m) rows (a .theta) d n
     (c .before .before .correct-or-judge .ensures (withLanded w rows step) (judges-as n known)))
 
 pub keep-spec : {M : Type 1} → statement M

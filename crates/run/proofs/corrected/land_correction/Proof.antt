@@ -11,7 +11,7 @@ use Rattle.run.specs.Residuals.{violationOf}
 use Rattle.run.specs.Results.{truthOf}
 use Rattle.run.proofs.AnsweredLaws.{correction-by, nearer-read}
 use Rattle.run.proofs.EndingLaws.{or-next, or-refused, when, unless}
-use Rattle.run.proofs.MemoryLaws.{limits-of, rows-of, compares}
+use Rattle.run.proofs.MemoryLaws.{limits-of, landed-rows-of, compares}
 use borrow.Author.Needs.{needs}
 use Rattle.run.proofs.corrected.land_correction.Statement.{statement}
 use Rattle.run.proofs.corrected.land_correction.Tie as tie
@@ -20,25 +20,23 @@ use Rattle.run.proofs.corrected.land_correction.Tie as tie
 abbrev next : tie.Start → Memory → Bool → AfterSlots
 next s w kept =
     let a = s .args in
-    pick kept (keep (a .st) w (a .rows .now) (a .theta)) (judge (a .st) w (a .theta))
+    pick kept (keep (a .st) w (a .m) (a .rows .now) (a .theta)) (judge (a .st) w (a .theta))
 
 violation-requires : tie.Need-violation-requires
 violation-requires c κs =
-    let p = c .before .before .before .pre in
-    rw (c .landed-counts .ensures) (p .0 .underway .bounded .few-constraints)
+    rw (c .row-counts .ensures) (c .before .before .before .pre .0 .few-constraints)
 
 landed-violation-requires : tie.Need-landed-violation-requires
 landed-violation-requires c κs =
     let p = c .before .before .before .before .before .pre .0 in
-    (p .whole-area, rows-of (p .underway .bounded))
+    (p .whole-area, landed-rows-of (p .underway .bounded))
 
 -- the violations that were worked out
 new-is :
     (k : tie.After-violation) →
-    resultOf (k .violation .result)
-    ≡ violationOf (rowsAt (k .before .before .before .before .args .st) (k .before .before .before .before .args .rows
-    .now) .constraints)
-new-is k = rw (k .before .landed-counts .ensures) at (k .violation .ensures)
+    let a = k .before .before .before .before .args in
+    resultOf (k .violation .result) ≡ violationOf (rowsAt (a .st) (a .m) (a .rows .now) .constraints)
+new-is k = rw (k .before .row-counts .ensures) at (k .violation .ensures)
 
 keep-requires : tie.Need-keep-requires
 keep-requires c κs =
@@ -54,7 +52,7 @@ returns c w h t l =
     .within .holds) (l .landed-rows) in
     let e = nearer-read (c .before .before .before .before .before .before .before .before .is-nearer .ensures) new old
     ∙ ap truthOf (c .before .before .before .before .before .before .kept .given .1) in
-    correction-by (a .st) w (a .rows .now) (a .theta)
+    correction-by (a .st) w (a .m) (a .rows .now) (a .theta)
     (or-next (a .st) w (next s w) e (when _ _ (c .before .before .before .before .if1 .taken) (c .before .before .keep
     .ensures w h t l new)))
 
@@ -73,7 +71,7 @@ returns-2 c w h t l =
     .within .holds) (l .landed-rows) in
     let e = nearer-read (c .before .before .before .before .before .before .before .before .is-nearer .ensures) new old
     ∙ ap truthOf (c .before .before .before .before .before .before .kept .given .1) in
-    correction-by (a .st) w (a .rows .now) (a .theta)
+    correction-by (a .st) w (a .m) (a .rows .now) (a .theta)
     (or-next (a .st) w (next s w) e
     (unless _ _ (c .before .before .before .before .if1 .left)
     (c .before .before .judge-landed .ensures w (compares (a .st) (h .within) (h .standing-whole) t l (h .standing-is)
@@ -93,7 +91,7 @@ returns-3 c w h t l =
     .holds) (l .landed-rows) in
     let e = nearer-read (c .before .before .before .before .before .before .before .is-nearer .ensures) (new-is k) old ∙
     ap truthOf (c .before .before .before .before .before .e .given .1) in
-    correction-by (a .st) w (a .rows .now) (a .theta)
+    correction-by (a .st) w (a .m) (a .rows .now) (a .theta)
     (or-refused (a .st) w (next s w) e (c .before .before .refuse .ensures w (h .within)))
 
 pub land-correction-spec : {M : Type 1} → statement M

@@ -4,7 +4,7 @@ use native.Mathlib.Omega.{arith}
 use Rattle.linear.specs.LinearResult.{resultOf}
 use Rattle.run.proofs.AnsweredLaws.{landed-with, trial-known, trial-refused}
 use Rattle.run.proofs.DecideLaws.{landed-again, lands, landed-known}
-use Rattle.run.proofs.MemoryLaws.{limits-of, rows-of, works-as, judges-as}
+use Rattle.run.proofs.MemoryLaws.{limits-of, rows-fit, works-as, judges-as}
 use borrow.Author.Needs.{needs}
 use Rattle.run.proofs.corrected.land_trial.Statement.{statement}
 use Rattle.run.proofs.corrected.land_trial.Tie as tie
@@ -12,21 +12,21 @@ use Rattle.run.proofs.corrected.land_trial.Tie as tie
 write-landed-requires : tie.Need-write-landed-requires
 write-landed-requires c κs =
     let p = c .before .before .before .pre in
-    (p .whole-area, limits-of (p .underway .bounded), p .whole-rows)
+    let b = p .underway .bounded in
+    (p .whole-area, limits-of b, rows-fit b (p .few-constraints) (p .whole-rows))
 
-landed-violation-requires : tie.Need-landed-violation-requires
-landed-violation-requires c κs =
-    let p = c .before .before .before .before .before .before .before .before .pre in
-    (c .before .before .before .before .write-landed .kept .0 ∙ p .whole-area, rows-of (p .underway .bounded))
+violation-requires : tie.Need-violation-requires
+violation-requires c κs = rw (c .row-counts .ensures)
+    (c .before .before .before .before .before .before .before .before .pre .few-constraints)
 
 correct-or-judge-requires : tie.Need-correct-or-judge-requires
 correct-or-judge-requires c κs =
     let p = c .before .before .before .before .before .before .before .before .before .before .before .before .before
     .before .pre in
-    rw (c .before .before .before .before .before .before .before .with-landed-number .ensures) (
-      c .before .before .before .before .before .before .before .before .before .before .write-landed .kept .0 ∙ p
-          .whole-area,
-      landed-again 0 (omega arith) (p .underway),
+    rw (c .before .before .before .before .before .before .before .with-landed .ensures) (
+      c .before .before .before .before .before .before .before .before .before .before .write-landed .kept .0
+          ∙ p .whole-area,
+      landed-again _ 0 (p .few-constraints) (omega arith) (p .underway),
     )
 
 returns : tie.Need-returns
@@ -35,25 +35,25 @@ returns c w h t =
     .before .before .before .before in
     let a = s .args in
     let many = s .pre .whole-rows in
-    let n = c .before .before .before .before .before .before .before .before .before .before .with-landed-number
-    .ensures in
+    let n = c .before .before .before .before .before .before .before .before .before .before .with-landed .ensures in
     let x = landed-with w (a .rows .now) in
-    let held = c .before .before .before .before .before .before .before .before .before .before .before .before .before
-    .write-landed .ensures w (h .within) t in
-    let v = c .before .before .before .before .before .before .before .before .landed-violation .ensures x held many in
+    let held = c .before .before .before .before .before .before .before .before .before .before .before .before
+    .before .write-landed .ensures w (h .within) t in
+    let v = rw (c .before .before .before .before .before .before .before .before .before .row-counts .ensures) at
+    (c .before .before .before .before .before .before .before .before .violation .ensures) in
     let e = ap resultOf (c .before .before .before .before .before .before .landed .given .1) in
-    let known = landed-known (a .st) (a .rows .now) (w .step) many (t .step) h t held (sym e ∙ v) in
-    trial-known (a .st) w (a .rows .now) (a .theta) n (sym v ∙ e) (c .before .before .before .definitely-greater
-    .ensures)
+    let known = landed-known (a .st) (a .m) 0 (a .rows .now) (w .step) many (t .step) h t held (sym e ∙ v) in
+    trial-known (a .st) w (a .m) (a .rows .now) (a .theta) n (sym v ∙ e)
+    (c .before .before .before .definitely-greater .ensures)
     (c .before .before .correct-or-judge .ensures x (judges-as n known))
 
 refuse-requires : tie.Need-refuse-requires
 refuse-requires c κs =
-    let p = c .before .before .before .before .before .before .before .before .before .before .before .before .before
-    .pre in
-    rw (c .before .before .before .before .before .before .with-landed-number .ensures) (
+    let p = c .before .before .before .before .before .before .before .before .before .before .before .before
+    .before .pre in
+    rw (c .before .before .before .before .before .before .with-landed .ensures) (
       c .before .before .before .before .before .before .before .before .before .write-landed .kept .0 ∙ p .whole-area,
-      limits-of (p .underway .bounded),
+      limits-of (landed-again _ 0 (p .few-constraints) (omega arith) (p .underway) .bounded),
     )
 
 returns-2 : tie.Need-returns-2
@@ -61,16 +61,15 @@ returns-2 c w h t =
     let s = c .before .before .before .before .before .before .before .before .before .before .before .before .before
     .before .before .before in
     let a = s .args in
-    let many = s .pre .whole-rows in
-    let n = c .before .before .before .before .before .before .before .before .before .with-landed-number .ensures in
-    let x = landed-with w (a .rows .now) in
-    let held = c .before .before .before .before .before .before .before .before .before .before .before .before
-    .write-landed .ensures w (h .within) t in
-    let v = c .before .before .before .before .before .before .before .landed-violation .ensures x held many in
-    trial-refused (a .st) w (a .rows .now) (a .theta) n (sym v ∙ ap resultOf (c .before .before .before .before .before
-    .landed2 .given .1))
-    (c .before .before .refuse .ensures x (works-as n (lands (a .st) (a .rows .now) (w .step) many (t .step) (h .within)
-    held)))
+    let n = c .before .before .before .before .before .before .before .before .before .with-landed .ensures in
+    let held = c .before .before .before .before .before .before .before .before .before .before .before
+    .before .write-landed .ensures w (h .within) t in
+    let v = rw (c .before .before .before .before .before .before .before .before .row-counts .ensures) at
+    (c .before .before .before .before .before .before .before .violation .ensures) in
+    trial-refused (a .st) w (a .m) (a .rows .now) (a .theta) n
+    (sym v ∙ ap resultOf (c .before .before .before .before .before .landed2 .given .1))
+    (c .before .before .refuse .ensures (landed-with w (a .rows .now))
+    (works-as n (lands (a .st) (a .m) 0 (a .rows .now) (w .step) (s .pre .whole-rows) (t .step) (h .within) held)))
 
 pub land-trial-spec : {M : Type 1} → statement M
 land-trial-spec =
@@ -78,7 +77,8 @@ land-trial-spec =
     (tie.spec
     write-landed-requires
     (λ c κs. search needs)
-    landed-violation-requires
+    (λ c κs. search needs)
+    violation-requires
     (λ c. search needs)
     (λ c κs. search needs)
     correct-or-judge-requires

@@ -1,6 +1,5 @@
 -- `lagrangian_change` meets its contract: the sum's new values, chosen, into a clear array, and then the vector is
--- filled so
--- far.
+-- filled so far.
 use mathlib.Core.Path.{_≡_, refl, sym, _∙_}
 use Prim.Native.Nat.{_≤_, _-_}
 use native.Mathlib.Nat.{le-antisymm}
@@ -17,12 +16,12 @@ use Rattle.run.proofs.curvature.lagrangian_change.Statement.{statement}
 use Rattle.run.proofs.curvature.lagrangian_change.Tie as tie
 
 abbrev Inv-loop : tie.InvT-loop
-Inv-loop c xs next lambda y₀ n values j₀ y j =
+Inv-loop c xs d next lambda y₀ n values j₀ y j =
     (j ≤ n) × (length y ≡ length y₀) ×
-    (y ≡ fillTo vector 0 (lagrangianChangeAt (evaluationOf c xs) (evaluationOf c next) lambda values) j)
+    (y ≡ fillTo vector 0 (lagrangianChangeAt (evaluationOf c xs) (evaluationOf d next) lambda values) j)
 
 abbrev μ-loop : tie.MeasureT-loop
-μ-loop c xs next lambda y₀ n values j₀ y j = n - j
+μ-loop c xs d next lambda y₀ n values j₀ y j = n - j
 
 chosen-values-requires : tie.Need-chosen-values-requires Inv-loop μ-loop
 chosen-values-requires c κs = tt
@@ -31,14 +30,14 @@ loop-holds : tie.Need-loop-holds Inv-loop μ-loop
 loop-holds c = (
   search needs,
   search needs,
-  c .before .before .before .before .before .before .before .before .before .pre .1
+  c .before .before .before .before .before .before .before .before .before .pre .2
       ∙ sym (fill-none _ _),
 )
 
 lagrangian-change-at-requires : tie.Need-lagrangian-change-at-requires Inv-loop μ-loop
 lagrangian-change-at-requires c κs =
-    let p = c .before .before .before .before .before .before .before .before .before .before .before .before .pre .0 in
-    (p, omega (arith, p .few-variables, c .before .loop-test .taken))
+    let p = c .before .before .before .before .before .before .before .before .before .before .before .before .pre in
+    (p .0, p .1, omega (arith, p .0 .few-variables, c .before .loop-test .taken))
 
 loop-again : tie.Need-loop-again Inv-loop μ-loop
 loop-again c =
@@ -52,7 +51,7 @@ returns c =
     let a = c .before .before .before .before .before .before .before .before .before .before .before .args in
     let r = rw (c .before .before .before .before .before .before .sum .ensures)
     at (c .before .before .before .before .chosen-values .ensures) in
-    turned-is (a .c .n) (evaluationOf (a .c) (a .xs .now)) (evaluationOf (a .c) (a .next .now)) (a .lambda .now) refl r
+    turned-is (a .c .n) (evaluationOf (a .c) (a .xs .now)) (evaluationOf (a .d) (a .next .now)) (a .lambda .now) refl r
     (rw (le-antisymm (c .before .loop .inv .0) (c .loop-test .left)) at (c .before .loop .inv .2))
 
 pub lagrangian-change-spec : {M : Type 1} → statement M

@@ -7,62 +7,68 @@ use Rattle.interval.specs.declared.Scalar.{Scalar}
 use Rattle.interval.specs.Scalar.{addOf, subOf}
 use Rattle.run.specs.declared.rows.RowCounts.{RowCounts}
 use Rattle.run.specs.declared.rows.RowSet.{RowSet}
-use Rattle.run.specs.Rows.{rowsIn, constraintSet, sumSet, evaluationOf}
+use Rattle.run.specs.Rows.{rowsIn, firstRows, constraintSet, sumSet, evaluationOf}
 use Rattle.run.specs.Residuals.{transposedAt}
 use Rattle.run.specs.Curvature.{lagrangianChangeAt}
-use Rattle.run.specs.program.Rows.{Small}
-use Rattle.run.proofs.RowLaws.{constraints-small, sum-small}
+use Rattle.run.proofs.RowLaws.{constraints-small, sum-small, first-small}
 use borrow.Author.Needs.{needs}
 use Rattle.run.proofs.curvature.lagrangian_change_at.Statement.{statement}
 use Rattle.run.proofs.curvature.lagrangian_change_at.Tie as tie
 
 value :
-    (c : RowCounts) (xs next lambda r : List Float) (j : ℕ) {e q : RowSet} {t u v w a b y : Scalar} →
-    e ≡ constraintSet c → q ≡ sumSet c →
-    t ≡ transposedAt (rowsIn next e) lambda j → u ≡ transposedAt (rowsIn xs e) lambda j → a ≡ subOf t u →
-    v ≡ transposedAt (rowsIn next q) r j → b ≡ addOf a v →
-    w ≡ transposedAt (rowsIn xs q) r j → y ≡ subOf b w →
-    y ≡ lagrangianChangeAt (evaluationOf c xs) (evaluationOf c next) lambda r j
-value c xs next lambda r j ee eq et eu ea ev eb ew ey = rw (ey, eb, ea, et, eu, ev, ew, ee, eq)
-
--- the row sets, in their places
-held-small : (s : tie.Start) {e : RowSet} → e ≡ constraintSet (s .args .c) → Small e
-held-small s q = let f = s .pre .0 in rw q (constraints-small f)
-
-summed-small : (s : tie.Start) {e : RowSet} → e ≡ sumSet (s .args .c) → Small e
-summed-small s q = let f = s .pre .0 in rw q (sum-small f)
+    (c d : RowCounts) (xs next lambda r : List Float) (j : ℕ) {e f g p q : RowSet} {t u v w a b y : Scalar} →
+    e ≡ constraintSet d → ((zs : List Float) → rowsIn zs f ≡ firstRows (c .m) (rowsIn zs e)) →
+    t ≡ transposedAt (rowsIn next f) lambda j → g ≡ constraintSet c → u ≡ transposedAt (rowsIn xs g) lambda j →
+    a ≡ subOf t u →
+    p ≡ sumSet d → v ≡ transposedAt (rowsIn next p) r j → b ≡ addOf a v →
+    q ≡ sumSet c → w ≡ transposedAt (rowsIn xs q) r j → y ≡ subOf b w →
+    y ≡ lagrangianChangeAt (evaluationOf c xs) (evaluationOf d next) lambda r j
+value c d xs next lambda r j ee ef et eg eu ea ep ev eb eq ew ey =
+    rw (ey, eb, ea, et, eu, ev, ew, ef next, ee, eg, ep, eq)
 
 transposed-at-requires : tie.Need-transposed-at-requires
 transposed-at-requires c κs =
     let s = c .before .before .before .before .before .before in
-    (held-small s (c .before .constraints .ensures), s .pre .1)
+    let p = s .pre in (
+      first-small (s .args .c .m) (c .first-rows .ensures)
+          (rw (c .before .constraints .ensures) (constraints-small (p .1))),
+      p .2,
+    )
 
 transposed-at-requires-2 : tie.Need-transposed-at-requires-2
 transposed-at-requires-2 c κs =
-    let s = c .before .before .before .before .before .before .before in
-    (held-small s (c .before .before .constraints .ensures), s .pre .1)
+    let p = c .before .before .before .before .before .before .before .before .pre in
+    (rw (c .constraints2 .ensures) (constraints-small (p .0)), p .2)
 
 transposed-at-requires-3 : tie.Need-transposed-at-requires-3
 transposed-at-requires-3 c κs =
-    let s = c .before .before .before .before .before .before .before .before .before in
-    (summed-small s (c .before .before .before .sum .ensures), s .pre .1)
+    let p = c .before .before .before .before .before .before .before .before .before .before .before .pre in
+    (rw (c .sum .ensures) (sum-small (p .1)), p .2)
+
+sum-requires-2 : tie.Need-sum-requires-2
+sum-requires-2 c κs =
+    c .before .before .before .before .before .before .before .before .before .before .before .before .before .pre .0
 
 transposed-at-requires-4 : tie.Need-transposed-at-requires-4
 transposed-at-requires-4 c κs =
-    let s = c .before .before .before .before .before .before .before .before .before .before .before in
-    (summed-small s (c .before .before .before .before .before .sum .ensures), s .pre .1)
+    let p = c .before .before .before .before .before .before .before .before .before .before .before .before .before
+    .before .pre in
+    (rw (c .sum2 .ensures) (sum-small (p .0)), p .2)
 
 returns : tie.Need-returns
 returns c =
     let a = c .before .before .before .before .before .before .before .before .before .before .before .before .before
-    .args in
-    value (a .c) (a .xs .now) (a .next .now) (a .lambda .now) (a .r .now) (a .j)
-    (c .before .before .before .before .before .before .before .before .constraints .ensures)
-    (c .before .before .before .before .before .before .before .sum .ensures)
-    (c .before .before .before .before .before .before .transposed-at .ensures)
-    (c .before .before .before .before .before .transposed-at2 .ensures)
-    (c .before .before .before .before .sub .ensures .value)
-    (c .before .before .before .transposed-at3 .ensures) (c .before .before .add .ensures .value)
+    .before .before .before .args in
+    value (a .c) (a .d) (a .xs .now) (a .next .now) (a .lambda .now) (a .r .now) (a .j)
+    (c .before .before .before .before .before .before .before .before .before .before .before .constraints .ensures)
+    (c .before .before .before .before .before .before .before .before .before .before .first-rows .ensures)
+    (c .before .before .before .before .before .before .before .before .before .transposed-at .ensures)
+    (c .before .before .before .before .before .before .before .before .constraints2 .ensures)
+    (c .before .before .before .before .before .before .before .transposed-at2 .ensures)
+    (c .before .before .before .before .before .before .sub .ensures .value)
+    (c .before .before .before .before .before .sum .ensures)
+    (c .before .before .before .before .transposed-at3 .ensures)
+    (c .before .before .before .add .ensures .value) (c .before .before .sum2 .ensures)
     (c .before .transposed-at4 .ensures) (c .sub2 .ensures .value)
 
 pub lagrangian-change-at-spec : {M : Type 1} → statement M
@@ -72,10 +78,13 @@ lagrangian-change-at-spec =
     (λ c κs. search needs)
     (λ c κs. search needs)
     transposed-at-requires
+    (λ c κs. search needs)
     transposed-at-requires-2
+    (λ c κs. search needs)
     (λ c κs. search needs)
     transposed-at-requires-3
     (λ c κs. search needs)
+    sum-requires-2
     transposed-at-requires-4
     (λ c κs. search needs)
     returns)

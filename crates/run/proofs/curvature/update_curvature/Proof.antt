@@ -34,7 +34,12 @@ mul-e-2 c = omega (arith, square (c .before .before .before .before .before))
 
 lagrangian-change-requires : tie.Need-lagrangian-change-requires
 unfolding ofBits
-lagrangian-change-requires c κs = (c .before .before .before .before .before .before .pre .0, refl)
+lagrangian-change-requires c κs = (
+  c .before .before .before .before .before .before .pre .0,
+  c .before .before .before .before .before .before .pre
+      .1,
+  refl,
+)
 
 array-borrow-prefix-jc : tie.Need-array-borrow-prefix-jc
 array-borrow-prefix-jc c = room (c .before .before .before .before .before .before .before .before .before)
@@ -113,7 +118,8 @@ returns c =
     (length-take-le _ _ (room s)) l l (length-take-le _ _ few-m)
     (c .before .before .before .before .before .before .before .before .before .before .before .before .before
     .constraints .ensures) (k .ensures) fj
-    (g .ensures) (a .b .now) (a .step .now) (a .next .now) (a .lambda .now) _ (c .enum-told2 .given .1)
+    (g .ensures) (a .b .now) (a .step .now) (a .lambda .now) _ (evaluationOf (a .d) (a .next .now))
+    (c .enum-told2 .given .1)
 
 array-share-prefix-jc-2 : tie.Need-array-share-prefix-jc-2
 array-share-prefix-jc-2 c =
@@ -171,8 +177,8 @@ update-factored-requires c κs =
       few = p .0;
       y-is =
           c .before .before .before .before .before .before .before .before .before .before .before .before .before
-          .before .before .before .before .before .before .before .lagrangian-change .kept .1 .1 .1 .1 .0;
-      step-is = p .1;
+          .before .before .before .before .before .before .before .lagrangian-change .kept .1 .1 .1 .1 .1 .0;
+      step-is = p .2;
     }
 
 returns-2 : tie.Need-returns-2
@@ -201,7 +207,7 @@ returns-2 c =
     (front-kept _ (g .last .1 .1 .1 .1 .0) _ (square s) (g .kept .1 .1 .1 .1 .0))
     (front-kept _ (g .last .1 .1 .1 .1 .1 .0) _ few-m (g .kept .1 .1 .1 .1 .1 .0)) in
     update-is (a .c .n) (a .b .now) (a .step .now) (evaluationOf (a .c) (a .xs .now))
-    (evaluationOf (a .c) (a .next .now)) (a .lambda .now)
+    (evaluationOf (a .d) (a .next .now)) (a .lambda .now)
     (c .before .before .before .before .before .before .before .before .before .before .before .before .before .before
     .before .before .before .before .before .before .before .before .before .lagrangian-change .ensures)
     (c .before .before .update-factored .ensures (a .xs .now) d)

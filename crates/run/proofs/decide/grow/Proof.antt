@@ -5,7 +5,7 @@ use Rattle.interval.proofs.Given.{yes}
 use Rattle.run.specs.State.{searching}
 use Rattle.run.specs.State.{rejectedFor, withRadius}
 use Rattle.run.specs.declared.state.Search.{Search}
-use Rattle.run.proofs.IterateLaws.{searched, grown-bounded, grow-on, grow-stops}
+use Rattle.run.proofs.IterateLaws.{searched, limits-searched, grown-bounded, grow-on, grow-stops}
 use Rattle.run.proofs.MemoryLaws.{limits-of, works-as, seeks-as}
 use borrow.Author.Needs.{needs}
 use Rattle.run.proofs.decide.grow.Statement.{statement}
@@ -23,7 +23,7 @@ unfolding within
 search-requires c κs =
     let s = c .before .before .before .before .before .before .before in
     let b = s .pre .1 in
-    let g = s .good .0 .1 .1 .1 .1 .0 .1 .1 .0 .1 .1 in
+    let g = s .good .0 .1 .1 .1 .1 .1 .0 .1 .1 .0 .1 .1 in
     rw (c .before .with-search .ensures) (
       s .pre .0,
       grown-bounded _ (searched (within s) b (b .few-turned) (b .damping)) (omega arith)
@@ -43,7 +43,7 @@ returns c w h =
 finish-requires : tie.Need-finish-requires
 finish-requires c κs =
     let p = c .before .before .before .before .before .before .before .pre in
-    rw (c .before .with-search2 .ensures) (p .0, limits-of (p .1))
+    rw (c .before .with-search2 .ensures) (p .0, limits-searched _ (limits-of (p .1)))
 
 returns-2 : tie.Need-returns-2
 unfolding within

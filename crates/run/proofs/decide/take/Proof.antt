@@ -29,7 +29,7 @@ take-with-requires : tie.Need-take-with-requires
 take-with-requires c κs =
     let s = c .before .before .before .before .before .before .before .before .before .before .before .before .before in
     let mu = s .args .st .search .mu in
-    let g = s .good .0 .1 .1 .1 .1 .0 .1 .1 .0 .1 .1 in
+    let g = s .good .0 .1 .1 .1 .1 .1 .0 .1 .1 .0 .1 .1 in
     let third = sym (divided (c .before .before .before .before .before .before))
     ∙ ap resultOf (c .before .before .before .before .third .given .1) in
     let u = s .pre .1 in

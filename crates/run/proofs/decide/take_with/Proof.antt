@@ -10,7 +10,7 @@ use Rattle.linear.specs.declared.results.Done.{Done}
 use Rattle.run.proofs.AnsweredLaws.{learned-known, learned-refused, stands-on}
 use Rattle.run.proofs.DecideLaws.{stood, sum-read, all-read, read-all, taken-known}
 use Rattle.run.proofs.LengthsKept.{learned-length}
-use Rattle.run.proofs.MemoryLaws.{limits-of, rows-of}
+use Rattle.run.proofs.MemoryLaws.{limits-of, standing-rows-of, landed-rows-of}
 use Rattle.run.proofs.PlaceLaws.{curvature-fits}
 use Rattle.run.proofs.Prefixes.{front-room, front-kept}
 use borrow.Author.Needs.{needs}
@@ -35,8 +35,12 @@ slice-aggregate-learn c = sym (length-take-le _ _ (fits (c .before .before .befo
 
 learn-requires : tie.Need-learn-requires
 learn-requires c κs =
-    let s = c .before .before .before in
-    (s .pre .0, rows-of (s .pre .1 .bounded), length-take-le _ _ (fits s))
+    let s = c .before .before .before in (
+      s .pre .0,
+      standing-rows-of (s .pre .1 .bounded),
+      landed-rows-of (s .pre .1 .bounded),
+      length-take-le _ _ (fits s),
+    )
 
 refuse-requires : tie.Need-refuse-requires
 refuse-requires c κs =
@@ -55,11 +59,12 @@ returns c w h =
 standing-rows-requires : tie.Need-standing-rows-requires
 standing-rows-requires c κs =
     let p = c .before .before .before .before .before .before .before .before .before .pre in
-    (p .0, rw (c .before .standing-counts .ensures) (rows-of (p .1 .bounded)))
+    (p .0, rw (c .before .standing-counts .ensures) (standing-rows-of (p .1 .bounded)))
 
 sum-squared-requires : tie.Need-sum-squared-requires
 sum-squared-requires c κs =
-    rw (c .before .before .standing-counts .ensures) (rows-of (c .before .before .before .before .before .before .before
+    rw (c .before .before .standing-counts .ensures)
+    (standing-rows-of (c .before .before .before .before .before .before .before
     .before .before .before .pre .1 .bounded))
 
 array-share-prefix-entries : tie.Need-array-share-prefix-entries
@@ -126,7 +131,7 @@ returns-2 c w h =
     (stands-on st w (a .theta) (a .span) (a .mu) (a .radius) b (c .before .before .before .before .standing-on .ensures)
     sum
     (taken-known st h (a .span) (a .mu) (a .radius) f
-    (learned-length st w (rows-of (s .pre .1 .bounded)) (all-read st h) e) held)
+    (learned-length st w (all-read st h) e) held)
     (c .before .before .iterate .ensures))
 
 pub take-with-spec : {M : Type 1} → statement M

@@ -6,7 +6,7 @@ use Rattle.interval.specs.Scalar.{degenerate, divOf}
 use Rattle.interval.specs.Scaling.{four64}
 use Rattle.interval.specs.declared.Scalar.{Scalar}
 use Rattle.interval.specs.declared.ScalarResult.{ScalarResult}
-use Rattle.run.proofs.IterateLaws.{turn-next, turn-refused}
+use Rattle.run.proofs.IterateLaws.{limits-searched, turn-next, turn-refused}
 use Rattle.run.proofs.MemoryLaws.{limits-of, works-as}
 use borrow.Author.Needs.{needs}
 use Rattle.run.proofs.decide.turn_down.Statement.{statement}
@@ -34,7 +34,7 @@ returns c w h =
 refuse-requires : tie.Need-refuse-requires
 refuse-requires c κs =
     let p = c .before .before .before .before .before .before .before .before .before .pre in
-    rw (c .before .with-search .ensures) (p .0, limits-of (p .1))
+    rw (c .before .with-search .ensures) (p .0, limits-searched _ (limits-of (p .1)))
 
 returns-2 : tie.Need-returns-2
 returns-2 c w h =

@@ -7,7 +7,7 @@ use Rattle.run.proofs.endings.finish.Tie as tie
 returns : tie.Need-returns
 returns c w h =
     record {
-      state-is = c .with-phase .ensures;
+      state-is = c .with-none-open .ensures;
       event-is = refl;
       held = c .before .before .before .keep-standing .ensures w h;
     }

@@ -8,7 +8,7 @@ use Rattle.run.proofs.endings.refuse.Tie as tie
 returns : tie.Need-returns
 returns c w h =
     record {
-      state-is = c .before .with-phase .ensures;
+      state-is = c .before .with-none-open .ensures;
       event-is = ap event.Refused (c .number-of .ensures);
       held = c .before .before .before .before .keep-standing .ensures w h;
     }

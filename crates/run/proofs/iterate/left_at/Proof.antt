@@ -3,6 +3,7 @@ use mathlib.Core.List.{[]}
 use Rattle.run.specs.Area.{withTrial}
 use Rattle.run.specs.Vectors.{movedOf}
 use Rattle.run.specs.Iterate.{leftAt}
+use Rattle.run.proofs.IterateLaws.{limits-searched}
 use Rattle.run.proofs.MemoryLaws.{limits-of, works-as}
 use borrow.Author.Needs.{needs}
 use Rattle.run.proofs.iterate.left_at.Statement.{statement}
@@ -30,7 +31,7 @@ returns c w h t =
 finish-requires : tie.Need-finish-requires
 finish-requires c κs =
     let p = c .before .before .before .before .before .before .before .before .pre in
-    rw (c .before .with-search .ensures) (p .0, limits-of (p .1))
+    rw (c .before .with-search .ensures) (p .0, limits-searched _ (limits-of (p .1)))
 
 returns-2 : tie.Need-returns-2
 unfolding leftAt
@@ -42,7 +43,7 @@ returns-2 c w h t =
 refuse-requires : tie.Need-refuse-requires
 refuse-requires c κs =
     let p = c .before .before .before .before .before .before .before .before .pre in
-    rw (c .before .with-search2 .ensures) (p .0, limits-of (p .1))
+    rw (c .before .with-search2 .ensures) (p .0, limits-searched _ (limits-of (p .1)))
 
 returns-3 : tie.Need-returns-3
 unfolding leftAt

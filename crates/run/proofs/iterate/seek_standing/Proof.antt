@@ -5,14 +5,14 @@ use Rattle.run.specs.program.Iterate.{soughtWith}
 use Rattle.run.specs.program.Rows.{FewRows}
 use Rattle.run.specs.Area.{standingCounts}
 use Rattle.run.proofs.IterateLaws.{sought-by}
-use Rattle.run.proofs.MemoryLaws.{rows-of}
+use Rattle.run.proofs.MemoryLaws.{standing-rows-of}
 use borrow.Author.Needs.{needs}
 use Rattle.run.proofs.iterate.seek_standing.Statement.{statement}
 use Rattle.run.proofs.iterate.seek_standing.Tie as tie
 
 -- the counts of its rows are within the limits
 few : (s : tie.Start) → FewRows (standingCounts (s .args .st))
-few s = rows-of (s .pre .1)
+few s = standing-rows-of (s .pre .1)
 
 search-origin-requires : tie.Need-search-origin-requires
 search-origin-requires c κs = let s = c .before .before .before .before .before .before .before in (s .pre .0, few s)

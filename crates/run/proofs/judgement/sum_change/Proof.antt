@@ -22,12 +22,12 @@ module _ {x y p q r : Scalar} (e : x ≡ p) (f : y ≡ q) where
   more g = rw (g, e, f)
 
 abbrev Inv-loop : tie.InvT-loop
-Inv-loop xs ys e total₀ count i₀ total i =
-    (i ≤ count) × (total ≡ dotTo (λ k. subOf (valueAt (rowsIn xs e) k) (valueAt (rowsIn ys e) k))
-    (λ k. addOf (valueAt (rowsIn xs e) k) (valueAt (rowsIn ys e) k)) i)
+Inv-loop xs e ys f total₀ count i₀ total i =
+    (i ≤ count) × (total ≡ dotTo (λ k. subOf (valueAt (rowsIn xs e) k) (valueAt (rowsIn ys f) k))
+    (λ k. addOf (valueAt (rowsIn xs e) k) (valueAt (rowsIn ys f) k)) i)
 
 abbrev μ-loop : tie.MeasureT-loop
-μ-loop xs ys e total₀ count i₀ total i = count - i
+μ-loop xs e ys f total₀ count i₀ total i = count - i
 
 loop-holds : tie.Need-loop-holds Inv-loop μ-loop
 unfolding plusTo ofBits

@@ -27,6 +27,15 @@ rows-are k =
     let s = k .before .before .before .before .before .before .before .before .before in
     rw (k .before .before .point .ensures, ← s .pre .settles .all-coordinates) at (k .rows-at .ensures)
 
+-- a constraint for each rule
+each-rule : (k : tie.After-reply) →
+    let a = k .before .before .before .before .before .before .before .before .before .before .before .before .before
+    .before .args in
+    a .sheet .rules .count ≡ length (sheetBy (a .sheet) .rules)
+each-rule k =
+    sym (k .before .before .before .before .before .before .before .before .before .before .before .before .before
+    .before .pre .settles .all-rules)
+
 returns : tie.Need-returns
 returns c =
     let k = c .before .before .before .before .before .before .before .before in
@@ -34,7 +43,7 @@ returns c =
     .before .before .before .before .before .before .before .before .before .args in
     c .before .before .reply-none .ensures
     ∙ answer-none (sheetBy (a .sheet)) (a .aims .now) (a .st) (a .area .now) _
-    (rows-are (k .before .before .before .before .before)) (k .reply .ensures)
+    (rows-are (k .before .before .before .before .before)) (each-rule k) (k .reply .ensures)
     (sym (c .before .before .before .before .before .is-outside .ensures) ∙ c .before .before .before .before .if1
     .taken)
 
@@ -44,7 +53,7 @@ returns-2 c =
     let a = c .before .before .before .before .before .before .before .before .before .before .before .before .before
     .before .before .before .before .before .args in
     answer-rows (sheetBy (a .sheet)) (a .aims .now) (a .st) (a .area .now) _
-    (rows-are (k .before .before .before .before .before)) (k .reply .ensures)
+    (rows-are (k .before .before .before .before .before)) (each-rule k) (k .reply .ensures)
     (sym (c .before .is-outside .ensures) ∙ c .if1 .left)
 
 pub answer-spec : {M : Type 1} → statement M

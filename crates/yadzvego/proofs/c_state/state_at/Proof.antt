@@ -10,14 +10,16 @@ returns c = rw (
   c .phase-at .ensures,
   c .before .last-at .ensures,
   c .before .before .search-at .ensures,
-  c .before .before .before .counts-at .ensures,
-  c .before .before .before .before .sizes-at .ensures,
+  c .before .before .before .contents-at .ensures,
+  c .before .before .before .before .counts-at .ensures,
+  c .before .before .before .before .before .sizes-at .ensures,
 )
 
 pub state-at-spec : {M : Type 1} → statement M
 state-at-spec =
     tie.close
     (tie.spec
+    (λ c κs. search needs)
     (λ c κs. search needs)
     (λ c κs. search needs)
     (λ c κs. search needs)
