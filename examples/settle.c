@@ -30,10 +30,10 @@ int main(void)
     static double area[YADZVEGO_AREA];
     const double start[4] = {3, 3, 4, 4};
     YadzvegoScalar rows[9];
-    YadzvegoReturned now = yadzvego_begin(2, 1, 2, 50, start, 4, yadzvego_interval_from_i64(5), area, YADZVEGO_AREA);
+    YadzvegoReturned now = yadzvego_begin(2, 2, 50, start, 4, yadzvego_interval_from_i64(5), area, YADZVEGO_AREA);
     while (now.event.which == YADZVEGO_QUESTION) {
         rows_at(area + yadzvego_point_place(now.run, YADZVEGO_AREA), rows);
-        now = yadzvego_reply(now.run, area, YADZVEGO_AREA, &rows[0].lo, 18);
+        now = yadzvego_reply(now.run, area, YADZVEGO_AREA, 1, &rows[0].lo, 18);
     }
     if (now.event.which == YADZVEGO_REFUSED) {
         printf("refusal=%zu\n", now.event.number);

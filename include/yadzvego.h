@@ -36,13 +36,16 @@ typedef struct {
  * an event: a question, the finish or a refusal. A question asks for the rows of the point that stands in the area at
  * yadzvego_point_place, yadzvego_point_length numbers long; with no question open it is the point that stands.
  *
- * Rows of n variables, m constraints and s sum rows are 2 (m + s) (n + 1) numbers: the constraints' values, their
- * slopes row by row, the sum rows' values, their slopes row by row. Limits: n and m to 12, s to 24, `limit` (the most
- * iterations) to 200; every end in `start` and `rows` is finite with magnitude at most 2^400, and lo <= hi; so is
- * max_step, with lo > 0. `start` has 2 n numbers, `area` has YADZVEGO_AREA. `start` and `rows` are only read. A reply
- * that is refused by 1 to 4 returns the run that it was given, with every field as it was, and leaves the area as it
- * was and an open question open. A begin that is refused leaves the area as it was too, and returns a run that is over.
- * 5 and 6 end the run. */
+ * Each reply has an m of its own, the number of constraints at the asked point: a drawer's stop is one only while the
+ * parts meet. Rows of n variables, m constraints and s sum rows are 2 (m + s) (n + 1) numbers: the constraints' values,
+ * their slopes row by row, the sum rows' values, their slopes row by row. Limits: n and m to 12, s to 24, `limit` (the
+ * most iterations) to 200; every end in `start` and `rows` is finite with magnitude at most 2^400, and lo <= hi; so is
+ * max_step, with lo > 0. `start` has 2 n numbers, `area` has YADZVEGO_AREA. `start` and `rows` are only read.
+ *
+ * A begin is refused by the first that applies of 1, 2 and 3; it leaves the area as it was and returns a run that is
+ * over. A reply is refused by the first that applies of 4, 1 (its m), 2 (the area, or rows that are not as many as its
+ * m asks for) and 3; it returns the run that it was given, with every field as it was, and leaves the area as it was
+ * and an open question open, for a reply with this m or another. 5 and 6 end the run. */
 
 /* How many numbers an area has. */
 #define YADZVEGO_AREA 8000
@@ -59,10 +62,10 @@ enum {
     YADZVEGO_NOT_LOWER = 4
 };
 
-/* A run. A phase above 3, a rejected above 4 or a last above 1 is refused by number 4. */
+/* A run. A phase above 3, a rejected above 4, a last above 1, a standing_m or a landed_m above 12 is refused by
+ * number 4. */
 typedef struct {
     size_t n;
-    size_t m;
     size_t s;
     size_t limit;
     size_t iterations;
@@ -70,6 +73,8 @@ typedef struct {
     size_t standing;
     size_t landed;
     size_t corrections;
+    size_t standing_m; /* of the answer for the standing point while a trial or a correction is open, else 0 */
+    size_t landed_m;   /* of the answer for the landed point while a correction is open, else 0 */
     size_t turned_down;
     YadzvegoScalar mu;
     YadzvegoScalar radius;
@@ -110,7 +115,7 @@ typedef struct {
     size_t number;      /* of the question; or of the refusal */
     size_t standing;    /* question, finish: the number of the question whose point stands */
     size_t independent; /* finish by flat: how many constraints are independent */
-    size_t constraints; /* finish by flat: of how many */
+    size_t constraints; /* finish by flat: of how many, the m of the answer for the standing point */
     size_t iterations;  /* finish */
     size_t turned_down; /* finish */
 } YadzvegoEvent;
@@ -122,11 +127,12 @@ typedef struct {
 } YadzvegoReturned;
 
 /* Begins a run: its first question asks for the rows of `start`. */
-YadzvegoReturned yadzvego_begin(size_t n, size_t m, size_t s, size_t limit, const double *start, size_t start_len,
+YadzvegoReturned yadzvego_begin(size_t n, size_t s, size_t limit, const double *start, size_t start_len,
                                 YadzvegoScalar max_step, double *area, size_t area_len);
 
-/* Answers the open question with rows. */
-YadzvegoReturned yadzvego_reply(YadzvegoRun run, double *area, size_t area_len, const double *rows, size_t rows_len);
+/* Answers the open question with rows, m constraints and then the sum rows. */
+YadzvegoReturned yadzvego_reply(YadzvegoRun run, double *area, size_t area_len, size_t m, const double *rows,
+                                size_t rows_len);
 
 /* Answers the open question with none: the point cannot be evaluated. */
 YadzvegoReturned yadzvego_reply_none(YadzvegoRun run, double *area, size_t area_len);

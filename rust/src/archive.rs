@@ -26,8 +26,6 @@ pub struct ScalarResult {
 pub struct Run {
     /// Variables.
     pub n: usize,
-    /// Constraint rows.
-    pub m: usize,
     /// Sum rows.
     pub s: usize,
     /// The most iterations.
@@ -42,6 +40,10 @@ pub struct Run {
     pub landed: usize,
     /// Corrections of the open trial so far.
     pub corrections: usize,
+    /// The m of the answer for the standing point while a trial or a correction is open, else 0.
+    pub standing_m: usize,
+    /// The m of the answer for the landed point while a correction is open, else 0.
+    pub landed_m: usize,
     /// Turn-downs so far.
     pub turned_down: usize,
     /// The damping.
@@ -196,7 +198,6 @@ unsafe extern "C" {
 
     pub fn yadzvego_begin(
         n: usize,
-        m: usize,
         s: usize,
         limit: usize,
         start: *const f64,
@@ -209,6 +210,7 @@ unsafe extern "C" {
         run: Run,
         area: *mut f64,
         area_len: usize,
+        m: usize,
         rows: *const f64,
         rows_len: usize,
     ) -> ReturnedNumbers;

@@ -116,20 +116,20 @@ fn returned_of(r: ReturnedNumbers) -> Returned {
     }
 }
 
-/// Begins a run of `n` variables, `m` constraints and `s` sum rows: its first question asks for the rows of `start`,
-/// which has 2 `n` ends. The area has [`AREA`] numbers.
+/// Begins a run of `n` variables and `s` sum rows: its first question asks for the rows of `start`, which has 2 `n`
+/// ends. The area has [`AREA`] numbers.
 ///
 /// ```
 /// use yadzvego::scalars::Scalar;
 /// use yadzvego::{AREA, Event, begin, point, reply, reply_none};
 ///
-/// // One variable x from 3 on, and the sum row x - 1.
+/// // One variable x from 3 on, no constraint, and the sum row x - 1.
 /// let mut area = vec![0.0; AREA];
-/// let mut now = begin(1, 0, 1, 20, &[3.0, 3.0], Scalar::from_i64(5), &mut area);
+/// let mut now = begin(1, 1, 20, &[3.0, 3.0], Scalar::from_i64(5), &mut area);
 /// while let Event::Question { .. } = now.event {
 ///     let x = Scalar::new(point(now.run, &area)[0], point(now.run, &area)[1]);
 ///     let value = x.sub(Scalar::ONE);
-///     let next = reply(now.run, &mut area, &[value.lo, value.hi, 1.0, 1.0]);
+///     let next = reply(now.run, &mut area, 0, &[value.lo, value.hi, 1.0, 1.0]);
 ///     now = match next.event {
 ///         // Rows outside the domain: the point cannot be evaluated.
 ///         Event::Refused(why) if why.number() == 3 => reply_none(now.run, &mut area),
@@ -141,7 +141,6 @@ fn returned_of(r: ReturnedNumbers) -> Returned {
 /// ```
 pub fn begin(
     n: usize,
-    m: usize,
     s: usize,
     limit: usize,
     start: &[f64],
@@ -152,7 +151,6 @@ pub fn begin(
     returned_of(unsafe {
         yadzvego_begin(
             n,
-            m,
             s,
             limit,
             start.as_ptr(),
@@ -165,14 +163,15 @@ pub fn begin(
 }
 
 /// Answers the open question with rows, 2 (m + s) (n + 1) ends: the constraints' values, their slopes row by row, then
-/// the sum's.
-pub fn reply(run: Run, area: &mut [f64], rows: &[f64]) -> Returned {
+/// the sum's. Each reply has an `m` of its own, since a stop is a constraint only while the parts meet.
+pub fn reply(run: Run, area: &mut [f64], m: usize, rows: &[f64]) -> Returned {
     // Safety: as in `begin`.
     returned_of(unsafe {
         yadzvego_reply(
             run,
             area.as_mut_ptr(),
             area.len(),
+            m,
             rows.as_ptr(),
             rows.len(),
         )

@@ -30,7 +30,8 @@ pub struct Mismatch {
 
 /// The slopes at `x` that differ by more than `tolerance`, relative to 1 and their size, from the differences of the
 /// values at `x` moved by `step` to both sides, one variable after the other. Rows that cannot be evaluated at one of
-/// the points are passed over. With curved rows the difference is off by about `step` squared.
+/// the points are passed over, and so are those that are not as many at all three, as beside a stop, since then nothing
+/// tells which is which. With curved rows the difference is off by about `step` squared.
 ///
 /// ```
 /// use yadzvego::scalars::Scalar;
@@ -68,6 +69,10 @@ pub fn mismatches(
             continue;
         };
         let mut compare = |of: Of, here: &Rows, below: &Rows, above: &Rows| {
+            let count = here.values.len();
+            if below.values.len() != count || above.values.len() != count {
+                return;
+            }
             let values = below.values.iter().zip(&above.values);
             for (row, ((low, high), slopes)) in values.zip(&here.jacobian).enumerate() {
                 let Some(slope) = slopes.get(variable).map(|s| s.to_f64()) else {

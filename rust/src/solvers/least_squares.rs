@@ -4,6 +4,9 @@ use crate::calls::{self, AREA, Event, Returned, Run, begin, point};
 use crate::geop_error::{GeopError, GeopResult};
 use crate::scalars::Scalar;
 
+/// The most constraints of an evaluation.
+const CONSTRAINTS: usize = 12;
+
 /// How long [`minimize`] may try, and how far a step may go.
 #[derive(Clone, Copy, Debug)]
 pub struct Options {
@@ -42,7 +45,7 @@ pub enum Stop {
     Flat {
         /// How many constraint rows are independent.
         independent: usize,
-        /// Of how many.
+        /// Of how many that the evaluation of the standing point has.
         constraints: usize,
     },
     /// No step, however damped, is taken; the last one was turned down for `rejected`.
@@ -108,9 +111,9 @@ impl Rows {
 /// The residuals at a point: those that must vanish, and those whose squares are minimized.
 #[derive(Clone, Debug, Default)]
 pub struct Evaluation {
-    /// Those that must vanish.
+    /// Those that must vanish, to 12. Each point may have another number of them.
     pub constraints: Rows,
-    /// Those whose squares are summed.
+    /// Those whose squares are summed, to 24. Every point has as many as the start.
     pub sum: Rows,
 }
 
@@ -119,21 +122,26 @@ fn scalars(ends: &[f64]) -> Vec<Scalar> {
     ends.chunks_exact(2).map(scalar).collect()
 }
 
-/// Answers the open question with rows that have the run's counts, or with none.
+/// Answers the open question with rows, or with none. The archive sees only how many ends there are altogether, so the
+/// shape is tested here, and in its order: too many constraints are refused before any length.
 fn reply(run: Run, area: &mut [f64], evaluation: Option<Evaluation>) -> GeopResult<Returned> {
     let Some(e) = evaluation else {
         return Ok(calls::reply_none(run, area));
     };
-    if !(e.constraints.fits(run.m, run.n) && e.sum.fits(run.s, run.n)) {
+    let m = e.constraints.values.len();
+    if m > CONSTRAINTS {
+        return Err(GeopError::TooMany);
+    }
+    if !(e.constraints.fits(m, run.n) && e.sum.fits(run.s, run.n)) {
         return Err(GeopError::WrongLength);
     }
     let rows: Vec<f64> = e.constraints.ends().chain(e.sum.ends()).collect();
-    Ok(calls::reply(run, area, &rows))
+    Ok(calls::reply(run, area, m, &rows))
 }
 
-/// Minimizes the sum of squares among the points where the constraints vanish, from `x0`. Every evaluation has as many
-/// rows as that of the start; a refusal of the archive is an error. [`crate::minimize`] is the same with evaluations
-/// that are made on the spot.
+/// Minimizes the sum of squares among the points where the constraints vanish, from `x0`. Each evaluation has as many
+/// sum rows as that of the start, and any number of constraints, since a stop is one only while the parts meet; a
+/// refusal of the archive is an error. [`crate::minimize`] is the same with evaluations that are made on the spot.
 pub async fn minimize(
     _space: &Euclidean,
     evaluate: impl AsyncFn(&Vec<Scalar>) -> Option<Evaluation>,
@@ -143,10 +151,9 @@ pub async fn minimize(
     let (n, limit) = (x0.len(), options.max_iterations);
     let start: Vec<f64> = x0.iter().flat_map(|v| [v.lo, v.hi]).collect();
     let mut at_start = evaluate(&x0).await;
-    let counts = |e: &Evaluation| (e.constraints.values.len(), e.sum.values.len());
-    let (m, s) = at_start.as_ref().map_or((0, 0), counts);
+    let s = at_start.as_ref().map_or(0, |e| e.sum.values.len());
     let mut area = vec![0.0; AREA];
-    let mut now = begin(n, m, s, limit, &start, options.max_step, &mut area);
+    let mut now = begin(n, s, limit, &start, options.max_step, &mut area);
     loop {
         let evaluation = match now.event {
             Event::Question { number: 0, .. } => at_start.take(),

@@ -6,14 +6,14 @@ use yadzvego::{AREA, begin, point, reply, reply_none};
 
 /// How many calls return something else than the list has.
 fn differ(listed: &Listed) -> usize {
-    let Listed { n, m, s, limit, .. } = *listed;
+    let Listed { n, s, limit, .. } = *listed;
     let mut area = vec![0.0; AREA];
-    let mut now = begin(n, m, s, limit, &listed.start, listed.max_step, &mut area);
+    let mut now = begin(n, s, limit, &listed.start, listed.max_step, &mut area);
     let mut differ = 0;
     for (i, expected) in listed.answers.iter().enumerate() {
         differ += usize::from(line(now.event, point(now.run, &area)) != *expected);
         match listed.replies.get(i) {
-            Some(Some(rows)) => now = reply(now.run, &mut area, rows),
+            Some(Some(rows)) => now = reply(now.run, &mut area, rows.m, &rows.ends),
             Some(None) => now = reply_none(now.run, &mut area),
             None => {}
         }

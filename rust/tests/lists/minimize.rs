@@ -19,10 +19,10 @@ fn ends(x: &[Scalar]) -> Vec<f64> {
     x.iter().flat_map(|v| [v.lo, v.hi]).collect()
 }
 
-fn evaluation(run: &Listed, rows: &[f64]) -> Evaluation {
-    let mut rest = scalars(rows).into_iter();
+fn evaluation(run: &Listed, rows: &Rows) -> Evaluation {
+    let mut rest = scalars(&rows.ends).into_iter();
     let mut e = Evaluation::default();
-    for (rows, count) in [(&mut e.constraints, run.m), (&mut e.sum, run.s)] {
+    for (rows, count) in [(&mut e.constraints, rows.m), (&mut e.sum, run.s)] {
         rows.values = rest.by_ref().take(count).collect();
         let row = |_| rest.by_ref().take(run.n).collect();
         rows.jacobian = (0..count).map(row).collect();
@@ -31,11 +31,11 @@ fn evaluation(run: &Listed, rows: &[f64]) -> Evaluation {
 }
 
 /// The replies that the list does not refuse, and the questions that they answer.
-fn accepted(run: &Listed) -> Vec<(&str, &Rows)> {
+fn accepted(run: &Listed) -> Vec<(&str, &Option<Rows>)> {
     let mut open = run.answers[0].as_str();
     let mut accepted = Vec::new();
     for (rows, answer) in run.replies.iter().zip(&run.answers[1..]) {
-        if !["x 2", "x 3", "x 4"].contains(&answer.as_str()) {
+        if !["x 1", "x 2", "x 3", "x 4"].contains(&answer.as_str()) {
             accepted.push((open, rows));
             open = answer;
         }
@@ -134,7 +134,10 @@ fn awaited_runs_end_as_the_list() {
     });
 }
 
-fn evaluation_of(shape: [&[usize]; 2]) -> Evaluation {
+/// The lengths of the constraints' slopes and of the sum rows'.
+type Shape<'a> = [&'a [usize]; 2];
+
+fn evaluation_of(shape: Shape) -> Evaluation {
     let mut e = Evaluation::default();
     for (rows, lengths) in [&mut e.constraints, &mut e.sum].into_iter().zip(shape) {
         for &length in lengths {
@@ -144,8 +147,8 @@ fn evaluation_of(shape: [&[usize]; 2]) -> Evaluation {
     e
 }
 
-/// How a run of two variables stops whose constraints and sum rows have these lengths at the start, and then those.
-fn stop(first: [&[usize]; 2], then: [&[usize]; 2]) -> GeopResult<Stop> {
+/// How a run of two variables stops whose rows have this shape at the start, and then that one.
+fn stop(first: Shape, then: Shape) -> GeopResult<Stop> {
     let shape = Cell::new(first);
     let evaluate = |_: &Vec<Scalar>| Some(evaluation_of(shape.replace(then)));
     let options = Options {
@@ -155,12 +158,34 @@ fn stop(first: [&[usize]; 2], then: [&[usize]; 2]) -> GeopResult<Stop> {
     minimize(evaluate, vec![Scalar::ZERO; 2], options).map(|outcome| outcome.stop)
 }
 
+const FIT: Shape = [&[2], &[2, 2]];
+
 /// Rows of other shapes are refused, also where they have the right number of ends altogether.
 #[test]
 fn other_shapes_are_refused() {
     let refused = Err(GeopError::WrongLength);
-    let (uneven, fit): ([&[usize]; 2], [&[usize]; 2]) = ([&[1, 3], &[]], [&[2], &[2, 2]]);
-    assert_eq!(stop(uneven, uneven), refused);
-    assert_eq!(stop(fit, [&[2, 2], &[2]]), refused);
-    assert!(stop(fit, fit).is_ok());
+    let uneven: [Shape; 2] = [[&[1, 3], &[]], [&[3], &[2, 1]]];
+    let other_sums: [Shape; 2] = [[&[2, 2], &[2]], [&[], &[2, 2, 2]]];
+    for shape in uneven {
+        assert_eq!(stop(shape, shape), refused);
+    }
+    for shape in [uneven, other_sums].concat() {
+        assert_eq!(stop(FIT, shape), refused);
+    }
+    assert!(stop(FIT, FIT).is_ok());
+}
+
+/// Each evaluation may have another number of constraints, to 12; more are refused before any length is.
+#[test]
+fn other_numbers_of_constraints() {
+    let counts = [0, 1, 2, 11, 12];
+    for (first, then) in counts.iter().flat_map(|i| counts.map(|j| (*i, j))) {
+        let shape = |count| [&[2; 12][..count], &[2, 2]];
+        assert!(stop(shape(first), shape(then)).is_ok());
+    }
+    let many: [Shape; 2] = [[&[2; 13], &[2, 2]], [&[1; 13], &[]]];
+    for shape in many {
+        assert_eq!(stop(shape, shape), Err(GeopError::TooMany));
+        assert_eq!(stop(FIT, shape), Err(GeopError::TooMany));
+    }
 }

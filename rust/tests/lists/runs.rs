@@ -1,5 +1,5 @@
-//! The fixed list of runs that crates/run_replay replays: `run n m s limit`, the words of the longest step and of the
-//! start, and the answer to the beginning; then for each reply a line, `r count words` or `n`, and its answer; then
+//! The fixed list of runs that crates/run_replay replays: `run n s limit`, the words of the longest step and of the
+//! start, and the answer to the beginning; then for each reply a line, `r m count words` or `n`, and its answer; then
 //! `end`. An answer is `q number kind standing point`, `f stop rejected independent constraints iterations turned
 //! standing point` or `x number`. Numbers are hexadecimal, words have 16 digits.
 
@@ -8,17 +8,21 @@ use yadzvego::scalars::Scalar;
 use yadzvego::solvers::least_squares::{Rejection, Stop};
 use yadzvego::{Event, Kind};
 
-pub type Rows = Option<Vec<f64>>;
+/// The rows of a reply, `m` constraints among them.
+#[derive(Debug, PartialEq)]
+pub struct Rows {
+    pub m: usize,
+    pub ends: Vec<f64>,
+}
 
 /// The answer to a begin is `answers[0]`, that to `replies[i]` is `answers[i + 1]`.
 pub struct Listed {
     pub n: usize,
-    pub m: usize,
     pub s: usize,
     pub limit: usize,
     pub max_step: Scalar,
     pub start: Vec<f64>,
-    pub replies: Vec<Rows>,
+    pub replies: Vec<Option<Rows>>,
     pub answers: Vec<String>,
 }
 
@@ -29,12 +33,11 @@ fn floats(tokens: &[&str]) -> Vec<f64> {
 
 fn listed(line: &str) -> Listed {
     let tokens: Vec<&str> = line.split(' ').collect();
-    let ends = floats(&tokens[5..]);
+    let ends = floats(&tokens[4..]);
     Listed {
         n: number(tokens[1]),
-        m: number(tokens[2]),
-        s: number(tokens[3]),
-        limit: number(tokens[4]),
+        s: number(tokens[2]),
+        limit: number(tokens[3]),
         max_step: Scalar::new(ends[0], ends[1]),
         start: ends[2..].to_vec(),
         replies: Vec::new(),
@@ -42,9 +45,12 @@ fn listed(line: &str) -> Listed {
     }
 }
 
-fn rows(line: &str) -> Rows {
+fn rows(line: &str) -> Option<Rows> {
     let tokens: Vec<&str> = line.split(' ').collect();
-    (tokens[0] == "r").then(|| floats(&tokens[2..]))
+    (tokens[0] == "r").then(|| Rows {
+        m: number(tokens[1]),
+        ends: floats(&tokens[3..]),
+    })
 }
 
 pub fn runs() -> Vec<Listed> {
