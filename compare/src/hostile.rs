@@ -14,7 +14,7 @@ use crate::interval::operands::Random;
 use crate::parts::side_by_side;
 use crate::progress::Progress;
 use crate::runs::beside::{Held, Manner, compared};
-use crate::runs::problem::{self, MOST};
+use crate::runs::problem::{self, MOST, Rows};
 use crate::runs::rattle::AREA;
 use crate::runs::rust::{History, history_of};
 use altered::alterations;
@@ -33,16 +33,18 @@ enum Kind {
     Field,
     AnyRun,
     Area,
+    Count,
     Length,
     End,
     OutOfTurn,
     Begin,
 }
 
-const KINDS: [&str; 7] = [
+const KINDS: [&str; 8] = [
     "field altered",
     "any run",
     "area altered",
+    "any m",
     "wrong length",
     "end of the domain",
     "out of turn",
@@ -81,7 +83,7 @@ impl Sum {
     }
 
     /// A reply over a run and an area that may be altered.
-    fn reply(&mut self, kind: Kind, run: &Run, area: &[f64], rows: Option<&[f64]>) {
+    fn reply(&mut self, kind: Kind, run: &Run, area: &[f64], rows: Option<&Rows>) {
         let (told, fault) = call::made(run, area, rows);
         self.count(kind, &told);
         if let Some(fault) = fault {
@@ -91,13 +93,13 @@ impl Sum {
     }
 
     /// Rows and none.
-    fn both(&mut self, kind: Kind, run: &Run, area: &[f64], rows: &[f64]) {
+    fn both(&mut self, kind: Kind, run: &Run, area: &[f64], rows: &Rows) {
         self.reply(kind, run, area, Some(rows));
         self.reply(kind, run, area, None);
     }
 
     /// Every field of the run in turn.
-    fn alter_fields(&mut self, held: &Held, rows: &[f64], random: &mut Random) {
+    fn alter_fields(&mut self, held: &Held, rows: &Rows, random: &mut Random) {
         for run in alterations(&held.run) {
             let fitting = rows_for(&run, rows, random);
             self.both(Kind::Field, &run, &held.area, &fitting);
@@ -106,27 +108,41 @@ impl Sum {
         }
     }
 
-    fn alter_lengths(&mut self, held: &Held, rows: &[f64]) {
+    /// Every m, with the numbers that it asks for, with one less, and with those of another m.
+    fn alter_counts(&mut self, held: &Held, rows: &Rows, random: &mut Random) {
+        for m in (0..=14).chain([1 << 32, 1 << 63, usize::MAX]) {
+            let fitting = rows_of(&held.run, m, rows, random);
+            self.reply(Kind::Count, &held.run, &held.area, Some(&fitting));
+            let mut short = fitting.clone();
+            short.numbers.pop();
+            self.reply(Kind::Count, &held.run, &held.area, Some(&short));
+            let other = Rows { m, ..rows.clone() };
+            self.reply(Kind::Count, &held.run, &held.area, Some(&other));
+            self.reply(Kind::Count, &held.run, &held.area[1..], Some(&fitting));
+        }
+    }
+
+    fn alter_lengths(&mut self, held: &Held, rows: &Rows) {
         for length in [0, 1, AREA - 1, AREA + 1, 2 * AREA] {
             let mut area = held.area.clone();
             area.resize(length, 1.0);
             self.both(Kind::Length, &held.run, &area, rows);
         }
-        let count = rows.len();
+        let count = rows.numbers.len();
         for length in [0, 1, count.saturating_sub(1), count + 1, 2 * count] {
-            let mut other = rows.to_vec();
-            other.resize(length, 1.0);
+            let mut other = rows.clone();
+            other.numbers.resize(length, 1.0);
             self.both(Kind::Length, &held.run, &held.area, &other);
         }
     }
 
-    fn alter_ends(&mut self, held: &Held, rows: &[f64]) {
+    fn alter_ends(&mut self, held: &Held, rows: &Rows) {
         let above = f64::from_bits(MOST.to_bits() + 1);
         let infinity = f64::INFINITY;
-        for place in [0, 1, rows.len().wrapping_sub(1)] {
+        for place in [0, 1, rows.numbers.len().wrapping_sub(1)] {
             for end in [f64::NAN, infinity, -infinity, above, -above, MOST, -MOST] {
-                let mut other = rows.to_vec();
-                if let Some(number) = other.get_mut(place) {
+                let mut other = rows.clone();
+                if let Some(number) = other.numbers.get_mut(place) {
                     *number = end;
                 }
                 self.both(Kind::End, &held.run, &held.area, &other);
@@ -134,7 +150,7 @@ impl Sum {
         }
     }
 
-    fn alter_area(&mut self, held: &Held, rows: &[f64], random: &mut Random) {
+    fn alter_area(&mut self, held: &Held, rows: &Rows, random: &mut Random) {
         for _ in 0..20 {
             let area = random.altered_area(&held.area);
             self.both(Kind::Area, &held.run, &area, rows);
@@ -145,7 +161,7 @@ impl Sum {
     }
 
     /// A run as it was before, with the area as it is now, and the other way round.
-    fn out_of_turn(&mut self, held: &Held, earlier: &[Held], rows: &[f64]) {
+    fn out_of_turn(&mut self, held: &Held, earlier: &[Held], rows: &Rows) {
         for before in earlier {
             self.both(Kind::OutOfTurn, &before.run, &held.area, rows);
             self.both(Kind::OutOfTurn, &held.run, &before.area, rows);
@@ -159,18 +175,21 @@ impl Sum {
             refuses: false,
             tells: false,
         };
-        let nothing = vec![1.0; history.sizes.row_numbers()];
+        let nothing = Rows {
+            m: 1,
+            numbers: vec![1.0; history.sizes.row_numbers(1)],
+        };
         let mut earlier = Vec::new();
         compared(history, manner, |held, at| {
             if self.calls() >= wanted {
                 return;
             }
-            let reply = history.replies.get(at).and_then(Option::as_deref);
-            let rows = reply.unwrap_or(&nothing);
+            let rows = history.rows(at).unwrap_or(&nothing);
             self.out_of_turn(held, &earlier, rows);
             if random.at_odds(2 + at as u64) {
                 self.states += 1;
                 self.alter_fields(held, rows, random);
+                self.alter_counts(held, rows, random);
                 self.alter_lengths(held, rows);
                 self.alter_ends(held, rows);
                 self.alter_area(held, rows, random);
@@ -218,19 +237,28 @@ impl Sum {
     }
 }
 
-/// The rows cut to the length that the run's sizes ask for, or with more of them drawn; any where its sizes do not fit.
-fn rows_for(run: &Run, rows: &[f64], random: &mut Random) -> Vec<f64> {
-    if run.n > 12 || run.m > 12 || run.s > 24 {
-        return rows.to_vec();
+/// The rows with m constraint rows, cut to the length that the run's sizes ask for, or with more of them drawn; with
+/// the numbers that they have where counts do not fit.
+fn rows_of(run: &Run, m: usize, rows: &Rows, random: &mut Random) -> Rows {
+    let mut numbers = rows.numbers.clone();
+    if run.n <= 12 && m <= 14 && run.s <= 24 {
+        let count = 2 * (m + run.s) * (run.n + 1);
+        numbers.truncate(count);
+        while numbers.len() < count {
+            let x = random.sized(-3, 3);
+            numbers.extend([x, x]);
+        }
     }
-    let mut fitting = rows.to_vec();
-    let count = 2 * (run.m + run.s) * (run.n + 1);
-    fitting.truncate(count);
-    while fitting.len() < count {
-        let x = random.sized(-3, 3);
-        fitting.extend([x, x]);
-    }
-    fitting
+    Rows { m, numbers }
+}
+
+/// With an m of any size that a reply may have.
+fn rows_for(run: &Run, rows: &Rows, random: &mut Random) -> Rows {
+    let m = match random.below(3) {
+        0 => random.below(13) as usize,
+        _ => rows.m,
+    };
+    rows_of(run, m, rows, random)
 }
 
 /// The small runs of one part, until there are so many calls.
@@ -244,7 +272,7 @@ fn compare_part(seed: u64, wanted: u64, part: usize, progress: &Progress) -> Sum
         }
         let drawn = problem::drawn(seed ^ 0x5EED, i);
         let sizes = drawn.sizes;
-        if sizes.n + sizes.m + sizes.s <= SMALL {
+        if sizes.n + sizes.s <= SMALL {
             sum.alter(&history_of(drawn), wanted, &mut random);
             progress.add(sum.calls() - calls);
         }

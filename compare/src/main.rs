@@ -47,7 +47,7 @@ impl Scale {
             scalars: random,
             linear: random / 25,
             pieces: random / 10,
-            runs: random / 50,
+            runs: random / 30,
             hostile: random / 5 * 2,
             sheets: random / 50,
             spellings: random / 10,

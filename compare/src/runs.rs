@@ -19,7 +19,6 @@ use crate::Count;
 use crate::parts::side_by_side;
 use crate::progress::Progress;
 use beside::{Manner, compared};
-use problem::Problem;
 use rust::{History, history_of};
 use smaller::Smaller;
 use std::collections::BTreeMap;
@@ -27,6 +26,8 @@ use tally::{Tally, shown};
 
 /// The random runs are compared in so many parts.
 const PARTS: usize = 64;
+/// A problem whose counts of constraint rows may change is drawn so often at most.
+const ATTEMPTS: u64 = 64;
 
 /// How hard a difference is to read: the replies, then the sizes.
 type Size = (usize, usize);
@@ -36,7 +37,8 @@ struct Sum {
     tally: Tally,
     problems: BTreeMap<&'static str, u64>,
     answers: u64,
-    refused: [u64; 3],
+    changing: u64,
+    refused: [u64; 4],
     differ: u64,
     /// The smallest of those that differ.
     least: Option<(Size, Smaller)>,
@@ -44,12 +46,12 @@ struct Sum {
 
 fn size(history: &History) -> Size {
     let sizes = history.sizes;
-    (history.replies.len(), sizes.n + sizes.m + sizes.s)
+    let rows = history.most_constraints() + sizes.s;
+    (history.replies.len(), sizes.n + rows)
 }
 
 impl Sum {
-    fn add(&mut self, problem: Problem, word: u64) {
-        let history = history_of(problem);
+    fn add(&mut self, history: History, word: u64) {
         let manner = Manner {
             word,
             refuses: true,
@@ -59,6 +61,7 @@ impl Sum {
         *self.problems.entry(history.source).or_default() += 1;
         self.tally.add(shown(&history));
         self.answers += compared.answers;
+        self.changing += u64::from(tally::changes(&history));
         for (sum, refused) in self.refused.iter_mut().zip(compared.refused) {
             *sum += refused;
         }
@@ -80,6 +83,7 @@ impl Sum {
             *self.problems.entry(name).or_default() += count;
         }
         self.answers += other.answers;
+        self.changing += other.changing;
         for (sum, refused) in self.refused.iter_mut().zip(other.refused) {
             *sum += refused;
         }
@@ -99,10 +103,12 @@ impl Sum {
             .iter()
             .map(|(k, v)| format!("{v} {k}"))
             .collect();
-        let [rows, ends, area] = self.refused;
+        let [rows, ends, area, m] = self.refused;
         println!(
-            "runs: {}; {} answers, {} runs differ; refused in between: rows {rows}, ends {ends}, area {area}",
+            "runs: {}; {} with changing counts; {} answers, {} runs differ; refused in between: \
+             rows {rows}, ends {ends}, area {area}, m {m}",
             problems.join(", "),
+            self.changing,
             self.answers,
             self.differ
         );
@@ -118,11 +124,22 @@ impl Sum {
     }
 }
 
+/// The run of the i-th problem. One that may change its counts of constraint rows is drawn anew until it does, or so
+/// often.
+fn drawn(seed: u64, i: u64) -> History {
+    let of = |attempt: u64| history_of(problem::drawn(seed ^ attempt << 40, i));
+    if !problem::may_change(i) {
+        return of(0);
+    }
+    let changing = (0..ATTEMPTS).map(of).find(tally::changes);
+    changing.unwrap_or_else(|| of(0))
+}
+
 /// The random problems of one part.
 fn compare_part(seed: u64, problems: u64, part: usize, progress: &Progress) -> Sum {
     let mut sum = Sum::default();
     for i in (part as u64..problems).step_by(PARTS) {
-        sum.add(problem::drawn(seed, i), seed ^ i << 32);
+        sum.add(drawn(seed, i), seed ^ i << 32);
         progress.add(1);
     }
     sum
@@ -131,7 +148,7 @@ fn compare_part(seed: u64, problems: u64, part: usize, progress: &Progress) -> S
 pub fn compare(seed: u64, problems: u64) -> Count {
     let mut sum = Sum::default();
     for (i, problem) in named::problems().into_iter().enumerate() {
-        sum.add(problem, seed ^ i as u64);
+        sum.add(history_of(problem), seed ^ i as u64);
     }
     let progress = Progress::new("runs", problems);
     side_by_side(

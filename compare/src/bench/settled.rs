@@ -59,7 +59,7 @@ fn rust(run: &History) -> (u64, Duration) {
     let given = run
         .replies
         .iter()
-        .map(|reply| reply.as_deref().map(|rows| evaluated(run.sizes, rows)));
+        .map(|reply| reply.as_ref().map(|rows| evaluated(run.sizes, rows)));
     let given: Vec<Option<Evaluation>> = given.collect();
     let start: Vec<Scalar> = scalars(&run.start);
     let options = Options {
@@ -83,7 +83,7 @@ fn called(run: &History, area: &mut [f64], mut after: impl FnMut()) -> Option<Ru
     after();
     let mut over = false;
     for reply in &run.replies {
-        let (next, told) = rattle::reply(state, area, reply.as_deref());
+        let (next, told) = rattle::reply(state, area, reply.as_ref());
         after();
         state = next;
         over = told.which == 1;

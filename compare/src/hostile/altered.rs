@@ -6,9 +6,8 @@ use crate::runs::rattle::AREA;
 
 pub type Named<T> = (&'static str, fn(&mut Run) -> &mut T);
 
-pub const COUNTS: [Named<usize>; 10] = [
+pub const COUNTS: [Named<usize>; 11] = [
     ("n", |run| &mut run.n),
-    ("m", |run| &mut run.m),
     ("s", |run| &mut run.s),
     ("limit", |run| &mut run.limit),
     ("iterations", |run| &mut run.iterations),
@@ -16,6 +15,8 @@ pub const COUNTS: [Named<usize>; 10] = [
     ("standing", |run| &mut run.standing),
     ("landed", |run| &mut run.landed),
     ("corrections", |run| &mut run.corrections),
+    ("standing_m", |run| &mut run.standing_m),
+    ("landed_m", |run| &mut run.landed_m),
     ("turned_down", |run| &mut run.turned_down),
 ];
 
@@ -162,7 +163,6 @@ impl Random {
     pub fn any_run(&mut self) -> Run {
         let mut run = Run {
             n: self.any_number(3),
-            m: self.any_number(3),
             s: self.any_number(4),
             limit: self.any_number(200),
             iterations: self.any_number(20),
@@ -170,6 +170,8 @@ impl Random {
             standing: self.any_number(5500),
             landed: self.any_number(5500),
             corrections: self.any_number(4),
+            standing_m: self.any_number(4),
+            landed_m: self.any_number(4),
             turned_down: self.any_number(1100),
             mu: Scalar { lo: 1.0, hi: 1.0 },
             radius: Scalar { lo: 1.0, hi: 1.0 },

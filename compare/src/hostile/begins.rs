@@ -4,7 +4,7 @@ use crate::archive::EventNumbers;
 use crate::hostile::call::{Fault, same_bits};
 use crate::hostile::{Kind, Sum, rule};
 use crate::runs::area::is_canonical;
-use crate::runs::problem::{MOST, Sizes};
+use crate::runs::problem::{MOST, Rows, Sizes};
 use crate::runs::rattle::{self, AREA};
 use crate::runs::text::beginning;
 use geop_core_math::scalars::Scalar;
@@ -56,7 +56,11 @@ impl Sum {
             self.differ(|| begin.case(&told, &fault.to_string()));
         }
         if refused.is_some() {
-            self.both(Kind::Begin, &run, &[0.0; AREA], &[]);
+            let rows = Rows {
+                m: 0,
+                numbers: Vec::new(),
+            };
+            self.both(Kind::Begin, &run, &[0.0; AREA], &rows);
         }
     }
 
@@ -67,11 +71,7 @@ impl Sum {
                 limit: count,
                 ..fit
             };
-            let counts = [
-                Sizes { n: count, ..fit },
-                Sizes { m: count, ..fit },
-                Sizes { s: count, ..fit },
-            ];
+            let counts = [Sizes { n: count, ..fit }, Sizes { s: count, ..fit }];
             for sizes in counts.into_iter().chain([of_limit]) {
                 let start = vec![1.0; 2 * sizes.n.min(30)];
                 for (start, max_step, area) in [
@@ -113,7 +113,6 @@ impl Sum {
     pub fn begins(&mut self) {
         let fit = Sizes {
             n: 2,
-            m: 1,
             s: 2,
             limit: 5,
         };

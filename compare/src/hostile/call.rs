@@ -3,6 +3,7 @@
 use crate::archive::{EventNumbers, Run, yadzvego_point_length, yadzvego_point_place};
 use crate::hostile::rule;
 use crate::runs::area::is_canonical;
+use crate::runs::problem::Rows;
 use crate::runs::rattle::{self, run_bits};
 
 /// What is wrong.
@@ -12,7 +13,7 @@ pub type Fault = String;
 pub struct Call {
     pub run: Run,
     pub area: Vec<f64>,
-    pub rows: Option<Vec<f64>>,
+    pub rows: Option<Rows>,
 }
 
 pub fn same_bits(a: &[f64], b: &[f64]) -> bool {
@@ -53,7 +54,7 @@ fn fault(
 }
 
 /// What the call is answered, and what is wrong with that.
-pub fn made(run: &Run, area: &[f64], rows: Option<&[f64]>) -> (EventNumbers, Option<Fault>) {
+pub fn made(run: &Run, area: &[f64], rows: Option<&Rows>) -> (EventNumbers, Option<Fault>) {
     let mut after = area.to_vec();
     let (left, told) = rattle::reply(*run, &mut after, rows);
     let expected = rule::refusal(run, area.len(), rows);
@@ -61,15 +62,15 @@ pub fn made(run: &Run, area: &[f64], rows: Option<&[f64]>) -> (EventNumbers, Opt
 }
 
 impl Call {
-    pub fn new(run: &Run, area: &[f64], rows: Option<&[f64]>) -> Call {
+    pub fn new(run: &Run, area: &[f64], rows: Option<&Rows>) -> Call {
         Call {
             run: *run,
             area: area.to_vec(),
-            rows: rows.map(<[f64]>::to_vec),
+            rows: rows.cloned(),
         }
     }
 
     pub fn fault(&self) -> Option<Fault> {
-        made(&self.run, &self.area, self.rows.as_deref()).1
+        made(&self.run, &self.area, self.rows.as_ref()).1
     }
 }

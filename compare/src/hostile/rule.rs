@@ -1,7 +1,7 @@
 //! The refusals (PROTOCOL, Refusals), worked out from the text: which number a call gets, before anything is done.
 
 use crate::archive::Run;
-use crate::runs::problem::{MOST, Sizes, in_domain};
+use crate::runs::problem::{MOST, Rows, Sizes, in_domain};
 use crate::runs::rattle::AREA;
 use geop_core_math::scalars::Scalar;
 
@@ -9,14 +9,13 @@ const OVER: u8 = 3;
 
 /// A count above its limit.
 fn too_many(sizes: Sizes) -> bool {
-    sizes.n > 12 || sizes.m > 12 || sizes.s > 24 || sizes.limit > 200
+    sizes.n > 12 || sizes.s > 24 || sizes.limit > 200
 }
 
 /// Whether no call leaves such a run: number 4, apart from a run that is over.
 pub fn altered(run: &Run) -> bool {
     let sizes = Sizes {
         n: run.n,
-        m: run.m,
         s: run.s,
         limit: run.limit,
     };
@@ -28,6 +27,8 @@ pub fn altered(run: &Run) -> bool {
     let open = run.phase != OVER;
     let underway = run.phase == 1 || run.phase == 2;
     too_many(sizes)
+        || run.standing_m > 12
+        || run.landed_m > 12
         || iterations > limit
         || (underway && iterations == limit)
         || run.turned_down as u128 > 1100 * (iterations + 1)
@@ -37,16 +38,19 @@ pub fn altered(run: &Run) -> bool {
 }
 
 /// The number that refuses a reply with these rows, or with none; nothing where it is accepted.
-pub fn refusal(run: &Run, area: usize, rows: Option<&[f64]>) -> Option<u64> {
+pub fn refusal(run: &Run, area: usize, rows: Option<&Rows>) -> Option<u64> {
     if altered(run) || run.phase == OVER {
         return Some(4);
     }
-    let count = 2 * (run.m + run.s) * (run.n + 1);
-    if area != AREA || rows.is_some_and(|rows| rows.len() != count) {
+    if rows.is_some_and(|rows| rows.m > 12) {
+        return Some(1);
+    }
+    let count = |rows: &Rows| 2 * (rows.m + run.s) * (run.n + 1);
+    if area != AREA || rows.is_some_and(|rows| rows.numbers.len() != count(rows)) {
         return Some(2);
     }
     match rows {
-        Some(rows) if !in_domain(rows) => Some(3),
+        Some(rows) if !in_domain(&rows.numbers) => Some(3),
         _ => None,
     }
 }

@@ -2,6 +2,7 @@
 
 use crate::hostile::altered::{CASES, COUNTS, MARKS, SCALARS};
 use crate::hostile::call::{Call, Fault};
+use crate::runs::problem::Rows;
 use crate::shrink::{
     self, Case, WHOLES, changes_in, simpler_in, simpler_scalar, simpler_whole, smallest,
 };
@@ -62,7 +63,10 @@ impl Call {
         let rows = self.rows.as_ref()?;
         let rows = match change.checked_sub(1) {
             None => None,
-            Some(change) => Some(simpler_in(rows, change)?),
+            Some(change) => Some(Rows {
+                m: rows.m,
+                numbers: simpler_in(&rows.numbers, change)?,
+            }),
         };
         let mut less = self.clone();
         less.rows = rows;
@@ -72,7 +76,10 @@ impl Call {
     /// How many changes there are of each kind, in their order.
     fn kinds(&self) -> [usize; 6] {
         let blocks = BLOCKS.map(|size| self.area.len().div_ceil(size));
-        let numbers = self.rows.as_ref().map_or(0, |rows| changes_in(rows));
+        let numbers = self
+            .rows
+            .as_ref()
+            .map_or(0, |rows| changes_in(&rows.numbers));
         [
             1 + numbers,
             blocks.iter().sum(),
@@ -105,7 +112,11 @@ impl Call {
         let area: Vec<String> = places.map(|(i, &x)| format!("{i}:{:X}", word(x))).collect();
         let rows = match &self.rows {
             None => "none".to_string(),
-            Some(rows) => format!("{} {}", rows.len(), hex(&crate::words::words(rows))),
+            Some(Rows { m, numbers }) => format!(
+                "{m} {} {}",
+                numbers.len(),
+                hex(&crate::words::words(numbers))
+            ),
         };
         let fields: Vec<String> = fields.iter().map(|w| format!("{w:X}")).collect();
         format!(

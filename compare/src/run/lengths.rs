@@ -1,7 +1,7 @@
 //! Refusals 1 and 2, which the Rust has not: counts above their limits, and slices that are too short or too long.
 //! Nothing is written then, and a value is zero.
 
-use crate::run::pieces::{Call, PAIRS, Piece, Reply};
+use crate::run::pieces::{CONSTRAINTS, Call, PAIRS, Piece, Reply};
 use crate::words::words;
 use geop_core_math::scalars::Scalar;
 
@@ -36,6 +36,7 @@ fn call(piece: &Piece, counts: (usize, usize, usize), changed: usize, by: isize)
         n,
         m,
         s,
+        next_m: m.min(CONSTRAINTS),
         inputs: lengths[..inputs]
             .iter()
             .map(|&length| vec![2.0; length])
@@ -92,6 +93,14 @@ fn too_many(piece: &Piece) -> Vec<(Call, Reply)> {
     for (n, m, s) in counts {
         if n == most || !only_variables(piece) {
             refusals.push(refusal(piece, 1, Call { n, m, s, ..few() }));
+        }
+    }
+    if piece.name == "judge" || piece.name == "update_curvature" {
+        // The m of the second answer, whatever the lengths are.
+        for next_m in [CONSTRAINTS + 1, most] {
+            refusals.push(refusal(piece, 1, Call { next_m, ..few() }));
+            let short = call(piece, (2, 2, 2), first, -1).expect("a number less");
+            refusals.push(refusal(piece, 1, Call { next_m, ..short }));
         }
     }
     if piece.name == "judge" {

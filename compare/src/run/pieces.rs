@@ -26,6 +26,8 @@ pub struct Call {
     pub n: usize,
     pub m: usize,
     pub s: usize,
+    /// The constraint rows of the second answer, where there are two.
+    pub next_m: usize,
     /// What is only read.
     pub inputs: Vec<Vec<f64>>,
     /// The marks that are read, or that stand before in the slice that is written.
@@ -136,6 +138,17 @@ pub fn evaluation(call: &Call, rows: &[f64]) -> Evaluation {
     }
 }
 
+/// The second answer, which has an m of its own.
+pub fn next_evaluation(call: &Call, rows: &[f64]) -> Evaluation {
+    let of_next = Call {
+        n: call.n,
+        m: call.next_m,
+        s: call.s,
+        ..Call::default()
+    };
+    evaluation(&of_next, rows)
+}
+
 /// The first n rows of n.
 fn curvature(call: &Call, b: &[f64]) -> Vec<Vec<Scalar>> {
     matrix(&scalars(b), call.n, call.n)
@@ -215,7 +228,7 @@ fn rust_moving(call: &Call) -> Reply {
 fn rust_judge(call: &Call) -> Reply {
     let (e, e_next) = (
         evaluation(call, &call.inputs[0]),
-        evaluation(call, &call.inputs[1]),
+        next_evaluation(call, &call.inputs[1]),
     );
     let pairs = first(&call.inputs[2], 2 * call.count);
     let filter: Vec<(Scalar, Scalar)> = pairs.chunks_exact(2).map(|p| (p[0], p[1])).collect();
@@ -267,7 +280,7 @@ fn rust_cut(call: &Call) -> Reply {
 fn rust_update_curvature(call: &Call) -> Reply {
     let (e, e_next) = (
         evaluation(call, &call.inputs[1]),
-        evaluation(call, &call.inputs[2]),
+        next_evaluation(call, &call.inputs[2]),
     );
     let mut b = curvature(call, &call.out[0]);
     let step = first(&call.inputs[0], call.n);
@@ -400,6 +413,7 @@ fn archive_judge(call: &Call, _out: &mut [Vec<f64>], _marks: &mut [bool]) -> (u6
             s,
             rows.as_ptr(),
             rows.len(),
+            call.next_m,
             next.as_ptr(),
             next.len(),
             archive_scalar(call.scalars[0]),
@@ -508,6 +522,7 @@ fn archive_update_curvature(
             step.len(),
             rows.as_ptr(),
             rows.len(),
+            call.next_m,
             next.as_ptr(),
             next.len(),
             lambda.as_ptr(),

@@ -3,7 +3,8 @@
 
 use crate::interval::operands::Random;
 use crate::run::pieces::{
-    CURVATURE, Call, PAIRS, POINT, RESIDUALS, VARIABLES, evaluation, flat, scalars,
+    CONSTRAINTS, CURVATURE, Call, PAIRS, POINT, RESIDUALS, VARIABLES, evaluation, flat,
+    next_evaluation, scalars,
 };
 use crate::run::rust;
 use geop_core_math::scalars::Scalar;
@@ -178,6 +179,19 @@ impl Random {
         in_domain(moved)
     }
 
+    /// The rows of the answer after, with their m: those before a little altered, others, or others with an m of their
+    /// own.
+    fn next_rows(&mut self, rows: &[f64], n: usize, m: usize, s: usize) -> (usize, Vec<f64>) {
+        match self.below(8) {
+            0 => (m, self.problem(n, m, s)),
+            1..4 => {
+                let next_m = self.below(CONSTRAINTS as u64 + 1) as usize;
+                (next_m, self.problem(n, next_m, s))
+            }
+            _ => (m, self.rows_beside(rows)),
+        }
+    }
+
     // ---- what goes with them
 
     /// `count` scalars in a slice of `length` numbers.
@@ -311,14 +325,13 @@ pub fn for_moving(random: &mut Random, n: usize, m: usize, s: usize) -> Call {
 
 pub fn for_judge(random: &mut Random, n: usize, m: usize, s: usize) -> Call {
     let rows = random.problem(n, m, s);
-    let next = if random.at_odds(4) {
-        random.problem(n, m, s)
-    } else {
-        random.rows_beside(&rows)
-    };
+    let (next_m, next) = random.next_rows(&rows, n, m, s);
     let (step, _) = random.step_for(&rows, n, m, s);
-    let call = random.call(n, m, s, Vec::new(), &[]);
-    let (e, e_next) = (evaluation(&call, &rows), evaluation(&call, &next));
+    let call = Call {
+        next_m,
+        ..random.call(n, m, s, Vec::new(), &[])
+    };
+    let (e, e_next) = (evaluation(&call, &rows), next_evaluation(&call, &next));
     let theta = random.figures(&e)[1];
     let count = match random.below(16) {
         0 => random.below(PAIRS as u64 + 1) as usize,
@@ -394,13 +407,10 @@ pub fn for_cut(random: &mut Random, n: usize, m: usize, s: usize) -> Call {
 
 pub fn for_update_curvature(random: &mut Random, n: usize, m: usize, s: usize) -> Call {
     let rows = random.problem(n, m, s);
-    let next = if random.at_odds(4) {
-        random.problem(n, m, s)
-    } else {
-        random.rows_beside(&rows)
-    };
+    let (next_m, next) = random.next_rows(&rows, n, m, s);
     let (step, lambda) = random.step_for(&rows, n, m, s);
     Call {
+        next_m,
         out: vec![random.curvature(n)],
         ..random.call(n, m, s, vec![step, rows, next, lambda], &[])
     }

@@ -25,8 +25,8 @@ const OVER: u8 = 3;
 
 /// How many numbers of each slot are used after a call that left this run.
 fn used(run: &Run) -> [(Slot, usize); 10] {
-    let (n, m, s) = (run.n, run.m, run.s);
-    let rows = 2 * (m + s) * (n + 1);
+    let (n, s) = (run.n, run.s);
+    let rows = |m: usize| 2 * (m + s) * (n + 1);
     let open = run.phase != OVER;
     let tried = run.phase == 1 || run.phase == 2;
     let corrected = run.phase == 2;
@@ -35,10 +35,10 @@ fn used(run: &Run) -> [(Slot, usize); 10] {
         (STANDING, 2 * n),
         (LANDED, of(corrected, 2 * n)),
         (ASKED, of(open, 2 * n)),
-        (STANDING_ROWS, of(tried, rows)),
-        (LANDED_ROWS, of(corrected, rows)),
+        (STANDING_ROWS, of(tried, rows(run.standing_m))),
+        (LANDED_ROWS, of(corrected, rows(run.landed_m))),
         (STEP, of(tried, 2 * n)),
-        (MULTIPLIERS, of(tried, 2 * m)),
+        (MULTIPLIERS, of(tried, 2 * run.standing_m)),
         (CURVATURE, of(tried, 2 * n * n)),
         (FILTER, of(tried, 4 * run.iterations)),
         (SPARE, 0),
@@ -65,7 +65,8 @@ impl Stood {
     /// Where another question's point stands now.
     pub fn stands(&mut self, history: &History, standing: usize) {
         if standing != self.standing {
-            let e = evaluated(history.sizes, history.rows(self.standing));
+            let rows = history.rows(self.standing).expect("what stands has rows");
+            let e = evaluated(history.sizes, rows);
             let violation = norm(&e.constraints.values).expect("it was worked out in the run");
             self.pairs.extend([e.sum.squared(&[]), violation]);
             self.standing = standing;
@@ -81,14 +82,22 @@ pub fn fault(run: &Run, area: &[f64], history: &History, stood: &Stood) -> Optio
     }
     let holds =
         |(base, _): Slot, expected: &[u64]| words(&area[base..base + expected.len()]) == expected;
-    let rows = |question: usize| words(history.rows(question));
+    // An answer's numbers, and its m, which is kept in the state.
+    let holds_rows = |slot: Slot, question: usize, m: usize| {
+        let rows = history.rows(question);
+        rows.is_some_and(|rows| rows.m == m && holds(slot, &words(&rows.numbers)))
+    };
     if !holds(STANDING, history.point(run.standing)) {
         return Some("the standing point is another");
     }
     if run.phase == 0 || run.phase == OVER {
-        return None;
+        let none = run.standing_m == 0 && run.landed_m == 0;
+        return (!none).then_some("counts of rows that are not in use are kept");
     }
-    if !holds(STANDING_ROWS, &rows(run.standing)) {
+    if run.phase == 1 && run.landed_m != 0 {
+        return Some("a count of landed rows is kept while none are in use");
+    }
+    if !holds_rows(STANDING_ROWS, run.standing, run.standing_m) {
         return Some("the standing rows are others");
     }
     let filter: Vec<f64> = stood.pairs.iter().flat_map(|x| [x.lo, x.hi]).collect();
@@ -99,7 +108,7 @@ pub fn fault(run: &Run, area: &[f64], history: &History, stood: &Stood) -> Optio
         if !holds(LANDED, history.point(run.landed)) {
             return Some("the landed point is another");
         }
-        if !holds(LANDED_ROWS, &rows(run.landed)) {
+        if !holds_rows(LANDED_ROWS, run.landed, run.landed_m) {
             return Some("the landed rows are others");
         }
     }

@@ -2,9 +2,10 @@
 
 use crate::archive::Run;
 use crate::interval::operands::Random;
+use crate::run::pieces::CONSTRAINTS;
 use crate::runs::answers::Answer;
 use crate::runs::area::{self, Stood};
-use crate::runs::problem::{MOST, Sizes};
+use crate::runs::problem::{MOST, Rows, Sizes};
 use crate::runs::rattle::{self, AREA, bits, run_bits};
 use crate::runs::rust::History;
 use crate::runs::text;
@@ -16,8 +17,8 @@ const REFUSED: u64 = 8;
 #[derive(Default)]
 pub struct Compared {
     pub answers: u64,
-    /// Refused replies in between, by what was wrong with them: rows, ends, area.
-    pub refused: [u64; 3],
+    /// Refused replies in between, by what was wrong with them: rows, ends, area, m.
+    pub refused: [u64; 4],
     /// The answer at which it differs first, and how.
     pub differs: Option<(usize, String)>,
     /// The run as a case of the list, with the answers that are expected and with those that are given.
@@ -31,17 +32,20 @@ pub struct Held {
 }
 
 /// A reply that is refused: its rows, how many numbers of the area are lent, and the number.
-type Bad = (Vec<f64>, usize, u64);
+type Bad = (Rows, usize, u64);
 
-/// 0: rows of another length; 1: an end outside the domain, where there is an end; 2: an area one short.
+/// With any m that a reply may have. 0: rows of another length; 1: an end outside the domain, where there is an end; 2:
+/// an area one short; 3: an m above 12, with numbers for it or without, which comes before the lengths.
 pub fn bad_reply(sizes: Sizes, random: &mut Random, which: usize) -> Option<Bad> {
-    let count = sizes.row_numbers();
+    let m = random.below(CONSTRAINTS as u64 + 1) as usize;
+    let of = |numbers: Vec<f64>| Rows { m, numbers };
+    let count = sizes.row_numbers(m);
     let mut rows = vec![1.0; count];
     match which {
-        0 if count == 0 => Some((vec![1.0], AREA, 2)),
+        0 if count == 0 => Some((of(vec![1.0]), AREA, 2)),
         0 => {
             rows.pop();
-            Some((rows, AREA, 2))
+            Some((of(rows), AREA, 2))
         }
         1 if count == 0 => None,
         1 => {
@@ -56,9 +60,15 @@ pub fn bad_reply(sizes: Sizes, random: &mut Random, which: usize) -> Option<Bad>
                 _ => [0.0, above],
             };
             rows[2 * i..2 * i + 2].copy_from_slice(&ends);
-            Some((rows, AREA, 3))
+            Some((of(rows), AREA, 3))
         }
-        _ => Some((rows, AREA - 1, 2)),
+        2 => Some((of(rows), AREA - 1, 2)),
+        _ => {
+            let m = CONSTRAINTS + 1 + random.below(3) as usize;
+            let count = sizes.row_numbers(m) - usize::from(random.at_odds(2));
+            let numbers = vec![1.0; count];
+            Some((Rows { m, numbers }, AREA, 1))
+        }
     }
 }
 
@@ -78,7 +88,7 @@ impl Compared {
 
     /// A refused reply leaves the run and the area as they were.
     fn refuse(&mut self, at: usize, held: &mut Held, history: &History, random: &mut Random) {
-        let which = random.below(3) as usize;
+        let which = random.below(4) as usize;
         let Some((rows, lent, number)) = bad_reply(history.sizes, random, which) else {
             return;
         };
@@ -86,14 +96,14 @@ impl Compared {
         let rows = if which == 2 && random.at_odds(2) {
             None
         } else {
-            Some(rows.as_slice())
+            Some(&rows)
         };
         let before = bits(&held.area);
         let (run, told) = rattle::reply(held.run, &mut held.area[..lent], rows);
         let answer = rattle::answer(run, &held.area, told);
         // The list has no areas.
         if lent == AREA {
-            let reply = rows.map(<[f64]>::to_vec);
+            let reply = rows.cloned();
             self.tell(|| text::reply(&reply), &Answer::Refused(number), &answer);
         }
         if answer != Answer::Refused(number) {
@@ -181,7 +191,7 @@ pub fn compared(history: &History, manner: Manner, mut seen: impl FnMut(&Held, u
             compared.refuse(i, &mut held, history, &mut random);
         }
         seen(&held, i);
-        let (run, told) = rattle::reply(held.run, &mut held.area, reply.as_deref());
+        let (run, told) = rattle::reply(held.run, &mut held.area, reply.as_ref());
         held.run = run;
         let answer = rattle::answer(run, &held.area, told);
         stood.stands(history, run.standing);

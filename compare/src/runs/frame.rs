@@ -1,9 +1,10 @@
 //! Frames: points in a plane, held by spans, level and plumb lines, each coordinate preferred where it started. The
-//! rows are worked out by the interval operations, in the order that a sheet's are.
+//! rows are worked out by the interval operations, in the order that a sheet's are. Behind them come the stops that
+//! touch: a stop holds a coordinate at a place, but only where it is at that place or beyond it.
 
 use crate::interval::operands::Random;
 use crate::run::pieces::flat;
-use crate::runs::problem::Sizes;
+use crate::runs::problem::{Reply, Rows, Sizes};
 use crate::sheets::rows::{Rule, rows};
 use geop_core_math::scalars::Scalar;
 
@@ -12,9 +13,18 @@ const RULES: u64 = 12;
 /// Micrometres.
 const FARTHEST: i64 = 10_000_000;
 
+/// A stop: the coordinate, the place, and whether it is met from below.
+#[derive(Clone, Copy)]
+struct Stop {
+    coordinate: usize,
+    place: Scalar,
+    below: bool,
+}
+
 pub struct Frame {
     pub start: Vec<Scalar>,
     pub rules: Vec<Rule>,
+    stops: Vec<Stop>,
     /// The size of its coordinates.
     size: i64,
 }
@@ -89,7 +99,27 @@ impl Frame {
         Frame {
             start: start.collect(),
             rules,
+            stops: Vec::new(),
             size,
+        }
+    }
+
+    /// As many stops as there is room for, at most three, mostly near where a coordinate starts.
+    pub fn place_stops(&mut self, random: &mut Random) {
+        let room = (RULES as usize - self.rules.len()).min(3);
+        for _ in 0..random.below(room as u64 + 1) {
+            let coordinate = random.below(self.start.len() as u64) as usize;
+            let from = self.start[coordinate].lo as i64;
+            let near = if random.at_odds(4) {
+                self.size
+            } else {
+                (self.size / 8).max(1)
+            };
+            self.stops.push(Stop {
+                coordinate,
+                place: Scalar::from_i64(from + random.between(-near, near)),
+                below: random.at_odds(2),
+            });
         }
     }
 
@@ -97,7 +127,6 @@ impl Frame {
         let n = self.start.len();
         Sizes {
             n,
-            m: self.rules.len(),
             s: n,
             limit: random.limit(n),
         }
@@ -112,13 +141,27 @@ impl Frame {
         Scalar::from_i64(random.between(1, most))
     }
 
-    pub fn rows(&self, x: &[Scalar]) -> Option<Vec<f64>> {
-        let e = rows(&self.rules, &self.start, x);
+    pub fn rows(&self, x: &[Scalar]) -> Reply {
+        let mut e = rows(&self.rules, &self.start, x);
+        for stop in &self.stops {
+            let beyond = x[stop.coordinate].sub(stop.place);
+            let touches = if stop.below {
+                beyond.hi >= 0.0
+            } else {
+                beyond.lo <= 0.0
+            };
+            if touches {
+                let mut slopes = vec![Scalar::ZERO; x.len()];
+                slopes[stop.coordinate] = Scalar::ONE;
+                e.constraints.push(beyond, slopes);
+            }
+        }
+        let m = e.constraints.values.len();
         let mut numbers = Vec::new();
         for rows in [e.constraints, e.sum] {
             numbers.extend(flat(&rows.values));
             numbers.extend(rows.jacobian.iter().flat_map(|slopes| flat(slopes)));
         }
-        Some(numbers)
+        Some(Rows { m, numbers })
     }
 }

@@ -35,7 +35,7 @@ fn text(history: &History, random: &mut Random) -> String {
             continue;
         };
         if random.at_odds(REFUSED) {
-            let which = random.below(2) as usize;
+            let which = [0, 1, 3][random.below(3) as usize];
             if let Some((rows, _, number)) = bad_reply(history.sizes, random, which) {
                 text += &format!("{}x {number:X}\n", reply(&Some(rows)));
             }
@@ -63,7 +63,6 @@ fn refused_begin(sizes: Sizes, max_step: Scalar, start: &[f64], number: u64) -> 
 fn refused_begins() -> Vec<String> {
     let fit = Sizes {
         n: 1,
-        m: 1,
         s: 1,
         limit: 5,
     };
@@ -72,7 +71,6 @@ fn refused_begins() -> Vec<String> {
     let max = |lo: f64, hi: f64| Scalar { lo, hi };
     vec![
         refused_begin(Sizes { n: 13, ..fit }, one, &[1.0; 26], 1),
-        refused_begin(Sizes { m: 13, ..fit }, one, &start, 1),
         refused_begin(Sizes { s: 25, ..fit }, one, &start, 1),
         refused_begin(Sizes { limit: 201, ..fit }, one, &start, 1),
         refused_begin(fit, one, &[2.0, 1.0], 3),
@@ -90,11 +88,10 @@ fn refused_begins() -> Vec<String> {
 fn greatest(seed: u64) -> Vec<History> {
     let sizes = Sizes {
         n: 12,
-        m: 12,
         s: 24,
         limit: 1,
     };
-    let of_that_size = (0..).map(|i| Problem::smooth(seed ^ i << 8, sizes));
+    let of_that_size = (0..).map(|i| Problem::smooth(seed ^ i << 8, sizes, 12));
     let few = |history: &History| (2..=4).contains(&history.replies.len()) && is_small(history);
     of_that_size
         .map(history_of)
@@ -113,12 +110,12 @@ fn drawn(seed: u64, wanted: usize) -> Vec<History> {
         .collect();
     for i in 0..TRIES {
         let problem = problem::drawn(seed, i);
-        let Sizes { n, m, s, .. } = problem.sizes;
-        if n + m + s > SMALL {
+        let Sizes { n, s, .. } = problem.sizes;
+        if n + s > SMALL {
             continue;
         }
         let history = history_of(problem);
-        if !is_small(&history) {
+        if n + s + history.most_constraints() > SMALL || !is_small(&history) {
             continue;
         }
         let mut shows = shown(&history);

@@ -1,7 +1,7 @@
 //! Problems by name: the known answers, what is rare at random, and the traps. Together they show all
 //! that `tally::expected` lists.
 
-use crate::runs::problem::{Problem, Reply, Sizes, Source};
+use crate::runs::problem::{Problem, Reply, Rows, Sizes, Source};
 use geop_core_math::scalars::Scalar;
 
 fn power(e: i32) -> f64 {
@@ -18,24 +18,36 @@ fn ends(lo: f64, hi: f64) -> Scalar {
     Scalar { lo, hi }
 }
 
-/// Rows of sharp numbers, in the area's order.
-fn rows(numbers: &[f64]) -> Reply {
+/// The numbers of rows, in the area's order, or none.
+type Numbers = Option<Vec<f64>>;
+
+/// Rows of sharp numbers.
+fn rows(numbers: &[f64]) -> Numbers {
     Some(numbers.iter().flat_map(|&x| [x, x]).collect())
 }
 
 /// Rows of intervals.
-fn wide(scalars: &[Scalar]) -> Reply {
+fn wide(scalars: &[Scalar]) -> Numbers {
     Some(scalars.iter().flat_map(|x| [x.lo, x.hi]).collect())
 }
 
-fn problem(sizes: [usize; 4], max_step: f64, start: &[Scalar], replies: Vec<Reply>) -> Problem {
-    let [n, m, s, limit] = sizes;
+/// Whose replies bring any number of constraint rows each.
+fn changing(sizes: [usize; 3], max_step: f64, start: &[Scalar], replies: Vec<Reply>) -> Problem {
+    let [n, s, limit] = sizes;
     Problem {
-        sizes: Sizes { n, m, s, limit },
+        sizes: Sizes { n, s, limit },
         max_step: at(max_step),
         start: start.to_vec(),
         source: Source::given(replies),
     }
+}
+
+/// Whose replies all have m constraint rows.
+fn problem(sizes: [usize; 4], max_step: f64, start: &[Scalar], replies: Vec<Numbers>) -> Problem {
+    let [n, m, s, limit] = sizes;
+    let replies = replies.into_iter();
+    let replies = replies.map(|numbers| numbers.map(|numbers| Rows { m, numbers }));
+    changing([n, s, limit], max_step, start, replies.collect())
 }
 
 /// The known answers P11 to P13, and the ends that need few replies.
@@ -231,7 +243,7 @@ fn traps() -> Vec<Problem> {
 
 /// A trial that leaves the constraint, and so many corrections that come nearer, then one more reply; then a step that
 /// is taken.
-fn corrected(kept: usize, then: Reply) -> Problem {
+fn corrected(kept: usize, then: Numbers) -> Problem {
     let mut replies = vec![rows(&[1.0, 1.0]), rows(&[16.0, 1.0])];
     replies.extend((0..kept).map(|i| rows(&[power(3 - 2 * i as i32), 1.0])));
     replies.push(then);
@@ -262,6 +274,66 @@ fn coarse() -> Vec<Problem> {
     ]
 }
 
+/// Stops that come and go: the sum pulls towards a place, and a row that is not always answered is in the way.
+fn stops() -> Vec<Problem> {
+    let with = |m: usize, numbers: &[f64]| rows(numbers).map(|numbers| Rows { m, numbers });
+    let pull = |value: f64| with(0, &[value, 1.0]);
+    let stopped = |value: f64, pull: f64| with(1, &[value, 1.0, pull, 1.0]);
+    let two = |value: f64, pull: f64| with(2, &[value, -value, 1.0, 1.0, pull, 1.0]);
+    let start = [at(8.0)];
+    vec![
+        // None, then one, then none again: steps are taken with more and with fewer.
+        changing(
+            [1, 1, 9],
+            9.0,
+            &start,
+            vec![
+                pull(8.0),
+                stopped(0.5, 4.0),
+                pull(2.0),
+                stopped(0.25, 1.0),
+                None,
+            ],
+        ),
+        // Landed rows that are more than the standing ones: their multipliers are those of the standing rows.
+        changing(
+            [1, 1, 9],
+            9.0,
+            &start,
+            vec![
+                stopped(1.0, 8.0),
+                two(0.5, 4.0),
+                two(0.25, 2.0),
+                stopped(0.125, 1.0),
+            ],
+        ),
+        // Within corrections: a trial that leaves its constraint, and corrections of one and of two rows.
+        changing(
+            [1, 1, 9],
+            9.0,
+            &start,
+            vec![
+                stopped(1.0, 4.0),
+                stopped(16.0, 1.0),
+                two(4.0, 1.0),
+                stopped(1.0, 1.0),
+                pull(0.5),
+            ],
+        ),
+        // Flat names the standing rows: two of them say the same.
+        changing(
+            [1, 0, 9],
+            9.0,
+            &start,
+            vec![
+                with(1, &[1.0, 1.0]),
+                with(2, &[0.0, 0.0, 1.0, 1.0]),
+                with(1, &[0.0, 1.0]),
+            ],
+        ),
+    ]
+}
+
 pub fn problems() -> Vec<Problem> {
     let mut all = known();
     all.extend(refused());
@@ -269,5 +341,6 @@ pub fn problems() -> Vec<Problem> {
     all.extend(traps());
     all.extend(corrections());
     all.extend(coarse());
+    all.extend(stops());
     all
 }

@@ -10,8 +10,16 @@ use geop_core_math::scalars::Scalar;
 /// 2^400, the greatest magnitude of an end.
 pub const MOST: f64 = f64::from_bits(0x58F0_0000_0000_0000);
 
-/// Rows, flat: the constraint values, their slopes row by row, then the sum's; or none.
-pub type Reply = Option<Vec<f64>>;
+/// The rows of an answer, of which m are constraints. Flat: the constraint values, their slopes row by row, then the
+/// sum's.
+#[derive(Clone, Debug, PartialEq)]
+pub struct Rows {
+    pub m: usize,
+    pub numbers: Vec<f64>,
+}
+
+/// Rows, or none.
+pub type Reply = Option<Rows>;
 
 /// Whether every scalar of `numbers` is in the domain.
 pub fn in_domain(numbers: &[f64]) -> bool {
@@ -23,16 +31,22 @@ pub fn in_domain(numbers: &[f64]) -> bool {
 #[derive(Clone, Copy, Debug, PartialEq, Eq)]
 pub struct Sizes {
     pub n: usize,
-    pub m: usize,
     pub s: usize,
     pub limit: usize,
 }
 
 impl Sizes {
-    /// How many numbers a reply with rows has.
-    pub fn row_numbers(&self) -> usize {
-        2 * (self.m + self.s) * (self.n + 1)
+    /// How many numbers a reply has with m constraint rows.
+    pub fn row_numbers(&self, m: usize) -> usize {
+        2 * (m + self.s) * (self.n + 1)
     }
+}
+
+/// How many constraint rows the answers of a problem have: so many, or up to so many, and another number now and then.
+#[derive(Clone, Copy)]
+pub struct Counts {
+    pub m: usize,
+    pub changes: bool,
 }
 
 /// Who answers.
@@ -74,7 +88,7 @@ impl Source {
             Source::Script(script) => script.next(),
             Source::Given(replies) | Source::Left(replies) => replies.next().flatten(),
         };
-        rows.filter(|rows| in_domain(rows))
+        rows.filter(|rows| in_domain(&rows.numbers))
     }
 }
 
@@ -86,9 +100,10 @@ pub struct Problem {
 }
 
 impl Problem {
-    /// A smooth one of these sizes.
-    pub fn smooth(seed: u64, sizes: Sizes) -> Problem {
-        Random::new(seed).smooth_problem(sizes)
+    /// A smooth one of these sizes, whose answers all have m constraint rows.
+    pub fn smooth(seed: u64, sizes: Sizes, m: usize) -> Problem {
+        let counts = Counts { m, changes: false };
+        Random::new(seed).smooth_problem(sizes, counts)
     }
 }
 
@@ -147,45 +162,50 @@ impl Random {
             .collect()
     }
 
-    fn sizes(&mut self) -> Sizes {
+    fn sizes(&mut self, changes: bool) -> (Sizes, Counts) {
         let (n, m) = (self.count(VARIABLES), self.count(CONSTRAINTS));
         let s = self.count(RESIDUALS);
         let limit = self.limit(n.max(m).max(s / 2));
-        Sizes { n, m, s, limit }
+        (Sizes { n, s, limit }, Counts { m, changes })
     }
 
-    fn smooth_problem(&mut self, sizes: Sizes) -> Problem {
+    fn smooth_problem(&mut self, sizes: Sizes, counts: Counts) -> Problem {
         Problem {
             sizes,
             max_step: self.max_step(),
             start: self.start(sizes.n),
-            source: Source::Smooth(Smooth::drawn(self, sizes)),
+            source: Source::Smooth(Smooth::drawn(self, sizes, counts)),
         }
     }
 
-    fn script_problem(&mut self) -> Problem {
+    fn script_problem(&mut self, changes: bool) -> Problem {
         let tiny = self.at_odds(6);
-        let sizes = if tiny {
+        let (sizes, counts) = if tiny {
             // Few constraints, some of them of tiny slopes: their basis may be refused.
-            Sizes {
-                n: 1 + self.below(3) as usize,
-                m: 2 + self.below(2) as usize,
+            let (n, m) = (1 + self.below(3), 2 + self.below(2));
+            let sizes = Sizes {
+                n: n as usize,
                 s: usize::from(self.at_odds(4)),
                 limit: 1 + self.below(4) as usize,
-            }
+            };
+            let m = m as usize;
+            (sizes, Counts { m, changes })
         } else {
-            self.sizes()
+            self.sizes(changes)
         };
         Problem {
             sizes,
             max_step: self.max_step(),
             start: self.start(sizes.n),
-            source: Source::Script(Script::new(self.word(), sizes, tiny)),
+            source: Source::Script(Script::new(self.word(), sizes, counts, tiny)),
         }
     }
 
-    fn frame_problem(&mut self) -> Problem {
-        let frame = Frame::drawn(self);
+    fn frame_problem(&mut self, changes: bool) -> Problem {
+        let mut frame = Frame::drawn(self);
+        if changes {
+            frame.place_stops(self);
+        }
         let sizes = frame.sizes(self);
         Problem {
             sizes,
@@ -196,15 +216,21 @@ impl Random {
     }
 }
 
+/// Whether the answers of the i-th problem may change how many constraint rows they have: two of each five.
+pub fn may_change(i: u64) -> bool {
+    i % 5 < 2
+}
+
 /// The i-th problem of a seed.
 pub fn drawn(seed: u64, i: u64) -> Problem {
+    let changes = may_change(i);
     let mut random = Random::new(seed.wrapping_mul(0x2545_F491_4F6C_DD1D) ^ i << 20);
     match i % 8 {
-        0..3 => random.frame_problem(),
+        0..3 => random.frame_problem(changes),
         3..5 => {
-            let sizes = random.sizes();
-            random.smooth_problem(sizes)
+            let (sizes, counts) = random.sizes(changes);
+            random.smooth_problem(sizes, counts)
         }
-        _ => random.script_problem(),
+        _ => random.script_problem(changes),
     }
 }

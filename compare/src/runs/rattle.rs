@@ -5,7 +5,7 @@ use crate::archive::{
     yadzvego_point_place, yadzvego_reply, yadzvego_reply_none,
 };
 use crate::runs::answers::{Answer, Finish, Moment, Question};
-use crate::runs::problem::Sizes;
+use crate::runs::problem::{Rows, Sizes};
 use crate::words::words;
 use geop_core_math::scalars::Scalar;
 
@@ -18,7 +18,7 @@ pub fn begin(
     max_step: Scalar,
     area: &mut [f64],
 ) -> (Run, EventNumbers) {
-    let Sizes { n, m, s, limit } = sizes;
+    let Sizes { n, s, limit } = sizes;
     let max_step = archive::Scalar {
         lo: max_step.lo,
         hi: max_step.hi,
@@ -28,7 +28,6 @@ pub fn begin(
     let ReturnedNumbers { run, event } = unsafe {
         yadzvego_begin(
             n,
-            m,
             s,
             limit,
             start.as_ptr(),
@@ -42,12 +41,14 @@ pub fn begin(
 }
 
 /// With rows, or with none.
-pub fn reply(run: Run, area: &mut [f64], rows: Option<&[f64]>) -> (Run, EventNumbers) {
+pub fn reply(run: Run, area: &mut [f64], rows: Option<&Rows>) -> (Run, EventNumbers) {
     let (at, count) = (area.as_mut_ptr(), area.len());
     // Safety: each pointer and its count are those of a slice.
     let ReturnedNumbers { run, event } = unsafe {
         match rows {
-            Some(rows) => yadzvego_reply(run, at, count, rows.as_ptr(), rows.len()),
+            Some(Rows { m, numbers }) => {
+                yadzvego_reply(run, at, count, *m, numbers.as_ptr(), numbers.len())
+            }
             None => yadzvego_reply_none(run, at, count),
         }
     };
@@ -97,7 +98,6 @@ pub fn answer(run: Run, area: &[f64], told: EventNumbers) -> Answer {
 pub fn run_bits(run: &Run) -> Vec<u64> {
     let counts = [
         run.n,
-        run.m,
         run.s,
         run.limit,
         run.iterations,
@@ -105,6 +105,8 @@ pub fn run_bits(run: &Run) -> Vec<u64> {
         run.standing,
         run.landed,
         run.corrections,
+        run.standing_m,
+        run.landed_m,
         run.turned_down,
     ];
     let scalars = [

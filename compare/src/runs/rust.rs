@@ -5,7 +5,7 @@ use crate::interval::functions::number_of;
 use crate::run::pieces::{Call, evaluation, flat};
 use crate::run::rust::polled;
 use crate::runs::answers::{Answer, Finish, Moment, Question};
-use crate::runs::problem::{Problem, Reply, Sizes};
+use crate::runs::problem::{Problem, Reply, Rows, Sizes};
 use crate::words::words;
 use geop_core_math::geop_error::GeopResult;
 use geop_core_math::scalars::Scalar;
@@ -38,9 +38,14 @@ impl History {
     }
 
     /// The rows that were answered to a question.
-    pub fn rows(&self, question: usize) -> &[f64] {
-        let reply = self.replies.get(question);
-        reply.and_then(Option::as_deref).unwrap_or(&[])
+    pub fn rows(&self, question: usize) -> Option<&Rows> {
+        self.replies.get(question)?.as_ref()
+    }
+
+    /// The greatest number of constraint rows that an answer has.
+    pub fn most_constraints(&self) -> usize {
+        let counts = self.replies.iter().flatten().map(|rows| rows.m);
+        counts.max().unwrap_or(0)
     }
 
     /// The point of a question.
@@ -52,15 +57,15 @@ impl History {
     }
 }
 
-pub fn evaluated(sizes: Sizes, rows: &[f64]) -> Evaluation {
-    let Sizes { n, m, s, .. } = sizes;
+pub fn evaluated(sizes: Sizes, rows: &Rows) -> Evaluation {
+    let Sizes { n, s, .. } = sizes;
     let call = Call {
         n,
-        m,
+        m: rows.m,
         s,
         ..Call::default()
     };
-    evaluation(&call, rows)
+    evaluation(&call, &rows.numbers)
 }
 
 /// What the events told so far come to.

@@ -1,8 +1,10 @@
-//! Scripts: rows drawn at random, whatever the point is. So the run is led where no smooth problem leads it.
+//! Scripts: rows drawn at random, whatever the point is. So the run is led where no smooth problem leads it. In some of
+//! them the replies change how many constraint rows they have.
 
 use crate::interval::operands::Random;
+use crate::run::pieces::CONSTRAINTS;
 use crate::run::problems::bounded;
-use crate::runs::problem::{MOST, Sizes};
+use crate::runs::problem::{Counts, MOST, Reply, Rows, Sizes};
 
 /// What most replies of a script are.
 #[derive(Clone, Copy)]
@@ -24,10 +26,14 @@ enum Manner {
 pub struct Script {
     random: Random,
     sizes: Sizes,
+    counts: Counts,
     manner: Manner,
-    /// One reply in so many is none, and one is of another manner.
+    /// One reply in so many is none, one is of another manner, and one has another m.
     nones: u64,
     strays: u64,
+    others: u64,
+    /// The constraint rows of the reply before, and its numbers.
+    m: usize,
     before: Vec<f64>,
 }
 
@@ -71,26 +77,30 @@ impl Random {
 }
 
 impl Script {
-    pub fn new(word: u64, sizes: Sizes, tiny: bool) -> Script {
+    pub fn new(word: u64, sizes: Sizes, counts: Counts, tiny: bool) -> Script {
         let mut random = Random::new(word);
         Script {
             manner: if tiny { Manner::Tiny } else { random.manner() },
             nones: [3, 8, 40][random.below(3) as usize],
             strays: [4, 40][random.below(2) as usize],
+            others: [1, 3, 6][random.below(3) as usize],
             random,
             sizes,
+            counts,
+            m: counts.m,
             before: Vec::new(),
         }
     }
 
     fn fresh(&mut self) -> Vec<f64> {
-        let Sizes { n, m, s, .. } = self.sizes;
-        self.random.problem(n, m, s)
+        let Sizes { n, s, .. } = self.sizes;
+        self.random.problem(n, self.m, s)
     }
 
     /// The places of the values among the scalars of the rows.
     fn values(&self) -> impl Iterator<Item = usize> + use<> {
-        let Sizes { n, m, s, .. } = self.sizes;
+        let Sizes { n, s, .. } = self.sizes;
+        let m = self.m;
         (0..m).chain(m * (n + 1)..m * (n + 1) + s)
     }
 
@@ -118,24 +128,55 @@ impl Script {
     }
 
     fn extremes(&mut self) -> Vec<f64> {
-        let scalars = self.sizes.row_numbers() / 2;
+        let scalars = self.sizes.row_numbers(self.m) / 2;
         (0..scalars).flat_map(|_| self.random.extreme()).collect()
     }
 
     fn tinies(&mut self) -> Vec<f64> {
-        let scalars = self.sizes.row_numbers() / 2;
+        let scalars = self.sizes.row_numbers(self.m) / 2;
         let numbers = (0..scalars).map(|_| self.random.tiny());
         numbers.flat_map(|x| [x, x]).collect()
     }
 
+    /// Another m: fewer constraint rows of those before, or some of a problem of its own behind them.
+    fn change(&mut self) {
+        let Sizes { n, s, .. } = self.sizes;
+        let most = if self.random.at_odds(4) {
+            CONSTRAINTS
+        } else {
+            self.counts.m + 1
+        };
+        let m = match self.random.below(4) {
+            0 => 0,
+            1 => (self.m + 1).min(CONSTRAINTS),
+            _ => self.random.below(most.min(CONSTRAINTS) as u64 + 1) as usize,
+        };
+        if !self.before.is_empty() {
+            let other = self.random.problem(n, m, s);
+            let (was, sum) = self.before.split_at(2 * self.m * (n + 1));
+            let (mut values, mut slopes) = (
+                other[..2 * m].to_vec(),
+                other[2 * m..2 * m * (n + 1)].to_vec(),
+            );
+            let kept = m.min(self.m);
+            values[..2 * kept].copy_from_slice(&was[..2 * kept]);
+            slopes[..2 * kept * n].copy_from_slice(&was[2 * self.m..][..2 * kept * n]);
+            self.before = [&values, &slopes, sum].concat();
+        }
+        self.m = m;
+    }
+
     /// None where there is none; rows in the domain else.
-    pub fn next(&mut self) -> Option<Vec<f64>> {
+    pub fn next(&mut self) -> Reply {
         let first = self.before.is_empty();
         if self
             .random
             .at_odds(if first { 8 * self.nones } else { self.nones })
         {
             return None;
+        }
+        if self.counts.changes && self.random.at_odds(self.others) {
+            self.change();
         }
         let manner = if self.random.at_odds(self.strays) {
             self.random.manner()
@@ -153,6 +194,9 @@ impl Script {
         let ends = rows.chunks_exact(2);
         let rows: Vec<f64> = ends.flat_map(|ends| bounded([ends[0], ends[1]])).collect();
         self.before.clone_from(&rows);
-        Some(rows)
+        Some(Rows {
+            m: self.m,
+            numbers: rows,
+        })
     }
 }

@@ -2,7 +2,7 @@
 
 use crate::run::pieces::scalars;
 use crate::runs::beside::{Compared, Manner, compared};
-use crate::runs::problem::{MOST, Problem, Reply, Sizes, Source, in_domain};
+use crate::runs::problem::{MOST, Problem, Reply, Rows, Sizes, Source, in_domain};
 use crate::runs::rust::{History, history_of};
 use crate::shrink::{Case, WHOLES, changes_in, simpler_in, simpler_whole, smallest, without};
 
@@ -24,10 +24,14 @@ enum Axis {
     Residuals,
 }
 
-/// Rows without the i-th variable, constraint or residual.
-fn rows_without(rows: &[f64], sizes: Sizes, along: Axis, i: usize) -> Vec<f64> {
-    let Sizes { n, m, s, .. } = sizes;
-    let (constraints, sum) = rows.split_at(2 * m * (n + 1));
+/// Rows without the i-th variable, constraint or residual; as they are where there is no such constraint.
+fn rows_without(rows: &Rows, sizes: Sizes, along: Axis, i: usize) -> Rows {
+    let Sizes { n, s, .. } = sizes;
+    let m = rows.m;
+    if along == Axis::Constraints && i >= m {
+        return rows.clone();
+    }
+    let (constraints, sum) = rows.numbers.split_at(2 * m * (n + 1));
     let mut left = Vec::new();
     for (part, count, axis) in [
         (constraints, m, Axis::Constraints),
@@ -44,7 +48,10 @@ fn rows_without(rows: &[f64], sizes: Sizes, along: Axis, i: usize) -> Vec<f64> {
             left.extend_from_slice(part);
         }
     }
-    left
+    Rows {
+        m: m - usize::from(along == Axis::Constraints),
+        numbers: left,
+    }
 }
 
 impl Smaller {
@@ -86,7 +93,7 @@ impl Smaller {
                 less.sizes.n -= 1;
                 less.numbers.drain(2 * i + 2..2 * i + 4);
             }
-            Axis::Constraints => less.sizes.m -= 1,
+            Axis::Constraints => {}
             Axis::Residuals => less.sizes.s -= 1,
         }
         less
@@ -118,6 +125,7 @@ impl Smaller {
     fn simpler(&self, mut change: usize) -> Option<Smaller> {
         let mut less = self.clone();
         let rows = less.replies.iter_mut().flatten();
+        let rows = rows.map(|rows| &mut rows.numbers);
         for numbers in std::iter::once(&mut less.numbers).chain(rows) {
             if change < changes_in(numbers) {
                 *numbers = simpler_in(numbers, change)?;
@@ -130,9 +138,11 @@ impl Smaller {
 
     /// How many changes there are of each kind, in their order.
     fn kinds(&self) -> [usize; 8] {
-        let Sizes { n, m, s, .. } = self.sizes;
+        let Sizes { n, s, .. } = self.sizes;
         let replies = self.replies.len();
-        let slices = std::iter::once(&self.numbers).chain(self.replies.iter().flatten());
+        let rows = self.replies.iter().flatten();
+        let m = rows.clone().map(|rows| rows.m).max().unwrap_or(0);
+        let slices = std::iter::once(&self.numbers).chain(rows.map(|rows| &rows.numbers));
         let numbers = slices.map(|slice| changes_in(slice)).sum();
         [1, replies, replies, WHOLES, n, m, s, numbers]
     }

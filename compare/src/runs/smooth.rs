@@ -1,8 +1,9 @@
 //! Smooth problems: each residual is a constant, a linear part and a few products of two variables, with its
-//! derivative, all of them enclosed more or less widely.
+//! derivative, all of them enclosed more or less widely. Some constraints are one-sided: they are answered only where
+//! they are met.
 
 use crate::interval::operands::Random;
-use crate::runs::problem::Sizes;
+use crate::runs::problem::{Counts, Reply, Rows, Sizes};
 use geop_core_math::scalars::Scalar;
 
 struct Residual {
@@ -14,6 +15,8 @@ struct Residual {
 
 pub struct Smooth {
     constraints: Vec<Residual>,
+    /// The first so many of them hold everywhere; each other one only where its value is not definitely negative.
+    held: usize,
     sum: Vec<Residual>,
     /// Half the width that values and slopes have beside rounding.
     value_width: f64,
@@ -67,13 +70,18 @@ impl Residual {
 }
 
 impl Smooth {
-    pub fn drawn(random: &mut Random, sizes: Sizes) -> Smooth {
+    pub fn drawn(random: &mut Random, sizes: Sizes, counts: Counts) -> Smooth {
         let mut residuals = |count: usize| -> Vec<Residual> {
             (0..count)
                 .map(|_| Residual::drawn(random, sizes.n))
                 .collect()
         };
-        let (constraints, sum) = (residuals(sizes.m), residuals(sizes.s));
+        let (constraints, sum) = (residuals(counts.m), residuals(sizes.s));
+        let held = if counts.changes {
+            random.below(counts.m as u64 + 1) as usize
+        } else {
+            counts.m
+        };
         let width = |random: &mut Random| match random.below(4) {
             0 | 1 => 0.0,
             2 => random.sized(-30, -5).abs(),
@@ -81,6 +89,7 @@ impl Smooth {
         };
         Smooth {
             constraints,
+            held,
             sum,
             value_width: width(random),
             slope_width: width(random),
@@ -91,20 +100,30 @@ impl Smooth {
         }
     }
 
-    pub fn rows(&self, x: &[Scalar]) -> Option<Vec<f64>> {
+    /// The constraints that hold at a point: one-sided ones are left out where they are not met.
+    fn holding(&self, x: &[Scalar]) -> Vec<&Residual> {
+        let all = self.constraints.iter().enumerate();
+        all.filter(|(i, row)| *i < self.held || row.value(x).hi >= 0.0)
+            .map(|(_, row)| row)
+            .collect()
+    }
+
+    pub fn rows(&self, x: &[Scalar]) -> Reply {
         if x.first().is_some_and(|x| x.hi > self.edge) {
             return None;
         }
+        let holding = self.holding(x);
+        let m = holding.len();
         let mut numbers = Vec::new();
-        for rows in [&self.constraints, &self.sum] {
-            for row in rows {
+        for rows in [holding, self.sum.iter().collect()] {
+            for row in &rows {
                 numbers.extend(widened(row.value(x), self.value_width));
             }
-            for row in rows {
+            for row in &rows {
                 let slopes = row.slopes(x).into_iter();
                 numbers.extend(slopes.flat_map(|v| widened(v, self.slope_width)));
             }
         }
-        Some(numbers)
+        Some(Rows { m, numbers })
     }
 }

@@ -15,6 +15,14 @@ const RETRIED: [&str; 2] = [
     "tried again without curvature",
     "stopped as first after that",
 ];
+const CHANGED: [&str; 6] = [
+    "up",
+    "down",
+    "to none",
+    "within corrections",
+    "taken with more",
+    "taken with fewer",
+];
 const ENDED: [&str; 3] = ["answered none", "not nearer", "no further point"];
 
 /// The stops, with the rejections that they can tell: Damped always follows one.
@@ -40,6 +48,11 @@ pub fn expected() -> Vec<(&'static str, Vec<String>)> {
         ("corrections of a trial", kept.collect()),
         ("corrections ended", owned(&ENDED)),
         ("refusals", owned(&["5", "6"])),
+        ("constraint rows change", owned(&CHANGED)),
+        (
+            "stops of such runs",
+            STOPS[1..].iter().map(changing).collect(),
+        ),
     ]
 }
 
@@ -114,11 +127,70 @@ fn turn_downs(history: &History) -> Vec<String> {
     names
 }
 
+fn changing(stop: &&str) -> String {
+    format!("{stop} with changing counts")
+}
+
+/// Whether two of its answers have different numbers of constraint rows.
+pub fn changes(history: &History) -> bool {
+    let mut counts = history.replies.iter().flatten().map(|rows| rows.m);
+    let first = counts.next();
+    counts.any(|m| Some(m) != first)
+}
+
+/// How the counts of constraint rows change from one answer to the next, and from a standing point to the one after.
+fn changed(history: &History) -> Vec<String> {
+    let mut names = Vec::new();
+    if !changes(history) {
+        return names;
+    }
+    let count = |question: usize| history.rows(question).map(|rows| rows.m);
+    for question in 1..history.replies.len() {
+        let (Some(before), Some(m)) = (count(question - 1), count(question)) else {
+            continue;
+        };
+        let kind = match &history.answers[question] {
+            Answer::Question(asked) => asked.kind,
+            _ => continue,
+        };
+        let occurs = [
+            before < m,
+            m < before,
+            before > 0 && m == 0,
+            kind == 2 && before != m,
+        ];
+        let occurs = CHANGED.iter().zip(occurs).filter(|(_, occurs)| *occurs);
+        names.extend(occurs.map(|(name, _)| name.to_string()));
+    }
+    let standing = history.answers.iter().filter_map(|answer| match answer {
+        Answer::Question(asked) => Some(asked.standing),
+        Answer::Finish(finish) => Some(finish.standing),
+        _ => None,
+    });
+    let mut before = 0;
+    for question in standing {
+        if let (Some(left), Some(m)) = (count(before), count(question)) {
+            let occurs = [left < m, m < left];
+            let occurs = CHANGED[4..]
+                .iter()
+                .zip(occurs)
+                .filter(|(_, occurs)| *occurs);
+            names.extend(occurs.map(|(name, _)| name.to_string()));
+        }
+        before = question;
+    }
+    if let Answer::Finish(finish) = history.last() {
+        names.push(changing(&STOPS[usize::from(finish.stop)]));
+    }
+    names
+}
+
 /// What a run shows, as often as it does.
 pub fn shown(history: &History) -> Vec<String> {
     let mut names = vec![stop_name(history.last())];
     names.extend(turn_downs(history));
     names.extend(corrections(history));
+    names.extend(changed(history));
     names
 }
 
