@@ -1,5 +1,7 @@
 // A list of replies played through the calls of a run. The contract of `play` is the fold of demand 3's own definition
 // of a call, and demand 3 of what it returns.
+#![tactic(auto)]
+
 ghost use Rattle.std.specs.Prelude.{◌≡◌, ◌+◌, ◌-◌, ◌≤◌, min, get_or};
 ghost use Rattle.interval.specs.Scalar.{pick};
 ghost use Rattle.run.specs.Calls.{after_call, reply_of, reply_none_of};

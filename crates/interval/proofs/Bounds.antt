@@ -213,6 +213,8 @@ sum_number a b h k = (add-fits binary64 a b, sum_no_nan_above a b h k)
 finite_above : (x : Float) → T (finite x) → lt (inf true) x ≡ true
 unfolding lt
 finite_above (fin s m e) h = refl
+finite_above nan h = elim h [ ]
+finite_above (inf _) h = elim h [ ]
 
 pub up_above : (x : Float) → Number x → lt (inf true) (next_up x) ≡ true
 unfolding lt
@@ -278,6 +280,7 @@ pub plus_zero_number : (x : Float) → T (not (is_nan x)) → T (not (is_nan (ad
 unfolding add sum is_nan
 plus_zero_number (inf s) h = tt
 plus_zero_number (fin s m e) h = sum_no_nan s (m * up e * 1) false (0 * 1 * down e) (down e * 1)
+plus_zero_number nan h = elim h [ ]
 
 -- ---- the step up of what is not -0, by its pattern
 -- adding 0 keeps x: it is not -0
@@ -364,3 +367,4 @@ step (fin false (suc m) e) t h k =
     (out (fin false (suc m) e) (to_bits binary64 (fin false (suc m) e)) r.0 r.1)
 step (fin true (suc m) e) t h k = rw (finite_most (fin true (suc m) e) t tt)
     (back (fin true (suc m) e) (down_side (fin true (suc m) e) t (inr (m, e, refl))))
+step nan t h k = elim h [ ]

@@ -45,6 +45,8 @@ zero_times u a w h =
               (ap (λ (z : ℕ). z * (n * up d)) (zero-mul (up w.1)) ∙ zero-mul (n * up d)),
           round_number binary64 (unlike w.0 t) x c,
         )
+    go nan h = elim h [ ]
+    go (inf _) h = elim h [ ]
 
 -- ---- the ends about 0
 pub under_zero : (m : Float) → T (fits binary64 m) → T (finite (next_down m)) → rank binary64 m ≤ inf_bits binary64
@@ -66,9 +68,13 @@ zero_at x t z = subst (λ (w : Float). T (fits binary64 w) → T (finite w) × (
 pub neg_finite : (x : Float) → T (finite x) → T (finite (neg x))
 unfolding neg
 neg_finite (fin s m e) h = tt
+neg_finite nan h = elim h [ ]
+neg_finite (inf _) h = elim h [ ]
 
 pub value_finite : (v : Float) (a l : ℕ) → HasValue v false a l → T (finite v)
 value_finite (fin s m e) a l h = tt
+value_finite nan a l h = elim h [ ]
+value_finite (inf _) a l h = elim h [ ]
 
 pub down_finite : (v : Float) → NonNegative v → T (fits binary64 v) → T (finite (next_down v))
 unfolding NonNegative next_up neg

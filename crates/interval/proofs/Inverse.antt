@@ -185,11 +185,15 @@ pub some_above : (x : Float) → T (fits binary64 x) → T (finite x) → 0 < P 
 some_above (fin s zero e) t h k = absurd (lt_irrefl 0 (subst (λ (z : ℕ). 0 < z) (zero_units s e t) k))
 some_above (fin false (suc m) e) t h k = (m, e, refl)
 some_above (fin true (suc m) e) t h k = absurd (lt_irrefl 0 (subst (λ (z : ℕ). 0 < z) (sides_neg (suc m) e) k))
+some_above lib.Ieee.nan t h k = elim h [ ]
+some_above (lib.Ieee.inf _) t h k = elim h [ ]
 
 pub some_below : (x : Float) → T (fits binary64 x) → T (finite x) → 0 < N (units_of binary64 x) → Below x
 some_below (fin s zero e) t h k = absurd (lt_irrefl 0 (subst (λ (z : ℕ). 0 < z) (zero-units-N s e t) k))
 some_below (fin true (suc m) e) t h k = (m, e, refl)
 some_below (fin false (suc m) e) t h k = absurd (lt_irrefl 0 (subst (λ (z : ℕ). 0 < z) (sides_pos (suc m) e) k))
+some_below lib.Ieee.nan t h k = elim h [ ]
+some_below (lib.Ieee.inf _) t h k = elim h [ ]
 
 -- ---- the inverse
 pub lo_pos' : (x : Float) → Above x → T (fits binary64 x) → T (finite (next_down (div binary64 one64 x))) → (q k : ℕ)

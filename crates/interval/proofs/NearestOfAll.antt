@@ -134,3 +134,5 @@ root_nearest_of_all (fin true (suc m) e) t h k =
     let p = lt_of_parts (units x) (units zero64)
     (omega (arith, zero-units-N false (pos 0) zero_fits, sides_neg (suc m) e, below_units m e t)) in
     absurd (T_not (lt x zero64) k (units_lt x zero64 t h zero_fits tt p))
+root_nearest_of_all lib.Ieee.nan t h k = elim h [ ]
+root_nearest_of_all (lib.Ieee.inf _) t h k = elim h [ ]

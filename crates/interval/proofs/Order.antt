@@ -248,3 +248,5 @@ rank_units x y tx hx ty hy h =
 pub finite_number : (x : Float) → T (fits binary64 x) → T (finite x) → Number x
 unfolding is_nan
 finite_number (fin s m e) t h = (t, tt)
+finite_number nan t h = elim h [ ]
+finite_number (inf _) t h = elim h [ ]

@@ -80,6 +80,10 @@ lt_units (fin s m e) (fin t n d) tx hx ty hy h =
     lt_of_parts (units_of binary64 (fin s m e)) (units_of binary64 (fin t n d))
     (over_lt _ _ _ _ (2 ^ low binary64) (down e * down d) (pow_pos (low binary64)) (left s m e t n d tx ty)
     (right s m e t n d tx ty) (below_parts s (m * up e * down d) t (n * up d * down e) h))
+lt_units nan y tx hx ty hy h = elim hx [ ]
+lt_units (inf _) y tx hx ty hy h = elim hx [ ]
+lt_units (fin s m e) nan tx hx ty hy h = elim hy [ ]
+lt_units (fin s m e) (inf _) tx hx ty hy h = elim hy [ ]
 
 pub units_lt : (x y : Float) → T (fits binary64 x) → T (finite x) → T (fits binary64 y) → T (finite y)
     → T (lt_z (units_of binary64 x) (units_of binary64 y)) → T (lt x y)
@@ -88,6 +92,10 @@ units_lt (fin s m e) (fin t n d) tx hx ty hy h =
     parts_below s (m * up e * down d) t (n * up d * down e)
     (over_lt _ _ _ _ (down e * down d) (2 ^ low binary64) (mul-pos (down_pos e) (down_pos d)) (sym (left s m e t n d tx
     ty)) (sym (right s m e t n d tx ty)) (parts_of_lt (units_of binary64 (fin s m e)) (units_of binary64 (fin t n d)) h))
+units_lt nan y tx hx ty hy h = elim hx [ ]
+units_lt (inf _) y tx hx ty hy h = elim hx [ ]
+units_lt (fin s m e) nan tx hx ty hy h = elim hy [ ]
+units_lt (fin s m e) (inf _) tx hx ty hy h = elim hy [ ]
 
 either : (a b : Bool) → T (a || b) → T a ⊎ T b
 either true b h = inl tt
@@ -112,6 +120,10 @@ le_units (fin s m e) (fin t n d) tx hx ty hy h =
       | inr k ↦ le_of_eq (over_eq _ _ _ _ (2 ^ low binary64) (down e * down d) (mul-pos (down_pos e) (down_pos d)) (left
           s m e t n d tx ty) (right s m e t n d tx ty) (level_parts s (m * up e * down d) t (n * up d * down e) k))
     ])
+le_units nan y tx hx ty hy h = elim hx [ ]
+le_units (inf _) y tx hx ty hy h = elim hx [ ]
+le_units (fin s m e) nan tx hx ty hy h = elim hy [ ]
+le_units (fin s m e) (inf _) tx hx ty hy h = elim hy [ ]
 
 pub units_le : (x y : Float) → T (fits binary64 x) → T (finite x) → T (fits binary64 y) → T (finite y)
     → T (le_z (units_of binary64 x) (units_of binary64 y)) → T (le x y)
@@ -126,6 +138,10 @@ units_le (fin s m e) (fin t n d) tx hx ty hy h =
           (parts_level s (m * up e * down d) t (n * up d * down e) (over_eq _ _ _ _ (down e * down d) (2 ^ low binary64)
           (pow_pos (low binary64)) (sym (left s m e t n d tx ty)) (sym (right s m e t n d tx ty)) k))
     ]
+units_le nan y tx hx ty hy h = elim hx [ ]
+units_le (inf _) y tx hx ty hy h = elim hx [ ]
+units_le (fin s m e) nan tx hx ty hy h = elim hy [ ]
+units_le (fin s m e) (inf _) tx hx ty hy h = elim hy [ ]
 
 -- ---- intervals: p ≤ x < y ≤ q
 between : (a b p q : ℤ) (c l : ℕ) → 0 < c → T (lt_z a b) → T (le_z (p *ℤ pos l) (a *ℤ pos c))

@@ -20,6 +20,8 @@ value_nonneg : (v : Float) (a l : ℕ) → HasValue v false a l → NonNegative 
 unfolding NonNegative
 value_nonneg (fin true m e) a l h = absurd (true≢false h.0)
 value_nonneg (fin false m e) a l h = inr (m, e, refl)
+value_nonneg nan a l h = elim h [ ]
+value_nonneg (inf _) a l h = elim h [ ]
 
 pub pattern_nonneg : (f : Format) (b : ℕ) → b ≤ inf_bits f → NonNegative (of_bits f b)
 unfolding NonNegative
@@ -127,6 +129,8 @@ down_fits x = neg-fits binary64 (next_up (neg x)) (up_fits (neg x))
 no_nan_finite : (x : Float) → T (finite x) → T (not (is_nan x))
 unfolding is_nan
 no_nan_finite (fin s m e) h = tt
+no_nan_finite nan h = elim h [ ]
+no_nan_finite (inf _) h = elim h [ ]
 
 pub finite_neg : (x : Float) → T (finite (neg x)) → T (finite x)
 unfolding neg

@@ -71,6 +71,7 @@ eq_same (fin s m e) (fin r n d) t u h = level_same s m e r n d t u (truth _ h)
   where
     truth : (b : Bool) → T b → b ≡ true
     truth true h = refl
+    truth false h = elim h [ ]
 
 -- ---- their signs turned, and their products
 pub neg_same : (a b : Float) → Same a b → Same (neg a) (neg b)

@@ -85,6 +85,10 @@ mul_rounds (fin s m e) (fin t n d) fx hx fy hy =
           (N ux) (P uy) (down e) (down d) u.0 v.1 u.1 v.0 ∙ ap (λ (z : ℕ). z * c) (sym (N-mul ux uy));
       is_float = mul-fits f (fin s m e) (fin t n d);
     }
+mul_rounds lib.Ieee.nan y fx hx fy hy = elim hx [ ]
+mul_rounds (lib.Ieee.inf _) y fx hx fy hy = elim hx [ ]
+mul_rounds (fin s m e) lib.Ieee.nan fx hx fy hy = elim hy [ ]
+mul_rounds (fin s m e) (lib.Ieee.inf _) fx hx fy hy = elim hy [ ]
 
 -- ---- a corner
 pub nonneg_number : (v : Float) → NonNegative v → T (not (is_nan v)) × T (not (is_nan (neg v)))
@@ -104,6 +108,10 @@ mul_number (fin s m e) (fin t n d) hx hy = (
   mul-fits binary64 (fin s m e) (fin t n d),
   round_number binary64 (unlike s t) (m * up e * (n * up d)) (down e * down d),
 )
+mul_number lib.Ieee.nan y hx hy = elim hx [ ]
+mul_number (lib.Ieee.inf _) y hx hy = elim hx [ ]
+mul_number (fin s m e) lib.Ieee.nan hx hy = elim hy [ ]
+mul_number (fin s m e) (lib.Ieee.inf _) hx hy = elim hy [ ]
 
 -- w is at most the product x * y: stepped down, it is at most the exact product
 pub corner_low : (x y w : Float) → T (fits binary64 x) → T (finite x) → T (fits binary64 y) → T (finite y)

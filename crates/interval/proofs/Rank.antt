@@ -48,6 +48,8 @@ units-P f (fin true m e) t h = P-neg (m * up e * 2 ^ low f / down e) ∙ sym (ma
   where
     none : (a b : ℕ) → a - b - a ≡ 0
     none a b = omega arith
+units-P f nan t h = elim h [ ]
+units-P f (inf _) t h = elim h [ ]
 
 pub units-N : (f : Format) (x : Float) → T (fits f x) → T (finite x) → N (units_of f x) ≡ VN f (rank f x)
 unfolding units_of rank
@@ -63,6 +65,8 @@ units-N f (fin true m e) t h =
   where
     back : (a b : ℕ) → b < a → a - (a - b) ≡ b
     back a b h = omega arith
+units-N f nan t h = elim h [ ]
+units-N f (inf _) t h = elim h [ ]
 
 -- a finite value is between the infinities
 pub rank_in : (f : Format) (x : Float) → T (fits f x) → T (finite x)
@@ -72,6 +76,8 @@ rank_in f (fin false m e) t h = let b = bits_under f m e t in (omega arith, omeg
 rank_in f (fin true m e) t h =
     let u : T (fits f (fin false m e)) = unfold neg in neg-fits f (fin true m e) t in
     let b = bits_under f m e u in (omega arith, omega arith)
+rank_in f nan t h = elim h [ ]
+rank_in f (inf _) t h = elim h [ ]
 
 -- ---- a rounded fraction's rank
 pub neg_round : (f : Format) (a c : ℕ) → round f true a c ≡ neg (round f false a c)
@@ -116,6 +122,8 @@ zero_value (fin s m e) c n l p q C = elim (eq-zero-or-pos n) [
       let a : 0 < m * up e = first_pos (m * up e) l (subst (λ (z : ℕ). 0 < z) (sym q.1) (mul-pos h (down_pos e))) in
       absurd (lt_irrefl 0 (subst (λ (z : ℕ). 0 < z) (p.1 ∙ zero-mul (down e)) (mul-pos a C)))
 ]
+zero_value nan c n l p q C = elim p [ ]
+zero_value (inf _) c n l p q C = elim p [ ]
 
 pub at_zero : (f : Format) (c : ℕ) → 0 < c → at f 0 c ≡ 0
 unfolding at

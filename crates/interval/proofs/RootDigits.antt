@@ -238,6 +238,8 @@ magnitude_root f k g lo hi = elim (eq-or-lt_of_le hi) [
 
 same_value : (v : Float) (a b l : ℕ) → HasValue v false a l → HasValue v false b l → a ≡ b
 same_value (fin s m e) a b l p q = eq_of_mul-eq-mul_right (down e) (down_pos e) a b (sym p.1 ∙ q.1)
+same_value lib.Ieee.nan a b l p q = elim p [ ]
+same_value (lib.Ieee.inf _) a b l p q = elim p [ ]
 
 magnitude_inj : (f : Format) (i j : ℕ) → magnitude f i ≡ magnitude f j → i ≡ j
 magnitude_inj f i j h = elim (le_or_lt i j) [
@@ -255,6 +257,8 @@ from_value f (fin true m e) b t h = absurd (true≢false h.0)
 from_value f (fin false m e) b t h =
     sym (of_bits-to_bits f (fin false m e) t) ∙ ap (of_bits f) (magnitude_inj f (to_bits f (fin false m e)) b (same_value
     (fin false m e) (magnitude f (to_bits f (fin false m e))) (magnitude f b) (2 ^ low f) (bits_val f m e t) h))
+from_value f lib.Ieee.nan b t h = elim h [ ]
+from_value f (lib.Ieee.inf _) b t h = elim h [ ]
 
 pub near_root_bits : (f : Format) (c q n j : ℕ) → 2 ^ prec f ≤ q → q < 2 ^ suc (prec f) → q * q ≤ 2 * c
     → 2 * c < (q + 1) * (q + 1) → n ≡ 2 * c * (2 ^ j * 2 ^ j) → suc j * hid f + (q + 1) / 2 < inf_bits f

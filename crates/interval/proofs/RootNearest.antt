@@ -217,6 +217,8 @@ value-at : (v : Float) (n : ℕ) → HasValue v false n (2 ^ low binary64) → A
 unfolding units_of
 value-at (fin true m e) n h = absurd (true≢false h.0)
 value-at (fin false m e) n h = (tt, ap pos (ap (λ (z : ℕ). z / down e) h.1 ∙ mul-div_cancel n (down_pos e)))
+value-at nan n h = elim h [ ]
+value-at (inf _) n h = elim h [ ]
 
 at_bits : (b : ℕ) → b < inf_bits binary64 → At (of_bits binary64 b) (magnitude binary64 b)
 at_bits b h = value-at (of_bits binary64 b) (magnitude binary64 b) (of_bits-val binary64 b h)
@@ -238,6 +240,8 @@ steps (fin false zero e) n N h =
     (refl, ap (λ (z : ℕ). z * 1) (zero-mul (up e)) ∙ sym (zero-mul (down e))) h (zero-lt-suc 0) in
     absurd (lt_irrefl 0 (subst (λ (k : ℕ). 0 < k) z N))
 steps (fin false (suc m) e) n N h = (refl, sym (twice_neg (inner (fin false (suc m) e))))
+steps nan n N h = elim h [ ]
+steps (inf _) n N h = elim h [ ]
 
 beside : (b : ℕ) → 0 < b → b + 1 < inf_bits binary64 → At (next_down (of_bits binary64 b)) (magnitude binary64 (b - 1))
     × At (of_bits binary64 b) (magnitude binary64 b) × At (next_up (of_bits binary64 b)) (magnitude binary64 (b + 1))
@@ -281,6 +285,8 @@ unfolding lt
 positive (fin true m e) h k = absurd k
 positive (fin false zero e) h k = absurd (omega (arith, ltb→lt (0 * down e) (0 * up e * 1) k))
 positive (fin false (suc m) e) h k = (m, e, refl)
+positive nan h k = elim h [ ]
+positive (inf _) h k = elim h [ ]
 
 pub root_nearest : (x : Float) → T (fits binary64 x) → T (finite x) → T (lt zero64 x) → NearestRoot x (nearest_root x)
 root_nearest x t h p =

@@ -50,6 +50,8 @@ le_values (fin false m e) (fin false n d) a b l L p q h =
 pub no_inf : (x : Float) (a l : ℕ) → HasValue x false a l → T (le (inf false) x) → ⊥
 unfolding le
 no_inf (fin s m e) a l p h = h
+no_inf nan a l p h = elim p [ ]
+no_inf (inf _) a l p h = elim p [ ]
 
 -- ---- a fraction that is not negative rounds to a value that is not negative
 unfoldable pub NonNegative : Float → Type 0

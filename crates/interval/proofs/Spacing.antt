@@ -237,6 +237,8 @@ magnitude_inj f i j e = le_antisymm (side i j e) (side j i (sym e))
 
 one_value : (x : Float) (a b l : ℕ) → HasValue x false a l → HasValue x false b l → a ≡ b
 one_value (fin s m e) a b l p q = eq_of_mul-eq-mul_right (down e) (down_pos e) a b (sym p.1 ∙ q.1)
+one_value lib.Ieee.nan a b l p q = elim p [ ]
+one_value (inf _) a b l p q = elim p [ ]
 
 pub at_grid : (f : Format) (a c : ℕ) → at f a c < inf_bits f → magnitude f (at f a c) ≡ grid f a c
 unfolding at

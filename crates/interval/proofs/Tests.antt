@@ -43,6 +43,8 @@ positive_finite (fin true m e) f c = absurd (false≢true c)
 positive_finite (fin false zero e) f c =
     absurd (lt_irrefl 0 (subst (λ (z : ℕ). 0 < z) (zero-mul (up e)) (above_zero 0 e (subst T (sym c) tt))))
 positive_finite (fin false (suc m) e) f c = (m, e, refl)
+positive_finite nan f c = elim f [ ]
+positive_finite (inf _) f c = elim f [ ]
 
 pub positive : (x : Float) → ne x x ≡ false → eq x (inf false) ≡ false → lt (fin false 0 (pos 0)) x ≡ true
     → (m : ℕ) × (e : ℤ) × (x ≡ fin false (suc m) e)

@@ -4,6 +4,8 @@
 //
 // Every function is total and equals a definition of `specs/` for all floats, NaN, infinities, both zeros and inverted
 // ends included. The operations also promise enclosure (`specs/Enclosure.antt`).
+#![tactic(auto)]
+
 mod arithmetic;
 mod compare;
 mod construct;
@@ -16,20 +18,20 @@ pub use float::{greater_of, greatest_of, lesser_of};
 pub use step::{next_down, next_up};
 
 #[repr(C)]
-#[derive(Drop)]
+#[derive(Clone, Copy)]
 pub struct Scalar {
     pub lo: f64,
     pub hi: f64,
 }
 
 // Why an operation is refused: numbers 5 and 6 of PROTOCOL, Refusals.
-#[derive(Drop)]
+#[derive(Clone, Copy)]
 pub enum GeopError {
     SqrtOfNegative,
     DivisorContainsZero,
 }
 
-#[derive(Drop)]
+#[derive(Clone, Copy)]
 pub enum ScalarResult {
     Value(Scalar),
     Refused(GeopError),

@@ -36,7 +36,7 @@ fn raise_to_root(c: u64, start: u64) -> u64
 }
 
 // A root q and what its square leaves.
-#[derive(Drop)]
+#[derive(Clone, Copy)]
 struct PartialRoot {
     q: u64,
     r: u64,
@@ -104,7 +104,7 @@ fn root_digits(c: u64) -> u64
 }
 
 // The number c * 2 ^ e.
-#[derive(Drop)]
+#[derive(Clone, Copy)]
 struct Scaled {
     c: u64,
     e: u64,

@@ -7,7 +7,7 @@ use float_bits::{bits_of, float_of};
 use interval::{GeopError, Scalar, ScalarResult};
 
 // A value's words, or the number of a refusal and zeros.
-#[derive(Drop)]
+#[derive(Clone, Copy)]
 pub struct Answer {
     pub number: u64,
     pub lo: u64,

@@ -1,5 +1,7 @@
 // Replays the list of answers on standard input against the interval crate: a line for each answer
 // of the Rust. Prints the number of each line that differs, then how many lines there were.
+#![tactic(auto)]
+
 mod answer;
 
 use answer::answer_of;

@@ -1,6 +1,8 @@
 // Prints the known answers (PROTOCOL, Known answers): what the crates give for P1 to P13, then the cases that are
 // executed only, sheets among them.
 // That the definitions give P1 to P13 is proved (proofs/KnownAnswers.antt).
+#![tactic(auto)]
+
 mod printing;
 mod runs;
 mod scalars;

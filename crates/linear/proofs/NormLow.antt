@@ -70,6 +70,8 @@ one_below (fin true m e) t f h =
     (small v 0 t f (le_trans (le_of_eq (sides_neg m e)) zero-le)
     (le_trans (le_of_eq (units-N binary64 v t f))
     (le_trans (magnitude_le binary64 (inf_bits binary64 - rank binary64 v) 1 (omega arith)) (le_of_eq one_magnitude)))))
+one_below lib.Ieee.nan t f h = elim f [ ]
+one_below (inf _) t f h = elim f [ ]
 
 -- a finite number that is not below 0
 none_below : (v : Float) → T (fits binary64 v) → T (finite v) → N (units_of binary64 v) ≡ 0 → Floor v 1
@@ -77,6 +79,8 @@ unfolding NonNegative
 none_below (fin false m e) t f h = inl (inr (m, e, refl))
 none_below (fin true zero e) t f h = inr (zeros_small true e 1 t)
 none_below (fin true (suc m) e) t f h = absurd (omega (arith, below_units m e t))
+none_below lib.Ieee.nan t f h = elim f [ ]
+none_below (inf _) t f h = elim f [ ]
 
 -- ---- the lower end of a root
 minus_root : nearest_root (clamped (inf true)) ≡ zero64
@@ -103,6 +107,8 @@ kept_root (fin true (suc m) e) t f h =
       zero_rank false (pos 0) zero_fits.0,
       nlt_rank (fin true (suc m) e) zero64 t zero_fits.0 tt tt h,
     ))
+kept_root lib.Ieee.nan t f h = elim f [ ]
+kept_root (inf _) t f h = elim f [ ]
 
 root_floor : {A : Type 0} (x : Float) → T (fits binary64 x) → (x ≡ inf true) ⊎ (T (finite x) × A)
     → Floor (nearest_root (clamped x)) 0

@@ -11,7 +11,7 @@ ghost use Rattle.linear.specs.Bounds.{bounds_of, scalar_of, is_proper, unsigned,
 use interval::{Scalar, greater_of, greatest_of};
 
 // -lo and hi.
-#[derive(Drop)]
+#[derive(Clone, Copy)]
 pub struct Bounds {
     pub below: f64,
     pub above: f64,

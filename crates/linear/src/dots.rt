@@ -22,7 +22,7 @@ use crate::results::{LinearError, LinearResult};
 use interval::Scalar;
 
 // The bounds of the first terms of a sum, and how many they are.
-#[derive(Drop)]
+#[derive(Clone, Copy)]
 struct Begun {
     sum: Bounds,
     done: usize,
@@ -183,14 +183,14 @@ pub fn row_dot(a: &[f64], a0: usize, b: &[f64], b0: usize, k: usize) -> Scalar
 }
 
 // Two sums.
-#[derive(Drop)]
+#[derive(Clone, Copy)]
 pub struct Two {
     pub first: Scalar,
     pub second: Scalar,
 }
 
 // The bounds of the first terms of two sums, and how many they are.
-#[derive(Drop)]
+#[derive(Clone, Copy)]
 struct BegunTwo {
     first: Bounds,
     second: Bounds,

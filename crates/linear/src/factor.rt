@@ -18,7 +18,7 @@ use crate::store::store;
 use interval::{GeopError, Scalar, ScalarResult};
 
 // A pivot: a root to divide by, or left out, or the root's refusal.
-#[derive(Drop)]
+#[derive(Clone, Copy)]
 pub enum Pivoted {
     Root(Scalar),
     LeftOut,

@@ -8,7 +8,7 @@ ghost use Rattle.linear.specs.Lengths.{Inside, BothInside};
 use interval::Scalar;
 
 // Where the scalars of a run stand: the first at base, and each step behind the one before it.
-#[derive(Drop)]
+#[derive(Clone, Copy)]
 pub struct Places {
     pub base: usize,
     pub step: usize,

@@ -6,6 +6,8 @@
 // nothing written, and 5 or 6 in the Rust's order of operations, with the output slice all +0. Inputs are never
 // written. `at`, `along`, the sums of products and `minus_scaled` read NaN outside a slice, and `put` and
 // `minus_scaled` change nothing there.
+#![tactic(auto)]
+
 mod bounds;
 mod choices;
 mod dots;

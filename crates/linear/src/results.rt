@@ -1,7 +1,7 @@
 // How a call ends: the numbers are given in specs/LinearResult.antt.
 use interval::{GeopError, Scalar};
 
-#[derive(Drop)]
+#[derive(Clone, Copy)]
 pub enum LinearError {
     TooMany,
     WrongLength,
@@ -9,14 +9,14 @@ pub enum LinearError {
 }
 
 // Of a function that gives a scalar.
-#[derive(Drop)]
+#[derive(Clone, Copy)]
 pub enum LinearResult {
     Value(Scalar),
     Refused(LinearError),
 }
 
 // Of a function that writes its result into a slice.
-#[derive(Drop)]
+#[derive(Clone, Copy)]
 pub enum Done {
     Finished,
     Refused(LinearError),

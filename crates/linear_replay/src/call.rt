@@ -8,7 +8,7 @@ use yadzvego::scalars::ScalarResult;
 
 // The function's code, its counts (one alone is n), the lengths of its slices, and the number of the
 // refusal or 0.
-#[derive(Drop)]
+#[derive(Clone, Copy)]
 pub struct Head {
     pub code: u64,
     pub m: usize,

@@ -1,6 +1,8 @@
 // Replays the list of calls on standard input against the crate linear, through the functions for C: a
 // line for each call, with what the Rust gives. Prints the number of each call that differs, then how
 // many calls there were.
+#![tactic(auto)]
+
 mod call;
 
 use call::{Head, replay_sized};

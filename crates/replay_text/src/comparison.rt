@@ -3,7 +3,7 @@ use crate::tokens::{is_number, next_token};
 use float_bits::bits_of;
 
 // Whether the list says the same, and whether it is well formed.
-#[derive(Drop)]
+#[derive(Clone, Copy)]
 pub struct Comparison {
     pub same: bool,
     pub well_formed: bool,

@@ -5,7 +5,7 @@ use libc::STDOUT_FILENO;
 // More are not counted: no list has so many.
 const MOST_CASES: u64 = 100000000;
 
-#[derive(Drop)]
+#[derive(Clone, Copy)]
 pub struct Tally {
     pub cases: u64,
     pub differ: u64,

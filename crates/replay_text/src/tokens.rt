@@ -7,7 +7,7 @@ const MOST_BYTES: usize = 1000;
 
 // How long the token is (0: the list has ended), its last eight bytes as one number, whether each byte is a
 // hexadecimal digit, and the number that the last sixteen digits write.
-#[derive(Drop)]
+#[derive(Clone, Copy)]
 pub struct Token {
     pub length: usize,
     pub text: u64,
@@ -15,14 +15,14 @@ pub struct Token {
     pub number: u64,
 }
 
-#[derive(Drop)]
+#[derive(Clone, Copy)]
 enum Byte {
     Is(u8),
     End,
 }
 
 // A token as far as it was read, and whether it may go on.
-#[derive(Drop)]
+#[derive(Clone, Copy)]
 struct Reading {
     token: Token,
     more: bool,

@@ -28,7 +28,7 @@ use interval::Scalar;
 use linear::clear;
 
 // A number for each slot: its size, its place, or how many of its numbers are in use.
-#[derive(Drop)]
+#[derive(Clone, Copy)]
 pub struct SlotNumbers {
     pub standing: usize,
     pub landed: usize,

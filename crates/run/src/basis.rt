@@ -32,7 +32,7 @@ use linear::{
 };
 
 // Counts that go together: of the constraints' first m rows, over k variables, r are independent.
-#[derive(Drop)]
+#[derive(Clone, Copy)]
 pub struct Shape {
     pub k: usize,
     pub m: usize,

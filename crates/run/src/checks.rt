@@ -42,7 +42,7 @@ pub fn all_in_domain(xs: &[f64], count: usize) -> bool
 }
 
 // A refusal by its number, or the kind of the question that is answered.
-#[derive(Drop)]
+#[derive(Clone, Copy)]
 pub enum Checked {
     Refuse(usize),
     Accept(Kind),

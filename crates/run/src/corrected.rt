@@ -35,7 +35,7 @@ use interval::Scalar;
 use linear::{Done, LinearError, LinearResult, at, clear, minus_solved, put};
 
 // Where a shift takes the landed point: to another, which is written, or nowhere.
-#[derive(Drop)]
+#[derive(Clone, Copy)]
 pub enum Shifted {
     To,
     Stay,

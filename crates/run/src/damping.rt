@@ -19,7 +19,7 @@ pub fn first_damping() -> Scalar
 }
 
 // Whether the search goes on with more damping, or stops.
-#[derive(Drop)]
+#[derive(Clone, Copy)]
 pub enum Damped {
     On(Search),
     Stop(Search, Stop),

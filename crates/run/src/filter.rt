@@ -37,7 +37,7 @@ pub fn beats(filter: &[f64], f: Scalar, theta: Scalar, count: usize) -> bool
 }
 
 // f and the violation of a point that stood before.
-#[derive(Drop)]
+#[derive(Clone, Copy)]
 pub struct Pair {
     pub f: Scalar,
     pub violation: Scalar,

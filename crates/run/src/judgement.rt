@@ -20,7 +20,7 @@ use linear::{LinearError, LinearResult};
 
 // How a step fares: its length; whether it is lower than where it began and than every point that stood before; whether
 // rounding hides both changes; and whether it is less than half as long as the last step taken.
-#[derive(Drop)]
+#[derive(Clone, Copy)]
 pub struct Judged {
     pub length: Scalar,
     pub lower: bool,
@@ -29,7 +29,7 @@ pub struct Judged {
 }
 
 // A judgement, or the refusal met on the way.
-#[derive(Drop)]
+#[derive(Clone, Copy)]
 pub enum Judgement {
     Of(Judged),
     Refused(LinearError),
@@ -89,7 +89,7 @@ fn contracts(last: Last, length: Scalar) -> bool
 
 // What a landed point is judged against: the violation of the point that the step left, how many pairs the filter has,
 // and the last step taken.
-#[derive(Drop)]
+#[derive(Clone, Copy)]
 pub struct Baseline {
     pub theta: Scalar,
     pub pairs: usize,

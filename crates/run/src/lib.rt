@@ -1,4 +1,6 @@
 // A run of `minimize` (geop-core-math, solvers/least_squares.rs) by question and reply.
+#![tactic(auto)]
+
 mod answered;
 mod area;
 mod basis;

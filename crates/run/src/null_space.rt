@@ -15,14 +15,14 @@ use interval::{Scalar, ScalarResult};
 use linear::{LinearError, choose, minus_scaled, put, row_dot, two_rows};
 
 // Which remainder, and its square.
-#[derive(Drop)]
+#[derive(Clone, Copy)]
 pub struct Remainder {
     pub place: usize,
     pub square: Scalar,
 }
 
 // How the search for one more direction ended.
-#[derive(Drop)]
+#[derive(Clone, Copy)]
 pub enum Next {
     Taken,
     Enough,

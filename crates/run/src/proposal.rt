@@ -31,7 +31,7 @@ use interval::{Scalar, ScalarResult};
 use linear::{LinearError, LinearResult, at, in_row, plus_dot, put};
 
 // The numbers of a standing point: how many variables and rows there are, the sum f and the violation theta.
-#[derive(Drop)]
+#[derive(Clone, Copy)]
 pub struct StandingPoint {
     pub counts: RowCounts,
     pub f: Scalar,
@@ -40,7 +40,7 @@ pub struct StandingPoint {
 
 // What every damping of a search goes out from: the sizes of the run, the standing point, the variables that move,
 // whether the curvature learned is left aside, and the longest step.
-#[derive(Drop)]
+#[derive(Clone, Copy)]
 pub struct Origin {
     pub sizes: Sizes,
     pub point: StandingPoint,
@@ -50,7 +50,7 @@ pub struct Origin {
 }
 
 // What a damping proposes: a trial, or why there is none. `NoDrop` says how many rows are independent.
-#[derive(Drop)]
+#[derive(Clone, Copy)]
 pub enum Proposal {
     NotPositive,
     NoDrop(usize),

@@ -16,7 +16,7 @@ use interval::Scalar;
 use linear::{Done, LinearError, at, choose, put, row_dot, two_rows};
 
 // How the search for weights along Z ended.
-#[derive(Drop)]
+#[derive(Clone, Copy)]
 pub enum WeightsEnd {
     Found,
     NotPositive,

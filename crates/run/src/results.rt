@@ -2,14 +2,14 @@
 use linear::LinearError;
 
 // Whether something holds, or the refusal met on the way.
-#[derive(Drop)]
+#[derive(Clone, Copy)]
 pub enum TruthResult {
     Value(bool),
     Refused(LinearError),
 }
 
 // How many there are, or the refusal met on the way.
-#[derive(Drop)]
+#[derive(Clone, Copy)]
 pub enum CountResult {
     Value(usize),
     Refused(LinearError),

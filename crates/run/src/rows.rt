@@ -12,7 +12,7 @@ use interval::Scalar;
 use linear::along;
 
 // How many variables, constraint rows and sum rows one answer has.
-#[derive(Drop)]
+#[derive(Clone, Copy)]
 pub struct RowCounts {
     pub n: usize,
     pub m: usize,
@@ -41,7 +41,7 @@ pub fn landed_counts(st: State) -> RowCounts
 }
 
 // Rows of one kind: `count` values from the place `values` on, and n slopes for each from the place `slopes` on.
-#[derive(Drop)]
+#[derive(Clone, Copy)]
 pub struct RowSet {
     pub n: usize,
     pub count: usize,
@@ -86,7 +86,7 @@ pub fn first_rows(e: RowSet, k: usize) -> RowSet
 }
 
 // Rows of one kind in the slice that a caller lent.
-#[derive(Drop)]
+#[derive(Clone, Copy)]
 pub struct RowView<'a> {
     pub rows: &'a [f64],
     pub set: RowSet,

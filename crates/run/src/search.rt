@@ -23,7 +23,7 @@ use interval::Scalar;
 use linear::LinearError;
 
 // Where a search is left; with a question the slices hold the step and its multipliers.
-#[derive(Drop)]
+#[derive(Clone, Copy)]
 pub enum Found {
     Ask(Search, Trial),
     Stop(Search, Stop),
@@ -31,7 +31,7 @@ pub enum Found {
 }
 
 // Whether the loop over dampings continues or ends.
-#[derive(Drop)]
+#[derive(Clone, Copy)]
 pub enum Turn {
     On(Search),
     Leave(Found),

@@ -6,7 +6,7 @@ ghost use Rattle.run.specs.State.{state_with, in_phase, over};
 use interval::Scalar;
 
 // What a question asks the rows of: the start, a trial, or a trial moved back onto the constraints.
-#[derive(Drop)]
+#[derive(Clone, Copy)]
 pub enum Kind {
     Start,
     Trial,
@@ -14,14 +14,14 @@ pub enum Kind {
 }
 
 // Whether a question is open. A run that is over answers no reply.
-#[derive(Drop)]
+#[derive(Clone, Copy)]
 pub enum Phase {
     Open(Kind),
     Over,
 }
 
 // Why a step was turned down.
-#[derive(Drop)]
+#[derive(Clone, Copy)]
 pub enum Rejection {
     NoneYet,
     NotPositive,
@@ -31,14 +31,14 @@ pub enum Rejection {
 }
 
 // The length of the last step taken.
-#[derive(Drop)]
+#[derive(Clone, Copy)]
 pub enum Last {
     NoneYet,
     Taken(Scalar),
 }
 
 // Why a run finished. Damped and NoChange name the last rejection, so that a caller can tell a minimum from a wall.
-#[derive(Drop)]
+#[derive(Clone, Copy)]
 pub enum Stop {
     Infeasible,
     NoChange(Rejection),
@@ -50,7 +50,7 @@ pub enum Stop {
 
 // What a call returns: a question with its number, kind and the standing number; the finish with its stop, iterations,
 // turn-downs and the standing number; or a refusal by its number.
-#[derive(Drop)]
+#[derive(Clone, Copy)]
 pub enum Event {
     Question(usize, Kind, usize),
     Finish(Stop, usize, usize, usize),
@@ -58,7 +58,7 @@ pub enum Event {
 }
 
 // Variables, sum rows, and the most iterations.
-#[derive(Drop)]
+#[derive(Clone, Copy)]
 pub struct Sizes {
     pub n: usize,
     pub s: usize,
@@ -67,7 +67,7 @@ pub struct Sizes {
 
 // How far the run is. A point is known by the number of the question that asked for it: `standing` and `landed` are
 // such numbers, so that points are compared by number, never by their coordinates.
-#[derive(Drop)]
+#[derive(Clone, Copy)]
 pub struct Counts {
     pub iterations: usize,
     pub question: usize,
@@ -78,7 +78,7 @@ pub struct Counts {
 
 // What the area holds: how many constraint rows the standing and the landed answer have, 0 where their slots are not in
 // use. Each answer has an m of its own, since a stop is a constraint only while the parts meet.
-#[derive(Drop)]
+#[derive(Clone, Copy)]
 pub struct Contents {
     pub standing_m: usize,
     pub landed_m: usize,
@@ -86,7 +86,7 @@ pub struct Contents {
 
 // What a search for a proposal changes. `first` tells a proposal made with the damping that its iteration began with,
 // since only then can a step that is undecided be taken; `plain` tells one made without the curvature learned.
-#[derive(Drop)]
+#[derive(Clone, Copy)]
 pub struct Search {
     pub mu: Scalar,
     pub radius: Scalar,
@@ -97,14 +97,14 @@ pub struct Search {
 }
 
 // Of an open trial: the violation predicted where it leads, and its length as tried.
-#[derive(Drop)]
+#[derive(Clone, Copy)]
 pub struct Trial {
     pub predicted: Scalar,
     pub tried: Scalar,
 }
 
 // A run between two calls, without the numbers of the area.
-#[derive(Drop)]
+#[derive(Clone, Copy)]
 pub struct State {
     pub sizes: Sizes,
     pub counts: Counts,
@@ -118,7 +118,7 @@ pub struct State {
 }
 
 // What a call returns, beside what it leaves in the area.
-#[derive(Drop)]
+#[derive(Clone, Copy)]
 pub struct Returned {
     pub state: State,
     pub event: Event,

@@ -29,7 +29,7 @@ use interval::Scalar;
 use linear::{Done, LinearError};
 
 // A step with its number of independent rows, no step where H is not positive along the free directions, or a refusal.
-#[derive(Drop)]
+#[derive(Clone, Copy)]
 pub enum StepEnd {
     Found(usize),
     NotPositive,
@@ -37,14 +37,14 @@ pub enum StepEnd {
 }
 
 // What no damping changes: `Ready` says how many rows are independent and how many directions are free.
-#[derive(Drop)]
+#[derive(Clone, Copy)]
 pub enum Prepared {
     Ready(usize, usize),
     Refused(LinearError),
 }
 
 // How many variables are kept, how many rows are independent, and how many directions are free.
-#[derive(Drop)]
+#[derive(Clone, Copy)]
 pub struct Dimensions {
     pub kept: usize,
     pub independent: usize,

@@ -1,5 +1,7 @@
 // The pieces of a run for C and Rust: each by name. A slice is passed as its pointer and count. Every
 // function takes every number and every length, and equals the definition of the call beneath it.
+#![tactic(auto)]
+
 ghost use Rattle.std.specs.Prelude.{◌≡◌};
 ghost use Rattle.yadzvego.specs.ScalarResult.{scalar_result_of};
 ghost use Rattle.yadzvego.specs.Written.{written, written_of};
@@ -18,7 +20,7 @@ use yadzvego::scalars::ScalarResult;
 
 // Number 0 and whether it holds, or the number of the refusal.
 #[repr(C)]
-#[derive(Drop)]
+#[derive(Clone, Copy)]
 pub struct Decision {
     pub number: u64,
     pub holds: bool,
@@ -26,7 +28,7 @@ pub struct Decision {
 
 // Number 0 and how a step fares, or the number of the refusal.
 #[repr(C)]
-#[derive(Drop)]
+#[derive(Clone, Copy)]
 pub struct JudgedStep {
     pub number: u64,
     pub length: Scalar,
@@ -37,7 +39,7 @@ pub struct JudgedStep {
 
 // Number 0 and whether a step was found, with how many rows are independent, or the number of the refusal.
 #[repr(C)]
-#[derive(Drop)]
+#[derive(Clone, Copy)]
 pub struct Stepped {
     pub number: u64,
     pub found: bool,

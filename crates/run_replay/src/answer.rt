@@ -12,7 +12,7 @@ const FINISH: u64 = 0x66;
 const REFUSED: u64 = 0x78;
 
 // A stop by its number, with its fields.
-#[derive(Drop)]
+#[derive(Clone, Copy)]
 struct Ending {
     stop: u64,
     rejected: u64,

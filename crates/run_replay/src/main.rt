@@ -1,6 +1,8 @@
 // Replays the list of runs on standard input against the crate run: what each call answers is held to what the
 // Rust gives, with the asked or the last point. Prints the run and the call of each answer that differs, both
 // counted from 0 and a run's beginning among its calls, then how many runs and calls there were.
+#![tactic(auto)]
+
 mod answer;
 mod replay;
 

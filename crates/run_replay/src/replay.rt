@@ -22,7 +22,7 @@ const NONE: u64 = 0x6E;
 const MOST: u64 = 100000000;
 
 // The tally of the calls, how many runs there were, the call's number in its run, and whether the run goes on.
-#[derive(Drop)]
+#[derive(Clone, Copy)]
 pub struct Counts {
     pub calls: Tally,
     pub runs: u64,
@@ -31,14 +31,14 @@ pub struct Counts {
 }
 
 // A run as far as it was replayed.
-#[derive(Drop)]
+#[derive(Clone, Copy)]
 struct Progress {
     counts: Counts,
     out: Returned,
 }
 
 // What begins a run, but for its start.
-#[derive(Drop)]
+#[derive(Clone, Copy)]
 struct Head {
     n: usize,
     s: usize,
@@ -47,7 +47,7 @@ struct Head {
 }
 
 // What the list has next in a run.
-#[derive(Drop)]
+#[derive(Clone, Copy)]
 enum Reply {
     Rows(usize, usize),
     NoRows,

@@ -1,5 +1,7 @@
 // Settles the sheet on standard input, and prints how it ended or the line of its error: nothing else, on any input.
 // All of it is sheet::settle_text; here a text is read and a slot is printed.
+#![tactic(auto)]
+
 ghost use Rattle.std.specs.Prelude.{◌≡◌, length, take};
 ghost use Rattle.io.specs.Counts.{IsPrefixLen};
 ghost use Rattle.run.specs.Limits.{AREA};

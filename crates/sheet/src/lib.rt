@@ -1,5 +1,7 @@
 // Sheets: a text that describes points and the rules between them is read, settled and printed, or spelled in its one
 // way, with no io.
+#![tactic(auto)]
+
 mod lines;
 mod numbers;
 mod printing;

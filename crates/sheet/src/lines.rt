@@ -5,7 +5,7 @@ ghost use Rattle.sheet.specs.Lines.{line_of};
 ghost use Rattle.sheet.specs.program.Lines.{Printed, Appends, digits_in};
 
 // The digits of a number, from the place `first` on.
-#[derive(Drop)]
+#[derive(Clone, Copy)]
 pub struct Digits {
     pub digits: [u8; 20],
     pub first: usize,

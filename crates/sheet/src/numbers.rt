@@ -19,27 +19,27 @@ const LINE_FEED: u8 = b'\n';
 const CAP: usize = 10000001;
 
 // A sign and a size. Of size 0 it is 0, whatever its sign.
-#[derive(Drop)]
+#[derive(Clone, Copy)]
 pub struct Number {
     pub negative: bool,
     pub size: usize,
 }
 
 // A number, and the place behind it and behind the byte that ends it.
-#[derive(Drop)]
+#[derive(Clone, Copy)]
 pub enum OneField {
     Read(Number, usize),
     Malformed,
 }
 
 // Two and three of them.
-#[derive(Drop)]
+#[derive(Clone, Copy)]
 pub enum TwoFields {
     Read(Number, Number, usize),
     Malformed,
 }
 
-#[derive(Drop)]
+#[derive(Clone, Copy)]
 pub enum ThreeFields {
     Read(Number, Number, Number, usize),
     Malformed,

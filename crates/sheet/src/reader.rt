@@ -32,33 +32,33 @@ const OUT_OF_RANGE: usize = 8;
 const NO_POINT: usize = 9;
 
 // A number and the place behind its line, or the number of a fault.
-#[derive(Drop)]
+#[derive(Clone, Copy)]
 pub enum Counted {
     Read(usize, usize),
     Fault(usize),
 }
 
 // A point, the two points of a rule, and a rule, each with the place behind its line.
-#[derive(Drop)]
+#[derive(Clone, Copy)]
 pub enum PointRead {
     Read(i64, i64, usize),
     Fault(usize),
 }
 
-#[derive(Drop)]
+#[derive(Clone, Copy)]
 pub enum TwoPoints {
     Read(usize, usize, usize),
     Fault(usize),
 }
 
-#[derive(Drop)]
+#[derive(Clone, Copy)]
 pub enum RuleRead {
     Read(Rule, usize),
     Fault(usize),
 }
 
 // Points, rules and a sheet, each with the place behind its lines, where they were read; else the number of the fault.
-#[derive(Drop)]
+#[derive(Clone, Copy)]
 pub struct PointsRead {
     pub read: bool,
     pub fault: usize,
@@ -66,7 +66,7 @@ pub struct PointsRead {
     pub place: usize,
 }
 
-#[derive(Drop)]
+#[derive(Clone, Copy)]
 pub struct RulesRead {
     pub read: bool,
     pub fault: usize,
@@ -74,7 +74,7 @@ pub struct RulesRead {
     pub place: usize,
 }
 
-#[derive(Drop)]
+#[derive(Clone, Copy)]
 pub struct SheetRead {
     pub read: bool,
     pub fault: usize,

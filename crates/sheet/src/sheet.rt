@@ -8,7 +8,7 @@ pub const LEVEL: u8 = 1;
 pub const PLUMB: u8 = 2;
 
 // The length of a span; 0 for the others.
-#[derive(Drop)]
+#[derive(Clone, Copy)]
 pub struct Rule {
     pub kind: u8,
     pub first: usize,
@@ -17,21 +17,21 @@ pub struct Rule {
 }
 
 // x and y of each point, one after the other; those behind `count` points have no meaning.
-#[derive(Drop)]
+#[derive(Clone, Copy)]
 pub struct Points {
     pub count: usize,
     pub coordinates: [i64; 12],
 }
 
 // Those behind `count` rules have no meaning.
-#[derive(Drop)]
+#[derive(Clone, Copy)]
 pub struct Rules {
     pub count: usize,
     pub list: [Rule; 12],
 }
 
 // Points, the most iterations, how far a step goes, and the rules between the points.
-#[derive(Drop)]
+#[derive(Clone, Copy)]
 pub struct Sheet {
     pub points: Points,
     pub limit: usize,

@@ -15,7 +15,7 @@ use crate::sheet::{LEVEL, Points, Rule, Rules, SPAN, Sheet};
 use crate::text::WRONG_LENGTH;
 
 // How many bytes were written, or the number of the refusal.
-#[derive(Drop)]
+#[derive(Clone, Copy)]
 pub enum Spelled {
     Written(usize),
     Refused(usize),

@@ -10,7 +10,7 @@ pub const WRONG_LENGTH: usize = 2;
 pub const MALFORMED: usize = 7;
 
 // A place in a text, or the number of a fault.
-#[derive(Drop)]
+#[derive(Clone, Copy)]
 pub enum Place {
     At(usize),
     Fault(usize),

@@ -1,5 +1,7 @@
 // Prints the one spelling of the sheet on standard input, or the line of its error: nothing else, on any input.
 // All of it is sheet::print_spelling; here a text is read and bytes are printed.
+#![tactic(auto)]
+
 ghost use Rattle.std.specs.Prelude.{◌≡◌, length, take};
 ghost use Rattle.io.specs.Counts.{IsPrefixLen};
 ghost use Rattle.sheet.specs.Sheet.{most_bytes, read_of};

@@ -9,7 +9,7 @@ use interval::Scalar;
 use run::{Contents, Counts, Kind, Last, Phase, Rejection, Search, Sizes, State, Trial};
 
 #[repr(C)]
-#[derive(Drop)]
+#[derive(Clone, Copy)]
 pub struct Run {
     pub n: usize,
     pub s: usize,

@@ -9,7 +9,7 @@ use crate::c_state::{Run, c_state_of, kind_number, rejection_number};
 use run::{Event, Returned, State, Stop};
 
 #[repr(C)]
-#[derive(Drop)]
+#[derive(Clone, Copy)]
 pub struct EventNumbers {
     pub which: u8,
     pub kind: u8,
@@ -25,14 +25,14 @@ pub struct EventNumbers {
 
 // What a call returns: the run after it, and the event.
 #[repr(C)]
-#[derive(Drop)]
+#[derive(Clone, Copy)]
 pub struct CReturned {
     pub run: Run,
     pub event: EventNumbers,
 }
 
 // Why a run stopped.
-#[derive(Drop)]
+#[derive(Clone, Copy)]
 pub struct Ending {
     pub stop: u8,
     pub rejected: u8,

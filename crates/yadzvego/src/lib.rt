@@ -1,5 +1,7 @@
 // The calls of a run for C and Rust, each by name. A slice is passed as its pointer and count. Every function takes
 // every number and every length, and equals the definition of the call beneath it.
+#![tactic(auto)]
+
 ghost use Rattle.std.specs.Prelude.{◌≡◌};
 ghost use Rattle.yadzvego.specs.Exports.{after_export, begin_export, reply_export, reply_none_export, has_point};
 ghost use Rattle.yadzvego.specs.Exports.{point_place, point_length};

@@ -16,7 +16,7 @@ use interval::{GeopError, Scalar};
 // What an operation gives that may refuse: number 0 and the value, or the number of the refusal, 5 for
 // the root and 6 for the quotients, and zero.
 #[repr(C)]
-#[derive(Drop)]
+#[derive(Clone, Copy)]
 pub struct ScalarResult {
     pub number: u64,
     pub value: Scalar,

@@ -10,7 +10,7 @@ use sheet::Spelled;
 
 // Number 0 and how many bytes were written, or the number of the refusal and 0.
 #[repr(C)]
-#[derive(Drop)]
+#[derive(Clone, Copy)]
 pub struct SpellResult {
     pub number: usize,
     pub length: usize,

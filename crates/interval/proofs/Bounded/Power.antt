@@ -115,6 +115,8 @@ neg_small v k h =
 
 finite_rising : (v : Float) → T (finite v) → T (rising v)
 finite_rising (fin s m e) h = tt
+finite_rising nan h = elim h [ ]
+finite_rising (inf _) h = elim h [ ]
 
 pub up_small : (v : Float) (k : ℕ) → Small v k → k + 1 < 2098 → Small (next_up v) (k + 1)
 up_small v k h K =

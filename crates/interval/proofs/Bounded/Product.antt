@@ -41,10 +41,14 @@ mul_small x y a b k h g s K =
 from_top : (p : Float) → T (finite p) → lesser (inf false) p ≡ p
 unfolding lesser lt
 from_top (fin s m e) h = refl
+from_top lib.Ieee.nan h = elim h [ ]
+from_top (inf _) h = elim h [ ]
 
 from_bottom : (p : Float) → T (finite p) → greater (inf true) p ≡ p
 unfolding greater lt
 from_bottom (fin s m e) h = refl
+from_bottom lib.Ieee.nan h = elim h [ ]
+from_bottom (inf _) h = elim h [ ]
 
 module _ (p q r s : Float) (k : ℕ) (sp : Small p k) (sq : Small q k) (sr : Small r k) (ss : Small s k) where
   least_small : Small (least p q r s) k

@@ -72,6 +72,8 @@ from_units (fin true (suc m) e) k j t f h n g K = absurd (negative m e n)
 from_units (fin false (suc m) e) k j t f h n g K =
     rounded_small (suc m * up e * 2 ^ low binary64 / down e * 2 ^ low binary64) j
     (le_trans (mul-le-mul_right (2 ^ low binary64) h) (powers_le k 1074 j j g)) K
+from_units lib.Ieee.nan k j t f h n g K = elim f [ ]
+from_units (lib.Ieee.inf _) k j t f h n g K = elim f [ ]
 
 pub root_small : (v : Float) (k j : ℕ) → Small v k → lt v zero64 ≡ false → k + 1074 ≤ j + j → j < 2098
     → Small (nearest_root v) j

@@ -64,6 +64,8 @@ half_rounds (fin s m e) t h =
   where
     turn : (u d : ℕ) → u * (d * 1) * 2 ≡ u * (2 * d)
     turn u d = mul_assoc u (d * 1) 2 ∙ ap (λ (z : ℕ). u * z) (omega arith)
+half_rounds lib.Ieee.nan t h = elim h [ ]
+half_rounds (lib.Ieee.inf _) t h = elim h [ ]
 
 pub half_small : (v : Float) (k : ℕ) → Small v (k + 1) → k < 2098 → Small (div binary64 v two64) k
 half_small v k h K =

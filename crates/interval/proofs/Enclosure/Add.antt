@@ -177,6 +177,10 @@ add_rounds (fin s m e) (fin t n d) fx hx fy hy =
     both : (a b l x y g h : ℕ) → a * l ≡ x * (g * h) → b * l ≡ y * (h * g) → (a + b) * l ≡ (x + y) * (g * h)
     both a b l x y g h p q = add-mul a b l ∙ ap (λ (z : ℕ). z + b * l) p
         ∙ ap (λ (z : ℕ). x * (g * h) + z) (q ∙ ap (λ (z : ℕ). y * z) (mul_comm h g)) ∙ sym (add-mul x y (g * h))
+add_rounds lib.Ieee.nan y fx hx fy hy = elim hx [ ]
+add_rounds (lib.Ieee.inf _) y fx hx fy hy = elim hx [ ]
+add_rounds (fin s m e) lib.Ieee.nan fx hx fy hy = elim hy [ ]
+add_rounds (fin s m e) (lib.Ieee.inf _) fx hx fy hy = elim hy [ ]
 
 -- ---- from the ends to what lies between
 pub scaled_le : (z w : ℤ) (k l : ℕ) → T (le_z (z *ℤ pos k) (w *ℤ pos l)) → P z * k + N w * l ≤ P w * l + N z * k

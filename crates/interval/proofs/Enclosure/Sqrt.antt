@@ -144,6 +144,8 @@ own_low (fin s zero e) t h g = inl (zero_down s e t g)
 own_low (fin true (suc m) e) t h g = absurd (unfold neg in unfold next_up in g)
 own_low (fin false (suc m) e) t h g = elim (root_below (suc m * up e * 2 ^ low binary64 / down e * 2 ^ low binary64)
     g) [ inl k ↦ inl k | inr k ↦ inr (k, refl) ]
+own_low lib.Ieee.nan t h g = elim h [ ]
+own_low (lib.Ieee.inf _) t h g = elim h [ ]
 
 pub low_end : (x : Float) → T (fits binary64 x) → T (finite x) → T (finite (next_down (nearest_root (clamped x))))
     → Low x (clamped x)
@@ -165,6 +167,8 @@ high_end (fin s zero e) t h g = (
 )
 high_end (fin true (suc m) e) t h g = absurd (unfold next_up in g)
 high_end (fin false (suc m) e) t h g = root_over (suc m * up e * 2 ^ low binary64 / down e * 2 ^ low binary64) g
+high_end lib.Ieee.nan t h g = elim h [ ]
+high_end (lib.Ieee.inf _) t h g = elim h [ ]
 
 -- ---- between the ends, with l and k any numbers
 pub square_low : (u n p l k : ℕ) → u * u ≤ n * l → n * k ≤ p * l → u * u * k ≤ p * (l * l)

@@ -31,10 +31,14 @@ same false = refl
 first : (s : Bool) (y : Float) → T (finite y) → add binary64 (inf s) y ≡ inf s
 unfolding add
 first s (fin t n d) h = refl
+first s lib.Ieee.nan h = elim h [ ]
+first s (inf _) h = elim h [ ]
 
 second : (s : Bool) (x : Float) → T (finite x) → add binary64 x (inf s) ≡ inf s
 unfolding add
 second s (fin t n d) h = refl
+second s lib.Ieee.nan h = elim h [ ]
+second s (inf _) h = elim h [ ]
 
 -- two ends of one side: their sum is the infinity of that side, or both are finite
 pub sum_kinds : (s : Bool) {A B : Type 0} (x y : Float) → (x ≡ inf s) ⊎ (T (finite x) × A)
@@ -58,6 +62,10 @@ add_number (fin s m e) (fin t n d) hx hy = (
     go s t a b c true y = round_number binary64 s (a + b) c
     go s t a b c false true = round_number binary64 t (b - a) c
     go s t a b c false false = round_number binary64 (s && ltb b a) (a - b) c
+add_number lib.Ieee.nan y hx hy = elim hx [ ]
+add_number (inf _) y hx hy = elim hx [ ]
+add_number (fin s m e) lib.Ieee.nan hx hy = elim hy [ ]
+add_number (fin s m e) (inf _) hx hy = elim hy [ ]
 
 pub add_low : (x y : Float) (p q : ℤ) (c : ℕ) → T (fits binary64 x) → T (fits binary64 y) → LowerBound x p c
     → LowerBound y q c → LowerBound (next_down (add binary64 x y)) (p +ℤ q) c

@@ -45,6 +45,8 @@ root_number (fin true (suc m) e) t f h =
       zero_rank false (pos 0) zero_fits.0,
       nlt_rank (fin true (suc m) e) zero64 t zero_fits.0 tt tt h,
     ))
+root_number nan t f h = elim f [ ]
+root_number (inf _) t f h = elim f [ ]
 
 -- ---- the lower end
 minus_root : nearest_root (clamped (inf true)) ≡ zero64

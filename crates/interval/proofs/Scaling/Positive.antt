@@ -197,6 +197,8 @@ both false y p q = p
 not_nan : (x : Float) → T (finite x) → T (not (is_nan x))
 unfolding is_nan
 not_nan (fin s m e) h = tt
+not_nan nan h = elim h [ ]
+not_nan (inf _) h = elim h [ ]
 
 above_zero : (x : Float) (a : ℕ) → Pattern x a → 0 < a → T (lt zero64 x)
 above_zero x a p h = go (lt zero64 x) refl

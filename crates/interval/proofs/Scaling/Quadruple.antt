@@ -599,6 +599,8 @@ quadruple_finite x b p h k =
 
     fin_rising : (v : Float) → T (finite v) → T (rising v)
     fin_rising (fin s m e) h = tt
+    fin_rising nan h = elim h [ ]
+    fin_rising (inf _) h = elim h [ ]
 
     far : {p q d : ℕ} → p ≡ inf_bits binary64 + inf_bits binary64 → p ≡ q + 1 → q ≡ inf_bits binary64 + d
         → suc d < inf_bits binary64 → ⊥

@@ -1,0 +1,10 @@
+-- `digit` meets its contract: what the test says of the digit.
+use borrow.Author.Tests.{lt-ltb, le-ltb}
+use borrow.Author.Rules.{rules}
+use Rattle.float_bits.proofs.digit.Goals as goal
+
+pub returns-then-d-lt10 : goal.returns-then-d-lt10
+returns-then-d-lt10 c = rw (lt-ltb _ _ c.if-d-lt10.true)
+
+pub returns : goal.returns
+returns c = rw (le-ltb _ _ c.if-d-lt10.false)

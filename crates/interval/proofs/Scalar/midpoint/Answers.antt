@@ -1,0 +1,8 @@
+-- `midpoint` meets its contract.
+use Rattle.std.proofs.Common.{rules}
+use lib.Ieee.{of_bits}
+use Rattle.interval.proofs.Scalar.midpoint.Goals as goal
+
+pub returns : goal.returns
+unfolding of_bits
+returns c = c.degenerate.ensures

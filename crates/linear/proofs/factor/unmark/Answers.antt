@@ -1,0 +1,23 @@
+-- `unmark` meets its contract: the marks before the i-th are false, those from it on are as they were.
+use mathlib.Core.Bool.{false}
+use mathlib.Core.Path.{◌≡◌, ◌∙◌}
+use mathlib.Core.List.{◌++◌}
+use Prim.Native.Nat.{◌≤◌, ◌-◌}
+use native.Mathlib.Omega.{arith}
+use borrow.Author.Rules.{rules}
+use lib.ListN.{length, drop, replicate}
+use Rattle.linear.proofs.Lists.{fill_more, fill_all}
+use Rattle.linear.proofs.factor.unmark.Goals as goal
+
+pub loop-i-preserved : goal.loop-i-preserved
+loop-i-preserved c = (
+  search rules,
+  search rules,
+  search rules,
+  rw c.loop-i.invariant.3 (fill_more c.loop-i.i false c.args.xs.now (omega arith)),
+)
+
+pub returns : goal.returns
+returns c =
+    let e : c.loop-i.i ≡ length c.args.xs.now = omega arith in
+    rw e at c.loop-i.invariant.3 ∙ fill_all false c.args.xs.now

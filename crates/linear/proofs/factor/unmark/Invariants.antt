@@ -1,0 +1,16 @@
+-- `unmark` meets its contract: the marks before the i-th are false, those from it on are as they were.
+use mathlib.Core.Bool.{false}
+use mathlib.Core.Path.{◌≡◌, ◌∙◌}
+use mathlib.Core.List.{◌++◌}
+use Prim.Native.Nat.{◌≤◌, ◌-◌}
+use native.Mathlib.Omega.{arith}
+use borrow.Author.Rules.{rules}
+use lib.ListN.{length, drop, replicate}
+use Rattle.linear.proofs.Lists.{fill_more, fill_all}
+use Rattle.linear.proofs.factor.unmark.Given as goal
+
+abbrev pub invariant-loop-i : goal.invariant-loop-i
+invariant-loop-i l = (l.i ≤ length l.initial.xs) × (l.i-end ≡ length l.initial.xs) × (length l.xs ≡ length l.initial.xs) × (l.xs ≡ replicate l.i false ++ drop l.i l.initial.xs)
+
+abbrev pub decreases-loop-i : goal.decreases-loop-i
+decreases-loop-i l = l.i-end - l.i

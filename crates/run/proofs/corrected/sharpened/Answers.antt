@@ -1,0 +1,40 @@
+-- `sharpened` meets its contract: the vector is filled so far.
+use mathlib.Core.List.{List}
+use mathlib.Core.Path.{◌≡◌, sym, ap, ◌∙◌}
+use Prim.Native.Nat.{ℕ, ◌≤◌, ◌-◌}
+use native.Mathlib.Nat.{le_antisymm}
+use borrow.Author.Rules.{rules}
+use lib.Ieee.{Float}
+use lib.ListN.{length}
+use Rattle.interval.specs.declared.Scalar.{Scalar}
+use Rattle.interval.specs.Scalar.{sharpen}
+use Rattle.linear.specs.Flat.{at}
+use Rattle.run.specs.Vectors.{vector, fill_to}
+use Rattle.run.proofs.VectorLaws.{fill_none, fill_first}
+use Rattle.run.proofs.corrected.sharpened.Goals as goal
+
+abbrev by : List Float → ℕ → Scalar
+by from i = sharpen (at from i)
+
+pub loop-i-init : goal.loop-i-init
+loop-i-init c = (
+  search rules,
+  search rules,
+  rw c.requires
+      at c.clear.ensures ∙ sym (fill_none _ _),
+)
+
+pub loop-i-preserved : goal.loop-i-preserved
+loop-i-preserved c = (
+  search rules,
+  search rules,
+  c.put.ensures
+      ∙ fill_first vector
+      (by c.args.from.now) c.loop-i.i
+      c.loop-i.invariant.2
+      (c.sharpen.ensures
+      ∙ ap (λ (v : Scalar). sharpen v) c.at-v.ensures),
+)
+
+pub returns : goal.returns
+returns c = rw (le_antisymm c.loop-i.invariant.0 c.loop-i-test.false) at c.loop-i.invariant.2

@@ -1,0 +1,23 @@
+-- `learned` meets its contract: no entry so far was learned, and one that was settles it.
+use mathlib.Core.Bool.{Bool, false, not, ◌||◌}
+use mathlib.Core.List.{List}
+use mathlib.Core.Path.{◌≡◌, refl, sym, ◌∙◌}
+use Prim.Native.Nat.{ℕ, ◌*◌, ◌≤◌, ◌-◌}
+use native.Mathlib.Nat.{le_antisymm}
+use native.Mathlib.Omega.{arith}
+use borrow.Author.Rules.{rules}
+use lib.Ieee.{Float}
+use Rattle.interval.specs.declared.Scalar.{Scalar}
+use Rattle.interval.specs.Scalar.{zero_s, is_sharp, definitely_not_equal}
+use Rattle.linear.specs.Flat.{at}
+use Rattle.run.specs.Vectors.{any_to}
+use Rattle.run.specs.Curvature.{learned_of}
+use Rattle.run.proofs.RowLaws.{few}
+use Rattle.run.proofs.VectorLaws.{any_turn, any_broke}
+use Rattle.run.proofs.curvature.learned.Given as goal
+
+abbrev pub invariant-loop-p : goal.invariant-loop-p
+invariant-loop-p l = (l.p ≤ l.q) × (any_to (bent l.b) l.p ≡ false)
+
+abbrev pub decreases-loop-p : goal.decreases-loop-p
+decreases-loop-p l = l.q - l.p

@@ -1,0 +1,23 @@
+-- `products` meets its contract: the slice is filled so far.
+use mathlib.Core.List.{List}
+use mathlib.Core.Path.{◌≡◌, sym, ◌∙◌}
+use Prim.Native.Nat.{ℕ, ◌*◌, ◌≤◌, ◌-◌}
+use native.Mathlib.Nat.{le_antisymm}
+use native.Mathlib.Omega.{arith}
+use borrow.Author.Rules.{rules}
+use lib.Ieee.{Float}
+use lib.ListN.{length}
+use Rattle.interval.specs.declared.Scalar.{Scalar}
+use Rattle.linear.specs.Flat.{at, along}
+use Rattle.linear.specs.Dot.{dot_to}
+use Rattle.linear.proofs.Cells.{product_small}
+use Rattle.linear.proofs.Sums.{along_start}
+use Rattle.run.specs.Vectors.{fill_to}
+use Rattle.run.proofs.VectorLaws.{fill_none, fill_first}
+use Rattle.run.proofs.curvature.products.Given as goal
+
+abbrev pub invariant-loop-i : goal.invariant-loop-i
+invariant-loop-i l = (l.i ≤ l.k) × (length l.out ≡ length l.initial.out) × (l.out ≡ fill_to l.initial.out 0 (by l.n l.rows l.v) l.i)
+
+abbrev pub decreases-loop-i : goal.decreases-loop-i
+decreases-loop-i l = l.k - l.i

@@ -1,0 +1,66 @@
+-- `learn` meets its contract: each part of the area is its slot, and the curvature before the step goes over all of b.
+use mathlib.Core.Path.{◌≡◌, ap, ◌∙◌}
+use native.Mathlib.Omega.{arith}
+use lib.ListN.{length}
+use Rattle.run.specs.Area.{numbers_in}
+use Rattle.run.specs.program.Proposal.{curvature_for}
+use Rattle.run.proofs.DecideLaws.{step_part, curvature_length, learned_is}
+use Rattle.run.proofs.EndingLaws.{written_all}
+use borrow.Author.Rules.{rules}
+use Rattle.run.proofs.decide.learn.Goals as goal
+
+pub curvature_for-requires : goal.curvature_for-requires
+curvature_for-requires c =
+    let p = c.requires in (p.0, p.1.few_variables)
+
+pub write-requires : goal.write-requires
+write-requires c =
+    rw c.curvature_for.ensures
+    (omega (arith, (let the-before-long : length (curvature_for c.args.st.sizes c.args.st.search.plain c.args.area.now) ≡ (numbers_in c.args.st).curvature = curvature_length c.args.st c.args.area.now c.requires.1.few_variables c.requires.0 in the-before-long), c.requires.3))
+
+pub step-requires : goal.step-requires
+step-requires c =
+    let p = c.requires in
+    (p.0, p.1.few_variables)
+
+pub standing_rows-requires : goal.standing_rows-requires
+standing_rows-requires c =
+    let p = c.requires in
+    (p.0, rw c.standing_counts-c.ensures p.1)
+
+pub landed_rows-requires : goal.landed_rows-requires
+landed_rows-requires c =
+    let p = c.requires in
+    (p.0, rw c.landed_counts-d.ensures p.2)
+
+pub multipliers-requires : goal.multipliers-requires
+multipliers-requires c =
+    let p = c.requires in (
+      p.0,
+      rw c.standing_counts-c.ensures p.1.few_constraints,
+    )
+
+pub update_curvature-requires : goal.update_curvature-requires
+update_curvature-requires c =
+    let few = c.requires.1 in
+    rw (
+      c.standing_counts-c.ensures,
+      c.landed_counts-d.ensures,
+      c.step.ensures,
+    ) (
+      few,
+      c.requires.2,
+      omega (arith, step_part c.args.st.sizes c.args.area.now few.few_variables c.requires.0),
+    )
+
+pub returns : goal.returns
+returns c w t =
+    let e = c.curvature_for.ensures in
+    let b = c.write.ensures
+    ∙ written_all _ _ (omega (arith, ap length e, (let the-before-long : length (curvature_for c.args.st.sizes c.args.st.search.plain c.args.area.now) ≡ (numbers_in c.args.st).curvature = curvature_length c.args.st c.args.area.now c.requires.1.few_variables c.requires.0 in the-before-long), c.requires.3)) ∙ e in
+    learned_is c.args.st c.requires.1.few_variables t
+    c.standing_counts-c.ensures
+    c.landed_counts-d.ensures b c.step.ensures
+    c.standing_rows.ensures
+    c.landed_rows.ensures
+    c.multipliers.ensures c.update_curvature.ensures

@@ -1,0 +1,31 @@
+-- `beats` meets its contract: every pair so far is beaten.
+use borrow.Author.Rules.{rules}
+use mathlib.Core.Path.{◌≡◌, refl, sym, ◌∙◌}
+use mathlib.Core.Bool.{true}
+use Prim.Native.Nat.{◌≤◌, ◌-◌}
+use native.Mathlib.Nat.{le_antisymm}
+use borrow.Author.Tests.{not-true, not-false}
+use Rattle.run.specs.Filter.{beats_to}
+use Rattle.run.specs.Vectors.{all_to}
+use Rattle.run.proofs.VectorLaws.{all_turn, all_broke}
+use Rattle.run.proofs.filter.beats.Goals as goal
+
+pub loop-i-init : goal.loop-i-init
+unfolding beats_to all_to
+loop-i-init c = (search rules, refl)
+
+pub returns-then-not-beats_pair : goal.returns-then-not-beats_pair
+unfolding beats_to
+returns-then-not-beats_pair c =
+    let l = c.loop-i in
+    sym (all_broke _ l.i _ c.loop-i-test.true l.invariant.1 (sym c.beats_pair.ensures
+    ∙ not-true _ c.if-not-beats_pair.true))
+
+pub loop-i-preserved : goal.loop-i-preserved
+unfolding beats_to
+loop-i-preserved c =
+    let l = c.loop-i in
+    (search rules, all_turn _ l.i l.invariant.1 (sym c.beats_pair.ensures ∙ not-false _ c.if-not-beats_pair.false))
+
+pub returns : goal.returns
+returns c = sym (rw (le_antisymm c.loop-i.invariant.0 c.loop-i-test.false) at c.loop-i.invariant.1)

@@ -1,0 +1,15 @@
+-- `beats_as_pairs` meets its contract: the pairs asked are those of the flat filter.
+use borrow.Author.Rules.{rules}
+use mathlib.Core.Path.{◌∙◌, ap}
+use Rattle.run.specs.program.Filter.{beats_pairs}
+use Rattle.run.proofs.FilterLaws.{beats_same}
+use Rattle.run.proofs.filter.beats_as_pairs.Goals as goal
+
+pub returns-then-count-gt-ITERATIONS : goal.returns-then-count-gt-ITERATIONS
+returns-then-count-gt-ITERATIONS c = c.beats.ensures
+
+pub returns : goal.returns
+returns c =
+    let a = c.args in
+    c.beats_first.ensures ∙ ap (λ pairs. beats_pairs pairs a.f a.theta) c.pairs_of.ensures
+    ∙ beats_same a.filter.now a.f a.theta a.count

@@ -1,0 +1,86 @@
+-- `take_longest` meets its contract: the root decides, then the test on the length, and each arm is the definition's.
+use mathlib.Core.Path.{◌≡◌}
+use Prim.Native.Nat.{suc, ◌+◌, ◌-◌, ◌<◌}
+use native.Mathlib.Omega.{arith}
+use lib.Ieee.{of_bits}
+use Rattle.run.proofs.NullSpaceLaws.{longest_place, longest_root, longest_low, turn_refused, turn_last, turn_on}
+use Rattle.run.proofs.NullSpaceLaws.{turn_full}
+use borrow.Author.Rules.{rules}
+use Rattle.run.proofs.null_space.take_longest.Goals as goal
+
+pub overflow_mul-best : goal.overflow_mul-best
+overflow_mul-best c = omega (arith, (let the-near : c.longest-best.result.place < 12 = 
+    omega (
+      arith,
+      c.requires.0,
+      longest_place _ _ _ c.longest-best.ensures,
+      longest_low c.args.k c.args.left.now (c.args.k - 1),
+    ) in the-near))
+
+pub unit-requires : goal.unit-requires
+unit-requires c = (
+  omega (arith, (let the-near : c.longest-best.result.place < 12 = 
+    omega (
+      arith,
+      c.requires.0,
+      longest_place _ _ _ c.longest-best.ensures,
+      longest_low c.args.k c.args.left.now (c.args.k - 1),
+    ) in the-near)),
+  (
+    omega (
+      arith,
+      c.requires,
+    ),
+    omega (
+      arith,
+      c.requires,
+    ),
+  ),
+)
+
+pub returns-then-count-most : goal.returns-then-count-most
+unfolding of_bits
+returns-then-count-most c =
+    let b =
+    c.longest-best.ensures in
+    let r =
+    rw c.in-Value.is at c.sqrt.ensures.value in
+    turn_full _ _
+    ((let the-after : c.args.most - c.args.count ≡ suc (c.args.most - (c.args.count + 1)) = omega (arith, c.requires.1.0) in the-after)) (longest_place _ _ _ b) (longest_root _ _ _ b r)
+    c.sharpen-length.ensures
+    c.definitely_greater.ensures
+    c.if-definitely_greater.true
+    c.unit.ensures _ (omega (arith, c.if-count-most.true))
+
+pub returns-then-definitely_greater : goal.returns-then-definitely_greater
+unfolding of_bits
+returns-then-definitely_greater c =
+    let b =
+    c.longest-best.ensures in
+    let r =
+    rw c.in-Value.is at c.sqrt.ensures.value in
+    turn_on _ _
+    ((let the-after : c.args.most - c.args.count ≡ suc (c.args.most - (c.args.count + 1)) = omega (arith, c.requires.1.0) in the-after)) (longest_place _ _ _ b)
+    (longest_root _ _ _ b r)
+    c.sharpen-length.ensures
+    c.definitely_greater.ensures
+    c.if-definitely_greater.true c.unit.ensures
+    c.without.ensures
+
+pub returns-in-Value : goal.returns-in-Value
+unfolding of_bits
+returns-in-Value c =
+    let b = c.longest-best.ensures in
+    let r =
+    rw c.in-Value.is at c.sqrt.ensures.value in
+    turn_last _ _
+    ((let the-after : c.args.most - c.args.count ≡ suc (c.args.most - (c.args.count + 1)) = omega (arith, c.requires.1.0) in the-after))
+    (longest_place _ _ _ b) (longest_root _ _ _ b r) c.sharpen-length.ensures
+    c.definitely_greater.ensures c.if-definitely_greater.false
+
+pub returns-in-Refused : goal.returns-in-Refused
+returns-in-Refused c =
+    let b = c.longest-best.ensures in
+    let r = rw c.in-Refused.is at c.sqrt.ensures.value in
+    turn_refused _ _ ((let the-after : c.args.most - c.args.count ≡ suc (c.args.most - (c.args.count + 1)) = omega (arith, c.requires.1.0) in the-after))
+    (longest_place _ _ _ b) (longest_root _ _ _ b r)

@@ -1,0 +1,28 @@
+-- `scalings` meets its contract: one place more is filled in each turn.
+use mathlib.Core.Path.{◌≡◌, ◌∙◌}
+use Prim.Native.Nat.{◌≤◌, ◌-◌}
+use native.Mathlib.Nat.{le_antisymm}
+use lib.ListN.{length}
+use Rattle.run.specs.Problem.{scaling_at}
+use Rattle.run.specs.Vectors.{fill_to}
+use Rattle.run.proofs.VectorLaws.{fill_turn}
+use borrow.Author.Rules.{rules}
+use Rattle.run.proofs.problem.scalings.Goals as goal
+
+pub loop-i-init : goal.loop-i-init
+unfolding fill_to
+loop-i-init c = search rules
+
+pub loop-i-preserved : goal.loop-i-preserved
+loop-i-preserved c =
+    let l = c.loop-i in (
+      search rules,
+      search rules,
+      c.put.ensures
+          ∙ fill_turn
+          c.args.undamped.now
+          144 _ l.i l.invariant.2 c.scaling.ensures,
+    )
+
+pub returns : goal.returns
+returns c = rw (le_antisymm c.loop-i.invariant.0 c.loop-i-test.false) at c.loop-i.invariant.2

@@ -1,0 +1,50 @@
+-- `free_part` meets its contract: the part of the array has the length asked, and the weights decide.
+use mathlib.Core.Path.{refl, sym, ◌∙◌}
+use Prim.Native.Nat.{◌*◌, ◌≤◌}
+use native.Mathlib.Omega.{arith}
+use lib.Ieee.{of_bits}
+use lib.Seq.{length-take-le}
+use Rattle.run.proofs.ReducedLaws.{parted, unparted, parted_with}
+use Rattle.run.proofs.Prefixes.{front_room, front_kept}
+use borrow.Author.Rules.{rules}
+use Rattle.run.proofs.reduced.free_part.Goals as goal
+
+pub force-requires : goal.force-requires
+unfolding of_bits
+force-requires c = (c.requires.0, refl)
+
+pub slice_bounds-weigh-end-2 : goal.slice_bounds-weigh-end-2
+slice_bounds-weigh-end-2 c =
+    sym (length-take-le _ _ ((let the-short : 2 * c.args.count ≤ 24 = omega (arith, c.requires.1) in the-short)))
+
+pub weigh-end-requires : goal.weigh-end-requires
+weigh-end-requires c =
+    (c.requires.0, (c.requires.1, length-take-le _ _ ((let the-short : 2 * c.args.count ≤ 24 = omega (arith, c.requires.1) in the-short))))
+
+pub returns-in_default : goal.returns-in_default
+returns-in_default c =
+    unparted c.weigh-end.result _ _ _ _ c.in_default.keys2
+    ∙ parted _ _ _ _ _ _ c.force.ensures
+    c.weigh-end.ensures
+
+pub slice_bounds-w-end-2 : goal.slice_bounds-w-end-2
+slice_bounds-w-end-2 c =
+    front_room _ c.weigh-end.new.w _
+    ((let the-short : 2 * c.args.count ≤ 24 = omega (arith, c.requires.1) in the-short)) c.weigh-end.auto.w
+
+pub slice_bounds-combine-end : goal.slice_bounds-combine-end
+slice_bounds-combine-end c =
+    sym (length-take-le _ _
+    (front_room _ c.weigh-end.new.w _
+    ((let the-short : 2 * c.args.count ≤ 24 = omega (arith, c.requires.1) in the-short)) c.weigh-end.auto.w))
+
+pub returns : goal.returns
+returns c =
+    parted_with _ _ _ _ _ _
+    c.force.ensures c.weigh-end.ensures
+    c.in-Found.is
+    (front_kept _
+    c.weigh-end.new.w _
+    ((let the-short : 2 * c.args.count ≤ 24 = omega (arith, c.requires.1) in the-short))
+    c.weigh-end.auto.w)
+    c.combine.ensures

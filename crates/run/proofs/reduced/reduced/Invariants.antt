@@ -1,0 +1,22 @@
+-- `reduced` meets its contract: the slice starts with the products stored so far, and is else as it was.
+use mathlib.Core.Path.{◌≡◌, sym, ◌∙◌}
+use mathlib.Core.List.{◌++◌}
+use Prim.Native.Nat.{ℕ, ◌+◌, ◌*◌, ◌/◌, ◌%◌, ◌≤◌, ◌-◌}
+use native.Mathlib.Nat.{le_antisymm, le_trans}
+use native.Mathlib.Omega.{arith}
+use borrow.Author.Rules.{rules}
+use lib.ListN.{length, drop}
+use Rattle.interval.specs.declared.Scalar.{Scalar}
+use Rattle.linear.specs.Flat.{list_to}
+use Rattle.linear.proofs.Cells.{square_positive, place_row, place_column}
+use Rattle.linear.proofs.Lists.{list_to-none, list_to-more, list_to-all}
+use Rattle.run.specs.program.Reduced.{lower_at}
+use Rattle.run.proofs.RowLaws.{few}
+use Rattle.run.proofs.reduced.reduced.Given as goal
+
+abbrev pub invariant-loop-p : goal.invariant-loop-p
+invariant-loop-p l = (l.p ≤ l.q) × (length l.out ≡ length l.initial.out)
+    × (l.out ≡ list_to (λ j. lower_at l.k l.z l.hz (j / l.count) (j % l.count)) l.p ++ drop (2 * l.p) l.initial.out)
+
+abbrev pub decreases-loop-p : goal.decreases-loop-p
+decreases-loop-p l = l.q - l.p

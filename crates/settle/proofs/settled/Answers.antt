@@ -1,0 +1,11 @@
+-- `settled` meets its contract: the slot has what is printed and zeros behind it, and in that the first zero is found.
+use mathlib.Core.Path.{ap, ◌∙◌}
+use borrow.Author.Rules.{rules}
+use Rattle.settle.specs.Printed.{before_zero}
+use Rattle.settle.proofs.PrintedLaws.{before_padded, settled_slot}
+use Rattle.settle.proofs.settled.Goals as goal
+
+pub returns : goal.returns
+returns c =
+    let q = settled_slot _ _ _ c.requires.0 c.requires.1 c.settle_text.ensures in
+    (c.printed.ensures.0, c.printed.ensures.1 ∙ ap before_zero q ∙ before_padded _)

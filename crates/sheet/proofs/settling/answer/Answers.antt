@@ -1,0 +1,32 @@
+-- `answer` meets its contract: the rows are the definition's, and a refusal by 3 leaves the area for the reply with
+-- none.
+use mathlib.Core.Path.{◌≡◌, sym, ap, ◌∙◌}
+use Prim.Native.Nat.{ℕ}
+use native.Mathlib.Omega.{arith}
+use lib.ListN.{length}
+use Rattle.run.specs.Calls.{point_of}
+use Rattle.sheet.specs.Rows.{rows_of}
+use Rattle.sheet.specs.program.Sheet.{sheet_by}
+use Rattle.sheet.proofs.SettlingLaws.{answer_rows, answer_none}
+use borrow.Author.Rules.{rules}
+use Rattle.sheet.proofs.settling.answer.Goals as goal
+
+pub rows_at-requires : goal.rows_at-requires
+rows_at-requires c =
+    let p = c.requires in
+    (p.settles.near, omega (arith, p.settles.few_points), p.whole_rows)
+
+pub returns-then-is_outside : goal.returns-then-is_outside
+returns-then-is_outside c =
+    let a = c.args in
+    c.reply_none.ensures
+    ∙ answer_none (sheet_by a.sheet) a.aims.now a.st a.area.now _
+    ((let the-rows_are : let a = c.args in c.rows_at.new.rows ≡ rows_of (length (sheet_by a.sheet).coordinates) (sheet_by a.sheet).rules (point_of a.st a.area.now) a.aims.now = rw (c.point.ensures, ← c.requires.settles.all_coordinates) at c.rows_at.ensures in the-rows_are)) ((let the-each-rule : let a = c.args in a.sheet.rules.count ≡ length (sheet_by a.sheet).rules = sym c.requires.settles.all_rules in the-each-rule)) c.reply-out.ensures
+    (sym c.is_outside.ensures ∙ c.if-is_outside.true)
+
+pub returns : goal.returns
+returns c =
+    let a = c.args in
+    answer_rows (sheet_by a.sheet) a.aims.now a.st a.area.now _
+    ((let the-rows_are : let a = c.args in c.rows_at.new.rows ≡ rows_of (length (sheet_by a.sheet).coordinates) (sheet_by a.sheet).rules (point_of a.st a.area.now) a.aims.now = rw (c.point.ensures, ← c.requires.settles.all_coordinates) at c.rows_at.ensures in the-rows_are)) ((let the-each-rule : let a = c.args in a.sheet.rules.count ≡ length (sheet_by a.sheet).rules = sym c.requires.settles.all_rules in the-each-rule)) c.reply-out.ensures
+    (sym c.is_outside.ensures ∙ c.if-is_outside.false)

@@ -1,0 +1,16 @@
+-- `point_at` meets its contract: the first i coordinates are stored.
+use mathlib.Core.Path.{◌≡◌, refl, sym, ap, ◌∙◌}
+use Prim.Native.Nat.{ℕ, ◌+◌, ◌-◌, ◌*◌, ◌≤◌}
+use mathlib.Core.List.{List, ◌++◌}
+use native.Mathlib.Omega.{arith}
+use borrow.Author.Rules.{rules}
+use lib.ListN.{length}
+use Rattle.interval.specs.Scalar.{from_i64}
+use Rattle.sheet.proofs.SettlingLaws.{Placing, placing_none, placing_more, placing_all}
+use Rattle.sheet.proofs.settling.point_at.Given as goal
+
+abbrev pub invariant-loop-i : goal.invariant-loop-i
+invariant-loop-i l = (l.i-end ≡ 2 * l.points.count) × Placing l.points l.initial.out l.i l.out
+
+abbrev pub decreases-loop-i : goal.decreases-loop-i
+decreases-loop-i l = 2 * l.points.count - l.i

@@ -1,0 +1,36 @@
+-- `point_texts` meets its contract: the lines of the first i points are written.
+use mathlib.Core.Path.{◌≡◌, refl, ap, ◌∙◌}
+use Prim.Native.Nat.{ℕ, ◌+◌, ◌-◌, ◌*◌, ◌≤◌}
+use native.Mathlib.Omega.{arith}
+use borrow.Author.Rules.{rules, sfits_of}
+use lib.IntN.{pos}
+use lib.ListN.{length, take}
+use mir.Facts.{to_z-of_z}
+use Rattle.sheet.specs.Spelling.{point_texts}
+use Rattle.sheet.specs.program.Lines.{Appends}
+use Rattle.sheet.proofs.AppendLaws.{appends_as}
+use Rattle.sheet.proofs.SpellingTextLaws.{points_none, point_turn}
+use Rattle.sheet.proofs.spelling.point_texts.Goals as goal
+
+pub loop-i-init : goal.loop-i-init
+loop-i-init c = (omega arith, refl, omega arith, points_none)
+
+pub loop-i-preserved : goal.loop-i-preserved
+loop-i-preserved c =
+    let l = c.loop-i in
+    (
+      omega arith,
+      c.point_text-end.auto.out ∙ l.invariant.1,
+      omega (arith, c.point_text-end.ensures.0, l.invariant.2),
+      point_turn l.i c.args.t3.coordinates (pos 0) (omega (arith, (let the-long : length c.args.t3.coordinates ≡ 12 = search rules in the-long)))
+          (to_z-of_z (sfits_of c.point_text-arg-in-loop-i-1.given))
+          (to_z-of_z (sfits_of c.point_text-arg-in-loop-i-2-1.given))
+          l.invariant.3 c.point_text-end.ensures.1,
+    )
+
+pub returns : goal.returns
+returns c =
+    let v = c.loop-i.invariant in
+    let a = c.args in
+    let e : c.loop-i.i ≡ a.t3.count = omega (arith, v.0) in
+    (omega (arith, v.2, e), appends_as v.3 (ap (λ (n : ℕ). point_texts (take (2 * n) a.t3.coordinates)) e))

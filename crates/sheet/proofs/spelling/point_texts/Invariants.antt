@@ -1,0 +1,20 @@
+-- `point_texts` meets its contract: the lines of the first i points are written.
+use mathlib.Core.Path.{◌≡◌, refl, ap, ◌∙◌}
+use Prim.Native.Nat.{ℕ, ◌+◌, ◌-◌, ◌*◌, ◌≤◌}
+use native.Mathlib.Omega.{arith}
+use borrow.Author.Rules.{rules, sfits_of}
+use lib.IntN.{pos}
+use lib.ListN.{length, take}
+use mir.Facts.{to_z-of_z}
+use Rattle.sheet.specs.Spelling.{point_texts}
+use Rattle.sheet.specs.program.Lines.{Appends}
+use Rattle.sheet.proofs.AppendLaws.{appends_as}
+use Rattle.sheet.proofs.SpellingTextLaws.{points_none, point_turn}
+use Rattle.sheet.proofs.spelling.point_texts.Given as goal
+
+abbrev pub invariant-loop-i : goal.invariant-loop-i
+invariant-loop-i l = (l.i ≤ l.points.count) × (length l.out ≡ length l.initial.out) × (l.end ≤ l.place + 47 * l.i) ×
+    Appends l.initial.out l.place (point_texts (take (2 * l.i) l.points.coordinates)) l.out l.end
+
+abbrev pub decreases-loop-i : goal.decreases-loop-i
+decreases-loop-i l = l.points.count - l.i

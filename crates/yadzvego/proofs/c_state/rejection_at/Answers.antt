@@ -1,0 +1,23 @@
+-- `rejection_at` meets its contract: each arm is given the number that it is for.
+use borrow.Author.Tests.{ne_eqb}
+use Rattle.yadzvego.proofs.c_state.rejection_at.Goals as goal
+
+pub returns-in-0 : goal.returns-in-0
+returns-in-0 c = simp c.in-0.is
+
+pub returns-in-1 : goal.returns-in-1
+returns-in-1 c = simp c.in-1.is
+
+pub returns-in-2 : goal.returns-in-2
+returns-in-2 c = simp c.in-2.is
+
+pub returns-in-3 : goal.returns-in-3
+returns-in-3 c = simp c.in-3.is
+
+pub returns-in_default : goal.returns-in_default
+returns-in_default c = simp (
+  ne_eqb _ _ c.in_default.rest.0.0.0.1,
+  ne_eqb _ _ c.in_default.rest.0.0.1,
+  ne_eqb _ _ c.in_default.rest.0.1,
+  ne_eqb _ _ c.in_default.rest.1,
+)

@@ -1,0 +1,8 @@
+-- `yadzvego_linear_sharp` meets its contract: the number is that of how the call beneath ended.
+use mathlib.Core.Path.{ap}
+use Rattle.yadzvego.specs.Written.{written_of}
+use borrow.Author.Rules.{rules}
+use Rattle.yadzvego.proofs.lists.yadzvego_linear_sharp.Goals as goal
+
+pub returns : goal.returns
+returns c = rw c.number_of_done.ensures (ap written_of c.sharp.ensures)

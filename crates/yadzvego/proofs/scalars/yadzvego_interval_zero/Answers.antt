@@ -1,0 +1,8 @@
+-- `scalars::yadzvego_interval_zero` meets its contract: the constant's pattern is the number's.
+use mathlib.Core.Path.{refl}
+use lib.Ieee.{of_bits}
+use Rattle.yadzvego.proofs.scalars.yadzvego_interval_zero.Goals as goal
+
+pub returns : goal.returns
+unfolding of_bits
+returns c = refl

@@ -1,0 +1,26 @@
+-- `yadzvego_spell_text` meets its contract: the case that the call returned crosses as its two numbers.
+use mathlib.Core.List.{List}
+use mathlib.Core.Path.{◌≡◌, sym, ap, ◌∙◌}
+use Prim.Native.Nat.{ℕ}
+use borrow.Author.Rules.{rules}
+use Rattle.sheet.specs.Spelling.{AfterSpelling, after_spelling, returned_in}
+use Rattle.sheet.specs.declared.spelling.Spelled.{Spelled}
+use Rattle.yadzvego.specs.SpellResult.{spell_result_of}
+use Rattle.yadzvego.proofs.sheets.yadzvego_spell_text.Goals as goal
+
+-- a call r that returned the case x and left a
+crossed : (r x : Spelled) {out : List ℕ} {a : AfterSpelling} → after_spelling (returned_in r) out ≡ a → r ≡ x →
+    (spell_result_of (returned_in x) ≡ spell_result_of a.returned) × (out ≡ a.out)
+crossed r x e q = (
+  ap (λ (s : Spelled). spell_result_of (returned_in s)) (sym q)
+      ∙ ap (λ (b : AfterSpelling). spell_result_of b.returned) e,
+  ap (λ (b : AfterSpelling). b.out) e,
+)
+
+pub returns-in-Written : goal.returns-in-Written
+returns-in-Written c =
+    crossed c.spell_text.result _ c.spell_text.ensures c.in-Written.is
+
+pub returns-in-Refused : goal.returns-in-Refused
+returns-in-Refused c =
+    crossed c.spell_text.result _ c.spell_text.ensures c.in-Refused.is
