@@ -1,5 +1,6 @@
 -- `plus_points_inside` meets its contract: the bounds are those of the sum so far, and proper, all pairs so far are
 -- points, and each place is inside.
+use Rattle.std.proofs.Common.{ap, not}
 use mathlib.Core.Path.{◌≡◌, refl, sym, ◌∙◌, subst}
 use Prim.Native.Nat.{ℕ, ◌≤◌, ◌-◌}
 use native.Mathlib.Nat.{le_antisymm}
@@ -56,13 +57,13 @@ returns-then-not-are_points c =
     let l = c.loop-t in
     let e = points_end _ _ l.t _ c.loop-t-test.true
     c.at_inside-x.ensures c.at_inside-y.ensures
-    c.are_points.ensures c.if-not-are_points.true in
+    c.are_points.ensures (ap not c.if-not-are_points.true) in
     (e ∙ l.invariant.1, l.invariant.2)
 
 pub plus_points-sum-requires : goal.plus_points-sum-requires
 plus_points-sum-requires c =
     let l = c.loop-t in
-    let s = both_sharp _ _ _ c.are_points.ensures c.if-not-are_points.false in
+    let s = both_sharp _ _ _ c.are_points.ensures (ap not c.if-not-are_points.false) in
     (l.invariant.2.proper, s.0, s.1)
 
 pub loop-t-preserved : goal.loop-t-preserved
@@ -72,7 +73,7 @@ loop-t-preserved c =
     let x = c.at_inside-x.ensures in
     let y = c.at_inside-y.ensures in
     let e = points_on _ _ l.t _ c.loop-t-test.true x y
-    c.are_points.ensures c.if-not-are_points.false in (
+    c.are_points.ensures (ap not c.if-not-are_points.false) in (
       search rules,
       sym e ∙ l.invariant.1,
       bounding (plus_to-more _ _ _ l.t (bounds_back l.invariant.2.value) x y refl refl) c.plus_points-sum.ensures,

@@ -1,4 +1,5 @@
 -- `row_points_inside` meets its contract: the bounds are those of the sum so far, and proper, and each place is inside.
+use Rattle.std.proofs.Common.{ap, not}
 use mathlib.Core.Path.{sym, ◌∙◌}
 use Prim.Native.Nat.{◌≤◌, ◌-◌}
 use native.Mathlib.Nat.{le_refl, le_antisymm}
@@ -47,7 +48,7 @@ returns-then-not-are_points c =
 
 pub plus_points-sum-requires : goal.plus_points-sum-requires
 plus_points-sum-requires c =
-    let s = both_sharp _ _ _ c.are_points.ensures c.if-not-are_points.false in
+    let s = both_sharp _ _ _ c.are_points.ensures (ap not c.if-not-are_points.false) in
     (c.loop-t.invariant.1.proper, s.0, s.1)
 
 pub loop-t-preserved : goal.loop-t-preserved

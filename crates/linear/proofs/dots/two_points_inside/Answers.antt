@@ -1,4 +1,5 @@
 -- `two_points_inside` meets its contract: the bounds are those of both sums so far, and each place is inside.
+use Rattle.std.proofs.Common.{ap, not}
 use mathlib.Core.Path.{sym, ◌∙◌}
 use Prim.Native.Nat.{◌≤◌, ◌-◌}
 use native.Mathlib.Nat.{le_refl, le_antisymm}
@@ -67,7 +68,7 @@ returns-then-not-are_three_points c = c.loop-t.invariant
 
 pub plus_points-first-requires : goal.plus_points-first-requires
 plus_points-first-requires c =
-    let s = three_sharp _ _ _ _ c.are_three_points.ensures c.if-not-are_three_points.false in (
+    let s = three_sharp _ _ _ _ c.are_three_points.ensures (ap not c.if-not-are_three_points.false) in (
       c.loop-t.invariant.1.proper,
       s.0,
       s.2,
@@ -75,7 +76,7 @@ plus_points-first-requires c =
 
 pub plus_points-second-requires : goal.plus_points-second-requires
 plus_points-second-requires c =
-    let s = three_sharp _ _ _ _ c.are_three_points.ensures c.if-not-are_three_points.false in (
+    let s = three_sharp _ _ _ _ c.are_three_points.ensures (ap not c.if-not-are_three_points.false) in (
       c.loop-t.invariant.2.proper,
       s.1,
       s.2,

@@ -20,12 +20,11 @@ returns-in-Refused c =
     c.in-Refused.is
 
 pub loop-j-preserved : goal.loop-j-preserved
-loop-j-preserved c =
-    (
-      search rules,
-      search rules,
-      went_on _ _ c.loop-j.invariant.2 c.entry.ensures c.in-Finished.is,
-    )
+loop-j-preserved c = (
+  search rules,
+  search rules,
+  went_on _ _ c.loop-j.invariant.2 c.entry.ensures c.in-Finished.is,
+)
 
 pub returns : goal.returns
 returns c = sym (rw (le_antisymm c.loop-j.invariant.0 c.loop-j-test.false) at c.loop-j.invariant.2)

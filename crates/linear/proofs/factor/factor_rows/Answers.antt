@@ -21,13 +21,12 @@ returns-in-Refused c =
     c.factor_row.ensures c.in-Refused.is
 
 pub loop-i-preserved : goal.loop-i-preserved
-loop-i-preserved c =
-    (
-      search rules,
-      search rules,
-      search rules,
-      went_on _ _ c.loop-i.invariant.3 c.factor_row.ensures c.in-Finished.is,
-    )
+loop-i-preserved c = (
+  search rules,
+  search rules,
+  search rules,
+  went_on _ _ c.loop-i.invariant.3 c.factor_row.ensures c.in-Finished.is,
+)
 
 pub returns : goal.returns
 returns c = sym (rw (le_antisymm c.loop-i.invariant.0 c.loop-i-test.false) at c.loop-i.invariant.3)

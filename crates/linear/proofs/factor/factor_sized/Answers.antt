@@ -23,9 +23,9 @@ returns-in-Refused c =
     let e = rw (c.in-Refused.is, l, left) at
     c.factor_rows.ensures ∙ rows_are_entries c.args.n c.args.a.now in
     let size : length c.factor_rows.new.l ≡ 2 * (c.args.n * c.args.n) =
-    omega (arith, c.factor_rows.kept, c.clear.kept) in
+    omega (arith, c.factor_rows.auto, c.clear.auto) in
     let marks : length c.factor_rows.new.left_out ≡ c.args.n =
-    omega (arith, c.factor_rows.kept, c.unmark.kept) in
+    omega (arith, c.factor_rows.auto, c.unmark.auto) in
     rw (
       ← e,
       rw size at c.clear-in-Refused.ensures,

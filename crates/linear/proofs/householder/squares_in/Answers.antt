@@ -38,7 +38,7 @@ pub returns-in-Finished : goal.returns-in-Finished
 unfolding least_squares_of bind
 returns-in-Finished c =
     let f = rw c.in-Finished.is
-    at ((let the-reflected : let a = c.args in let l = c.reflections.new.1.1.1 in done_of c.reflections.result (factor_of l.0 l.1.0) ≡ fold_r (householder_step a.m a.r) (factor_of (columns_of a.m a.r a.rows.now a.rhs.now) (replicate a.r false)) (min a.r a.m) = 
+    at ((let the-reflected : let a = c.args in let l = c.reflections.new in done_of c.reflections.result (factor_of l.cols l.left_out) ≡ fold_r (householder_step a.m a.r) (factor_of (columns_of a.m a.r a.rows.now a.rhs.now) (replicate a.r false)) (min a.r a.m) =
     let marks = rw c.requires.2 at
     c.unmark.ensures in
     rw (
@@ -56,14 +56,14 @@ returns-in-Finished c =
       arith,
       c.requires,
       v.auto,
-      c.clear.kept,
+      c.clear.auto,
     ) in
     rw (← f, ← e) (rw size at c.cleared.ensures)
 
 pub returns-in-Refused : goal.returns-in-Refused
 unfolding least_squares_of bind
 returns-in-Refused c =
-    let f = rw c.in-Refused.is at ((let the-reflected : let a = c.args in let l = c.reflections.new.1.1.1 in done_of c.reflections.result (factor_of l.0 l.1.0) ≡ fold_r (householder_step a.m a.r) (factor_of (columns_of a.m a.r a.rows.now a.rhs.now) (replicate a.r false)) (min a.r a.m) = 
+    let f = rw c.in-Refused.is at ((let the-reflected : let a = c.args in let l = c.reflections.new in done_of c.reflections.result (factor_of l.cols l.left_out) ≡ fold_r (householder_step a.m a.r) (factor_of (columns_of a.m a.r a.rows.now a.rhs.now) (replicate a.r false)) (min a.r a.m) =
     let marks = rw c.requires.2 at
     c.unmark.ensures in
     rw (

@@ -36,19 +36,19 @@ loop-preserved c =
     let l =
     c.loop in
     let a = c.args in
-    let here = cut_size l.inv.3 l.inv.1 in (
+    let here = cut_size l.invariant.3 l.invariant.1 in (
       counted c.loop-test.true,
       search rules,
-      scaled_more _ _ _ _ _ l.counter _ l.inv.2
+      scaled_more _ _ _ _ _ l.counter _ l.invariant.2
           (c.at.ensures
           ∙ at_cut l.v here) (c.at-in-loop.ensures
-          ∙ at_cut a.w.now l.inv.4) (rw (
+          ∙ at_cut a.w.now l.invariant.4) (rw (
             c.choose.ensures,
             c.sub-x.ensures.value,
             c.mul.ensures.value,
           )) (c.put.ensures ∙ put_cut l.v _ here),
-      cut_next a.v0 l.counter l.inv.3 c.ahead-i.ensures (search rules),
-      cut_next a.w0 l.counter l.inv.4 c.ahead-j.ensures refl,
+      cut_next a.v0 l.counter l.invariant.3 c.ahead-i.ensures (search rules),
+      cut_next a.w0 l.counter l.invariant.4 c.ahead-j.ensures refl,
     )
 
 pub returns : goal.returns

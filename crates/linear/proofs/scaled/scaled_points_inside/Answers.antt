@@ -1,5 +1,6 @@
 -- `scaled_points_inside` meets its contract: the places so far are filled, those ahead are as they were, and each place
 -- is inside.
+use Rattle.std.proofs.Common.{ap, not}
 use mathlib.Core.Path.{◌≡◌, refl, sym, ◌∙◌}
 use Prim.Native.Nat.{◌≤◌, ◌-◌}
 use native.Mathlib.Nat.{le_antisymm, le_refl}
@@ -51,8 +52,8 @@ overflow_add-v0-in-loop-p c =
 
 pub minus_points-requires : goal.minus_points-requires
 minus_points-requires c =
-    let s = both_sharp _ _ _ c.are_points.ensures c.if-not-are_points.false in
-    (yes (sym c.is_proper.ensures ∙ holds _ c.if-not-is_proper.false), s.0, s.1)
+    let s = both_sharp _ _ _ c.are_points.ensures (ap not c.if-not-are_points.false) in
+    (yes (sym c.is_proper.ensures ∙ c.if-not-is_proper.false), s.0, s.1)
 
 pub chosen-requires : goal.chosen-requires
 chosen-requires c = c.minus_points.ensures.proper

@@ -10,18 +10,22 @@ use Rattle.linear.proofs.GramRows.{Filled, filled_none, filled_one, filled_all}
 use Rattle.linear.proofs.solved.gram_row.Goals as goal
 
 pub overflow_mul-top : goal.overflow_mul-top
-overflow_mul-top c = omega (arith, ((let the-rooms : (c.args.i * c.args.n ≤ 576) × (c.args.i * c.args.m ≤ 576) = 
-    (
-  product_small (omega (arith, c.requires)) c.requires.0.columns,
-  product_small (omega (arith, c.requires)) c.requires.0.rows,
-) in the-rooms)).0)
+overflow_mul-top c = omega (
+  arith,
+  ((let the-rooms : (c.args.i * c.args.n ≤ 576) × (c.args.i * c.args.m ≤ 576) = (
+    product_small (omega (arith, c.requires)) c.requires.0.columns,
+    product_small (omega (arith, c.requires)) c.requires.0.rows,
+  ) in the-rooms)).0,
+)
 
 pub overflow_mul-row : goal.overflow_mul-row
-overflow_mul-row c = omega (arith, ((let the-rooms : (c.args.i * c.args.n ≤ 576) × (c.args.i * c.args.m ≤ 576) = 
-    (
-  product_small (omega (arith, c.requires)) c.requires.0.columns,
-  product_small (omega (arith, c.requires)) c.requires.0.rows,
-) in the-rooms)).1)
+overflow_mul-row c = omega (
+  arith,
+  ((let the-rooms : (c.args.i * c.args.n ≤ 576) × (c.args.i * c.args.m ≤ 576) = (
+    product_small (omega (arith, c.requires)) c.requires.0.columns,
+    product_small (omega (arith, c.requires)) c.requires.0.rows,
+  ) in the-rooms)).1,
+)
 
 pub overflow_add-j-end : goal.overflow_add-j-end
 overflow_add-j-end c = omega (arith, c.requires)
@@ -41,11 +45,10 @@ overflow_add-row c =
       arith,
       c.requires,
       c.loop-j-test.true,
-      ((let the-rooms : (c.args.i * c.args.n ≤ 576) × (c.args.i * c.args.m ≤ 576) = 
-    (
-  product_small (omega (arith, c.requires)) c.requires.0.columns,
-  product_small (omega (arith, c.requires)) c.requires.0.rows,
-) in the-rooms)).1,
+      ((let the-rooms : (c.args.i * c.args.n ≤ 576) × (c.args.i * c.args.m ≤ 576) = (
+        product_small (omega (arith, c.requires)) c.requires.0.columns,
+        product_small (omega (arith, c.requires)) c.requires.0.rows,
+      ) in the-rooms)).1,
     )
 
 pub overflow_mul-j : goal.overflow_mul-j

@@ -10,18 +10,22 @@ use Rattle.linear.proofs.GramRows.{Filled, filled_none, filled_two, filled_all, 
 use Rattle.linear.proofs.solved.gram_rows.Goals as goal
 
 pub overflow_mul-top : goal.overflow_mul-top
-overflow_mul-top c = omega (arith, ((let the-rooms : (c.args.i * c.args.n ≤ 576) × (c.args.i * c.args.m ≤ 576) = 
-    (
-  product_small (omega (arith, c.requires)) c.requires.0.columns,
-  product_small (omega (arith, c.requires)) c.requires.0.rows,
-) in the-rooms)).0)
+overflow_mul-top c = omega (
+  arith,
+  ((let the-rooms : (c.args.i * c.args.n ≤ 576) × (c.args.i * c.args.m ≤ 576) = (
+    product_small (omega (arith, c.requires)) c.requires.0.columns,
+    product_small (omega (arith, c.requires)) c.requires.0.rows,
+  ) in the-rooms)).0,
+)
 
 pub overflow_mul-row : goal.overflow_mul-row
-overflow_mul-row c = omega (arith, ((let the-rooms : (c.args.i * c.args.n ≤ 576) × (c.args.i * c.args.m ≤ 576) = 
-    (
-  product_small (omega (arith, c.requires)) c.requires.0.columns,
-  product_small (omega (arith, c.requires)) c.requires.0.rows,
-) in the-rooms)).1)
+overflow_mul-row c = omega (
+  arith,
+  ((let the-rooms : (c.args.i * c.args.n ≤ 576) × (c.args.i * c.args.m ≤ 576) = (
+    product_small (omega (arith, c.requires)) c.requires.0.columns,
+    product_small (omega (arith, c.requires)) c.requires.0.rows,
+  ) in the-rooms)).1,
+)
 
 pub overflow_add-j-end : goal.overflow_add-j-end
 overflow_add-j-end c = omega (arith, c.requires)
@@ -36,11 +40,14 @@ loop-j-init c =
     )
 
 pub overflow_add-top : goal.overflow_add-top
-overflow_add-top c = omega (arith, c.requires, ((let the-rooms : (c.args.i * c.args.n ≤ 576) × (c.args.i * c.args.m ≤ 576) = 
-    (
-  product_small (omega (arith, c.requires)) c.requires.0.columns,
-  product_small (omega (arith, c.requires)) c.requires.0.rows,
-) in the-rooms)).0)
+overflow_add-top c = omega (
+  arith,
+  c.requires,
+  ((let the-rooms : (c.args.i * c.args.n ≤ 576) × (c.args.i * c.args.m ≤ 576) = (
+    product_small (omega (arith, c.requires)) c.requires.0.columns,
+    product_small (omega (arith, c.requires)) c.requires.0.rows,
+  ) in the-rooms)).0,
+)
 
 pub overflow_mul-j : goal.overflow_mul-j
 overflow_mul-j c =
@@ -59,11 +66,10 @@ overflow_add-row c =
       arith,
       c.requires,
       c.loop-j-test.true,
-      ((let the-rooms : (c.args.i * c.args.n ≤ 576) × (c.args.i * c.args.m ≤ 576) = 
-    (
-  product_small (omega (arith, c.requires)) c.requires.0.columns,
-  product_small (omega (arith, c.requires)) c.requires.0.rows,
-) in the-rooms)).1,
+      ((let the-rooms : (c.args.i * c.args.n ≤ 576) × (c.args.i * c.args.m ≤ 576) = (
+        product_small (omega (arith, c.requires)) c.requires.0.columns,
+        product_small (omega (arith, c.requires)) c.requires.0.rows,
+      ) in the-rooms)).1,
     )
 
 pub put-requires : goal.put-requires
@@ -74,11 +80,10 @@ overflow_add-row-in-loop-j c =
     omega (
       arith,
       c.requires,
-      ((let the-rooms : (c.args.i * c.args.n ≤ 576) × (c.args.i * c.args.m ≤ 576) = 
-    (
-  product_small (omega (arith, c.requires)) c.requires.0.columns,
-  product_small (omega (arith, c.requires)) c.requires.0.rows,
-) in the-rooms)).1,
+      ((let the-rooms : (c.args.i * c.args.n ≤ 576) × (c.args.i * c.args.m ≤ 576) = (
+        product_small (omega (arith, c.requires)) c.requires.0.columns,
+        product_small (omega (arith, c.requires)) c.requires.0.rows,
+      ) in the-rooms)).1,
     )
 
 pub overflow_add-row-in-loop-j-2 : goal.overflow_add-row-in-loop-j-2
@@ -87,11 +92,10 @@ overflow_add-row-in-loop-j-2 c =
       arith,
       c.requires,
       c.loop-j-test.true,
-      ((let the-rooms : (c.args.i * c.args.n ≤ 576) × (c.args.i * c.args.m ≤ 576) = 
-    (
-  product_small (omega (arith, c.requires)) c.requires.0.columns,
-  product_small (omega (arith, c.requires)) c.requires.0.rows,
-) in the-rooms)).1,
+      ((let the-rooms : (c.args.i * c.args.n ≤ 576) × (c.args.i * c.args.m ≤ 576) = (
+        product_small (omega (arith, c.requires)) c.requires.0.columns,
+        product_small (omega (arith, c.requires)) c.requires.0.rows,
+      ) in the-rooms)).1,
     )
 
 pub put-requires-in-loop-j : goal.put-requires-in-loop-j

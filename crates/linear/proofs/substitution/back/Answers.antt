@@ -20,12 +20,11 @@ returns-in-Refused c =
     c.back_row.ensures c.in-Refused.is
 
 pub loop-t-preserved : goal.loop-t-preserved
-loop-t-preserved c =
-    (
-      search rules,
-      search rules,
-      went_on _ _ c.loop-t.invariant.2 c.back_row.ensures c.in-Finished.is,
-    )
+loop-t-preserved c = (
+  search rules,
+  search rules,
+  went_on _ _ c.loop-t.invariant.2 c.back_row.ensures c.in-Finished.is,
+)
 
 pub returns : goal.returns
 returns c = sym (rw (le_antisymm c.loop-t.invariant.0 c.loop-t-test.false) at c.loop-t.invariant.2)

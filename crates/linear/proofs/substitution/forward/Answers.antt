@@ -20,12 +20,11 @@ returns-in-Refused c =
     c.forward_row.ensures c.in-Refused.is
 
 pub loop-i-preserved : goal.loop-i-preserved
-loop-i-preserved c =
-    (
-      search rules,
-      search rules,
-      went_on _ _ c.loop-i.invariant.2 c.forward_row.ensures c.in-Finished.is,
-    )
+loop-i-preserved c = (
+  search rules,
+  search rules,
+  went_on _ _ c.loop-i.invariant.2 c.forward_row.ensures c.in-Finished.is,
+)
 
 pub returns : goal.returns
 returns c = sym (rw (le_antisymm c.loop-i.invariant.0 c.loop-i-test.false) at c.loop-i.invariant.2)
