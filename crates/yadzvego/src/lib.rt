@@ -19,8 +19,7 @@ pub use events::{CReturned, EventNumbers};
 use interval::Scalar;
 
 // Begins a run: its first question asks for the rows of `start`.
-#[unsafe(no_mangle)]
-pub extern "C" fn yadzvego_begin(
+pub fn yadzvego_begin(
     n: usize,
     s: usize,
     limit: usize,
@@ -35,8 +34,7 @@ pub extern "C" fn yadzvego_begin(
 }
 
 // Answers the open question with rows, m constraint rows and then the sum's.
-#[unsafe(no_mangle)]
-pub extern "C" fn yadzvego_reply(run: Run, area: &mut [f64], m: usize, rows: &[f64]) -> CReturned
+pub fn yadzvego_reply(run: Run, area: &mut [f64], m: usize, rows: &[f64]) -> CReturned
     ensures { after_export result area.new ≡ reply_export run area.old m rows.now }
 {
     if !numbers_fit(run) {
@@ -46,8 +44,7 @@ pub extern "C" fn yadzvego_reply(run: Run, area: &mut [f64], m: usize, rows: &[f
 }
 
 // Answers the open question with none: the point cannot be evaluated.
-#[unsafe(no_mangle)]
-pub extern "C" fn yadzvego_reply_none(run: Run, area: &mut [f64]) -> CReturned
+pub fn yadzvego_reply_none(run: Run, area: &mut [f64]) -> CReturned
     ensures { after_export result area.new ≡ reply_none_export run area.old }
 {
     if !numbers_fit(run) {
@@ -70,8 +67,7 @@ fn has_point(run: Run, area: usize) -> bool
 }
 
 // Where in the area the point begins: the asked one, or the standing one where no question is open.
-#[unsafe(no_mangle)]
-pub extern "C" fn yadzvego_point_place(run: Run, area_len: usize) -> usize
+pub fn yadzvego_point_place(run: Run, area_len: usize) -> usize
     ensures { result ≡ point_place run area_len }
 {
     if !has_point(run, area_len) {
@@ -81,8 +77,7 @@ pub extern "C" fn yadzvego_point_place(run: Run, area_len: usize) -> usize
 }
 
 // How many numbers the point has: 0 where there is none.
-#[unsafe(no_mangle)]
-pub extern "C" fn yadzvego_point_length(run: Run, area_len: usize) -> usize
+pub fn yadzvego_point_length(run: Run, area_len: usize) -> usize
     ensures { result ≡ point_length run area_len }
 {
     if !has_point(run, area_len) {

@@ -51,36 +51,31 @@ pub fn number_of_done(d: Done) -> u64
     }
 }
 
-#[unsafe(no_mangle)]
-pub extern "C" fn yadzvego_linear_dot(n: usize, a: &[f64], b: &[f64]) -> ScalarResult
+pub fn yadzvego_linear_dot(n: usize, a: &[f64], b: &[f64]) -> ScalarResult
     ensures { result ≡ scalar_result_of (dot_reply n a.now b.now) }
 {
     scalar_result_of(linear::dot(n, a, b))
 }
 
-#[unsafe(no_mangle)]
-pub extern "C" fn yadzvego_linear_norm(n: usize, v: &[f64]) -> ScalarResult
+pub fn yadzvego_linear_norm(n: usize, v: &[f64]) -> ScalarResult
     ensures { result ≡ scalar_result_of (norm_reply n v.now) }
 {
     scalar_result_of(linear::norm(n, v))
 }
 
-#[unsafe(no_mangle)]
-pub extern "C" fn yadzvego_linear_choose(v: Scalar) -> Scalar
+pub fn yadzvego_linear_choose(v: Scalar) -> Scalar
     ensures { result ≡ choose_of v }
 {
     linear::choose(v)
 }
 
-#[unsafe(no_mangle)]
-pub extern "C" fn yadzvego_linear_sharp(n: usize, v: &[f64], out: &mut [f64]) -> u64
+pub fn yadzvego_linear_sharp(n: usize, v: &[f64], out: &mut [f64]) -> u64
     ensures { written result out.new ≡ written_of (sharp_reply n v.now out.old) }
 {
     number_of_done(linear::sharp(n, v, out))
 }
 
-#[unsafe(no_mangle)]
-pub extern "C" fn yadzvego_linear_cholesky(
+pub fn yadzvego_linear_cholesky(
     n: usize,
     a: &[f64],
     l: &mut [f64],
@@ -92,8 +87,7 @@ pub extern "C" fn yadzvego_linear_cholesky(
     number_of_done(linear::cholesky(n, a, l, left_out))
 }
 
-#[unsafe(no_mangle)]
-pub extern "C" fn yadzvego_linear_solve_cholesky(
+pub fn yadzvego_linear_solve_cholesky(
     n: usize,
     l: &[f64],
     left_out: &[bool],
@@ -106,8 +100,7 @@ pub extern "C" fn yadzvego_linear_solve_cholesky(
     number_of_done(linear::solve_cholesky(n, l, left_out, b, x))
 }
 
-#[unsafe(no_mangle)]
-pub extern "C" fn yadzvego_linear_least_squares(
+pub fn yadzvego_linear_least_squares(
     m: usize,
     r: usize,
     rows: &[f64],
@@ -120,8 +113,7 @@ pub extern "C" fn yadzvego_linear_least_squares(
     number_of_done(linear::least_squares(m, r, rows, rhs, y))
 }
 
-#[unsafe(no_mangle)]
-pub extern "C" fn yadzvego_linear_minus_solved(
+pub fn yadzvego_linear_minus_solved(
     m: usize,
     n: usize,
     jc: &[f64],

@@ -46,204 +46,175 @@ fn scalar_result_of(r: interval::ScalarResult) -> ScalarResult
     }
 }
 
-#[unsafe(no_mangle)]
-pub extern "C" fn yadzvego_interval_zero() -> Scalar
+pub fn yadzvego_interval_zero() -> Scalar
     ensures { result ≡ zero_s }
 {
     Scalar::ZERO
 }
 
-#[unsafe(no_mangle)]
-pub extern "C" fn yadzvego_interval_one() -> Scalar
+pub fn yadzvego_interval_one() -> Scalar
     ensures { result ≡ degenerate one64 }
 {
     Scalar::ONE
 }
 
-#[unsafe(no_mangle)]
-pub extern "C" fn yadzvego_interval_two() -> Scalar
+pub fn yadzvego_interval_two() -> Scalar
     ensures { result ≡ degenerate two64 }
 {
     Scalar::TWO
 }
 
-#[unsafe(no_mangle)]
-pub extern "C" fn yadzvego_interval_next_up(x: f64) -> f64
+pub fn yadzvego_interval_next_up(x: f64) -> f64
     ensures { result ≡ next_up x }
 {
     interval::next_up(x)
 }
 
-#[unsafe(no_mangle)]
-pub extern "C" fn yadzvego_interval_next_down(x: f64) -> f64
+pub fn yadzvego_interval_next_down(x: f64) -> f64
     ensures { result ≡ next_down x }
 {
     interval::next_down(x)
 }
 
-#[unsafe(no_mangle)]
-pub extern "C" fn yadzvego_interval_degenerate(v: f64) -> Scalar
+pub fn yadzvego_interval_degenerate(v: f64) -> Scalar
     ensures { result ≡ degenerate v }
 {
     Scalar::degenerate(v)
 }
 
-#[unsafe(no_mangle)]
-pub extern "C" fn yadzvego_interval_from_i64(v: i64) -> Scalar
+pub fn yadzvego_interval_from_i64(v: i64) -> Scalar
     ensures { result ≡ from_i64 v }
 {
     Scalar::from_i64(v)
 }
 
-#[unsafe(no_mangle)]
-pub extern "C" fn yadzvego_interval_from_ratio(num: i64, den: i64) -> ScalarResult
+pub fn yadzvego_interval_from_ratio(num: i64, den: i64) -> ScalarResult
     ensures { result ≡ scalar_result_of (from_ratio num den) }
 {
     scalar_result_of(Scalar::from_ratio(num, den))
 }
 
-#[unsafe(no_mangle)]
-pub extern "C" fn yadzvego_interval_add(x: Scalar, y: Scalar) -> Scalar
+pub fn yadzvego_interval_add(x: Scalar, y: Scalar) -> Scalar
     ensures { result ≡ add_of x y }
 {
     x.add(y)
 }
 
-#[unsafe(no_mangle)]
-pub extern "C" fn yadzvego_interval_sub(x: Scalar, y: Scalar) -> Scalar
+pub fn yadzvego_interval_sub(x: Scalar, y: Scalar) -> Scalar
     ensures { result ≡ sub_of x y }
 {
     x.sub(y)
 }
 
-#[unsafe(no_mangle)]
-pub extern "C" fn yadzvego_interval_mul(x: Scalar, y: Scalar) -> Scalar
+pub fn yadzvego_interval_mul(x: Scalar, y: Scalar) -> Scalar
     ensures { result ≡ mul_of x y }
 {
     x.mul(y)
 }
 
-#[unsafe(no_mangle)]
-pub extern "C" fn yadzvego_interval_neg(x: Scalar) -> Scalar
+pub fn yadzvego_interval_neg(x: Scalar) -> Scalar
     ensures { result ≡ neg_of x }
 {
     x.neg()
 }
 
-#[unsafe(no_mangle)]
-pub extern "C" fn yadzvego_interval_div(x: Scalar, y: Scalar) -> ScalarResult
+pub fn yadzvego_interval_div(x: Scalar, y: Scalar) -> ScalarResult
     ensures { result ≡ scalar_result_of (div_of x y) }
 {
     scalar_result_of(x.div(y))
 }
 
-#[unsafe(no_mangle)]
-pub extern "C" fn yadzvego_interval_abs(x: Scalar) -> Scalar
+pub fn yadzvego_interval_abs(x: Scalar) -> Scalar
     ensures { result ≡ abs_of x }
 {
     x.abs()
 }
 
-#[unsafe(no_mangle)]
-pub extern "C" fn yadzvego_interval_sqrt(x: Scalar) -> ScalarResult
+pub fn yadzvego_interval_sqrt(x: Scalar) -> ScalarResult
     ensures { result ≡ scalar_result_of (sqrt_of x) }
 {
     scalar_result_of(x.sqrt())
 }
 
-#[unsafe(no_mangle)]
-pub extern "C" fn yadzvego_interval_could_be_equal(x: Scalar, y: Scalar) -> bool
+pub fn yadzvego_interval_could_be_equal(x: Scalar, y: Scalar) -> bool
     ensures { result ≡ could_be_equal x y }
 {
     x.could_be_equal(y)
 }
 
-#[unsafe(no_mangle)]
-pub extern "C" fn yadzvego_interval_definitely_not_equal(x: Scalar, y: Scalar) -> bool
+pub fn yadzvego_interval_definitely_not_equal(x: Scalar, y: Scalar) -> bool
     ensures { result ≡ definitely_not_equal x y }
 {
     x.definitely_not_equal(y)
 }
 
-#[unsafe(no_mangle)]
-pub extern "C" fn yadzvego_interval_could_be_greater(x: Scalar, y: Scalar) -> bool
+pub fn yadzvego_interval_could_be_greater(x: Scalar, y: Scalar) -> bool
     ensures { result ≡ could_be_greater x y }
 {
     x.could_be_greater(y)
 }
 
-#[unsafe(no_mangle)]
-pub extern "C" fn yadzvego_interval_definitely_greater(x: Scalar, y: Scalar) -> bool
+pub fn yadzvego_interval_definitely_greater(x: Scalar, y: Scalar) -> bool
     ensures { result ≡ definitely_greater x y }
 {
     x.definitely_greater(y)
 }
 
-#[unsafe(no_mangle)]
-pub extern "C" fn yadzvego_interval_could_be_less(x: Scalar, y: Scalar) -> bool
+pub fn yadzvego_interval_could_be_less(x: Scalar, y: Scalar) -> bool
     ensures { result ≡ could_be_less x y }
 {
     x.could_be_less(y)
 }
 
-#[unsafe(no_mangle)]
-pub extern "C" fn yadzvego_interval_definitely_less(x: Scalar, y: Scalar) -> bool
+pub fn yadzvego_interval_definitely_less(x: Scalar, y: Scalar) -> bool
     ensures { result ≡ definitely_less x y }
 {
     x.definitely_less(y)
 }
 
-#[unsafe(no_mangle)]
-pub extern "C" fn yadzvego_interval_is_zero(x: Scalar) -> bool
+pub fn yadzvego_interval_is_zero(x: Scalar) -> bool
     ensures { result ≡ is_zero x }
 {
     x.is_zero()
 }
 
-#[unsafe(no_mangle)]
-pub extern "C" fn yadzvego_interval_is_finite(x: Scalar) -> bool
+pub fn yadzvego_interval_is_finite(x: Scalar) -> bool
     ensures { result ≡ is_finite x }
 {
     x.is_finite()
 }
 
-#[unsafe(no_mangle)]
-pub extern "C" fn yadzvego_interval_midpoint(x: Scalar) -> Scalar
+pub fn yadzvego_interval_midpoint(x: Scalar) -> Scalar
     ensures { result ≡ midpoint x }
 {
     x.midpoint()
 }
 
-#[unsafe(no_mangle)]
-pub extern "C" fn yadzvego_interval_is_sharp(x: Scalar) -> bool
+pub fn yadzvego_interval_is_sharp(x: Scalar) -> bool
     ensures { result ≡ is_sharp x }
 {
     x.is_sharp()
 }
 
-#[unsafe(no_mangle)]
-pub extern "C" fn yadzvego_interval_lower(x: Scalar) -> Scalar
+pub fn yadzvego_interval_lower(x: Scalar) -> Scalar
     ensures { result ≡ lower x }
 {
     x.lower()
 }
 
-#[unsafe(no_mangle)]
-pub extern "C" fn yadzvego_interval_upper(x: Scalar) -> Scalar
+pub fn yadzvego_interval_upper(x: Scalar) -> Scalar
     ensures { result ≡ upper x }
 {
     x.upper()
 }
 
-#[unsafe(no_mangle)]
-pub extern "C" fn yadzvego_interval_sharpen(x: Scalar) -> Scalar
+pub fn yadzvego_interval_sharpen(x: Scalar) -> Scalar
     ensures { result ≡ sharpen x }
 {
     x.sharpen()
 }
 
-#[unsafe(no_mangle)]
-pub extern "C" fn yadzvego_interval_max(x: Scalar, y: Scalar) -> Scalar
+pub fn yadzvego_interval_max(x: Scalar, y: Scalar) -> Scalar
     ensures { result ≡ max_of x y }
 {
     x.max(y)

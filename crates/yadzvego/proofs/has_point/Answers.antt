@@ -12,22 +12,22 @@ use Rattle.yadzvego.proofs.has_point.Goals as goal
 
 pub returns-then-not-numbers_fit : goal.returns-then-not-numbers_fit
 unfolding has_point
-returns-then-not-numbers_fit c = rw (sym c.numbers_fit.ensures ∙ not-true _ c.if-not-numbers_fit.true)
+returns-then-not-numbers_fit c = rw (sym c.numbers_fit.ensures ∙ c.if-not-numbers_fit.true)
 
 pub returns-then-not-valid : goal.returns-then-not-valid
 unfolding has_point
 returns-then-not-valid c = rw (
-  sym c.numbers_fit.ensures ∙ not-false _ c.if-not-numbers_fit.false,
-  ap valid (sym c.state_at-st.ensures) ∙ sym c.valid.ensures ∙ not-true _ c.if-not-valid.true,
+  sym c.numbers_fit.ensures ∙ c.if-not-numbers_fit.false,
+  ap valid (sym c.state_at-st.ensures) ∙ sym c.valid.ensures ∙ c.if-not-valid.true,
 )
 
 pub returns : goal.returns
 unfolding has_point
 returns c = rw (
   sym c.numbers_fit.ensures
-      ∙ not-false _ c.if-not-numbers_fit.false,
+      ∙ c.if-not-numbers_fit.false,
   ap valid (sym c.state_at-st.ensures) ∙ sym c.valid.ensures
-      ∙ not-false _ c.if-not-valid.false,
+      ∙ c.if-not-valid.false,
 )
     (ap (λ (long : ℕ). eqb c.args.area long)
     (c.area_length.ensures ∙ ap (λ (st : State). area_length st.sizes)

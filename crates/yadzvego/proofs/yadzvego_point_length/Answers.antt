@@ -9,15 +9,15 @@ use Rattle.yadzvego.proofs.yadzvego_point_length.Goals as goal
 
 pub returns-then-not-has_point : goal.returns-then-not-has_point
 unfolding point_length
-returns-then-not-has_point c = rw (sym c.has_point.ensures ∙ not-true _ c.if-not-has_point.true)
+returns-then-not-has_point c = rw (sym c.has_point.ensures ∙ c.if-not-has_point.true)
 
 pub overflow_mul-result : goal.overflow_mul-result
 overflow_mul-result c = omega (
   arith,
   few_variables c.args.run _
-      (sym c.has_point.ensures ∙ not-false _ c.if-not-has_point.false),
+      (sym c.has_point.ensures ∙ c.if-not-has_point.false),
 )
 
 pub returns : goal.returns
 unfolding point_length
-returns c = rw (sym c.has_point.ensures ∙ not-false _ c.if-not-has_point.false)
+returns c = rw (sym c.has_point.ensures ∙ c.if-not-has_point.false)

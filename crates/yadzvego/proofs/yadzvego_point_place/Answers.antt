@@ -9,9 +9,9 @@ use Rattle.yadzvego.proofs.yadzvego_point_place.Goals as goal
 
 pub returns-then-not-has_point : goal.returns-then-not-has_point
 unfolding point_place
-returns-then-not-has_point c = rw (sym c.has_point.ensures ∙ not-true _ c.if-not-has_point.true)
+returns-then-not-has_point c = rw (sym c.has_point.ensures ∙ c.if-not-has_point.true)
 
 pub returns : goal.returns
 unfolding point_place
-returns c = rw (sym c.has_point.ensures ∙ not-false _ c.if-not-has_point.false)
+returns c = rw (sym c.has_point.ensures ∙ c.if-not-has_point.false)
     (c.point_place.ensures ∙ ap (λ (st : State). point_at st.sizes st.phase) c.state_at.ensures)

@@ -12,13 +12,13 @@ use Rattle.yadzvego.proofs.yadzvego_reply.Goals as goal
 pub returns-then-not-numbers_fit : goal.returns-then-not-numbers_fit
 unfolding reply_export
 returns-then-not-numbers_fit c = rw c.altered.ensures
-    (sym (not_called _ _ _ (sym c.numbers_fit.ensures ∙ not-true _ c.if-not-numbers_fit.true)))
+    (sym (not_called _ _ _ (sym c.numbers_fit.ensures ∙ c.if-not-numbers_fit.true)))
 
 pub returns : goal.returns
 unfolding reply_export
 returns c =
     let a = c.args in
-    let fits = sym c.numbers_fit.ensures ∙ not-false _ c.if-not-numbers_fit.false in
+    let fits = sym c.numbers_fit.ensures ∙ c.if-not-numbers_fit.false in
     rw c.returned_after.ensures
     (ap (after_export_over a.run) c.reply.ensures
     ∙ ap (λ (st : State). after_export_over a.run (reply_of st a.area.now a.m a.rows.now))
