@@ -75,7 +75,7 @@ returns-then-not-all_in_domain c =
       le-leb _ _ c.if-m-gt-CONSTRAINTS.false,
       (let the-area-fits : eqb c.args.area (area_length c.args.st.sizes) ≡ true = compared_same c.area_length.ensures c.if-area-area_length.false in the-area-fits),
       eq-eqb _ _ c.if-rows-count.false,
-      sym c.all_in_domain.ensures ∙ not-true _ c.if-not-all_in_domain.true,
+      sym c.all_in_domain.ensures ∙ c.if-not-all_in_domain.true,
     )
 
 pub returns : goal.returns
@@ -87,5 +87,5 @@ returns c =
       le-leb _ _ c.if-m-gt-CONSTRAINTS.false,
       (let the-area-fits : eqb c.args.area (area_length c.args.st.sizes) ≡ true = compared_same c.area_length.ensures c.if-area-area_length.false in the-area-fits),
       eq-eqb _ _ c.if-rows-count.false,
-      sym c.all_in_domain.ensures ∙ not-false _ c.if-not-all_in_domain.false,
+      sym c.all_in_domain.ensures ∙ c.if-not-all_in_domain.false,
     )

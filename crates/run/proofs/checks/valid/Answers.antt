@@ -27,11 +27,11 @@ decides k e =
 
 pub returns-then-not-sizes_fit : goal.returns-then-not-sizes_fit
 unfolding valid
-returns-then-not-sizes_fit c = rw (sym c.sizes_fit.ensures ∙ not-true _ c.if-not-sizes_fit.true)
+returns-then-not-sizes_fit c = rw (sym c.sizes_fit.ensures ∙ c.if-not-sizes_fit.true)
 
 pub returns-then-not-contents_fit : goal.returns-then-not-contents_fit
 unfolding valid
-returns-then-not-contents_fit c = rw (sized c.before.before, sym c.contents_fit.ensures ∙ not-true _ c.if-not-contents_fit.true)
+returns-then-not-contents_fit c = rw (sized c.before.before, sym c.contents_fit.ensures ∙ c.if-not-contents_fit.true)
 
 pub counts_fit-requires : goal.counts_fit-requires
 counts_fit-requires c = (size_bounds c.args.st.sizes
@@ -43,7 +43,7 @@ returns-then-not-counts_fit c =
     rw (
       sized c.before.before.before.before,
       contained c.before.before,
-      sym c.counts_fit.ensures ∙ not-true _ c.if-not-counts_fit.true,
+      sym c.counts_fit.ensures ∙ c.if-not-counts_fit.true,
     )
 
 pub returns-in_default : goal.returns-in_default
@@ -56,7 +56,7 @@ returns-then-not-is_positive c =
     let st = c.args.st in
     decides c.before.before.before.before.before
     (not-positive st c.in-Open.kind (sym c.is_positive.ensures
-    ∙ not-true _ c.if-not-is_positive.true)
+    ∙ c.if-not-is_positive.true)
     ∙ ap (phase_fits st) (sym c.in-Open.is))
 
 pub returns-in_default-kind : goal.returns-in_default-kind
@@ -64,13 +64,13 @@ returns-in_default-kind c =
     let st = c.args.st in
     decides c.before.before.before.before.before.before.before
     (past_start st c.in-Open.kind c.in_default-kind.keys2
-    (sym c.is_positive.ensures ∙ not-false _ c.if-not-is_positive.false)
+    (sym c.is_positive.ensures ∙ c.if-not-is_positive.false)
     ∙ ap (phase_fits st) (sym c.in-Open.is))
 
 pub returns : goal.returns
 returns c =
     let st = c.args.st in
     decides c.before.before.before.before.before.before.before
-    (sym (sym c.is_positive.ensures ∙ not-false _ c.if-not-is_positive.false)
+    (sym (sym c.is_positive.ensures ∙ c.if-not-is_positive.false)
     ∙ ap (phase_fits st) (sym (c.in-Open.is
     ∙ ap Open c.in-Start.is)))

@@ -22,7 +22,7 @@ passed c e h = size_bounds (sizes c) (sym e ∙ not-false _ h)
 pub returns-then-not-sizes_fit : goal.returns-then-not-sizes_fit
 returns-then-not-sizes_fit c =
     let a = c.args in
-    too_many a.c a.count (sym c.sizes_fit.ensures ∙ not-true _ c.if-not-sizes_fit.true)
+    too_many a.c a.count (sym c.sizes_fit.ensures ∙ c.if-not-sizes_fit.true)
 
 pub returns-then-c-gt-CONSTRAINTS : goal.returns-then-c-gt-CONSTRAINTS
 unfolding sized_of
