@@ -145,17 +145,16 @@ returns c =
     c.clear.new.xs a.shape.r)
     (front_kept _ v _ (short c.requires.few) h.auto.out ∙ w)
     ∙ ap (λ (x : List Float). combined_to a.shape.k (sharp_of y a.shape.r) a.q.now x a.shape.r) z in
+    let x = c.coefficient_rows.new.rows in
+    let b = c.sides.new.rhs in
+    let lx = c.coefficient_rows.auto.rows in
+    let lb = c.sides.auto.rhs in
+    let solved : done_of c.least_squares-end.result y ≡ least_squares_of a.shape.m a.shape.r x b =
+    least_squares_result c.least_squares-end.result a.shape.m a.shape.r x b _ y
+    (omega (arith, p.few.rows)) (omega (arith, few_independent p.few))
+    (lx ∙ length-take-le _ _ (room p.few)) (lb ∙ length-take-le _ _ (high p.few)) (length-take-le _ _ (short p.few))
+    (rw (front_kept _ x _ (room p.few) lx, front_kept _ b _ (high p.few) lb) at c.least_squares-end.ensures) in
     correction_is a.shape.k a.shape.m a.shape.r (value_at (rows_in a.xs.now a.e)) a.q.now
     a.coefficients.now a.dependent.now a.order.now y c.least_squares-end.result
     c.coefficient_rows.ensures
-    c.sides.ensures ((let the-solved : let a = c.args in done_of c.least_squares-end.result c.least_squares-end.new.y ≡ least_squares_of a.shape.m a.shape.r c.coefficient_rows.new.rows c.sides.new.rhs = 
-    let a = c.args in
-    let p = c.requires in
-    let x = c.coefficient_rows.new.rows in
-    let y = c.sides.new.rhs in
-    let lx = c.coefficient_rows.auto.rows in
-    let ly = c.sides.auto.rhs in
-    least_squares_result c.least_squares-end.result a.shape.m a.shape.r x y _
-    c.least_squares-end.new.y (omega (arith, p.few.rows)) (omega (arith, few_independent c.requires.few))
-    (lx ∙ length-take-le _ _ (room c.requires.few)) (ly ∙ length-take-le _ _ (high c.requires.few)) (length-take-le _ _ (short c.requires.few))
-    (rw (front_kept _ x _ (room c.requires.few) lx, front_kept _ y _ (high c.requires.few) ly) at c.least_squares-end.ensures) in the-solved)) d
+    c.sides.ensures solved d

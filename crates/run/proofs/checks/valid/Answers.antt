@@ -52,7 +52,7 @@ returns-in_default-kind c =
     phase_decides st
     (sym c.sizes_fit.ensures ∙ c.if-not-sizes_fit.false) (sym c.contents_fit.ensures ∙ c.if-not-contents_fit.false)
     (sym c.counts_fit.ensures ∙ c.if-not-counts_fit.false)
-    (past_start st c.in-Open.kind ? (sym c.is_positive.ensures ∙ c.if-not-is_positive.false)
+    (past_start st c.in-Open.kind c.in_default-kind.not-Start (sym c.is_positive.ensures ∙ c.if-not-is_positive.false)
     ∙ ap (phase_fits st) (sym c.in-Open.is))
 
 pub returns : goal.returns

@@ -58,4 +58,4 @@ returns c =
       long,
       wide,
     )
-    (not_found k.result _ _ _ _ c.in_default.keys2)
+    (not_found k.result _ _ _ _ c.in_default.not-Found)
