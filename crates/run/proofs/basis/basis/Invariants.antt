@@ -29,7 +29,9 @@ pub record Passed (k m : ℕ) (wide jc q₀ coefficients₀ dependent₀ : List 
       ≡ ok (basis_by r q gram coefficients dependent order)
 
 abbrev pub invariant-loop-i : goal.invariant-loop-i
-invariant-loop-i l = Passed l.k l.m l.wide l.jc l.initial.q l.initial.coefficients l.initial.dependent l.initial.order l.q l.gram l.coefficients l.dependent l.order l.r l.i
+invariant-loop-i l =
+    Passed l.k l.m l.wide l.jc l.initial.q l.initial.coefficients l.initial.dependent l.initial.order
+    l.q l.gram l.coefficients l.dependent l.order l.r l.i
 
 abbrev pub decreases-loop-i : goal.decreases-loop-i
 decreases-loop-i l = l.m - l.i

@@ -18,7 +18,8 @@ abbrev pub difference : List Float → List Float → ℕ → Scalar
 difference y bs i = choose_of (sub_of (at y i) (at bs i))
 
 abbrev pub invariant-loop-i : goal.invariant-loop-i
-invariant-loop-i l = (l.i ≤ l.n) × (length l.v ≡ length l.initial.v) × (l.v ≡ fill_to vector 0 (difference l.y l.bs) l.i)
+invariant-loop-i l = (l.i ≤ l.n) × (length l.v ≡ length l.initial.v)
+    × (l.v ≡ fill_to vector 0 (difference l.y l.bs) l.i)
 
 abbrev pub decreases-loop-i : goal.decreases-loop-i
 decreases-loop-i l = l.n - l.i
