@@ -8,8 +8,6 @@ use mathlib.Core.Path.{◌≡◌, refl, sym, ap, ◌∙◌}
 use native.Mathlib.Nat.{mul-le-mul}
 use native.Mathlib.Omega.{arith}
 use borrow.Author.Tests.{leb-true, ltb-true, eqb-true, le-leb, eq-eqb, ne_eqb}
-use denote.Enum.Declared.{tag_of}
-use types.Run.{OneOf}
 use lib.Dec.{leb, ltb, eqb}
 use lib.Ieee.{Float}
 use lib.ListN.{length}
@@ -34,7 +32,6 @@ use Rattle.run.specs.declared.state.Phase.TheVariants.{Open, Over}
 use Rattle.run.specs.declared.state.Sizes.{Sizes}
 use Rattle.run.specs.declared.state.State.{State}
 use Rattle.run.proofs.Booleans.{and_left, and_right}
-use Rattle.run.specs.contracts.state.Kind.{the_type as the-kind}
 
 pub both : (a b : Bool) → (a && b) ≡ true → (a ≡ true) × (b ≡ true)
 both a b e = (and_left a b e, and_right a b e)
@@ -89,9 +86,9 @@ module _ (st : State) where
   not-positive kind.Trial e = sym (and_false (ltb st.counts.iterations st.sizes.limit) e)
   not-positive kind.Correction e = sym (and_false (ltb st.counts.iterations st.sizes.limit) e)
 
-  pub past_start : (k : Kind) → OneOf (1 ∷ (2 ∷ [])) (tag_of the-kind k) → is_positive st.search.mu ≡ true
+  pub past_start : (k : Kind) → k ≢ kind.Start → is_positive st.search.mu ≡ true
       → ltb st.counts.iterations st.sizes.limit ≡ phase_fits st (Open k)
-  past_start kind.Start o e = absurd (⊎_elim (λ i. omega (arith, i)) (λ i. omega (arith, i)) o)
+  past_start kind.Start o e = absurd (o refl)
   past_start kind.Trial o e = sym (and_true (ltb st.counts.iterations st.sizes.limit) e)
   past_start kind.Correction o e = sym (and_true (ltb st.counts.iterations st.sizes.limit) e)
 

@@ -30,7 +30,7 @@ use Rattle.run.specs.Curvature.{learned_of, update_curvature}
 use Rattle.run.specs.Damping.{grown, damped, shrunk}
 use Rattle.run.specs.Decide as run
 use Rattle.run.specs.Decide.{grow, turn_down, not_lower, linear_of, was_taken, decide, judge}
-use Rattle.run.specs.Endings.{AfterSlots, finish, refuse, or_refuse}
+use Rattle.run.specs.Endings.{AfterSlots, finish, refuse, or_refuse, question}
 use Rattle.run.specs.Filter.{filter_with, pair_numbers}
 use Rattle.run.specs.Iterate.{standing_of, left_at, search, iterate}
 use Rattle.run.specs.Judgement.{Judged, judge_of}
@@ -57,7 +57,7 @@ use Rattle.run.proofs.CheckLaws.{ContentBounds}
 use Rattle.run.proofs.PlaceLaws.{all_same}
 use Rattle.run.proofs.PhaseLengths.{StartRead, TrialRead, AllRead, Read}
 use Rattle.run.proofs.RefusalLaws as yields
-use Rattle.run.proofs.RefusalLaws.{Yields, gives, given, Long, TrialSized, ProposalSized, div_yields}
+use Rattle.run.proofs.RefusalLaws.{Yields, gives, given, Long, TrialSized, ProposalSized, ShiftSized, div_yields}
 use Rattle.run.proofs.RefusalLaws.{violation_yields, proposal_yields, judge_yields, linear_yields, shift_yields}
 use Rattle.run.proofs.RefusalLaws.{shifted_yields, curvature_yields}
 use Rattle.run.proofs.VectorLaws.{length-fill_to}
@@ -357,7 +357,10 @@ module _ (st : State) (w : Memory) (few : Few st) (b : st.counts.iterations < st
       or_refuse_kept st w (up_to b) t.standing_whole.standing
       (shift_from st.moving (landed_at st w).constraints w.landed) _
       (shifted_yields st.moving (landed_at st w).constraints w.landed)
-      (λ s. elim s [
+      (λ s. elim s as (λ x. ShiftSized x → Kept st.sizes st.counts.question (elim x as (λ y. AfterSlots) [
+            | to next ↦ question st (with_asked st w next) kind.Correction st.counts.corrections
+            | stay ↦ judge st w theta
+          ])) [
         | to next ↦ λ h.
             record {
               sizes_kept = refl;

@@ -1,14 +1,12 @@
 -- Checks one after the other: what those that passed say, and what a call gives then.
 use Prim.Native.Nat.{ℕ, ◌+◌, ◌*◌, ◌<◌, ◌≤◌}
 use mathlib.Core.Bool.{Bool, true, false, ◌&&◌}
-use mathlib.Core.Logic.{⊎_elim}
+use mathlib.Core.Logic.{⊎_elim, ◌≢◌}
 use mathlib.Core.Path.{◌≡◌, refl, sym, ◌∙◌}
 use mathlib.Core.List.{List, [], ◌∷◌}
 use native.Mathlib.Nat.{mul-le-mul, not-suc-le-zero, eq-or-lt_of_le}
 use native.Mathlib.Omega.{arith}
 use borrow.Author.Tests.{leb-true, eqb-true}
-use denote.Enum.Declared.{tag_of}
-use types.Run.{OneOf}
 use lib.Dec.{leb, eqb}
 use lib.Ieee.{Float}
 use lib.ListN.{length, get_or, set}
@@ -29,7 +27,6 @@ use Rattle.run.specs.declared.rows.RowCounts.{RowCounts}
 use Rattle.run.specs.declared.step.StepEnd.{StepEnd}
 use Rattle.run.specs.declared.step.StepEnd.TheVariants as s
 use Rattle.run.proofs.Booleans.{never}
-use Rattle.run.specs.contracts.step.StepEnd.{the_type}
 
 -- the scalars of an answer
 pub answer_small : {n m s : ℕ} → n ≤ 12 → m ≤ 12 → s ≤ 24 → (m + s) * (n + 1) ≤ 468
@@ -139,9 +136,9 @@ module _ {x : Res (Unit {0})} where
 
 -- an end that is not the first variant: no step, so both slices are as cleared
 pub not_found :
-    (end : StepEnd) (delta lambda x y : List Float) → OneOf (1 ∷ (2 ∷ [])) (tag_of the_type end) →
+    (end : StepEnd) (delta lambda x y : List Float) → ((r : ℕ) → end ≢ s.Found r) →
     step_replied end x y ≡ step_reply_of x y (end_of end delta lambda)
-not_found (s.Found r) delta lambda x y k = absurd (⊎_elim (λ e. omega (arith, e)) (λ e. omega (arith, e)) k)
+not_found (s.Found r) delta lambda x y k = absurd (k r refl)
 not_found s.NotPositive delta lambda x y k = refl
 not_found (s.Refused e) delta lambda x y k = refl
 

@@ -119,7 +119,7 @@ fn slopes_from<'a>(rows: &'a [f64], slopes: usize) -> &'a [f64]
     &rows[rows.len()..]
 }
 
-// ---- the view, made and taken apart: what holds a reference is proved by a walk by hand, so each function is thin
+// ---- the view, made and taken apart
 
 fn viewed<'a>(rows: &'a [f64], set: RowSet) -> RowView<'a>
     ensures { (result.rows ≡ rows.entry) × (result.set ≡ set) }

@@ -13,20 +13,8 @@ use Rattle.linear.specs.Results.{fold_r}
 use Rattle.run.specs.Basis.{Basis, no_rows, row_step, basis_of}
 use Rattle.run.specs.program.Basis.{basis_by, problem_by, without_gram}
 use Rattle.run.proofs.BasisLaws.{rank_next, rows_next, rows_refused}
+use Rattle.run.proofs.basis.basis.Invariants.{Passed}
 use Rattle.run.proofs.basis.basis.Goals as goal
-
--- after the rows 0 to i - 1: what was written is the basis of them, and each slice is as long as it was
-record Passed (k m : ℕ) (wide jc q₀ coefficients₀ dependent₀ : List Float) (order₀ : List ℕ)
-    (q gram coefficients dependent : List Float) (order : List ℕ) (r i : ℕ) : Type 0 where
-  few : i ≤ m
-  independent : r ≤ i
-  q-length : length q ≡ length q₀
-  gram-length : length gram ≡ 288
-  coefficients-length : length coefficients ≡ length coefficients₀
-  dependent-length : length dependent ≡ length dependent₀
-  order_length : length order ≡ length order₀
-  rows : fold_r (row_step (problem_by k m (λ _. zero_s) wide jc)) no_rows i
-      ≡ ok (basis_by r q gram coefficients dependent order)
 
 pub loop-i-init : goal.loop-i-init
 unfolding fold_r of_bits
@@ -38,7 +26,7 @@ loop-i-init c =
       gram-length = refl;
       coefficients-length = refl;
       dependent-length = refl;
-      order_length = refl;
+      order-length = refl;
       rows = ap ok (sym c.requires.clear);
     }
 
@@ -55,7 +43,7 @@ next_row-requires c =
         independent = inv.independent;
         row = omega (arith, c.loop-i-test.true, p.rows);
       },
-      inv.order_length ∙ l,
+      inv.order-length ∙ l,
     )
 
 pub shape_of-q-in-Refused : goal.shape_of-q-in-Refused
@@ -76,7 +64,7 @@ shape_of-dependent-in-Refused c =
 pub shape_of-order-in-Refused : goal.shape_of-order-in-Refused
 shape_of-order-in-Refused c =
     c.next_row.auto.order
-    ∙ c.loop-i.invariant.order_length
+    ∙ c.loop-i.invariant.order-length
 
 pub returns-in-Refused : goal.returns-in-Refused
 returns-in-Refused c =
@@ -93,7 +81,7 @@ returns-in-Refused c =
     let coefficients = n.new.coefficients in
     let dependent = n.new.dependent in
     let order = n.new.order in
-    rows_refused P b l.i q gram coefficients dependent order n.result l.inv.rows n.ensures
+    rows_refused P b l.i q gram coefficients dependent order n.result l.invariant.rows n.ensures
     c.loop-i-test.true c.in-Refused.is
 
 pub loop-i-preserved : goal.loop-i-preserved
@@ -112,17 +100,17 @@ loop-i-preserved c =
     let dependent = n.new.dependent in
     let order = n.new.order in
     let known = c.in-Value.is in
-    let more = rank_next P b l.i q gram coefficients dependent order n.result l.inv.rows n.ensures known in
+    let more = rank_next P b l.i q gram coefficients dependent order n.result l.invariant.rows n.ensures known in
     record {
       few = search rules;
-      independent = omega (arith, more, l.inv.independent);
-      q-length = n.auto.q ∙ l.inv.q-length;
-      gram-length = n.auto.gram ∙ l.inv.gram-length;
-      coefficients-length = n.auto.coefficients ∙ l.inv.coefficients-length;
-      dependent-length = n.auto.dependent ∙ l.inv.dependent-length;
-      order_length = n.auto.order ∙ l.inv.order_length;
+      independent = omega (arith, more, l.invariant.independent);
+      q-length = n.auto.q ∙ l.invariant.q-length;
+      gram-length = n.auto.gram ∙ l.invariant.gram-length;
+      coefficients-length = n.auto.coefficients ∙ l.invariant.coefficients-length;
+      dependent-length = n.auto.dependent ∙ l.invariant.dependent-length;
+      order-length = n.auto.order ∙ l.invariant.order-length;
       rows =
-          rows_next P b l.i q gram coefficients dependent order n.result l.inv.rows n.ensures known;
+          rows_next P b l.i q gram coefficients dependent order n.result l.invariant.rows n.ensures known;
     }
 
 pub shape_of-q : goal.shape_of-q
@@ -135,7 +123,7 @@ pub shape_of-dependent : goal.shape_of-dependent
 shape_of-dependent c = c.loop-i.invariant.dependent-length
 
 pub shape_of-order : goal.shape_of-order
-shape_of-order c = c.loop-i.invariant.order_length
+shape_of-order c = c.loop-i.invariant.order-length
 
 pub returns : goal.returns
 unfolding basis_of

@@ -15,11 +15,8 @@ use Rattle.run.specs.program.Basis.{basis_by}
 use Rattle.run.specs.Basis.{coefficient_at}
 use Rattle.run.proofs.BasisLaws.{packed_row, packed_column}
 use Rattle.run.proofs.RowLaws.{few}
+use Rattle.run.proofs.basis.coefficient_rows.Invariants.{packed_at}
 use Rattle.run.proofs.basis.coefficient_rows.Goals as goal
-
--- the p-th coefficient
-abbrev packed_at : ℕ → List Float → List Float → ℕ → Scalar
-packed_at r coefficients dependent p = coefficient_at (basis_by r [] [] coefficients dependent []) (p / r) (p % r)
 
 pub overflow_mul-n : goal.overflow_mul-n
 overflow_mul-n c =

@@ -17,8 +17,13 @@ use Rattle.run.proofs.BasisLaws.{packed_row, packed_column}
 use Rattle.run.proofs.RowLaws.{few}
 use Rattle.run.proofs.basis.coefficient_rows.Given as goal
 
+-- the p-th coefficient
+abbrev pub packed_at : ℕ → List Float → List Float → ℕ → Scalar
+packed_at r coefficients dependent p = coefficient_at (basis_by r [] [] coefficients dependent []) (p / r) (p % r)
+
 abbrev pub invariant-loop-p : goal.invariant-loop-p
-invariant-loop-p l = (l.p ≤ l.n) × (length l.rows ≡ length l.initial.rows) × (l.rows ≡ list_to (packed_at l.r l.coefficients l.dependent) l.p ++ drop (2 * l.p) l.initial.rows)
+invariant-loop-p l = (l.p ≤ l.n) × (length l.rows ≡ length l.initial.rows)
+    × (l.rows ≡ list_to (packed_at l.r l.coefficients l.dependent) l.p ++ drop (2 * l.p) l.initial.rows)
 
 abbrev pub decreases-loop-p : goal.decreases-loop-p
 decreases-loop-p l = l.n - l.p

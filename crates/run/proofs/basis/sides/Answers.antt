@@ -14,15 +14,12 @@ use Rattle.linear.proofs.Lists.{list_to-none, list_to-more, list_to-all}
 use Rattle.run.specs.program.Basis.{basis_by}
 use Rattle.run.specs.Basis.{order_at}
 use Rattle.run.specs.Rows.{Rows, rows_in, value_at}
+use Rattle.run.proofs.basis.sides.Invariants.{side_at}
 use Rattle.run.proofs.basis.sides.Goals as goal
-
--- the t-th side
-abbrev sideAt : ℕ → List ℕ → Rows → ℕ → Scalar
-sideAt r order e t = neg_of (choose_of (value_at e (order_at (basis_by r [] [] [] [] order) t)))
 
 side : (r : ℕ) (order : List ℕ) (e : Rows) (t : ℕ) {o : ℕ} {c d v : Scalar}
     → o ≡ order_at (basis_by r [] [] [] [] order) t → c ≡ value_at e o → d ≡ choose_of c → v ≡ neg_of d
-    → v ≡ sideAt r order e t
+    → v ≡ side_at r order e t
 side r order e t eo ec ed ev = rw (ev, ed, ec, eo)
 
 pub loop-t-init : goal.loop-t-init
@@ -48,7 +45,7 @@ loop-t-preserved c =
       search rules,
       search rules,
       e
-          ∙ list_to-more (sideAt a.r a.order.now (rows_in a.xs.now a.e))
+          ∙ list_to-more (side_at a.r a.order.now (rows_in a.xs.now a.e))
           c.loop-t.t a.rhs.now
           (omega
           (arith, c.requires.1.1, c.loop-t-test.true)),
@@ -58,4 +55,4 @@ pub returns : goal.returns
 returns c =
     let a = c.args in
     let e = rw (le_antisymm c.loop-t.invariant.0 c.loop-t-test.false) at c.loop-t.invariant.2 in
-    e ∙ list_to-all (sideAt a.r a.order.now (rows_in a.xs.now a.e)) a.m a.rhs.now c.requires.1.1
+    e ∙ list_to-all (side_at a.r a.order.now (rows_in a.xs.now a.e)) a.m a.rhs.now c.requires.1.1

@@ -7,12 +7,12 @@ use Rattle.run.proofs.checks.check_open.Goals as goal
 
 pub returns-then-not-valid : goal.returns-then-not-valid
 unfolding open_of
-returns-then-not-valid c = rw (sym c.valid.ensures ∙ not-true _ c.if-not-valid.true)
+returns-then-not-valid c = rw (sym c.valid.ensures ∙ c.if-not-valid.true)
 
 pub returns-in_default : goal.returns-in_default
 unfolding open_of
 returns-in_default c = rw (
-  sym c.valid.ensures ∙ not-false _ c.if-not-valid.false,
+  sym c.valid.ensures ∙ c.if-not-valid.false,
   c.in_default.is,
 )
 
@@ -20,6 +20,6 @@ pub returns : goal.returns
 unfolding open_of
 returns c = rw (
   sym c.valid.ensures
-      ∙ not-false _ c.if-not-valid.false,
+      ∙ c.if-not-valid.false,
   c.in-Open.is,
 )

@@ -36,24 +36,20 @@ returns-then-area-area_length c =
     )
 
 pub overflow_add-count : goal.overflow_add-count
-overflow_add-count c = omega (arith, c.if-m-gt-CONSTRAINTS.false, ((let the-sized : SizeBounds c.args.st.sizes = 
-    open_sizes c.args.st
-    (sym c.check_open-first.ensures ∙ c.in-Accept.is) in the-sized)).s)
+overflow_add-count c = omega (arith, c.if-m-gt-CONSTRAINTS.false, (open_sizes c.args.st (sym c.check_open-first.ensures ∙ c.in-Accept.is)).s)
 
 pub overflow_add-count-2 : goal.overflow_add-count-2
-overflow_add-count-2 c = omega (arith, ((let the-sized : SizeBounds c.args.st.sizes = 
-    open_sizes c.args.st
-    (sym c.check_open-first.ensures ∙ c.in-Accept.is) in the-sized)).n)
+overflow_add-count-2 c = omega (arith, (open_sizes c.args.st (sym c.check_open-first.ensures ∙ c.in-Accept.is)).n)
 
 pub overflow_mul-count : goal.overflow_mul-count
-overflow_mul-count c = omega (arith, (let the-scalars : let a = c.args in (a.m + a.st.sizes.s) * (a.st.sizes.n + 1) ≤ 468 = let b = (let the-sized : SizeBounds c.args.st.sizes = 
-    open_sizes c.args.st
-    (sym c.check_open-first.ensures ∙ c.in-Accept.is) in the-sized) in few_scalars b.n c.if-m-gt-CONSTRAINTS.false b.s in the-scalars))
+overflow_mul-count c =
+    let b = open_sizes c.args.st (sym c.check_open-first.ensures ∙ c.in-Accept.is) in
+    omega (arith, few_scalars b.n c.if-m-gt-CONSTRAINTS.false b.s)
 
 pub overflow_mul-count-2 : goal.overflow_mul-count-2
-overflow_mul-count-2 c = omega (arith, (let the-scalars : let a = c.args in (a.m + a.st.sizes.s) * (a.st.sizes.n + 1) ≤ 468 = let b = (let the-sized : SizeBounds c.args.st.sizes = 
-    open_sizes c.args.st
-    (sym c.check_open-first.ensures ∙ c.in-Accept.is) in the-sized) in few_scalars b.n c.if-m-gt-CONSTRAINTS.false b.s in the-scalars))
+overflow_mul-count-2 c =
+    let b = open_sizes c.args.st (sym c.check_open-first.ensures ∙ c.in-Accept.is) in
+    omega (arith, few_scalars b.n c.if-m-gt-CONSTRAINTS.false b.s)
 
 pub returns-then-rows-count : goal.returns-then-rows-count
 unfolding check_rows_of
@@ -62,7 +58,7 @@ returns-then-rows-count c =
       ← c.check_open-first.ensures,
       c.in-Accept.is,
       le-leb _ _ c.if-m-gt-CONSTRAINTS.false,
-      (let the-area-fits : eqb c.args.area (area_length c.args.st.sizes) ≡ true = compared_same c.area_length.ensures c.if-area-area_length.false in the-area-fits),
+      compared_same c.area_length.ensures c.if-area-area_length.false,
       ne_eqb _ _ c.if-rows-count.true,
     )
 
@@ -73,9 +69,9 @@ returns-then-not-all_in_domain c =
       ← c.check_open-first.ensures,
       c.in-Accept.is,
       le-leb _ _ c.if-m-gt-CONSTRAINTS.false,
-      (let the-area-fits : eqb c.args.area (area_length c.args.st.sizes) ≡ true = compared_same c.area_length.ensures c.if-area-area_length.false in the-area-fits),
+      compared_same c.area_length.ensures c.if-area-area_length.false,
       eq-eqb _ _ c.if-rows-count.false,
-      sym c.all_in_domain.ensures ∙ not-true _ c.if-not-all_in_domain.true,
+      sym c.all_in_domain.ensures ∙ c.if-not-all_in_domain.true,
     )
 
 pub returns : goal.returns
@@ -85,7 +81,7 @@ returns c =
       ← c.check_open-first.ensures,
       c.in-Accept.is,
       le-leb _ _ c.if-m-gt-CONSTRAINTS.false,
-      (let the-area-fits : eqb c.args.area (area_length c.args.st.sizes) ≡ true = compared_same c.area_length.ensures c.if-area-area_length.false in the-area-fits),
+      compared_same c.area_length.ensures c.if-area-area_length.false,
       eq-eqb _ _ c.if-rows-count.false,
-      sym c.all_in_domain.ensures ∙ not-false _ c.if-not-all_in_domain.false,
+      sym c.all_in_domain.ensures ∙ c.if-not-all_in_domain.false,
     )

@@ -6,16 +6,16 @@ use borrow.Author.Tests.{not-true, not-false}
 use Rattle.run.proofs.checks.is_positive.Goals as goal
 
 pub returns-then-not-is_finite : goal.returns-then-not-is_finite
-returns-then-not-is_finite c = rw (sym c.is_finite.ensures ∙ not-true _ c.if-not-is_finite.true)
+returns-then-not-is_finite c = rw (sym c.is_finite.ensures ∙ c.if-not-is_finite.true)
 
 pub returns-then-not-definitely_greater : goal.returns-then-not-definitely_greater
 unfolding of_bits
 returns-then-not-definitely_greater c =
     rw (
       sym c.is_finite.ensures
-          ∙ not-false _ c.if-not-is_finite.false,
+          ∙ c.if-not-is_finite.false,
       sym c.definitely_greater.ensures
-          ∙ not-true _ c.if-not-definitely_greater.true,
+          ∙ c.if-not-definitely_greater.true,
     )
 
 pub returns : goal.returns
@@ -23,7 +23,7 @@ unfolding of_bits
 returns c =
     rw (
       sym c.is_finite.ensures
-          ∙ not-false _ c.if-not-is_finite.false,
+          ∙ c.if-not-is_finite.false,
       sym c.definitely_greater.ensures
-          ∙ not-false _ c.if-not-definitely_greater.false,
+          ∙ c.if-not-definitely_greater.false,
     )

@@ -8,11 +8,11 @@ use borrow.Author.Rules.{rules}
 use Rattle.run.proofs.curvature.bends.Goals as goal
 
 module _ (v : Scalar) {s : Bool} (es : s ≡ is_sharp v) where
-  first : not s ≡ true → not s ≡ (not (is_sharp v) || definitely_not_equal v zero_s)
+  first : s ≡ false → not s ≡ (not (is_sharp v) || definitely_not_equal v zero_s)
   first e = rw (← es, e)
 
   second :
-      {d : Bool} → not s ≡ false → d ≡ definitely_not_equal v zero_s → d ≡ (not (is_sharp v) || definitely_not_equal v zero_s)
+      {d : Bool} → s ≡ true → d ≡ definitely_not_equal v zero_s → d ≡ (not (is_sharp v) || definitely_not_equal v zero_s)
   second e ed = rw (← es, e) ed
 
 pub returns-then-not-is_sharp : goal.returns-then-not-is_sharp

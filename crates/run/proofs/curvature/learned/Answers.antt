@@ -14,10 +14,8 @@ use Rattle.run.specs.Vectors.{any_to}
 use Rattle.run.specs.Curvature.{learned_of}
 use Rattle.run.proofs.RowLaws.{few}
 use Rattle.run.proofs.VectorLaws.{any_turn, any_broke}
+use Rattle.run.proofs.curvature.learned.Invariants.{bent}
 use Rattle.run.proofs.curvature.learned.Goals as goal
-
-abbrev bent : List Float → ℕ → Bool
-bent b p = not (is_sharp (at b p)) || definitely_not_equal (at b p) zero_s
 
 told :
     (b : List Float) (p : ℕ) {x : Scalar} {r : Bool} → x ≡ at b p →

@@ -16,6 +16,9 @@ use Rattle.run.proofs.RowLaws.{few}
 use Rattle.run.proofs.VectorLaws.{any_turn, any_broke}
 use Rattle.run.proofs.curvature.learned.Given as goal
 
+abbrev pub bent : List Float → ℕ → Bool
+bent b p = not (is_sharp (at b p)) || definitely_not_equal (at b p) zero_s
+
 abbrev pub invariant-loop-p : goal.invariant-loop-p
 invariant-loop-p l = (l.p ≤ l.q) × (any_to (bent l.b) l.p ≡ false)
 

@@ -12,14 +12,12 @@ use Rattle.linear.specs.Flat.{at}
 use Rattle.run.specs.Vectors.{vector, fill_to}
 use Rattle.run.proofs.VectorLaws.{fill_none, fill_first}
 use borrow.Author.Rules.{rules}
+use Rattle.run.proofs.curvature.less_chosen.Invariants.{difference}
 use Rattle.run.proofs.curvature.less_chosen.Goals as goal
-
-abbrev by : List Float → List Float → ℕ → Scalar
-by y bs i = choose_of (sub_of (at y i) (at bs i))
 
 value :
     (y bs : List Float) (i : ℕ) {a b d v : Scalar} → a ≡ at y i → b ≡ at bs i → d ≡ sub_of a b → v ≡ choose_of d →
-    v ≡ by y bs i
+    v ≡ difference y bs i
 value y bs i ea eb ed ev = rw (ev, ed, ea, eb)
 
 pub loop-i-init : goal.loop-i-init
@@ -33,7 +31,7 @@ loop-i-preserved c =
     value a.y.now a.bs.now l.i c.at-x.ensures
     c.at.ensures c.sub.ensures.value
     c.choose.ensures in
-    let filled = c.put.ensures ∙ fill_first vector (by a.y.now a.bs.now) l.i l.invariant.2
+    let filled = c.put.ensures ∙ fill_first vector (difference a.y.now a.bs.now) l.i l.invariant.2
     v in
     (search rules, search rules, filled)
 

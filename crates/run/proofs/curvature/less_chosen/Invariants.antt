@@ -14,8 +14,12 @@ use Rattle.run.proofs.VectorLaws.{fill_none, fill_first}
 use borrow.Author.Rules.{rules}
 use Rattle.run.proofs.curvature.less_chosen.Given as goal
 
+abbrev pub difference : List Float → List Float → ℕ → Scalar
+difference y bs i = choose_of (sub_of (at y i) (at bs i))
+
 abbrev pub invariant-loop-i : goal.invariant-loop-i
-invariant-loop-i l = (l.i ≤ l.n) × (length l.v ≡ length l.initial.v) × (l.v ≡ fill_to vector 0 (by l.y l.bs) l.i)
+invariant-loop-i l = (l.i ≤ l.n) × (length l.v ≡ length l.initial.v)
+    × (l.v ≡ fill_to vector 0 (difference l.y l.bs) l.i)
 
 abbrev pub decreases-loop-i : goal.decreases-loop-i
 decreases-loop-i l = l.n - l.i

@@ -14,10 +14,8 @@ use Rattle.linear.proofs.Cells.{product_small}
 use Rattle.linear.proofs.Sums.{along_start}
 use Rattle.run.specs.Vectors.{fill_to}
 use Rattle.run.proofs.VectorLaws.{fill_none, fill_first}
+use Rattle.run.proofs.curvature.products.Invariants.{product}
 use Rattle.run.proofs.curvature.products.Goals as goal
-
-abbrev by : ℕ → List Float → List Float → ℕ → Scalar
-by n rows v i = dot_to (along rows (i * n) 1) (at v) n
 
 pub loop-i-init : goal.loop-i-init
 loop-i-init c = (search rules, search rules, sym (fill_none _ _))
@@ -35,7 +33,7 @@ pub loop-i-preserved : goal.loop-i-preserved
 loop-i-preserved c = let a = c.args in (
   search rules,
   search rules,
-  c.put.ensures ∙ fill_first a.out.now (by a.n a.rows.now
+  c.put.ensures ∙ fill_first a.out.now (product a.n a.rows.now
       a.v.now) c.loop-i.i c.loop-i.invariant.2 (rw along_start at c.row_dot.ensures),
 )
 

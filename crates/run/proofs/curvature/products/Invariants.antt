@@ -16,8 +16,12 @@ use Rattle.run.specs.Vectors.{fill_to}
 use Rattle.run.proofs.VectorLaws.{fill_none, fill_first}
 use Rattle.run.proofs.curvature.products.Given as goal
 
+abbrev pub product : ℕ → List Float → List Float → ℕ → Scalar
+product n rows v i = dot_to (along rows (i * n) 1) (at v) n
+
 abbrev pub invariant-loop-i : goal.invariant-loop-i
-invariant-loop-i l = (l.i ≤ l.k) × (length l.out ≡ length l.initial.out) × (l.out ≡ fill_to l.initial.out 0 (by l.n l.rows l.v) l.i)
+invariant-loop-i l = (l.i ≤ l.k) × (length l.out ≡ length l.initial.out)
+    × (l.out ≡ fill_to l.initial.out 0 (product l.n l.rows l.v) l.i)
 
 abbrev pub decreases-loop-i : goal.decreases-loop-i
 decreases-loop-i l = l.k - l.i

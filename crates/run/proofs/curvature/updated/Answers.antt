@@ -19,7 +19,7 @@ returns-then-not-definitely_not_equal c = λ xs f.
     leaves a.c.n (constraints_of a.c xs) a.b.now a.y.now a.s.now refl
     c.products.ensures
     c.dot_of.ensures c.dot_of-2.ensures
-    c.sub-d.ensures.value c.definitely_not_equal.ensures (not-true _ c.if-not-definitely_not_equal.true)
+    c.sub-d.ensures.value c.definitely_not_equal.ensures (c.if-not-definitely_not_equal.true)
 
 pub slice_bounds-along_factored-end : goal.slice_bounds-along_factored-end
 slice_bounds-along_factored-end c =
@@ -43,8 +43,7 @@ returns-in_default c = λ xs f.
     c.dot_of.ensures
     c.dot_of-2.ensures
     c.sub-d.ensures.value
-    c.definitely_not_equal.ensures (not-false _
-    c.if-not-definitely_not_equal.false) (handed_on _ _ _ c.in_default.is
+    c.definitely_not_equal.ensures (c.if-not-definitely_not_equal.false) (handed_on _ _ _ c.in_default.is
     (c.along_factored-end.ensures xs f))
 
 pub slice_bounds-y_along-end-2 : goal.slice_bounds-y_along-end-2
@@ -74,8 +73,7 @@ returns c = λ xs f.
     c.dot_of.ensures
     c.dot_of-2.ensures
     c.sub-d.ensures.value
-    c.definitely_not_equal.ensures (not-false _
-    c.if-not-definitely_not_equal.false) (went_on _
+    c.definitely_not_equal.ensures (c.if-not-definitely_not_equal.false) (went_on _
     c.in-Finished.is
     (c.along_factored-end.ensures xs f) front
     c.corrected_by.ensures)

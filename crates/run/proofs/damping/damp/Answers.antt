@@ -1,25 +1,35 @@
 -- `damp` meets its contract: the damping is the definition's, from what each call gives, and the test decides.
+use mathlib.Core.Bool.{Bool}
 use mathlib.Core.Path.{◌≡◌, ap, ◌∙◌}
 use lib.Ieee.{of_bits}
-use Rattle.interval.specs.Scalar.{is_finite, mul_of, sharpen}
-use Rattle.interval.specs.Scaling.{quadrupled}
-use borrow.Author.Rules.{rules}
+use Rattle.interval.specs.declared.Scalar.{Scalar}
+use Rattle.interval.specs.Scalar.{degenerate, is_finite, mul_of, sharpen}
+use Rattle.interval.specs.Scaling.{four64, quadrupled}
 use Rattle.run.proofs.damping.damp.Goals as goal
 
 -- the damping, and the test
-module _ (k : goal.After-is_finite) where
-  quadruple : k.sharpen-mu.result ≡ quadrupled k.args.x.mu
-  unfolding of_bits
-  quadruple =
-      k.sharpen-mu.ensures ∙ ap sharpen (k.mul.ensures.value
-      ∙ ap (mul_of k.args.x.mu)
-      k.degenerate.ensures)
+module _ (x : Scalar) {four product mu : Scalar} (e : four ≡ degenerate four64) (m : product ≡ mul_of x four)
+    (s : mu ≡ sharpen product) where
+  quadruple : mu ≡ quadrupled x
+  quadruple = s ∙ ap sharpen (m ∙ ap (mul_of x) e)
 
-  tested : k.is_finite.result ≡ is_finite (quadrupled k.args.x.mu)
-  tested = k.is_finite.ensures ∙ ap is_finite quadruple
+  tested : {b : Bool} → b ≡ is_finite mu → b ≡ is_finite (quadrupled x)
+  tested h = h ∙ ap is_finite quadruple
 
 pub returns-then-is_finite : goal.returns-then-is_finite
-returns-then-is_finite c = rw (← tested c.before, c.if-is_finite.true, quadruple c.before)
+unfolding of_bits
+returns-then-is_finite c =
+    rw (
+      ← tested c.args.x.mu c.degenerate.ensures c.mul.ensures.value c.sharpen-mu.ensures c.is_finite.ensures,
+      c.if-is_finite.true,
+      quadruple c.args.x.mu c.degenerate.ensures c.mul.ensures.value c.sharpen-mu.ensures,
+    )
 
 pub returns : goal.returns
-returns c = rw (← tested c.before, c.if-is_finite.false, quadruple c.before)
+unfolding of_bits
+returns c =
+    rw (
+      ← tested c.args.x.mu c.degenerate.ensures c.mul.ensures.value c.sharpen-mu.ensures c.is_finite.ensures,
+      c.if-is_finite.false,
+      quadruple c.args.x.mu c.degenerate.ensures c.mul.ensures.value c.sharpen-mu.ensures,
+    )

@@ -19,13 +19,13 @@ unfolding beats_to
 returns-then-not-beats_pair c =
     let l = c.loop-i in
     sym (all_broke _ l.i _ c.loop-i-test.true l.invariant.1 (sym c.beats_pair.ensures
-    ∙ not-true _ c.if-not-beats_pair.true))
+    ∙ c.if-not-beats_pair.true))
 
 pub loop-i-preserved : goal.loop-i-preserved
 unfolding beats_to
 loop-i-preserved c =
     let l = c.loop-i in
-    (search rules, all_turn _ l.i l.invariant.1 (sym c.beats_pair.ensures ∙ not-false _ c.if-not-beats_pair.false))
+    (search rules, all_turn _ l.i l.invariant.1 (sym c.beats_pair.ensures ∙ c.if-not-beats_pair.false))
 
 pub returns : goal.returns
 returns c = sym (rw (le_antisymm c.loop-i.invariant.0 c.loop-i-test.false) at c.loop-i.invariant.1)

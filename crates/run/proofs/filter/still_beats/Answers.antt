@@ -5,13 +5,13 @@ use Rattle.run.specs.program.Filter.{beats_pair}
 use Rattle.run.proofs.filter.still_beats.Goals as goal
 
 pub returns-then-not-so_far : goal.returns-then-not-so_far
-returns-then-not-so_far c = rw (not-true c.args.so_far c.if-not-so_far.true)
+returns-then-not-so_far c = rw (c.if-not-so_far.true)
 
 pub returns-then-definitely_less : goal.returns-then-definitely_less
 unfolding beats_pair
 returns-then-definitely_less c =
     rw (
-      not-false c.args.so_far c.if-not-so_far.false,
+      c.if-not-so_far.false,
       ← c.definitely_less.ensures,
       c.if-definitely_less.true,
     )
@@ -20,7 +20,7 @@ pub returns : goal.returns
 unfolding beats_pair
 returns c =
     rw (
-      not-false c.args.so_far c.if-not-so_far.false,
+      c.if-not-so_far.false,
       ← c.definitely_less.ensures,
       c.if-definitely_less.false,
     ) c.definitely_less-2.ensures

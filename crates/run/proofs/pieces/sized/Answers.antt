@@ -1,9 +1,9 @@
 -- `sized` meets its contract: the sizes and m decide the definition's first three checks, the count its last.
-use mathlib.Core.Bool.{Bool, not, false}
+use mathlib.Core.Bool.{Bool, true}
 use mathlib.Core.Path.{◌≡◌, sym, ◌∙◌}
 use native.Mathlib.Omega.{arith}
 use borrow.Author.Rules.{rules}
-use borrow.Author.Tests.{not-true, not-false, le-leb, lt-leb, eq-eqb, ne_eqb}
+use borrow.Author.Tests.{le-leb, lt-leb, eq-eqb, ne_eqb}
 use Rattle.run.specs.Checks.{sizes_fit}
 use Rattle.run.specs.Pieces.{sized_of}
 use Rattle.run.specs.declared.rows.RowCounts.{RowCounts}
@@ -16,13 +16,13 @@ abbrev sizes : RowCounts → Sizes
 sizes c = record { n = c.n; s = c.s; limit = 0 }
 
 -- sizes that passed
-passed : (c : RowCounts) {b : Bool} → b ≡ sizes_fit (sizes c) → not b ≡ false → SizeBounds (sizes c)
-passed c e h = size_bounds (sizes c) (sym e ∙ not-false _ h)
+passed : (c : RowCounts) {b : Bool} → b ≡ sizes_fit (sizes c) → b ≡ true → SizeBounds (sizes c)
+passed c e h = size_bounds (sizes c) (sym e ∙ h)
 
 pub returns-then-not-sizes_fit : goal.returns-then-not-sizes_fit
 returns-then-not-sizes_fit c =
     let a = c.args in
-    too_many a.c a.count (sym c.sizes_fit.ensures ∙ not-true _ c.if-not-sizes_fit.true)
+    too_many a.c a.count (sym c.sizes_fit.ensures ∙ c.if-not-sizes_fit.true)
 
 pub returns-then-c-gt-CONSTRAINTS : goal.returns-then-c-gt-CONSTRAINTS
 unfolding sized_of

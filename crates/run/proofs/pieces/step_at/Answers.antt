@@ -45,8 +45,8 @@ returns c =
     let p = wants_passed _ _ _ (finished c.in-Finished.is) c.wants-2.ensures in
     let q = wants_passed _ _ _ p.0 c.wants.ensures in
     let k = c.step-end in
-    let long : length k.new.delta ≡ 24 = omega (arith, k.kept, q.1) in
-    let wide : length k.new.lambda ≡ 24 = omega (arith, k.kept, p.1) in
+    let long : length k.new.delta ≡ 24 = omega (arith, k.auto.delta, q.1) in
+    let wide : length k.new.lambda ≡ 24 = omega (arith, k.auto.lambda, p.1) in
     rw (
       ← c.fits-rows.ensures,
       ← c.wants.ensures,
@@ -58,4 +58,4 @@ returns c =
       long,
       wide,
     )
-    (not_found k.result _ _ _ _ c.in_default.keys2)
+    (not_found k.result _ _ _ _ c.in_default.not-Found)

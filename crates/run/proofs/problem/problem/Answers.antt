@@ -11,36 +11,36 @@ use Rattle.run.proofs.problem.problem.Goals as goal
 
 pub sum-e-requires : goal.sum-e-requires
 sum-e-requires c =
-    c.requires.0.0
+    c.requires.few_rows.0
 
 pub slopes-requires : goal.slopes-requires
 slopes-requires c =
-    let p = c.requires.0 in
+    let p = c.requires.few_rows in
     let near = constraints_small p.0 in
     (subst Small (sym c.constraints.ensures) near, p.1.few, p.1.long)
 
 pub squeeze-requires : goal.squeeze-requires
 squeeze-requires c =
-    let p = c.requires.0.1 in
+    let p = c.requires.few_rows.1 in
     ((let the-sum_near : Small c.sum-e.result = 
-    let f = c.requires.0.0 in
+    let f = c.requires.few_rows.0 in
     subst Small (sym c.sum-e.ensures) (sum_small f) in the-sum_near), p.few, p.long)
 
 pub fill_undamped-requires : goal.fill_undamped-requires
 fill_undamped-requires c =
     let p = c.requires in
-    (p.0.1.few, p.0.1.long, p.1.2)
+    (p.few_rows.1.few, p.few_rows.1.long, p.wide_value.2)
 
 pub scalings-requires : goal.scalings-requires
 scalings-requires c =
-    c.requires.0.1.few
+    c.requires.few_rows.1.few
 
 pub gradient-requires : goal.gradient-requires
 gradient-requires c = (
   (let the-sum_near : Small c.sum-e.result = 
-    let f = c.requires.0.0 in
+    let f = c.requires.few_rows.0 in
     subst Small (sym c.sum-e.ensures) (sum_small f) in the-sum_near),
-  c.requires.0.1,
+  c.requires.few_rows.1,
 )
 
 pub returns : goal.returns
@@ -48,18 +48,18 @@ unfolding of_bits
 returns c =
     let a = c.args in
     let p = c.requires in
-    let few = p.0.1.few in
+    let few = p.few_rows.1.few in
     let l = c.slopes.ensures in
     let k = kept_by a.k a.index.now in
     let u = undamped_filled a.c.n k _ _ _ a.c.m a.b.now _ few
     c.fill_undamped.ensures
     c.scalings.ensures c.gradient.ensures in
     let jr = squeezed_chosen k _ few ((let the-sum_near : Small c.sum-e.result = 
-    let f = c.requires.0.0 in
+    let f = c.requires.few_rows.0 in
     subst Small (sym c.sum-e.ensures) (sum_small f) in the-sum_near)).few_rows refl
     c.squeeze.ensures in
     λ mu.
     problem_is _ k _ _ mu c.sum-e.ensures
     c.constraints.ensures
-    p.1.0 p.1.1 l.0 l.1 jr
+    p.wide_value.0 p.wide_value.1 l.0 l.1 jr
     (undamped_damped _ k _ _ _ _ _ _ u mu few) (undamped_gradient _ k _ _ _ _ _ _ u)

@@ -43,7 +43,7 @@ pub loop-i-preserved : goal.loop-i-preserved
 loop-i-preserved c =
     let a = c.args in
     let l = c.loop-i in
-    let f : ℕ → ℕ → Scalar = λ j p. chosen_if a.is-chosen (slope_at (rows_in a.xs.now a.e) j
+    let f : ℕ → ℕ → Scalar = λ j p. chosen_if a.is_chosen (slope_at (rows_in a.xs.now a.e) j
     (variable (kept_by a.k a.index.now) p)) in (
       search rules,
       search rules,

@@ -24,7 +24,7 @@ pub loop-p-preserved : goal.loop-p-preserved
 loop-p-preserved c =
     let a = c.args in
     let l = c.loop-p in
-    let f : ℕ → Scalar = λ j. chosen_if a.is-chosen (slope_at (rows_in a.xs.now a.e) a.i
+    let f : ℕ → Scalar = λ j. chosen_if a.is_chosen (slope_at (rows_in a.xs.now a.e) a.i
     (get_or a.index.now j 0)) in (
       search rules,
       search rules,

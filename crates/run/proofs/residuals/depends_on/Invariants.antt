@@ -14,7 +14,8 @@ use Rattle.run.proofs.VectorLaws.{any_turn, any_broke}
 use Rattle.run.proofs.residuals.depends_on.Given as goal
 
 abbrev pub invariant-loop-i : goal.invariant-loop-i
-invariant-loop-i l = (l.i ≤ l.count) × (any_to (λ l.i. definitely_not_equal (slope_at (rows_in l.xs l.e) l.i l.j) zero_s) l.i ≡ false)
+invariant-loop-i l = (l.i ≤ l.count)
+    × (any_to (λ i. definitely_not_equal (slope_at (rows_in l.xs l.e) i l.j) zero_s) l.i ≡ false)
 
 abbrev pub decreases-loop-i : goal.decreases-loop-i
 decreases-loop-i l = l.count - l.i
