@@ -23,19 +23,19 @@ module _ (k : goal.Else-area-area_length) where
   inside =
       let a = k.args in
       point_inside a.st.sizes a.st.phase a.area.now area-fits
-      (bounds a.st ((let the-run_fits : valid k.args.st ≡ true = sym k.valid.ensures ∙ not-false _ k.if-not-valid.false in the-run_fits))).sizes.n
+      (bounds a.st ((let the-run_fits : valid k.args.st ≡ true = sym k.valid.ensures ∙ k.if-not-valid.false in the-run_fits))).sizes.n
 
 pub returns-then-not-valid : goal.returns-then-not-valid
 returns-then-not-valid c =
     point_none c.args.st c.args.area.now
-    (rw (sym c.valid.ensures ∙ not-true _ c.if-not-valid.true))
+    (rw (sym c.valid.ensures ∙ c.if-not-valid.true))
 
 pub returns-then-area-area_length : goal.returns-then-area-area_length
 returns-then-area-area_length c =
     let a = c.args in
     point_none a.st a.area.now
     (rw (
-      (let the-run_fits : valid c.args.st ≡ true = sym c.valid.ensures ∙ not-false _ c.if-not-valid.false in the-run_fits),
+      (let the-run_fits : valid c.args.st ≡ true = sym c.valid.ensures ∙ c.if-not-valid.false in the-run_fits),
       compared_other c.area_length.ensures
           c.if-area-area_length.true,
     ))
@@ -50,5 +50,5 @@ pub returns : goal.returns
 returns c =
     let a = c.args in
     rw c.point_place.ensures at c.part.ensures
-    ∙ point_at_lem a.st a.area.now a.st.phase ((let the-run_fits : valid c.args.st ≡ true = sym c.valid.ensures ∙ not-false _ c.if-not-valid.false in the-run_fits))
+    ∙ point_at_lem a.st a.area.now a.st.phase ((let the-run_fits : valid c.args.st ≡ true = sym c.valid.ensures ∙ c.if-not-valid.false in the-run_fits))
     (area-fits c.before.before.before) refl
