@@ -73,6 +73,9 @@ overflow_add-at c = omega (arith, inside c.requires.0 c.places-at.ensures)
 pub offset_bounds-area-at : goal.offset_bounds-area-at
 offset_bounds-area-at c = omega (arith, inside c.requires.0 c.places-at.ensures)
 
+pub slice_bounds-shifted_step-end : goal.slice_bounds-shifted_step-end
+slice_bounds-shifted_step-end c = inside c.requires.0 c.places-at.ensures
+
 pub write_landed-requires : goal.write_landed-requires
 write_landed-requires c =
     let p = c.requires.0 in
