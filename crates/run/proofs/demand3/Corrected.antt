@@ -15,12 +15,14 @@ use Rattle.run.specs.Area.{Memory, with_asked, with_landed}
 use Rattle.run.specs.Limits.{CORRECTIONS}
 use Rattle.run.specs.Corrected.{to, stay, shift_of, shift_from, shifted_step}
 use Rattle.run.specs.Area.{rows_at, standing_at, landed_at}
+use Rattle.run.specs.Endings.{AfterSlots, question}
 use Rattle.run.specs.State.{landing}
 use Rattle.run.specs.Decide.{judge}
 use Rattle.run.specs.Corrected.{correct, land_trial, keep, land_correction}
 use Rattle.run.specs.Demand.{In}
+use Rattle.run.specs.declared.state.Kind.TheVariants as kind
 use Rattle.run.specs.declared.state.State.{State}
-use Rattle.run.proofs.RefusalLaws.{violation_yields, shift_yields, shifted_yields}
+use Rattle.run.proofs.RefusalLaws.{ShiftSized, violation_yields, shift_yields, shifted_yields}
 use Rattle.run.proofs.demand3.ExactLaws.{ExactLaws}
 use Rattle.run.proofs.demand3.Invariant.{CallContext, After}
 use Rattle.run.proofs.demand3.Endings.{either_after, or_refuse_after, correction_after}
@@ -42,7 +44,11 @@ unfolding correct
 correct_after law S st w L few theta theta-is =
     or_refuse_after S st.sizes st w (shift_from st.moving (landed_at st w).constraints w.landed) _
     (shifted_yields st.moving (landed_at st w).constraints w.landed)
-    (λ s. elim s [
+    (λ s. elim s as (λ x. shift_from st.moving (landed_at st w).constraints w.landed ≡ ok x → ShiftSized x
+        → After S st.sizes (elim x as (λ y. AfterSlots) [
+          | to next ↦ question st (with_asked st w next) kind.Correction st.counts.corrections
+          | stay ↦ judge st w theta
+        ])) [
       | to next ↦ λ e u.
           correction_after S st (with_asked st w next) S.history.mu L.consistent L.count_bounds
           L.below_limit few L.landed-rows L.landed_point L.landed_asked

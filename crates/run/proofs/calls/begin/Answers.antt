@@ -27,13 +27,13 @@ pub returns-then-number-ne0 : goal.returns-then-number-ne0
 returns-then-number-ne0 c =
     let a = c.args in
     ap (λ (r : Returned). after_call r a.area.now) c.not_begun.ensures
-    ∙ begin_refused (record { n = a.n; s = a.s; limit = a.limit }) a.start.now a.max-step
+    ∙ begin_refused (record { n = a.n; s = a.s; limit = a.limit }) a.start.now a.max_step
     a.area.now c.refusal-number.ensures c.if-number-ne0.true
 
 pub write_begun-requires : goal.write_begun-requires
 write_begun-requires c =
     let a = c.args in
-    begin_lengths (record { n = a.n; s = a.s; limit = a.limit }) a.start.now a.max-step
+    begin_lengths (record { n = a.n; s = a.s; limit = a.limit }) a.start.now a.max_step
     a.area.now c.refusal-number.ensures c.if-number-ne0.false
 
 pub returns : goal.returns
@@ -42,6 +42,6 @@ returns c =
     let z : Sizes = record { n = a.n; s = a.s; limit = a.limit } in
     begun a.start.now c.state_with-state.ensures c.first_damping-mu.ensures
     c.write_begun.ensures.is
-    ∙ begin_passed z a.start.now a.max-step a.area.now
+    ∙ begin_passed z a.start.now a.max_step a.area.now
     c.refusal-number.ensures
     c.if-number-ne0.false

@@ -8,7 +8,7 @@ use Rattle.run.specs.program.Area.{ViolationsKnown}
 use Rattle.run.specs.program.Corrected.{shifted_of}
 use Rattle.run.specs.declared.corrected.Shifted.{Shifted}
 use Rattle.run.proofs.AnsweredLaws.{correct_asks, correct_stays, correct_refused}
-use Rattle.run.proofs.DecideLaws.{marks_count, shifted_read}
+use Rattle.run.proofs.DecideLaws.{shifted_read}
 use Rattle.run.proofs.MemoryLaws.{limits_of, landed_rows_of}
 use Rattle.run.proofs.WriterLaws.{asked_holds}
 use borrow.Author.Rules.{rules}
@@ -18,9 +18,6 @@ pub landed_rows-requires : goal.landed_rows-requires
 landed_rows-requires c =
     let p = c.requires in
     (p.0, rw c.landed_counts-2.ensures (landed_rows_of p.1.bounded))
-
-pub slice_bounds-shift_from-end : goal.slice_bounds-shift_from-end
-slice_bounds-shift_from-end c = sym ((let the-marks : length c.args.st.moving ≡ 12 = marks_count c.args.st.moving c.well_formed.0.1.1.1.1.1.1.1.1.1.1.0.1.0.1 in the-marks))
 
 pub landed_point-requires : goal.landed_point-requires
 landed_point-requires c =
@@ -33,7 +30,7 @@ shift_from-shifted-requires c =
       record {
         few = rw c.landed_counts.ensures
             (landed_rows_of c.requires.1.bounded);
-        marks = (let the-marks : length c.args.st.moving ≡ 12 = marks_count c.args.st.moving c.well_formed.0.1.1.1.1.1.1.1.1.1.1.0.1.0.1 in the-marks);
+        marks = c.well_formed.0.1.1.1.1.1.1.1.1.1.1.0.1.0.1;
       },
       refl,
     )
@@ -45,9 +42,8 @@ judge_landed-requires c =
 pub returns-in-Stay : goal.returns-in-Stay
 returns-in-Stay c w h =
     let a = c.args in
-    correct_stays a.st w a.theta refl ((let the-leads : (w : Memory) → let a = c.args in ViolationsKnown a.st a.theta (result_of a.landed) w a.area.now → shifted_of c.shift_from-shifted.result c.shift_from-shifted.new.next ≡ shift_from a.st.moving (landed_at a.st w).constraints w.landed = 
-    λ w h. shifted_read c.args.st h c.landed_counts.ensures c.landed_counts-2.ensures
-    c.landed_rows.ensures c.landed_point.ensures c.shift_from-shifted.ensures in the-leads w h))
+    correct_stays a.st w a.theta refl (shifted_read a.st h c.landed_counts.ensures c.landed_counts-2.ensures c.landed_rows.ensures
+    c.landed_point.ensures c.shift_from-shifted.ensures)
     (ap (λ (r : Shifted). shifted_of r c.shift_from-shifted.new.next) c.in-Stay.is)
     (c.judge_landed.ensures w h)
 
@@ -59,9 +55,8 @@ refuse-requires c =
 pub returns-in-Refused : goal.returns-in-Refused
 returns-in-Refused c w h =
     let a = c.args in
-    correct_refused a.st w a.theta refl ((let the-leads : (w : Memory) → let a = c.args in ViolationsKnown a.st a.theta (result_of a.landed) w a.area.now → shifted_of c.shift_from-shifted.result c.shift_from-shifted.new.next ≡ shift_from a.st.moving (landed_at a.st w).constraints w.landed = 
-    λ w h. shifted_read c.args.st h c.landed_counts.ensures c.landed_counts-2.ensures
-    c.landed_rows.ensures c.landed_point.ensures c.shift_from-shifted.ensures in the-leads w h))
+    correct_refused a.st w a.theta refl (shifted_read a.st h c.landed_counts.ensures c.landed_counts-2.ensures c.landed_rows.ensures
+    c.landed_point.ensures c.shift_from-shifted.ensures)
     (ap (λ (r : Shifted). shifted_of r c.shift_from-shifted.new.next) c.in-Refused.is)
     (c.refuse.ensures w h.from-standing.within)
 
@@ -79,9 +74,8 @@ returns c w h =
     let a = c.args in
     let x = c.shift_from-shifted in
     let next = x.new.next in
-    correct_asks a.st w a.theta refl ((let the-leads : (w : Memory) → let a = c.args in ViolationsKnown a.st a.theta (result_of a.landed) w a.area.now → shifted_of c.shift_from-shifted.result c.shift_from-shifted.new.next ≡ shift_from a.st.moving (landed_at a.st w).constraints w.landed = 
-    λ w h. shifted_read c.args.st h c.landed_counts.ensures c.landed_counts-2.ensures
-    c.landed_rows.ensures c.landed_point.ensures c.shift_from-shifted.ensures in the-leads w h))
+    correct_asks a.st w a.theta refl (shifted_read a.st h c.landed_counts.ensures c.landed_counts-2.ensures c.landed_rows.ensures
+    c.landed_point.ensures c.shift_from-shifted.ensures)
     (ap (λ (r : Shifted). shifted_of r next) c.in-To.is)
     (c.ask.ensures _ _
     (asked_holds a.st (limits_of c.requires.1.bounded) w h.from-standing.within next x.auto.next

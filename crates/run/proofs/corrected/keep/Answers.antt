@@ -1,15 +1,21 @@
 -- `keep` meets its contract: the shift, with fewer than four corrections corrected again, or its refusal.
 use mathlib.Core.Path.{◌≡◌, refl, sym, ap, ◌∙◌}
-use Prim.Native.Nat.{◌+◌, ◌-◌, ◌*◌, ◌≤◌}
+use mathlib.Core.List.{List}
+use Prim.Native.Nat.{ℕ, ◌+◌, ◌-◌, ◌*◌, ◌≤◌}
 use native.Mathlib.Omega.{arith}
 use lib.Dec.{lit<}
-use lib.ListN.{length}
+use lib.Ieee.{Float}
+use lib.ListN.{length, take, drop}
 use Rattle.linear.specs.LinearResult.{done_of}
 use Rattle.linear.specs.declared.results.Done.{Done}
-use Rattle.run.specs.Area.{indices, with_landed}
+use Rattle.run.specs.Area.{indices, places_of, with_landed}
 use Rattle.run.specs.Corrected.{shifted_step}
+use Rattle.run.specs.declared.area.SlotNumbers.{SlotNumbers}
+use Rattle.run.specs.declared.state.State.{State}
+use Rattle.run.specs.program.Area.{numbers_of}
+use Rattle.run.specs.program.Corrected.{RowsToLand}
 use Rattle.run.proofs.AnsweredLaws.{keep_known, keep_refused, kept_known}
-use Rattle.run.proofs.DecideLaws.{marks_count, shift_read, landed_again, landed_known, with_step, stepped}
+use Rattle.run.proofs.DecideLaws.{shift_read, landed_again, landed_known, with_step, stepped}
 use Rattle.run.proofs.DecideLaws.{step_length, step_whole}
 use Rattle.run.proofs.MemoryLaws.{limits_of, judges_as, landed_rows_of, rows_fit}
 use Rattle.run.proofs.PlaceLaws.{each_same, place_room}
@@ -17,20 +23,30 @@ use borrow.Rule.Slice.PartMut.{put_mid, same_len_mid}
 use borrow.Author.Rules.{rules}
 use Rattle.run.proofs.corrected.keep.Goals as goal
 
+-- the step's slot is within the area
+inside : {st : State} {area : List Float} {m rows : ℕ} {slots : SlotNumbers} → RowsToLand st area m rows
+    → numbers_of slots ≡ places_of st.sizes → slots.step + 2 * st.sizes.n ≤ length area
+inside {st} p e =
+    place_room st.sizes indices.step (lit< tt) (each_same e).step (omega (arith, p.underway.bounded.few_variables))
+    p.whole_area
+
+-- the area keeps its length where the step is written
+stays-long : (first n : ℕ) (area step : List Float)
+    → length step ≡ length (take (first + n - first) (drop first area))
+    → length (put_mid first (first + n - first) area step) ≡ length area
+stays-long first n area step e = same_len_mid first (first + n - first) area step e
+
 pub landed_rows-requires : goal.landed_rows-requires
 landed_rows-requires c =
     let p = c.requires.0 in
     (p.whole_area, rw c.landed_counts-c.ensures (landed_rows_of p.underway.bounded))
-
-pub slice_bounds-shift-end : goal.slice_bounds-shift-end
-slice_bounds-shift-end c = sym ((let the-marks : length c.args.st.moving ≡ 12 = marks_count c.args.st.moving c.well_formed.0.1.1.1.1.1.1.1.1.1.1.0.1.0.1 in the-marks))
 
 pub shift-shift-requires : goal.shift-shift-requires
 shift-shift-requires c =
     let b = c.requires.0.underway.bounded in (
       record {
         few = rw c.landed_counts-c.ensures (landed_rows_of b);
-        marks = (let the-marks : length c.args.st.moving ≡ 12 = marks_count c.args.st.moving c.well_formed.0.1.1.1.1.1.1.1.1.1.1.0.1.0.1 in the-marks);
+        marks = c.well_formed.0.1.1.1.1.1.1.1.1.1.1.0.1.0.1;
       },
       refl,
     )
@@ -49,32 +65,22 @@ returns-in-Refused c w h t l v =
     (c.refuse.ensures w h.within)
 
 pub overflow_mul-n : goal.overflow_mul-n
-overflow_mul-n c = omega (arith, (let the-inside : let a = c.args in c.places-at.result.step + 2 * a.st.sizes.n ≤ length a.area.now = 
-    let p = c.requires.0 in
-    place_room c.args.st.sizes indices.step (lit< tt) (each_same c.places-at.ensures).step
-    (omega (arith, p.underway.bounded.few_variables)) p.whole_area in the-inside))
+overflow_mul-n c = omega (arith, inside c.requires.0 c.places-at.ensures)
 
 pub overflow_add-at : goal.overflow_add-at
-overflow_add-at c = omega (arith, (let the-inside : let a = c.args in c.places-at.result.step + 2 * a.st.sizes.n ≤ length a.area.now = 
-    let p = c.requires.0 in
-    place_room c.args.st.sizes indices.step (lit< tt) (each_same c.places-at.ensures).step
-    (omega (arith, p.underway.bounded.few_variables)) p.whole_area in the-inside))
+overflow_add-at c = omega (arith, inside c.requires.0 c.places-at.ensures)
 
 pub offset_bounds-area-at : goal.offset_bounds-area-at
-offset_bounds-area-at c = omega (arith, (let the-inside : let a = c.args in c.places-at.result.step + 2 * a.st.sizes.n ≤ length a.area.now = 
-    let p = c.requires.0 in
-    place_room c.args.st.sizes indices.step (lit< tt) (each_same c.places-at.ensures).step
-    (omega (arith, p.underway.bounded.few_variables)) p.whole_area in the-inside))
+offset_bounds-area-at c = omega (arith, inside c.requires.0 c.places-at.ensures)
+
+pub slice_bounds-shifted_step-end : goal.slice_bounds-shifted_step-end
+slice_bounds-shifted_step-end c = inside c.requires.0 c.places-at.ensures
 
 pub write_landed-requires : goal.write_landed-requires
 write_landed-requires c =
     let p = c.requires.0 in
     let b = p.underway.bounded in (
-      (let the-stays-long : let at = c.places-at.result.step in let a = c.args in length (put_mid at (at + 2 * a.st.sizes.n - at) a.area.now c.shifted_step.new.step) ≡ length a.area.now = 
-    let at = c.places-at.result.step in
-    let a = c.args in
-    same_len_mid at (at + 2 * a.st.sizes.n - at) a.area.now c.shifted_step.new.step
-    c.shifted_step.auto.step in the-stays-long) ∙ p.whole_area,
+      stays-long c.places-at.result.step (2 * c.args.st.sizes.n) _ _ c.shifted_step.auto.step ∙ p.whole_area,
       limits_of b,
       rows_fit b p.few_constraints p.whole_rows,
     )
@@ -90,21 +96,15 @@ pub correct_or_judge-requires : goal.correct_or_judge-requires
 correct_or_judge-requires c =
     let p = c.requires in
     rw c.with_landed-t.ensures (
-      c.write_landed.auto.area ∙ (let the-stays-long : let at = c.places-at.result.step in let a = c.args in length (put_mid at (at + 2 * a.st.sizes.n - at) a.area.now c.shifted_step.new.step) ≡ length a.area.now = 
-    let at = c.places-at.result.step in
-    let a = c.args in
-    same_len_mid at (at + 2 * a.st.sizes.n - at) a.area.now c.shifted_step.new.step
-    c.shifted_step.auto.step in the-stays-long) ∙ p.0.whole_area,
+      c.write_landed.auto.area
+          ∙ stays-long c.places-at.result.step (2 * c.args.st.sizes.n) _ _ c.shifted_step.auto.step ∙ p.0.whole_area,
       landed_again _ _ p.0.few_constraints (omega (arith, p.1)) p.0.underway,
     )
 
 pub shape_of-area : goal.shape_of-area
 shape_of-area c =
-    c.correct_or_judge.auto.area ∙ c.write_landed.auto.area ∙ (let the-stays-long : let at = c.places-at.result.step in let a = c.args in length (put_mid at (at + 2 * a.st.sizes.n - at) a.area.now c.shifted_step.new.step) ≡ length a.area.now = 
-    let at = c.places-at.result.step in
-    let a = c.args in
-    same_len_mid at (at + 2 * a.st.sizes.n - at) a.area.now c.shifted_step.new.step
-    c.shifted_step.auto.step in the-stays-long)
+    c.correct_or_judge.auto.area ∙ c.write_landed.auto.area
+    ∙ stays-long c.places-at.result.step (2 * c.args.st.sizes.n) _ _ c.shifted_step.auto.step
 
 pub returns : goal.returns
 returns c w h t l v =

@@ -12,9 +12,7 @@ use Rattle.linear.specs.Flat.{at}
 use Rattle.run.specs.Vectors.{vector, fill_to}
 use Rattle.run.proofs.VectorLaws.{fill_none, fill_first}
 use Rattle.run.proofs.corrected.sharpened.Goals as goal
-
-abbrev by : List Float → ℕ → Scalar
-by from i = sharpen (at from i)
+use Rattle.run.proofs.corrected.sharpened.Invariants.{sharp}
 
 pub loop-i-init : goal.loop-i-init
 loop-i-init c = (
@@ -30,7 +28,7 @@ loop-i-preserved c = (
   search rules,
   c.put.ensures
       ∙ fill_first vector
-      (by c.args.from.now) c.loop-i.i
+      (sharp c.args.from.now) c.loop-i.i
       c.loop-i.invariant.2
       (c.sharpen.ensures
       ∙ ap (λ (v : Scalar). sharpen v) c.at-v.ensures),

@@ -13,8 +13,11 @@ use Rattle.run.specs.Vectors.{vector, fill_to}
 use Rattle.run.proofs.VectorLaws.{fill_none, fill_first}
 use Rattle.run.proofs.corrected.sharpened.Given as goal
 
+abbrev pub sharp : List Float → ℕ → Scalar
+sharp from i = sharpen (at from i)
+
 abbrev pub invariant-loop-i : goal.invariant-loop-i
-invariant-loop-i l = (l.i ≤ l.n) × (length l.to ≡ 24) × (l.to ≡ fill_to vector 0 (by l.from) l.i)
+invariant-loop-i l = (l.i ≤ l.n) × (length l.to ≡ 24) × (l.to ≡ fill_to vector 0 (sharp l.from) l.i)
 
 abbrev pub decreases-loop-i : goal.decreases-loop-i
 decreases-loop-i l = l.n - l.i

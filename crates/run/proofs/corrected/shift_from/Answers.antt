@@ -20,7 +20,7 @@ returns-then-not-all_finite c =
     let a = c.args in
     not_finite a.moving.now (constraints_of a.c a.xs.now) a.landed.now _
     c.in-Finished.is c.shift.ensures
-    c.all_finite.ensures (not-true _ c.if-not-all_finite.true)
+    c.all_finite.ensures c.if-not-all_finite.true
 
 pub returns-then-same : goal.returns-then-same
 returns-then-same c =
@@ -29,7 +29,7 @@ returns-then-same c =
     c.in-Finished.is
     c.shift.ensures c.all_finite.ensures
     c.moved.ensures c.same.ensures
-    (not-false _ c.if-not-all_finite.false) c.if-same.true
+    c.if-not-all_finite.false c.if-same.true
 
 pub returns : goal.returns
 returns c =
@@ -38,4 +38,4 @@ returns c =
     c.in-Finished.is
     c.shift.ensures c.all_finite.ensures
     c.moved.ensures c.same.ensures
-    (not-false _ c.if-not-all_finite.false) c.if-same.false
+    c.if-not-all_finite.false c.if-same.false

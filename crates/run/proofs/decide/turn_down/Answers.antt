@@ -11,6 +11,11 @@ use Rattle.run.proofs.MemoryLaws.{limits_of, works_as}
 use borrow.Author.Rules.{rules}
 use Rattle.run.proofs.decide.turn_down.Goals as goal
 
+-- a quarter of the length tried
+divided : (tried : Scalar) {four : Scalar} {got r : ScalarResult} → four ≡ degenerate four64
+    → result_of got ≡ div_of tried four → got ≡ r → div_of tried (degenerate four64) ≡ result_of r
+divided tried ef ed er = ap (λ (x : Scalar). div_of tried x) (sym ef) ∙ sym ed ∙ ap result_of er
+
 pub grow-requires : goal.grow-requires
 grow-requires c = c.requires
 
@@ -18,10 +23,9 @@ pub returns-in-Value : goal.returns-in-Value
 unfolding of_bits
 returns-in-Value c w h =
     let a = c.args in
-    turn_next a.st w a.why refl ((let the-divided : {r : ScalarResult} → c.div.result ≡ r → div_of c.args.st.trial.tried (degenerate four64) ≡ result_of r = 
-    λ e. ap (λ (x : Scalar). div_of c.args.st.trial.tried x)
-    (sym c.degenerate.ensures) ∙ sym c.div.ensures.value ∙ ap result_of e in the-divided c.in-Value.is)) c.sharpen.ensures refl
-    refl (c.grow.ensures w h)
+    turn_next a.st w a.why refl
+    (divided a.st.trial.tried c.degenerate.ensures c.div.ensures.value c.in-Value.is) c.sharpen.ensures refl refl
+    (c.grow.ensures w h)
 
 pub refuse-requires : goal.refuse-requires
 refuse-requires c =
@@ -34,7 +38,5 @@ returns-in-Refused c w h =
     let a = c.args in
     let t = c.with_search.ensures in
     turn_refused a.st w a.why c.reject-x.ensures
-    ((let the-divided : {r : ScalarResult} → c.div.result ≡ r → div_of c.args.st.trial.tried (degenerate four64) ≡ result_of r = 
-    λ e. ap (λ (x : Scalar). div_of c.args.st.trial.tried x)
-    (sym c.degenerate.ensures) ∙ sym c.div.ensures.value ∙ ap result_of e in the-divided c.in-Refused.is)) t
+    (divided a.st.trial.tried c.degenerate.ensures c.div.ensures.value c.in-Refused.is) t
     (c.refuse.ensures w (works_as t h.within))

@@ -12,8 +12,8 @@ seek_standing-found-requires c =
 pub left_at-requires : goal.left_at-requires
 left_at-requires c =
     let p = c.requires in
-    let k = c.seek_standing-found.auto.1.1.1 in
-    (p.0, p.1, record { delta_length = k.0; lambda_length = k.1.0 })
+    let k = c.seek_standing-found.auto in
+    (p.0, p.1, record { delta_length = k.delta; lambda_length = k.lambda })
 
 pub returns : goal.returns
 returns c w h =

@@ -10,19 +10,21 @@ use borrow.Author.Rules.{rules}
 use Rattle.run.proofs.iterate.seek_standing.Goals as goal
 
 pub search_origin-requires : goal.search_origin-requires
-search_origin-requires c = (c.requires.0, (let the-few : FewRows (standing_counts c.args.st) = standing_rows_of c.requires.1 in the-few))
+search_origin-requires c = (c.requires.0, standing_rows_of c.requires.1)
 
 pub seek-requires : goal.seek-requires
 seek-requires c =
     let b = c.requires.1 in
     rw c.search_origin.ensures
-    (((let the-few : FewRows (standing_counts c.args.st) = standing_rows_of c.requires.1 in the-few), c.requires.0, b.few_variables, c.requires.2), (b.few_turned, b.damping))
+    (record {
+      few_rows = (standing_rows_of b, c.requires.0, b.few_variables, c.requires.2);
+      turned_down_bound = (b.few_turned, b.damping);
+    })
 
 pub returns-in-Value : goal.returns-in-Value
 returns-in-Value c w h =
     let k = c.seek in
-    let l = k.new.1.1.1 in
-    sought_by c.args.st l.0 l.1.0 k.result h
+    sought_by c.args.st k.new.delta k.new.lambda k.result h
     (ap result_of c.in-Value.is)
     c.requires.1.few_variables c.search_origin.ensures
     k.ensures

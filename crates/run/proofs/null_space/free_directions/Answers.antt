@@ -13,14 +13,6 @@ use Rattle.run.specs.NullSpace.{directions_to, directions_of}
 use Rattle.run.proofs.NullSpaceLaws.{directions_none}
 use Rattle.run.proofs.null_space.free_directions.Goals as goal
 
--- with so many directions taken: those that are still to come are the rest of all
-record Rest (k r : ℕ) (q z₀ : List Float) (most : ℕ) (z left : List Float) (count : ℕ) : Type 0 where
-  some : count ≤ most
-  few : most ≤ 12
-  z-length : length z ≡ length z₀
-  left-length : length left ≡ 288
-  directions : span_of (directions_to k (most - count) (directions_in count z left)) ≡ span_of (directions_of k r q)
-
 pub remainders-requires : goal.remainders-requires
 unfolding of_bits
 remainders-requires c = let p = c.requires in (p.0, (p.1.0, refl))

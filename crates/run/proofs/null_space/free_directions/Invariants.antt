@@ -13,6 +13,14 @@ use Rattle.run.specs.NullSpace.{directions_to, directions_of}
 use Rattle.run.proofs.NullSpaceLaws.{directions_none}
 use Rattle.run.proofs.null_space.free_directions.Given as goal
 
+-- with so many directions taken: those that are still to come are the rest of all
+pub record Rest (k r : ℕ) (q z₀ : List Float) (most : ℕ) (z left : List Float) (count : ℕ) : Type 0 where
+  pub some : count ≤ most
+  pub few : most ≤ 12
+  pub z-length : length z ≡ length z₀
+  pub left-length : length left ≡ 288
+  pub directions : span_of (directions_to k (most - count) (directions_in count z left)) ≡ span_of (directions_of k r q)
+
 abbrev pub invariant-loop-count : goal.invariant-loop-count
 invariant-loop-count l = Rest l.k l.r l.q l.initial.z l.most l.z l.left l.count
 

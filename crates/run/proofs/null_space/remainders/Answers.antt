@@ -69,7 +69,7 @@ loop-h-preserved c =
       search rules,
       search rules,
       two_remainders c.args.k c.args.r c.args.q.now l.h c.requires.0
-          l.inv.2 c.put.ensures c.put-in-loop-h.ensures
+          l.invariant.2 c.put.ensures c.put-in-loop-h.ensures
           c.two_left_after.ensures,
     )
 

@@ -1,45 +1,31 @@
 -- `expects` meets its contract: the test decides whether the violation is asked.
+use mathlib.Core.Bool.{Bool}
+use mathlib.Core.List.{List}
 use mathlib.Core.Path.{◌≡◌, ap, ◌∙◌}
-use lib.Ieee.{of_bits}
+use lib.Ieee.{Float, of_bits}
 use Rattle.interval.specs.declared.Scalar.{Scalar}
 use Rattle.interval.specs.Scalar.{zero_s, sub_of, definitely_greater}
 use Rattle.run.specs.Proposal.{curvature_along, expects_of}
-use Rattle.run.specs.Rows.{rows_in, sum_of}
+use Rattle.run.specs.Rows.{rows_in, sum_of, sum_set}
 use Rattle.run.specs.Residuals.{squared_of}
+use Rattle.run.specs.declared.proposal.StandingPoint.{StandingPoint}
+use Rattle.run.specs.declared.rows.RowCounts.{RowCounts}
 use Rattle.run.specs.declared.rows.RowSet.{RowSet}
 use Rattle.run.proofs.RowLaws.{sum_small}
 use borrow.Author.Rules.{rules}
 use Rattle.run.proofs.proposal.expects.Goals as goal
 
 -- the drop of the sum, less what the curvature bends
-module _ (k : goal.After-definitely_greater) where
-  abbrev sum_left : Scalar
-  sum_left =
-      let a = k.args in
-      let n = a.point.counts.n in
-      squared_of (sum_of a.point.counts a.rows.now) a.delta.now n
-
-  abbrev bent : Scalar
-  bent =
-      let a = k.args in
-      curvature_along a.point.counts.n a.b.now a.delta.now
-
-  dropped : k.definitely_greater.result ≡ definitely_greater
-      (sub_of (sub_of k.args.point.f
-      sum_left) bent) zero_s
-  unfolding of_bits
-  dropped =
-      let a = k.args in
-      let left : k.squared-left.result ≡ sum_left =
-      k.squared-left.ensures
-      ∙ ap (λ (e : RowSet). squared_of (rows_in a.rows.now e) a.delta.now a.point.counts.n)
-      k.sum.ensures in
-      let fall = k.sub.ensures.value ∙ ap (λ (x : Scalar). sub_of a.point.f x) left in
-      k.definitely_greater.ensures
-      ∙ ap (λ (x : Scalar). definitely_greater x zero_s)
-      (k.sub-drop.ensures.value
-      ∙ ap (λ (x : Scalar). sub_of x k.curvature_along.result) fall
-      ∙ ap (λ (x : Scalar). sub_of (sub_of a.point.f sum_left) x) k.curvature_along.ensures)
+dropped : (p : StandingPoint) (rows b delta : List Float) {e : RowSet} {left fall bent drop : Scalar} {d : Bool}
+    → e ≡ sum_set p.counts → left ≡ squared_of (rows_in rows e) delta p.counts.n → fall ≡ sub_of p.f left
+    → bent ≡ curvature_along p.counts.n b delta → drop ≡ sub_of fall bent → d ≡ definitely_greater drop zero_s
+    → d ≡ definitely_greater (sub_of (sub_of p.f (squared_of (sum_of p.counts rows) delta p.counts.n))
+    (curvature_along p.counts.n b delta)) zero_s
+dropped p rows b delta {bent = v} ee el ef eb ed et =
+    let left = el ∙ ap (λ (r : RowSet). squared_of (rows_in rows r) delta p.counts.n) ee in
+    let fall = ef ∙ ap (λ (x : Scalar). sub_of p.f x) left in
+    et ∙ ap (λ (x : Scalar). definitely_greater x zero_s) (ed ∙ ap (λ (x : Scalar). sub_of x v) fall
+    ∙ ap (λ (x : Scalar). sub_of (sub_of p.f (squared_of (sum_of p.counts rows) delta p.counts.n)) x) eb)
 
 pub squared-left-requires : goal.squared-left-requires
 squared-left-requires c =
@@ -47,11 +33,14 @@ squared-left-requires c =
     rw c.sum.ensures (sum_small f)
 
 pub returns-then-definitely_greater : goal.returns-then-definitely_greater
-unfolding expects_of
-returns-then-definitely_greater c = rw (← dropped c.before, c.if-definitely_greater.true)
+unfolding expects_of of_bits
+returns-then-definitely_greater c =
+    rw (← dropped c.args.point c.args.rows.now c.args.b.now c.args.delta.now c.sum.ensures c.squared-left.ensures
+    c.sub.ensures.value c.curvature_along.ensures c.sub-drop.ensures.value c.definitely_greater.ensures, c.if-definitely_greater.true)
 
 pub returns : goal.returns
-unfolding expects_of
+unfolding expects_of of_bits
 returns c =
-    rw (← dropped c.before.before.before, c.if-definitely_greater.false, ← c.predicted.ensures)
-    c.falls.ensures
+    rw (← dropped c.args.point c.args.rows.now c.args.b.now c.args.delta.now c.sum.ensures c.squared-left.ensures
+    c.sub.ensures.value c.curvature_along.ensures c.sub-drop.ensures.value c.definitely_greater.ensures, c.if-definitely_greater.false,
+    ← c.predicted.ensures) c.falls.ensures

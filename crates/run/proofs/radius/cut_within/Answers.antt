@@ -25,7 +25,7 @@ returns-then-not-definitely_greater c =
     sym (cut_whole a.n a.radius a.delta.now c.in-Value.length
     (sym c.norm_of.ensures
     ∙ ap result_of c.in-Value.is) (sym c.definitely_greater.ensures
-    ∙ not-true _ c.if-not-definitely_greater.true))
+    ∙ c.if-not-definitely_greater.true))
 
 pub returns-in-Refused-div : goal.returns-in-Refused-div
 returns-in-Refused-div c =
@@ -35,7 +35,7 @@ returns-in-Refused-div c =
     (sym c.norm_of.ensures
     ∙ ap result_of c.in-Value.is)
     (sym c.definitely_greater.ensures
-    ∙ not-false _ c.if-not-definitely_greater.false)
+    ∙ c.if-not-definitely_greater.false)
     ∙ bind_refused _ (sym c.div.ensures.value
     ∙ ap scalar.result_of c.in-Refused-div.is))
 
@@ -49,6 +49,6 @@ returns-in-Value-div c =
     ∙ ap result_of
     c.in-Value.is)
     (sym c.definitely_greater.ensures
-    ∙ not-false _ c.if-not-definitely_greater.false)
+    ∙ c.if-not-definitely_greater.false)
     ∙ bind_ok _ (sym c.div.ensures.value
     ∙ ap scalar.result_of c.in-Value-div.is))

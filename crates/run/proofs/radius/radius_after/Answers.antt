@@ -13,7 +13,7 @@ unfolding of_bits
 returns-then-not-definitely_greater c =
     let a = c.args in
     reach_near a.length a.radius a.max c.mul-reach.ensures.value a.linear
-    c.definitely_greater.ensures (not-true _ c.if-not-definitely_greater.true)
+    c.definitely_greater.ensures c.if-not-definitely_greater.true
 
 pub returns-then-linear : goal.returns-then-linear
 unfolding of_bits
@@ -23,7 +23,7 @@ returns-then-linear c =
     c.upper.ensures ∙ ap (λ (b : Bool). pick (b || definitely_less twice a.max) (upper twice) a.max)
     (sym c.if-linear.true) ∙ reach_far a.length a.radius a.max
     c.mul-reach.ensures.value a.linear
-    c.definitely_greater.ensures (not-false _ c.if-not-definitely_greater.false)
+    c.definitely_greater.ensures c.if-not-definitely_greater.false
 
 pub returns-then-definitely_less : goal.returns-then-definitely_less
 unfolding of_bits
@@ -36,7 +36,7 @@ returns-then-definitely_less c =
     (sym c.if-linear.false) ∙ reach_far a.length a.radius a.max
     c.mul-reach.ensures.value a.linear
     c.definitely_greater.ensures
-    (not-false _ c.if-not-definitely_greater.false)
+    c.if-not-definitely_greater.false
 
 pub returns : goal.returns
 unfolding of_bits
@@ -48,4 +48,4 @@ returns c =
     (sym c.if-linear.false) ∙ reach_far a.length a.radius a.max
     c.mul-reach.ensures.value a.linear
     c.definitely_greater.ensures
-    (not-false _ c.if-not-definitely_greater.false)
+    c.if-not-definitely_greater.false

@@ -1,5 +1,13 @@
 -- `free_part` meets its contract: the part of the array has the length asked, and the weights decide.
-use mathlib.Core.Path.{refl, sym, ◌∙◌}
+use mathlib.Core.Path.{◌≡◌, refl, sym, ◌∙◌}
+use mathlib.Core.List.{[], ◌∷◌}
+use mathlib.Core.Logic.{inl, inr}
+use denote.Enum.Declared.{tag_of}
+use types.Run.{OneOf}
+use Rattle.run.specs.program.Reduced.{curved, spanned}
+use Rattle.run.specs.declared.reduced.WeightsEnd.{WeightsEnd}
+use Rattle.run.specs.declared.reduced.WeightsEnd.TheVariants as a
+use Rattle.run.specs.contracts.reduced.WeightsEnd.{the_type}
 use Prim.Native.Nat.{◌*◌, ◌≤◌}
 use native.Mathlib.Omega.{arith}
 use lib.Ieee.{of_bits}
@@ -8,6 +16,12 @@ use Rattle.run.proofs.ReducedLaws.{parted, unparted, parted_with}
 use Rattle.run.proofs.Prefixes.{front_room, front_kept}
 use borrow.Author.Rules.{rules}
 use Rattle.run.proofs.reduced.free_part.Goals as goal
+
+-- an end that is not the first is one of the others
+others : (end : WeightsEnd) → (end ≡ a.Found → ⊥) → OneOf (1 ∷ (2 ∷ [])) (tag_of the_type end)
+others a.Found n = absurd (n refl)
+others a.NotPositive n = inl refl
+others (a.Refused e) n = inr refl
 
 pub force-requires : goal.force-requires
 unfolding of_bits
@@ -23,7 +37,8 @@ weigh-end-requires c =
 
 pub returns-in_default : goal.returns-in_default
 returns-in_default c =
-    unparted c.weigh-end.result _ _ _ _ c.in_default.keys2
+    unparted c.weigh-end.result _ _ (curved c.args.k c.args.h.now c.args.g.now)
+    (spanned c.args.count c.args.z.now) (others c.weigh-end.result c.in_default.not-Found)
     ∙ parted _ _ _ _ _ _ c.force.ensures
     c.weigh-end.ensures
 

@@ -36,7 +36,7 @@ pub returns-in-Refused : goal.returns-in-Refused
 returns-in-Refused c =
     let a = c.args in
     unfactored a.t a.a.now a.w.now _ c.in-Refused.is
-    ((let the-ended : let a = c.args in let l = c.cholesky.new.1.1 in done_of c.cholesky.result (factor_of l.0 l.1.0) ≡ cholesky_of a.t a.a.now = 
+    ((let the-ended : let a = c.args in let l = c.cholesky.new in done_of c.cholesky.result (factor_of l.l l.left_out) ≡ cholesky_of a.t a.a.now = 
     cholesky_result c.cholesky.result _ _ _ _ (omega (arith, c.requires.0)) c.requires.1.0
     (length-take-le _ _ ((let the-room : 2 * (c.args.t * c.args.t) ≤ 288 = omega (arith, few c.requires.0 c.requires.0) in the-room))) (length-take-le _ _ c.requires.0) c.cholesky.ensures in the-ended))
 
@@ -56,13 +56,13 @@ slice_bounds-marks-end c =
 pub returns-then-any : goal.returns-then-any
 returns-then-any c =
     let a = c.args in
-    let f = c.cholesky.new.1.1 in
-    let g = c.cholesky.auto.1.1 in
-    let n = g.1.0 ∙ length-take-le _ _ c.requires.0 in
-    let m = front_kept _ f.1.0 _ c.requires.0 g.1.0 in
-    weights_none a.t a.a.now a.w.now (factor_of f.0 f.1.0)
+    let f = c.cholesky.new in
+    let g = c.cholesky.auto in
+    let n = g.left_out ∙ length-take-le _ _ c.requires.0 in
+    let m = front_kept _ f.left_out _ c.requires.0 g.left_out in
+    weights_none a.t a.a.now a.w.now (factor_of f.l f.left_out)
     c.in-Finished.is
-    ((let the-ended : let a = c.args in let l = c.cholesky.new.1.1 in done_of c.cholesky.result (factor_of l.0 l.1.0) ≡ cholesky_of a.t a.a.now = 
+    ((let the-ended : let a = c.args in let l = c.cholesky.new in done_of c.cholesky.result (factor_of l.l l.left_out) ≡ cholesky_of a.t a.a.now = 
     cholesky_result c.cholesky.result _ _ _ _ (omega (arith, c.requires.0)) c.requires.1.0
     (length-take-le _ _ ((let the-room : 2 * (c.args.t * c.args.t) ≤ 288 = omega (arith, few c.requires.0 c.requires.0) in the-room))) (length-take-le _ _ c.requires.0) c.cholesky.ensures in the-ended)) n m c.any.ensures c.if-any.true
 
@@ -89,29 +89,25 @@ solve_cholesky-requires c = tt
 pub returns-in-Refused-solve_cholesky : goal.returns-in-Refused-solve_cholesky
 returns-in-Refused-solve_cholesky c =
     let a = c.args in
-    let f =
-    c.cholesky.new.1.1 in
-    let g =
-    c.cholesky.auto.1.1 in
-    let n = g.1.0 ∙ length-take-le _ _ c.requires.0 in
-    let m = front_kept _ f.1.0 _ c.requires.0 g.1.0 in
-    weights_refused a.t a.a.now a.w.now (factor_of f.0 f.1.0)
+    let f = c.cholesky.new in
+    let g = c.cholesky.auto in
+    let n = g.left_out ∙ length-take-le _ _ c.requires.0 in
+    let m = front_kept _ f.left_out _ c.requires.0 g.left_out in
+    weights_refused a.t a.a.now a.w.now (factor_of f.l f.left_out)
     c.in-Finished.is
-    ((let the-ended : let a = c.args in let l = c.cholesky.new.1.1 in done_of c.cholesky.result (factor_of l.0 l.1.0) ≡ cholesky_of a.t a.a.now = 
+    ((let the-ended : let a = c.args in let l = c.cholesky.new in done_of c.cholesky.result (factor_of l.l l.left_out) ≡ cholesky_of a.t a.a.now = 
     cholesky_result c.cholesky.result _ _ _ _ (omega (arith, c.requires.0)) c.requires.1.0
     (length-take-le _ _ ((let the-room : 2 * (c.args.t * c.args.t) ≤ 288 = omega (arith, few c.requires.0 c.requires.0) in the-room))) (length-take-le _ _ c.requires.0) c.cholesky.ensures in the-ended)) n m
     c.any.ensures _
     c.if-any.false
-    ((let the-done : let a = c.args in let f = c.cholesky.new.1.1 in done_of c.solve_cholesky.result c.solve_cholesky.new.x ≡ solve_of a.t f.0 f.1.0 a.w.now = 
+    ((let the-done : let a = c.args in let f = c.cholesky.new in done_of c.solve_cholesky.result c.solve_cholesky.new.x ≡ solve_of a.t f.l f.left_out a.w.now = 
     let p = c.requires in
-    let f =
-    c.cholesky.new.1.1 in
-    let g =
-    c.cholesky.auto.1.1 in
-    solve_fronts c.solve_cholesky.result c.args.t f.0 f.1.0 c.args.w.now _
-    c.solve_cholesky.new.x (omega (arith, p.0)) (g.0 ∙ length-take-le _ _ ((let the-room : 2 * (c.args.t * c.args.t) ≤ 288 = omega (arith, few c.requires.0 c.requires.0) in the-room)))
-    (g.1.0 ∙ length-take-le _ _ p.0) p.1.1 (length-take-le _ _ ((let the-short : 2 * c.args.t ≤ 24 = omega (arith, c.requires.0) in the-short)))
-    (front_kept _ f.0 _ ((let the-room : 2 * (c.args.t * c.args.t) ≤ 288 = omega (arith, few c.requires.0 c.requires.0) in the-room)) g.0) (front_kept _ f.1.0 _ p.0 g.1.0) c.solve_cholesky.ensures in the-done)) c.in-Refused-solve_cholesky.is
+    let f = c.cholesky.new in
+    let g = c.cholesky.auto in
+    solve_fronts c.solve_cholesky.result c.args.t f.l f.left_out c.args.w.now _
+    c.solve_cholesky.new.x (omega (arith, p.0)) (g.l ∙ length-take-le _ _ ((let the-room : 2 * (c.args.t * c.args.t) ≤ 288 = omega (arith, few c.requires.0 c.requires.0) in the-room)))
+    (g.left_out ∙ length-take-le _ _ p.0) p.1.1 (length-take-le _ _ ((let the-short : 2 * c.args.t ≤ 24 = omega (arith, c.requires.0) in the-short)))
+    (front_kept _ f.l _ ((let the-room : 2 * (c.args.t * c.args.t) ≤ 288 = omega (arith, few c.requires.0 c.requires.0) in the-room)) g.l) (front_kept _ f.left_out _ p.0 g.left_out) c.solve_cholesky.ensures in the-done)) c.in-Refused-solve_cholesky.is
 
 pub slice_bounds-x-end-2 : goal.slice_bounds-x-end-2
 slice_bounds-x-end-2 c =
@@ -131,12 +127,10 @@ sharp-requires c = tt
 pub returns : goal.returns
 returns c =
     let a = c.args in
-    let f =
-    c.cholesky.new.1.1 in
-    let g =
-    c.cholesky.auto.1.1 in
-    let n = g.1.0 ∙ length-take-le _ _ c.requires.0 in
-    let m = front_kept _ f.1.0 _ c.requires.0 g.1.0 in
+    let f = c.cholesky.new in
+    let g = c.cholesky.auto in
+    let n = g.left_out ∙ length-take-le _ _ c.requires.0 in
+    let m = front_kept _ f.left_out _ c.requires.0 g.left_out in
     let x = c.solve_cholesky.new.x in
     let kx = c.solve_cholesky.auto.x in
     let v =
@@ -144,20 +138,18 @@ returns c =
     c.sharp.new.out (omega (arith, c.requires.0))
     (kx ∙ length-take-le _ _ ((let the-short : 2 * c.args.t ≤ 24 = omega (arith, c.requires.0) in the-short))) c.requires.1.1
     (rw (front_kept _ x _ ((let the-short : 2 * c.args.t ≤ 24 = omega (arith, c.requires.0) in the-short)) kx) at c.sharp.ensures) in
-    weights_solved a.t a.a.now a.w.now (factor_of f.0 f.1.0)
+    weights_solved a.t a.a.now a.w.now (factor_of f.l f.left_out)
     c.in-Finished.is
-    ((let the-ended : let a = c.args in let l = c.cholesky.new.1.1 in done_of c.cholesky.result (factor_of l.0 l.1.0) ≡ cholesky_of a.t a.a.now = 
+    ((let the-ended : let a = c.args in let l = c.cholesky.new in done_of c.cholesky.result (factor_of l.l l.left_out) ≡ cholesky_of a.t a.a.now = 
     cholesky_result c.cholesky.result _ _ _ _ (omega (arith, c.requires.0)) c.requires.1.0
     (length-take-le _ _ ((let the-room : 2 * (c.args.t * c.args.t) ≤ 288 = omega (arith, few c.requires.0 c.requires.0) in the-room))) (length-take-le _ _ c.requires.0) c.cholesky.ensures in the-ended)) n m
     c.any.ensures _
-    c.if-any.false ((let the-done : let a = c.args in let f = c.cholesky.new.1.1 in done_of c.solve_cholesky.result c.solve_cholesky.new.x ≡ solve_of a.t f.0 f.1.0 a.w.now = 
+    c.if-any.false ((let the-done : let a = c.args in let f = c.cholesky.new in done_of c.solve_cholesky.result c.solve_cholesky.new.x ≡ solve_of a.t f.l f.left_out a.w.now = 
     let p = c.requires in
-    let f =
-    c.cholesky.new.1.1 in
-    let g =
-    c.cholesky.auto.1.1 in
-    solve_fronts c.solve_cholesky.result c.args.t f.0 f.1.0 c.args.w.now _
-    c.solve_cholesky.new.x (omega (arith, p.0)) (g.0 ∙ length-take-le _ _ ((let the-room : 2 * (c.args.t * c.args.t) ≤ 288 = omega (arith, few c.requires.0 c.requires.0) in the-room)))
-    (g.1.0 ∙ length-take-le _ _ p.0) p.1.1 (length-take-le _ _ ((let the-short : 2 * c.args.t ≤ 24 = omega (arith, c.requires.0) in the-short)))
-    (front_kept _ f.0 _ ((let the-room : 2 * (c.args.t * c.args.t) ≤ 288 = omega (arith, few c.requires.0 c.requires.0) in the-room)) g.0) (front_kept _ f.1.0 _ p.0 g.1.0) c.solve_cholesky.ensures in the-done))
+    let f = c.cholesky.new in
+    let g = c.cholesky.auto in
+    solve_fronts c.solve_cholesky.result c.args.t f.l f.left_out c.args.w.now _
+    c.solve_cholesky.new.x (omega (arith, p.0)) (g.l ∙ length-take-le _ _ ((let the-room : 2 * (c.args.t * c.args.t) ≤ 288 = omega (arith, few c.requires.0 c.requires.0) in the-room)))
+    (g.left_out ∙ length-take-le _ _ p.0) p.1.1 (length-take-le _ _ ((let the-short : 2 * c.args.t ≤ 24 = omega (arith, c.requires.0) in the-short)))
+    (front_kept _ f.l _ ((let the-room : 2 * (c.args.t * c.args.t) ≤ 288 = omega (arith, few c.requires.0 c.requires.0) in the-room)) g.l) (front_kept _ f.left_out _ p.0 g.left_out) c.solve_cholesky.ensures in the-done))
     c.in-Finished-solve_cholesky.is v

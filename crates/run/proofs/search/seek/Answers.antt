@@ -9,30 +9,21 @@ use Rattle.run.proofs.search.seek.Goals as goal
 
 pub standing_rows-requires : goal.standing_rows-requires
 standing_rows-requires c =
-    let p = c.requires.0 in (p.1, p.0)
+    let p = c.requires.few_rows in (p.1, p.0)
 
 pub curvature_for-requires : goal.curvature_for-requires
 curvature_for-requires c =
-    let p = c.requires.0 in (p.1, p.2)
-
-pub slice_bounds-prepare-end : goal.slice_bounds-prepare-end
-slice_bounds-prepare-end c = sym ((let the-marks : length c.args.origin.moving ≡ 12 = length_unmapped Bool c.args.origin.moving 12 c.well_formed.0.1.1.1.1.0.1.0.1 in the-marks))
+    let p = c.requires.few_rows in (p.1, p.2)
 
 pub prepare-prepared-requires : goal.prepare-prepared-requires
 unfolding of_bits
-prepare-prepared-requires c =
-    (c.requires.0.0, (let the-marks : length c.args.origin.moving ≡ 12 = length_unmapped Bool c.args.origin.moving 12 c.well_formed.0.1.1.1.1.0.1.0.1 in the-marks), refl, refl)
+prepare-prepared-requires c = (c.requires.few_rows.0, c.well_formed.0.1.1.1.1.0.1.0.1, refl, refl)
 
 pub seek_from-requires : goal.seek_from-requires
 seek_from-requires c =
-    let p =
-    c.requires in
-    let prepared = rw (
-      c.standing_rows.ensures,
-      c.curvature_for.ensures,
-    ) at
-    c.prepare-prepared.ensures in
-    (p.0, (prepared, p.1))
+    let p = c.requires in
+    let prepared = rw (c.standing_rows.ensures, c.curvature_for.ensures) at c.prepare-prepared.ensures in
+    record { few_rows = p.few_rows; prepared_at = prepared; turned_down_bound = p.turned_down_bound }
 
 pub returns : goal.returns
 returns c = c.seek_from.ensures

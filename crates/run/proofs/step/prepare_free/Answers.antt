@@ -1,11 +1,13 @@
 -- `prepare_free` meets its contract: Q and the coefficients are copied, the correction and the directions are written
 -- behind them, and how these two ended decides.
 use mathlib.Core.Path.{◌≡◌, ap, ◌∙◌}
-use Prim.Native.Nat.{◌≤◌}
+use Prim.Native.Nat.{ℕ, ◌≤◌}
 use native.Mathlib.Omega.{arith}
-use mathlib.Core.List.{[], ◌++◌}
+use mathlib.Core.List.{List, [], ◌++◌}
+use lib.Ieee.{Float}
 use lib.ListN.{length, take, drop}
-use Rattle.run.specs.program.Basis.{basis_by}
+use Rattle.run.specs.declared.basis.Shape.{Shape}
+use Rattle.run.specs.program.Basis.{basis_by, ForPreparing}
 use Rattle.run.specs.program.Problem.{problem_in}
 use Rattle.run.specs.Rows.{rows_in, value_at}
 use Rattle.run.proofs.AreaLaws.{part_back, length_clear}
@@ -16,77 +18,61 @@ use Rattle.run.proofs.StepLaws.{ready_framed, ready_few}
 use borrow.Author.Rules.{rules}
 use Rattle.run.proofs.step.prepare_free.Goals as goal
 
+module _ {shape : Shape} {nq nc no : ℕ} {factors : List Float} (p : ForPreparing shape nq nc no factors) where
+  few-independent : shape.r ≤ 12
+  few-independent = omega (arith, p.few.rows, p.few.independent)
+
+  clear-long : length factors ≡ 888
+  clear-long = ap length p.clear ∙ length_clear 888
+
+-- the correction, of which x are the factors before it is written in them
+corrected : (x t : List Float) → length x ≡ 888 → length t ≡ length (take 24 (drop 576 x))
+    → length t ≡ 24
+corrected x t lx e = e ∙ cut_length 24 576 x (omega (arith, lx))
+
+whole : (x t : List Float) → length x ≡ 888 → length t ≡ 24
+    → length (take 576 x ++ (t ++ drop 24 (drop 576 x))) ≡ 888
+whole x t lx lt = length_lent x t 576 24 lt (omega (arith, lx)) ∙ lx
+
 pub write-requires : goal.write-requires
-write-requires c =
-    omega (arith, (let the-clear_long : length c.args.factors.now ≡ 888 = ap length c.requires.clear ∙ length_clear 888 in the-clear_long), c.requires.vectors)
+write-requires c = omega (arith, clear-long c.requires, c.requires.vectors)
 
 pub write-requires-2 : goal.write-requires-2
-write-requires-2 c =
-    omega (arith, (let the-clear_long : length c.args.factors.now ≡ 888 = ap length c.requires.clear ∙ length_clear 888 in the-clear_long), c.write.auto.area, c.requires.by_row)
+write-requires-2 c = omega (arith, clear-long c.requires, c.write.auto.area, c.requires.by_row)
 
 pub free_directions-found-requires : goal.free_directions-found-requires
 free_directions-found-requires c =
+    let a = c.args in
     let p = c.requires in
     let x = c.write-2.new.area in
     let t = c.correction-end.new.delta in
-    let a = c.args in
-    let one = c.write.ensures in
-    let two = c.write-2.ensures in
+    let lx : length x ≡ 888 = c.write-2.auto.area ∙ c.write.auto.area ∙ clear-long p in
+    let lt : length t ≡ 24 = corrected x t lx c.correction-end.auto.delta in
     let e =
-    fourth_clear a.factors.now a.q.now a.coefficients.now t p.vectors p.by_row
-    ((let the-corrected : length c.correction-end.new.delta ≡ 24 = 
-    c.correction-end.auto.delta
-    ∙ cut_length 24 576 c.write-2.new.area (omega (arith, (let the-copied : length c.write-2.new.area ≡ 888 = 
-    c.write-2.auto.area
-    ∙ c.write.auto.area
-    ∙ (let the-clear_long : length c.args.factors.now ≡ 888 = ap length c.requires.clear ∙ length_clear 888 in the-clear_long) in the-copied))) in the-corrected)) one two (part_back x t 576 24 ((let the-corrected : length c.correction-end.new.delta ≡ 24 = 
-    c.correction-end.auto.delta
-    ∙ cut_length 24 576 c.write-2.new.area (omega (arith, (let the-copied : length c.write-2.new.area ≡ 888 = 
-    c.write-2.auto.area
-    ∙ c.write.auto.area
-    ∙ (let the-clear_long : length c.args.factors.now ≡ 888 = ap length c.requires.clear ∙ length_clear 888 in the-clear_long) in the-copied))) in the-corrected))) p.clear in
-    (p.few.variables, ((let the-few_independent : c.args.shape.r ≤ 12 = let p = c.requires.few in omega (arith, p.rows, p.independent) in the-few_independent), e))
+    fourth_clear a.factors.now a.q.now a.coefficients.now t p.vectors p.by_row lt c.write.ensures c.write-2.ensures
+    (part_back x t 576 24 lt) p.clear in
+    (p.few.variables, (few-independent p, e))
 
 pub returns : goal.returns
 returns c =
-    let f = c.free_directions-found in
     let a = c.args in
     let p = c.requires in
+    let f = c.free_directions-found in
     let x = c.write-2.new.area in
     let t = c.correction-end.new.delta in
+    let lx : length x ≡ 888 = c.write-2.auto.area ∙ c.write.auto.area ∙ clear-long p in
+    let lt : length t ≡ 24 = corrected x t lx c.correction-end.auto.delta in
     let y = take 576 x ++ (t ++ drop 24 (drop 576 x)) in
     let z = f.new.z in
-    let lz : length z ≡ 288 = f.auto.z ∙ cut_length 288 600 y (omega (arith, (let the-whole : let a = c.write-2.new.area in length (take 576 a ++ (c.correction-end.new.delta ++ drop 24 (drop 576 a))) ≡ 888 = 
-    length_lent c.write-2.new.area
-    c.correction-end.new.delta 576 24 ((let the-corrected : length c.correction-end.new.delta ≡ 24 = 
-    c.correction-end.auto.delta
-    ∙ cut_length 24 576 c.write-2.new.area (omega (arith, (let the-copied : length c.write-2.new.area ≡ 888 = 
-    c.write-2.auto.area
-    ∙ c.write.auto.area
-    ∙ (let the-clear_long : length c.args.factors.now ≡ 888 = ap length c.requires.clear ∙ length_clear 888 in the-clear_long) in the-copied))) in the-corrected)) (omega (arith, (let the-copied : length c.write-2.new.area ≡ 888 = 
-    c.write-2.auto.area
-    ∙ c.write.auto.area
-    ∙ (let the-clear_long : length c.args.factors.now ≡ 888 = ap length c.requires.clear ∙ length_clear 888 in the-clear_long) in the-copied))) ∙ (let the-copied : length c.write-2.new.area ≡ 888 = 
-    c.write-2.auto.area
-    ∙ c.write.auto.area
-    ∙ clear_long
-    c.before.before.before.before.before.before.before.before.before.before.before.before.before.before.before.before in the-copied) in the-whole))) in
-    let one = c.write.ensures in
-    let two = c.write-2.ensures in
+    let lz : length z ≡ 288 = f.auto.z ∙ cut_length 288 600 y (omega (arith, whole x t lx lt)) in
     let e =
-    four_written a.factors.now a.q.now a.coefficients.now t z p.vectors p.by_row
-    ((let the-corrected : length c.correction-end.new.delta ≡ 24 = 
-    c.correction-end.auto.delta
-    ∙ cut_length 24 576 c.write-2.new.area (omega (arith, copied c)) in the-corrected)) lz ((let the-clear_long : length c.args.factors.now ≡ 888 = ap length c.requires.clear ∙ length_clear 888 in the-clear_long)) one two (part_back x t 576 24 ((let the-corrected : length c.correction-end.new.delta ≡ 24 = 
-    c.correction-end.auto.delta
-    ∙ cut_length 24 576 c.write-2.new.area (omega (arith, copied c)) in the-corrected))) (part_back y z 600 288 lz) in
+    four_written a.factors.now a.q.now a.coefficients.now t z p.vectors p.by_row lt lz (clear-long p)
+    c.write.ensures c.write-2.ensures (part_back x t 576 24 lt) (part_back y z 600 288 lz) in
     let b = basis_by a.shape.r a.q.now [] a.coefficients.now a.dependent.now a.order.now in (
       (λ h g.
           let Q = problem_in a.shape.k a.shape.m (value_at (rows_in a.xs.now a.c)) [] [] h g in
-          ready_framed Q b t z _ c.correction-end.result f.result p.vectors p.by_row ((let the-corrected : length c.correction-end.new.delta ≡ 24 = 
-    c.correction-end.auto.delta
-    ∙ cut_length 24 576 c.write-2.new.area (omega (arith, copied c)) in the-corrected)) lz
-          e c.ready.ensures (c.correction-end.ensures ∙ correction_reads Q b) f.ensures),
-      ready_few a.shape.k a.shape.r a.q.now z p.few.variables ((let the-few_independent : c.args.shape.r ≤ 12 = let p = c.requires.few in omega (arith, p.rows, p.independent) in the-few_independent))
-          c.correction-end.result f.result c.ready.ensures f.ensures,
+          ready_framed Q b t z _ c.correction-end.result f.result p.vectors p.by_row lt lz e c.ready.ensures
+          (c.correction-end.ensures ∙ correction_reads Q b) f.ensures),
+      ready_few a.shape.k a.shape.r a.q.now z p.few.variables (few-independent p) c.correction-end.result f.result
+          c.ready.ensures f.ensures,
     )

@@ -18,14 +18,14 @@ pub returns-then-not-is_finite : goal.returns-then-not-is_finite
 returns-then-not-is_finite c =
     let l = c.loop-i in
     sym (all_broke _ l.i _ c.loop-i-test.true l.invariant.1
-    (rw (← c.at.ensures, ← c.is_finite.ensures) (not-true _ c.if-not-is_finite.true)))
+    (rw (← c.at.ensures, ← c.is_finite.ensures) c.if-not-is_finite.true))
 
 pub loop-i-preserved : goal.loop-i-preserved
 loop-i-preserved c =
     let l = c.loop-i in (
       search rules,
       all_turn _ l.i l.invariant.1
-          (rw (← c.at.ensures, ← c.is_finite.ensures) (not-false _ c.if-not-is_finite.false)),
+          (rw (← c.at.ensures, ← c.is_finite.ensures) c.if-not-is_finite.false),
     )
 
 pub returns : goal.returns

@@ -14,9 +14,7 @@ use Rattle.run.specs.Vectors.{same_of}
 use Rattle.run.proofs.Booleans.{negated}
 use Rattle.run.proofs.VectorLaws.{all_turn, all_broke}
 use Rattle.run.proofs.vectors.same.Goals as goal
-
-abbrev alike : (a b : List Float) → ℕ → Bool
-alike a b i = could_be_equal (at a i) (at b i)
+use Rattle.run.proofs.vectors.same.Invariants.{alike}
 
 told : (a b : List Float) (i : ℕ) {x y : Scalar} {r : Bool} → x ≡ at a i → y ≡ at b i → r ≡ could_be_equal x y
     → alike a b i ≡ r
@@ -35,7 +33,7 @@ returns-then-not-could_be_equal c =
     c.loop-i.invariant.1
     (told a.a.now a.b.now c.loop-i.i
     c.at-v.ensures c.at.ensures
-    c.could_be_equal.ensures ∙ negated _ c.if-not-could_be_equal.true))
+    c.could_be_equal.ensures ∙ c.if-not-could_be_equal.true))
 
 pub loop-i-preserved : goal.loop-i-preserved
 loop-i-preserved c =
@@ -45,7 +43,7 @@ loop-i-preserved c =
           c.loop-i.invariant.1
           (told a.a.now a.b.now c.loop-i.i
           c.at-v.ensures c.at.ensures
-          c.could_be_equal.ensures ∙ negated _ c.if-not-could_be_equal.false),
+          c.could_be_equal.ensures ∙ c.if-not-could_be_equal.false),
     )
 
 pub returns : goal.returns

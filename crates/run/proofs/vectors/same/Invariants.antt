@@ -15,6 +15,9 @@ use Rattle.run.proofs.Booleans.{negated}
 use Rattle.run.proofs.VectorLaws.{all_turn, all_broke}
 use Rattle.run.proofs.vectors.same.Given as goal
 
+abbrev pub alike : (a b : List Float) → ℕ → Bool
+alike a b i = could_be_equal (at a i) (at b i)
+
 abbrev pub invariant-loop-i : goal.invariant-loop-i
 invariant-loop-i l = (l.i ≤ l.n) × (all_to (alike l.a l.b) l.i ≡ true)
 
