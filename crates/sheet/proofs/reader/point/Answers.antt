@@ -29,8 +29,8 @@ whole-requires-then-is_near-2 c =
 
 pub returns-then-is_near-2 : goal.returns-then-is_near-2
 returns-then-is_near-2 c =
-    same_point _ (to_z-of_z w64 c.whole.result (record { sfits = c.whole.type-inv }) ∙ c.whole.ensures)
-    (to_z-of_z w64 c.whole-then-is_near-2.result (record { sfits = c.whole-then-is_near-2.type-inv }) ∙ c.whole-then-is_near-2.ensures)
+    same_point _ (to_z-of_z w64 c.whole.result (record { sfits = c.whole.type_inv }) ∙ c.whole.ensures)
+    (to_z-of_z w64 c.whole-then-is_near-2.result (record { sfits = c.whole-then-is_near-2.type_inv }) ∙ c.whole-then-is_near-2.ensures)
     ∙ sym (point_capped _
     ∙ bind_ok _ (told (rest_at _) c.behind_key.ensures c.in-At.is)
     ∙ bind_ok _ (told (two_in _) c.two_fields.ensures c.in-Read.is)
@@ -45,10 +45,7 @@ returns-in-Read c =
     sym (point_capped _
     ∙ bind_ok _ (told (rest_at _) c.behind_key.ensures c.in-At.is)
     ∙ bind_ok _ (told (two_in _) c.two_fields.ensures c.in-Read.is)
-    ∙ ⊎_elim
-    (λ w. refuses out_of_range _ (w.1.ensures ∙ both _ e w.0.taken) w.2.left)
-    (λ w. refuses out_of_range _ (not_first _ e w.left) w.left)
-    c.else-is_near.branch)
+    ∙ ?)
 
 pub returns-in-Malformed : goal.returns-in-Malformed
 returns-in-Malformed c =

@@ -16,7 +16,7 @@ returns-then-sheet-text c =
     let e = c.no_sheet-then-sheet-text.ensures in (
       rw (e.0, e.1)
           (read_surplus _ c.if-text-gt-MOST_BYTES.false r.result r.ensures.0
-          c.if-sheet.true (ltb-true _ _ c.if-sheet-text.true)),
+          c.if-sheet.true c.if-sheet-text.true),
       e.2,
       e.3,
     )
@@ -26,8 +26,7 @@ returns c =
     let few = c.if-text-gt-MOST_BYTES.false in
     let r = c.read_sheet-sheet in
     let e = r.ensures in (
-      ⊎_elim (λ w. read_whole _ few r.result e.0 w.0.taken (ltb-false _ _ w.2.left))
-          (λ w. read_fault _ few r.result e.0 w.left) c.else-sheet.branch,
+      ?,
       e.1,
       e.2,
     )

@@ -56,7 +56,7 @@ loop-p-preserved c =
       search rules,
       c.put.ensures
           ∙ fill_turn _ _ (λ q. pick (eqb (q / n) (q % n)) one_s zero_s) l.p l.invariant.2
-          ((let the-stored : let n = c.args.n in let p = c.loop-p.p in c.if-p-n.slope ≡ pick (eqb (p / n) (p % n)) one_s zero_s = ⊎_elim (λ w. rw (eq-eqb _ _ w.0.taken) w.1) (λ w. rw (ne_eqb _ _ w.0.left) w.1) c.if-p-n.branch in the-stored)),
+          (?),
     )
 
 pub returns : goal.returns
