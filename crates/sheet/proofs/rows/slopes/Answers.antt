@@ -42,11 +42,13 @@ overflow_add-base c =
     )
 
 pub nonzero_rem-p : goal.nonzero_rem-p
-nonzero_rem-p c = nonzero_div-rule c
+nonzero_rem-p c =
+    let a = c.args in
+    rows_positive a.rules.count a.n {p = c.loop-p.p} c.loop-p-test.true
 
 pub slope-requires : goal.slope-requires
 slope-requires c =
-    rule_near c.args.rules ((let the-long : length c.args.rules.list ≡ 12 = simp length-map at c.well_formed.1.0.1.1.1.0.1.0.1 in the-long)) c.requires.0 _ _ ((let the-row : c.loop-p.p / c.args.n < c.args.rules.count = row_below _ c.args.n c.loop-p-test.true in the-row))
+    rule_near c.args.rules ((let the-long : length c.args.rules.list ≡ 12 = c.well_formed.1.0.1.1.1.0.1.0.1 in the-long)) c.requires.0 _ _ ((let the-row : c.loop-p.p / c.args.n < c.args.rules.count = row_below _ c.args.n c.loop-p-test.true in the-row))
 
 pub overflow_step-p : goal.overflow_step-p
 overflow_step-p c =
@@ -65,7 +67,7 @@ loop-p-preserved c =
       c.put.ensures
           ∙ fill_turn _ _ (λ q. slope_of a.x.now (rule_at (list_in a.rules) (q / a.n)) (q % a.n)) l.p l.invariant.2
           (c.slope.ensures ∙ ap (λ r. slope_of a.x.now r (l.p % a.n))
-          (rule-in a.rules ((let the-long : length c.args.rules.list ≡ 12 = simp length-map at c.well_formed.1.0.1.1.1.0.1.0.1 in the-long)) c.requires.0 (l.p / a.n) _
+          (rule-in a.rules ((let the-long : length c.args.rules.list ≡ 12 = c.well_formed.1.0.1.1.1.0.1.0.1 in the-long)) c.requires.0 (l.p / a.n) _
           ((let the-row : c.loop-p.p / c.args.n < c.args.rules.count = row_below _ c.args.n c.loop-p-test.true in the-row)))),
     )
 
