@@ -23,5 +23,5 @@ pub found_settles : (text : List ℕ) (r : SheetRead) → Is (row the_type) r (v
     r.read ≡ true → Settles r.sheet
 found_settles text r o e =
     read_settles text r e.0 e.1 e.2
-    (length_unmapped ℤ r.sheet.points.coordinates 12 o.1.1.1.1.0.1.1.0.1.1.1.0.1.0.1)
-    (simp length-map at o.1.1.1.1.0.1.1.1.1.1.0.1.1.1.0.1.0.1)
+    o.1.1.1.1.0.1.1.0.1.1.1.0.1.0.1
+    o.1.1.1.1.0.1.1.1.1.1.0.1.1.1.0.1.0.1

@@ -27,7 +27,7 @@ use Rattle.linear.specs.Flat.{at, list_to}
 use Rattle.linear.proofs.Lists.{length-list_to, at-list_to}
 use Rattle.run.specs.Answered.{started, answered, answered_none}
 use Rattle.run.specs.Area.{Memory, memory_of, area_length, standing_at, landed_at, rows_at, curvature_of}
-use Rattle.run.specs.Area.{pairs_in, with_start, with_taken, with_landed}
+use Rattle.run.specs.Area.{pairs_in, with_start, with_taken, with_landed, with_asked}
 use Rattle.run.specs.Calls.{AfterCall, unchanged, Accepted, begun_of, begin_of, checks, reply_open, reply_of, none_open}
 use Rattle.run.specs.Calls.{reply_none_of, point_of, refused_by_check, Follows}
 use Rattle.run.specs.Checks.{sizes_fit, constraints_fit, in_domain, all_in_domain, step_fits, valid, most_questions}
@@ -38,7 +38,7 @@ use Rattle.run.specs.Damping.{grown, shrunk}
 use Rattle.run.specs.Decide as run
 use Rattle.run.specs.Decide.{grow, turn_down, not_lower, linear_of, was_taken, decide, judge}
 use Rattle.run.specs.Demand.{same, Floats, rows, none, run_of, call_result, History, begun, entered, is_arithmetic}
-use Rattle.run.specs.Endings.{AfterSlots, or_refuse}
+use Rattle.run.specs.Endings.{AfterSlots, or_refuse, question}
 use Rattle.run.specs.Filter.{filter_with}
 use Rattle.run.specs.Iterate.{standing_of, left_at, search, iterate}
 use Rattle.run.specs.Judgement.{judge_of}
@@ -304,7 +304,10 @@ module _ (st : State) (w : Memory) (theta : Scalar) where
   unfolding correct
   correct_asks =
       or_refuse_asks st w (shift_from st.moving (landed_at st w).constraints w.landed) _
-      (λ s. elim s [
+      (λ s. elim s as (λ x. AsksOpen (elim x as (λ y. AfterSlots) [
+          | to next ↦ question st (with_asked st w next) kind.Correction st.counts.corrections
+          | stay ↦ judge st w theta
+        ])) [
         | to next ↦ λ e. (kind.Correction, refl)
         | stay ↦ judge_asks
       ])

@@ -35,9 +35,7 @@ not_negative (negsuc n) t = absurd (subst T t tt)
 casts : {z : ℤ} {n : ℕ} → z ≡ pos n → n < 9223372036854775808 → T (non_neg z) × Fits w64 (nat_abs z)
 casts {z} {n} e h = rw e (tt, record { fits = omega arith })
 
--- ---- (let the-below : Below 0.args.v = 
-    let e = to_z-of_z w64 0.args.v 0.ranges.v in
-    record { is_read = e; is = negative 0.args.v (rw e at 0.if-v-lt0.true); near = 0.ranges.v.sfits } in the-below)
+-- ---- below 0
 
 next : (k : ℕ) → suc_ℤ (negsuc k) ≡ neg_ℤ (pos k)
 next zero = refl
@@ -54,6 +52,9 @@ record Below (v : ℤ) : Type 0 where
   is_read : read v ≡ v
   is : v ≡ negsuc (mag v)
   near : mag v < 9223372036854775808
+
+below : (v : ℤ) → SFits w64 v → lt_z (read v) (pos 0) ≡ true → Below v
+below v f t = let e = to_z-of_z w64 v f in record { is_read = e; is = negative v (rw e at t); near = f.sfits }
 
 module _ {v : ℤ} (b : Below v) where
   minus : SFits w64 (neg_ℤ (pos (mag v)))
@@ -81,46 +82,35 @@ module _ {v : ℤ} (b : Below v) where
       ∙ ap whole_text (sym b.is)
 
 pub overflow_add-v : goal.overflow_add-v
-overflow_add-v c = let b = (let the-below : Below c.args.v = 
-    let e = to_z-of_z w64 c.args.v c.ranges.v in
-    record { is_read = e; is = negative c.args.v (rw e at c.if-v-lt0.true); near = c.ranges.v.sfits } in the-below) in fits_as (more-is b) (minus b)
+overflow_add-v c = let b = below c.args.v c.ranges.v c.if-v-lt0.true in fits_as (more-is b) (minus b)
 
 pub overflow_sub-v : goal.overflow_sub-v
-overflow_sub-v c = let b = (let the-below : Below c.args.v = 
-    let e = to_z-of_z w64 c.args.v c.ranges.v in
-    record { is_read = e; is = negative c.args.v (rw e at c.if-v-lt0.true); near = c.ranges.v.sfits } in the-below) in fits_as (rest_is b) (plus b)
+overflow_sub-v c = let b = below c.args.v c.ranges.v c.if-v-lt0.true in fits_as (rest_is b) (plus b)
 
 pub overflow_cast-v : goal.overflow_cast-v
-overflow_cast-v c = let b = (let the-below : Below c.args.v = 
-    let e = to_z-of_z w64 c.args.v c.ranges.v in
-    record { is_read = e; is = negative c.args.v (rw e at c.if-v-lt0.true); near = c.ranges.v.sfits } in the-below) in casts (left_is b) b.near
+overflow_cast-v c = let b = below c.args.v c.ranges.v c.if-v-lt0.true in casts (left_is b) b.near
 
 pub overflow_add-v-then-v-lt0 : goal.overflow_add-v-then-v-lt0
-overflow_add-v-then-v-lt0 c = size_fits ((let the-below : Below c.args.v = 
-    let e = to_z-of_z w64 c.args.v c.ranges.v in
-    record { is_read = e; is = negative c.args.v (rw e at c.if-v-lt0.true); near = c.ranges.v.sfits } in the-below))
+overflow_add-v-then-v-lt0 c = size_fits (below c.args.v c.ranges.v c.if-v-lt0.true)
 
 pub returns-then-v-lt0 : goal.returns-then-v-lt0
 returns-then-v-lt0 c =
     (
       omega (arith, c.number.ensures.0, c.append-digits.ensures.0),
-      appends_as (then c.append-digits.ensures.1 c.number.ensures.1) (text ((let the-below : Below c.args.v = 
-    let e = to_z-of_z w64 c.args.v c.ranges.v in
-    record { is_read = e; is = negative c.args.v (rw e at c.if-v-lt0.true); near = c.ranges.v.sfits } in the-below))),
+      appends_as (then c.append-digits.ensures.1 c.number.ensures.1) (text (below c.args.v c.ranges.v c.if-v-lt0.true)),
     )
 
 -- ---- from 0 on
 
+not_below : (v : ℤ) → SFits w64 v → lt_z (read v) (pos 0) ≡ false → (read v ≡ pos (mag v)) × (read v ≡ v)
+not_below v f t = let e = to_z-of_z w64 v f in (e ∙ not_negative v (rw e at t), e)
+
 pub overflow_cast-v-2 : goal.overflow_cast-v-2
-overflow_cast-v-2 c = casts ((let the-not_below : let v = c.args.v in (read v ≡ pos (mag v)) × (read v ≡ v) = 
-    let e = to_z-of_z w64 c.args.v c.ranges.v in
-    (e ∙ not_negative c.args.v (rw e at c.if-v-lt0.false), e) in the-not_below)).0 c.ranges.v.sfits
+overflow_cast-v-2 c = casts (not_below c.args.v c.ranges.v c.if-v-lt0.false).0 c.ranges.v.sfits
 
 pub returns : goal.returns
 returns c =
-    let e = (let the-not_below : let v = c.args.v in (read v ≡ pos (mag v)) × (read v ≡ v) = 
-    let e = to_z-of_z w64 c.args.v c.ranges.v in
-    (e ∙ not_negative c.args.v (rw e at c.if-v-lt0.false), e) in the-not_below) in (
+    let e = not_below c.args.v c.ranges.v c.if-v-lt0.false in (
       omega (arith, c.number-2.ensures.0),
       appends_as c.number-2.ensures.1
           (ap (λ (z : ℤ). decimal_of (nat_abs z)) e.0 ∙ ap whole_text (sym e.0 ∙ e.1)),

@@ -16,7 +16,7 @@ use Rattle.sheet.proofs.numbers.unsigned.Goals as goal
 pub returns-then-not-is_digit : goal.returns-then-not-is_digit
 returns-then-not-is_digit c =
     sym (no_digit _ _ (ap is_digit (sym c.byte_at.ensures) ∙ sym c.is_digit.ensures
-    ∙ not-true _ c.if-not-is_digit.true))
+    ∙ c.if-not-is_digit.true))
 
 pub loop-i-init : goal.loop-i-init
 loop-i-init c = (search rules, search rules, refl)
@@ -24,41 +24,35 @@ loop-i-init c = (search rules, search rules, refl)
 pub returns-then-not-is_digit-2 : goal.returns-then-not-is_digit-2
 returns-then-not-is_digit-2 c =
     let l = c.loop-i in
-    sym (digits_read _ _ ((let the-starts : is_digit (head (drop c.args.at c.args.text.now)) ≡ true = 
+    sym (digits_read _ _ (let e : is_digit (head (drop c.args.at c.args.text.now)) ≡ true =
     ap is_digit (sym c.byte_at.ensures) ∙ sym c.is_digit.ensures
-    ∙ not-false _ c.if-not-is_digit.false in the-starts))
+    ∙ c.if-not-is_digit.false in e)
     (l.invariant.2 ∙ from_stop _ _ _ c.loop-i-test.true (sym c.is_digit-in-loop-i.ensures
-    ∙ not-true _ c.if-not-is_digit-2.true)))
-
--- the byte of a turn that goes on is a digit
-abbrev byte : goal.Else-not-is_digit-2 → ℕ
-byte c =
-    get_or c.args.text.now
-    c.loop-i.i 0
+    ∙ c.if-not-is_digit-2.true)))
 
 pub overflow_mul-size : goal.overflow_mul-size
 overflow_mul-size c = omega (arith, c.loop-i.invariant.1)
 
 pub overflow_sub-b : goal.overflow_sub-b
-overflow_sub-b c = (digit (byte c) ((let the-goes_on : is_digit (byte c) ≡ true = sym c.is_digit-in-loop-i.ensures ∙ not-false _ c.if-not-is_digit-2.false in the-goes_on))).0
+overflow_sub-b c = (digit (get_or c.args.text.now c.loop-i.i 0) (sym c.is_digit-in-loop-i.ensures ∙ c.if-not-is_digit-2.false)).0
 
 pub overflow_cast-b : goal.overflow_cast-b
-overflow_cast-b c = omega (arith, digit (byte c) ((let the-goes_on : is_digit (byte c) ≡ true = sym c.is_digit-in-loop-i.ensures ∙ not-false _ c.if-not-is_digit-2.false in the-goes_on)))
+overflow_cast-b c = omega (arith, digit (get_or c.args.text.now c.loop-i.i 0) (sym c.is_digit-in-loop-i.ensures ∙ c.if-not-is_digit-2.false))
 
 pub overflow_add-size : goal.overflow_add-size
-overflow_add-size c = omega (arith, digit (byte c) ((let the-goes_on : is_digit (byte c) ≡ true = sym c.is_digit-in-loop-i.ensures ∙ not-false _ c.if-not-is_digit-2.false in the-goes_on)), c.loop-i.invariant.1)
+overflow_add-size c = omega (arith, digit (get_or c.args.text.now c.loop-i.i 0) (sym c.is_digit-in-loop-i.ensures ∙ c.if-not-is_digit-2.false), c.loop-i.invariant.1)
 
 pub loop-i-preserved : goal.loop-i-preserved
 loop-i-preserved c =
     let l = c.loop-i in (
       search rules,
-      rw c.capped-size.ensures (capped_most (10 * l.size + (byte c.before - 48))),
-      l.invariant.2 ∙ from_turn _ _ _ c.loop-i-test.true ((let the-goes_on : is_digit (byte c) ≡ true = sym c.is_digit-in-loop-i.ensures ∙ not-false _ c.if-not-is_digit-2.false in the-goes_on))
+      rw c.capped-size.ensures (capped_most (10 * l.size + (get_or c.args.text.now c.loop-i.i 0 - 48))),
+      l.invariant.2 ∙ from_turn _ _ _ c.loop-i-test.true (sym c.is_digit-in-loop-i.ensures ∙ c.if-not-is_digit-2.false)
           ∙ rw c.capped-size.ensures,
     )
 
 pub returns : goal.returns
 returns c =
-    sym (digits_read _ _ ((let the-starts : is_digit (head (drop c.args.at c.args.text.now)) ≡ true = 
+    sym (digits_read _ _ (let e : is_digit (head (drop c.args.at c.args.text.now)) ≡ true =
     ap is_digit (sym c.byte_at.ensures) ∙ sym c.is_digit.ensures
-    ∙ not-false _ c.if-not-is_digit.false in the-starts)) (c.loop-i.invariant.2 ∙ from_end _ _ _ c.loop-i-test.false))
+    ∙ c.if-not-is_digit.false in e) (c.loop-i.invariant.2 ∙ from_end _ _ _ c.loop-i-test.false))

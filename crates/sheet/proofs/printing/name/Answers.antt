@@ -48,12 +48,3 @@ returns-in-Damped c =
 pub returns-in-Budget : goal.returns-in-Budget
 returns-in-Budget c =
     named c.in-Budget.is c.append-in-Budget.ensures
-
-pub enum_told-in-Undecided : goal.enum_told-in-Undecided
-enum_told-in-Undecided = returns-in-Undecided
-
-pub append-requires-in-Flat : goal.append-requires-in-Flat
-append-requires-in-Flat = returns-in-Flat
-
-pub shape_of-out-in-Damped : goal.shape_of-out-in-Damped
-shape_of-out-in-Damped = returns-in-Damped

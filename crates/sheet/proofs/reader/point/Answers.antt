@@ -13,6 +13,9 @@ use Rattle.sheet.specs.program.Numbers.{two_in}
 use Rattle.sheet.proofs.Tests.{both, not_first, told, passes, refuses}
 use Rattle.sheet.proofs.LineLaws.{point_capped, same_point}
 use Rattle.sheet.proofs.reader.point.Goals as goal
+use Rattle.sheet.proofs.reader.point.Goals.{
+  else-is_near-via-then-is_near+else-is_near-2, else-is_near-via-else-is_near,
+}
 
 pub whole-requires : goal.whole-requires
 whole-requires c =
@@ -29,8 +32,8 @@ whole-requires-then-is_near-2 c =
 
 pub returns-then-is_near-2 : goal.returns-then-is_near-2
 returns-then-is_near-2 c =
-    same_point _ (to_z-of_z w64 c.whole.result (record { sfits = c.whole.type-inv }) ∙ c.whole.ensures)
-    (to_z-of_z w64 c.whole-then-is_near-2.result (record { sfits = c.whole-then-is_near-2.type-inv }) ∙ c.whole-then-is_near-2.ensures)
+    same_point _ (to_z-of_z w64 c.whole.result (record { sfits = c.whole.type_inv }) ∙ c.whole.ensures)
+    (to_z-of_z w64 c.whole-then-is_near-2.result (record { sfits = c.whole-then-is_near-2.type_inv }) ∙ c.whole-then-is_near-2.ensures)
     ∙ sym (point_capped _
     ∙ bind_ok _ (told (rest_at _) c.behind_key.ensures c.in-At.is)
     ∙ bind_ok _ (told (two_in _) c.two_fields.ensures c.in-Read.is)
@@ -45,10 +48,11 @@ returns-in-Read c =
     sym (point_capped _
     ∙ bind_ok _ (told (rest_at _) c.behind_key.ensures c.in-At.is)
     ∙ bind_ok _ (told (two_in _) c.two_fields.ensures c.in-Read.is)
-    ∙ ⊎_elim
-    (λ w. refuses out_of_range _ (w.1.ensures ∙ both _ e w.0.taken) w.2.left)
-    (λ w. refuses out_of_range _ (not_first _ e w.left) w.left)
-    c.else-is_near.branch)
+    ∙ elim c.else-is_near.branch [
+      | else-is_near-via-then-is_near+else-is_near-2 w ↦
+          refuses out_of_range _ (w.is_near-then-is_near.ensures ∙ both _ e w.if-is_near.true) w.if-is_near-2.false
+      | else-is_near-via-else-is_near w ↦ refuses out_of_range _ (not_first _ e w.if-is_near.false) w.if-is_near.false
+    ])
 
 pub returns-in-Malformed : goal.returns-in-Malformed
 returns-in-Malformed c =

@@ -4,6 +4,9 @@ use borrow.Author.Tests.{ltb-true, ltb-false}
 use mathlib.Core.Logic.{⊎_elim}
 use Rattle.sheet.proofs.SheetLaws.{read_long, read_surplus, read_whole, read_fault}
 use Rattle.sheet.proofs.reader.read.Goals as goal
+use Rattle.sheet.proofs.reader.read.Goals.{
+  else-sheet-via-then-sheet+else-sheet-text, else-sheet-via-else-sheet,
+}
 
 pub returns-then-text-gt-MOST_BYTES : goal.returns-then-text-gt-MOST_BYTES
 returns-then-text-gt-MOST_BYTES c =
@@ -16,7 +19,7 @@ returns-then-sheet-text c =
     let e = c.no_sheet-then-sheet-text.ensures in (
       rw (e.0, e.1)
           (read_surplus _ c.if-text-gt-MOST_BYTES.false r.result r.ensures.0
-          c.if-sheet.true (ltb-true _ _ c.if-sheet-text.true)),
+          c.if-sheet.true c.if-sheet-text.true),
       e.2,
       e.3,
     )
@@ -26,8 +29,11 @@ returns c =
     let few = c.if-text-gt-MOST_BYTES.false in
     let r = c.read_sheet-sheet in
     let e = r.ensures in (
-      ⊎_elim (λ w. read_whole _ few r.result e.0 w.0.taken (ltb-false _ _ w.2.left))
-          (λ w. read_fault _ few r.result e.0 w.left) c.else-sheet.branch,
+      elim c.else-sheet.branch [
+        | else-sheet-via-then-sheet+else-sheet-text w ↦
+            read_whole _ few r.result e.0 w.if-sheet.true w.if-sheet-text.false
+        | else-sheet-via-else-sheet w ↦ read_fault _ few r.result e.0 w.if-sheet.false
+      ],
       e.1,
       e.2,
     )

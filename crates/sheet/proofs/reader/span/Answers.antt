@@ -15,7 +15,7 @@ returns-then-not-is_between c =
     sym (span_capped _ c.requires _
     ∙ bind_ok _ (told (rest_at _) c.behind_key.ensures c.in-At.is)
     ∙ bind_ok _ (told (three_in _) c.three_fields.ensures c.in-Read.is)
-    ∙ refuses out_of_range _ c.is_between.ensures (not-true _ c.if-not-is_between.true))
+    ∙ refuses out_of_range _ c.is_between.ensures (c.if-not-is_between.true))
 
 pub returns-then-are_two : goal.returns-then-are_two
 returns-then-are_two c =
@@ -23,7 +23,7 @@ returns-then-are_two c =
     ∙ bind_ok _ (told (rest_at _) c.behind_key.ensures c.in-At.is)
     ∙ bind_ok _ (told (three_in _) c.three_fields.ensures c.in-Read.is)
     ∙ passes out_of_range _ c.is_between.ensures
-    (not-false _ c.if-not-is_between.false)
+    (c.if-not-is_between.false)
     ∙ passes no_point _ c.are_two.ensures c.if-are_two.true)
 
 pub returns-in-Read : goal.returns-in-Read
@@ -32,7 +32,7 @@ returns-in-Read c =
     ∙ bind_ok _ (told (rest_at _) c.behind_key.ensures c.in-At.is)
     ∙ bind_ok _ (told (three_in _) c.three_fields.ensures c.in-Read.is)
     ∙ passes out_of_range _ c.is_between.ensures
-    (not-false _ c.if-not-is_between.false)
+    (c.if-not-is_between.false)
     ∙ refuses no_point _ c.are_two.ensures c.if-are_two.false)
 
 pub returns-in-Malformed : goal.returns-in-Malformed

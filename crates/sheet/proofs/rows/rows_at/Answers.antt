@@ -26,7 +26,7 @@ pub returns : goal.returns
 returns c =
     let a = c.args in
     rows_is a.n a.rules a.x.now a.aims.now a.rows.now
-    (simp length-map at c.well_formed.1.0.1.1.1.0.1.0.1) c.requires.0.few c.requires.2
+    (c.well_formed.1.0.1.1.1.0.1.0.1) c.requires.0.few c.requires.2
     c.values.ensures
     c.slopes.ensures
     c.sum_values.ensures

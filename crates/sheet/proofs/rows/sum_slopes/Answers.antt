@@ -16,6 +16,7 @@ use Rattle.linear.proofs.FillLaws.{fill_turn}
 use Rattle.run.proofs.RowLaws.{few}
 use Rattle.sheet.specs.Rows.{one_s}
 use Rattle.sheet.proofs.rows.sum_slopes.Goals as goal
+use Rattle.sheet.proofs.rows.sum_slopes.Goals.{then-p-n, else-p-n}
 
 pub overflow_mul-p-end : goal.overflow_mul-p-end
 overflow_mul-p-end c = omega (arith, (let the-all : c.args.n * c.args.n ≤ 144 = few c.requires.0 c.requires.0 in the-all))
@@ -56,7 +57,10 @@ loop-p-preserved c =
       search rules,
       c.put.ensures
           ∙ fill_turn _ _ (λ q. pick (eqb (q / n) (q % n)) one_s zero_s) l.p l.invariant.2
-          ((let the-stored : let n = c.args.n in let p = c.loop-p.p in c.if-p-n.slope ≡ pick (eqb (p / n) (p % n)) one_s zero_s = ⊎_elim (λ w. rw (eq-eqb _ _ w.0.taken) w.1) (λ w. rw (ne_eqb _ _ w.0.left) w.1) c.if-p-n.branch in the-stored)),
+          (elim c.if-p-n.branch [
+            | then-p-n w ↦ rw (eq-eqb _ _ w.if-p-n.true) w.slope-is
+            | else-p-n w ↦ rw (ne_eqb _ _ w.if-p-n.false) w.slope-is
+          ]),
     )
 
 pub returns : goal.returns

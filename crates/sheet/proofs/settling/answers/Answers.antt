@@ -18,7 +18,7 @@ loop-init c = (omega arith, refl, refl, refl)
 pub returns-then-not-is_question : goal.returns-then-not-is_question
 returns-then-not-is_question c =
     let v = c.loop.invariant in
-    sym (v.3 ∙ answers_over _ _ _ _ (sym c.is_question.ensures ∙ not-true _ c.if-not-is_question.true))
+    sym (v.3 ∙ answers_over _ _ _ _ (sym c.is_question.ensures ∙ c.if-not-is_question.true))
 
 pub answer-out-requires : goal.answer-out-requires
 answer-out-requires c = rw c.loop.invariant.1
@@ -32,8 +32,7 @@ loop-preserved c =
       c.answer-out.auto.rows ∙ v.1,
       c.answer-out.auto.area ∙ v.2,
       answers_turn _ _ most_replies c.loop.counter _ (omega arith)
-          (sym c.is_question.ensures ∙ not-false _
-          c.if-not-is_question.false) c.answer-out.ensures v.3,
+          (sym c.is_question.ensures ∙ c.if-not-is_question.false) c.answer-out.ensures v.3,
     )
 
 pub returns : goal.returns

@@ -15,7 +15,7 @@ pub print_found-requires : goal.print_found-requires
 print_found-requires c =
     (
       found_settles c.args.text.now
-          c.read.result c.read.type-inv c.read.ensures,
+          c.read.result c.read.type_inv c.read.ensures,
       c.if-slot-ne-SLOT.false,
       c.if-area-ne-AREA.false,
     )

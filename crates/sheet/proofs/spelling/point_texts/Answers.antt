@@ -6,6 +6,7 @@ use borrow.Author.Rules.{rules, sfits_of}
 use lib.IntN.{pos}
 use lib.ListN.{length, take}
 use mir.Facts.{to_z-of_z}
+use mir.Syntax.{w64}
 use Rattle.sheet.specs.Spelling.{point_texts}
 use Rattle.sheet.specs.program.Lines.{Appends}
 use Rattle.sheet.proofs.AppendLaws.{appends_as}
@@ -22,9 +23,9 @@ loop-i-preserved c =
       omega arith,
       c.point_text-end.auto.out ∙ l.invariant.1,
       omega (arith, c.point_text-end.ensures.0, l.invariant.2),
-      point_turn l.i c.args.t3.coordinates (pos 0) (omega (arith, (let the-long : length c.args.t3.coordinates ≡ 12 = search rules in the-long)))
-          (to_z-of_z (sfits_of c.point_text-arg-in-loop-i-1.given))
-          (to_z-of_z (sfits_of c.point_text-arg-in-loop-i-2-1.given))
+      point_turn l.i c.args.points.coordinates (pos 0) (omega (arith, (let the-long : length c.args.points.coordinates ≡ 12 = search rules in the-long)))
+          (to_z-of_z {w = w64} (sfits_of c.point_text-arg-in-loop-i-1.given))
+          (to_z-of_z {w = w64} (sfits_of c.point_text-arg-in-loop-i-2-1.given))
           l.invariant.3 c.point_text-end.ensures.1,
     )
 
@@ -32,5 +33,5 @@ pub returns : goal.returns
 returns c =
     let v = c.loop-i.invariant in
     let a = c.args in
-    let e : c.loop-i.i ≡ a.t3.count = omega (arith, v.0) in
-    (omega (arith, v.2, e), appends_as v.3 (ap (λ (n : ℕ). point_texts (take (2 * n) a.t3.coordinates)) e))
+    let e : c.loop-i.i ≡ a.points.count = omega (arith, v.0) in
+    (omega (arith, v.2, e), appends_as v.3 (ap (λ (n : ℕ). point_texts (take (2 * n) a.points.coordinates)) e))

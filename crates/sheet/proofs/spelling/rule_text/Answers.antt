@@ -40,9 +40,3 @@ returns c =
       omega (arith, c.aligned_text-2.ensures.0),
       rw (ne_eqb _ _ c.if-rule-eq-SPAN.false, ne_eqb _ _ c.if-rule-eq-LEVEL.false) c.aligned_text-2.ensures.1,
     )
-
-pub append-requires : goal.append-requires
-append-requires = returns-then-rule-eq-SPAN
-
-pub shape_of-out-then-rule-eq-LEVEL : goal.shape_of-out-then-rule-eq-LEVEL
-shape_of-out-then-rule-eq-LEVEL = returns-then-rule-eq-LEVEL

@@ -20,12 +20,12 @@ loop-i-preserved c =
       omega arith,
       c.rule_text-end.auto.out ∙ l.invariant.1,
       omega (arith, c.rule_text-end.ensures.0, l.invariant.2),
-      rule_turn l.i c.args.t3.list _ (omega (arith, (let the-long : length c.args.t3.list ≡ 12 = simp length-map at c.well_formed.1.1.0.1.1.1.0.1.0.1 in the-long))) l.invariant.3 c.rule_text-end.ensures.1,
+      rule_turn l.i c.args.rules.list _ (omega (arith, (let the-long : length c.args.rules.list ≡ 12 = c.well_formed.1.1.0.1.1.1.0.1.0.1 in the-long))) l.invariant.3 c.rule_text-end.ensures.1,
     )
 
 pub returns : goal.returns
 returns c =
     let v = c.loop-i.invariant in
     let a = c.args in
-    let e : c.loop-i.i ≡ a.t3.count = omega (arith, v.0) in
-    (omega (arith, v.2, e), appends_as v.3 (ap (λ (n : ℕ). rule_texts (take n a.t3.list)) e))
+    let e : c.loop-i.i ≡ a.rules.count = omega (arith, v.0) in
+    (omega (arith, v.2, e), appends_as v.3 (ap (λ (n : ℕ). rule_texts (take n a.rules.list)) e))

@@ -13,7 +13,7 @@ returns-then-out-ne-MOST_BYTES c = rw (ne_eqb _ _ c.if-out-ne-MOST_BYTES.true)
 pub write_found-requires : goal.write_found-requires
 write_found-requires c =
     let r = c.read in
-    (found_settles c.args.text.now r.result r.type-inv r.ensures, c.if-out-ne-MOST_BYTES.false)
+    (found_settles c.args.text.now r.result r.type_inv r.ensures, c.if-out-ne-MOST_BYTES.false)
 
 pub returns : goal.returns
 unfolding spell_text_of

@@ -9,16 +9,11 @@ use Rattle.sheet.proofs.AppendLaws.{then, appends_as, appends_all}
 use Rattle.sheet.proofs.SpellingTextLaws.{sheet_spelled}
 use Rattle.sheet.proofs.spelling.write_sheet.Goals as goal
 
--- where the function begins
-abbrev start : goal.After-number_line-fifth → goal.Start
-start k₅ =
-    k₅.before.before.before.before.before.before.before.before.before.before.before.before.before.before.before.before.before.before.before.before.before.before.before.before.before.before.before.before.before
-
 pub rule_texts-requires : goal.rule_texts-requires
 rule_texts-requires c =
-    let p = (start c.before.before.before).requires.0 in
+    let p = c.requires.0 in
     let f = (let the-so_far : (length c.number_line-fifth.new.out ≡ most_bytes) × (c.number_line-fifth.result ≤ 391) = 
-    let p = (start c).requires in (
+    let p = c.requires in (
       c.number_line-fifth.auto.out ∙ c.number_line-fourth.auto.out ∙ c.number_line-third.auto.out ∙ c.point_texts-second.auto.out
           ∙ c.number_line-first.auto.out ∙ c.clear_bytes.auto.out ∙ p.1,
       omega (
@@ -36,7 +31,7 @@ rule_texts-requires c =
 pub shape_of-out : goal.shape_of-out
 shape_of-out c =
     c.rule_texts.auto.out ∙ ((let the-so_far : (length c.number_line-fifth.new.out ≡ most_bytes) × (c.number_line-fifth.result ≤ 391) = 
-    let p = (start c).requires in (
+    let p = c.requires in (
       c.number_line-fifth.auto.out ∙ c.number_line-fourth.auto.out ∙ c.number_line-third.auto.out ∙ c.point_texts-second.auto.out
           ∙ c.number_line-first.auto.out ∙ c.clear_bytes.auto.out ∙ p.1,
       omega (
@@ -48,11 +43,11 @@ shape_of-out c =
         c.point_texts-second.ensures.0,
         c.number_line-first.ensures.0,
       ),
-    ) in the-so_far)).0 ∙ sym (start c.before.before.before.before.before.before).requires.1
+    ) in the-so_far)).0 ∙ sym c.requires.1
 
 pub returns : goal.returns
 returns c =
-    let p = (start c.before.before.before.before.before.before).requires in
+    let p = c.requires in
     let text =
     then c.number_line-first.ensures.1
     (then c.point_texts-second.ensures.1
