@@ -11,9 +11,10 @@ mod sheets;
 use runs::print_runs;
 use scalars::print_scalars;
 use sheets::print_sheets;
+use std::io;
 
-fn main() {
-    print_scalars();
-    print_runs();
-    print_sheets();
+fn main(rt: HostRuntime) -> io::Result<()> {
+    print_scalars(&rt)?;
+    print_runs(&rt)?;
+    print_sheets(&rt)
 }

@@ -3,6 +3,8 @@
 use interval::Scalar;
 use replay_text::comparison::{Comparison, both, equal_if, malformed, same_floats, same_marks};
 use replay_text::tokens::{read_floats, read_marks};
+use std::io;
+use std::io::BufRead;
 use yadzvego::lists;
 use yadzvego::scalars::ScalarResult;
 
@@ -57,74 +59,78 @@ fn called(h: Head, a: &[f64], b: &[f64], c: &[f64], out: &mut [f64], marks: &mut
 
 // Makes the call and reads what it must leave.
 fn left(
+    list: &mut impl BufRead,
     h: Head,
     a: &[f64],
     b: &[f64],
     c: &[f64],
     out: &mut [f64],
     marks: &mut [bool],
-) -> Comparison {
+) -> io::Result<Comparison> {
     fill(out);
     let number = called(h, a, b, c, out, marks);
-    let same_out = same_floats(out);
-    let same_after = both(same_out, same_marks(marks));
-    both(same_after, equal_if(number == h.number))
+    let same_out = same_floats(list, out)?;
+    let same_after = both(same_out, same_marks(list, marks)?);
+    Ok(both(same_after, equal_if(number == h.number)))
 }
 
 // With slices of the call's lengths.
 fn replay_cut(
+    list: &mut impl BufRead,
     h: Head,
     a: &mut [f64],
     b: &mut [f64],
     c: &mut [f64],
     out: &mut [f64],
     marks: &mut [bool],
-) -> Comparison {
-    if !read_floats(a) {
-        return malformed();
+) -> io::Result<Comparison> {
+    if !read_floats(list, a)? {
+        return Ok(malformed());
     }
-    if !read_floats(b) {
-        return malformed();
+    if !read_floats(list, b)? {
+        return Ok(malformed());
     }
-    if !read_floats(c) {
-        return malformed();
+    if !read_floats(list, c)? {
+        return Ok(malformed());
     }
-    if !read_marks(marks) {
-        return malformed();
+    if !read_marks(list, marks)? {
+        return Ok(malformed());
     }
-    left(h, a, b, c, out, marks)
+    left(list, h, a, b, c, out, marks)
 }
 
 // With slices that must be long enough.
 fn replay_in(
+    list: &mut impl BufRead,
     h: Head,
     a: &mut [f64],
     b: &mut [f64],
     c: &mut [f64],
     out: &mut [f64],
     marks: &mut [bool],
-) -> Comparison {
+) -> io::Result<Comparison> {
     let na = h.a;
     let nb = h.b;
     let nc = h.c;
     let no = h.out;
     let nm = h.marks;
     if na > a.len() {
-        return malformed();
+        return Ok(malformed());
     }
     if nb > b.len() {
-        return malformed();
+        return Ok(malformed());
     }
     if nc > c.len() {
-        return malformed();
+        return Ok(malformed());
     }
     if no > out.len() {
-        return malformed();
+        return Ok(malformed());
     }
     if nm > marks.len() {
-        return malformed();
+        return Ok(malformed());
     }
     replay_cut(
+        list,
         h,
         &mut a[..na],
         &mut b[..nb],
@@ -135,11 +141,11 @@ fn replay_in(
 }
 
 // There is room for a count of 25, and for a slice that is too long.
-pub fn replay_sized(h: Head) -> Comparison {
+pub fn replay_sized(list: &mut impl BufRead, h: Head) -> io::Result<Comparison> {
     let mut a = [0.0; 1260];
     let mut b = [0.0; 60];
     let mut c = [0.0; 60];
     let mut out = [0.0; 1260];
     let mut marks = [false; 30];
-    replay_in(h, &mut a, &mut b, &mut c, &mut out, &mut marks)
+    replay_in(list, h, &mut a, &mut b, &mut c, &mut out, &mut marks)
 }

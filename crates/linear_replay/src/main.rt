@@ -9,20 +9,22 @@ use call::{Head, replay_sized};
 use replay_text::comparison::{Comparison, malformed};
 use replay_text::tally::{no_cases, print_tally, with_next};
 use replay_text::tokens::{Token, is_number, next_token, read_numbers};
+use std::io;
+use std::io::{BufRead, Input};
 
 // More calls are not read: their number shows it.
 const MOST_CALLS: u64 = 1000000;
 
 // The call that starts with a token, the function's code.
-fn replay(first: Token) -> Comparison {
+fn replay(list: &mut impl BufRead, first: Token) -> io::Result<Comparison> {
     let mut w = [0u64; 8];
     if !is_number(first) {
-        return malformed();
+        return Ok(malformed());
     }
-    if !read_numbers(&mut w) {
-        return malformed();
+    if !read_numbers(list, &mut w)? {
+        return Ok(malformed());
     }
-    replay_sized(Head {
+    let head = Head {
         code: first.number,
         m: w[0] as usize,
         n: w[1] as usize,
@@ -32,20 +34,23 @@ fn replay(first: Token) -> Comparison {
         marks: w[5] as usize,
         out: w[6] as usize,
         number: w[7],
-    })
+    };
+    replay_sized(list, head)
 }
 
-fn main() {
+fn main(rt: HostRuntime) -> io::Result<()> {
+    let mut list = rt.reader();
     let mut t = no_cases();
     for _ in 0..MOST_CALLS {
-        let first = next_token();
+        let first = next_token(&mut list)?;
         if first.length == 0 {
             break;
         }
-        t = with_next(t, b"call ", replay(first));
+        let compared = replay(&mut list, first)?;
+        t = with_next(&rt, t, "call ", compared)?;
         if !t.well_formed {
             break;
         }
     }
-    print_tally(t, b" calls, ");
+    print_tally(&rt, t, " calls, ")
 }

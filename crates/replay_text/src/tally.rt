@@ -1,6 +1,6 @@
 // How many cases of a list were replayed, and how many of them differ.
 use crate::comparison::Comparison;
-use libc::STDOUT_FILENO;
+use std::io;
 
 // More are not counted: no list has so many.
 const MOST_CASES: u64 = 100000000;
@@ -34,43 +34,41 @@ pub fn malformed_after(t: Tally) -> Tally {
     }
 }
 
-fn print_difference(name: &[u8], number: u64) {
-    io::write_all(STDOUT_FILENO, name);
-    io::print_decimal(STDOUT_FILENO, number);
-    io::write_all(STDOUT_FILENO, b" differs\n");
-}
-
 // One case more. Where it differs its name and number are printed.
-pub fn with_case(t: Tally, name: &[u8], number: u64, c: Comparison) -> Tally {
+pub fn with_case(
+    rt: &impl Print,
+    t: Tally,
+    name: &str,
+    number: u64,
+    c: Comparison,
+) -> io::Result<Tally> {
     if !c.well_formed {
-        return malformed_after(t);
+        return Ok(malformed_after(t));
     }
     if c.same {
-        return Tally {
+        return Ok(Tally {
             cases: one_more(t.cases),
             ..t
-        };
+        });
     }
-    print_difference(name, number);
-    Tally {
+    println!(rt; "{name}{number} differs")?;
+    Ok(Tally {
         cases: one_more(t.cases),
         differ: one_more(t.differ),
         ..t
-    }
+    })
 }
 
 // The same, numbered from 1 on.
-pub fn with_next(t: Tally, name: &[u8], c: Comparison) -> Tally {
-    with_case(t, name, one_more(t.cases), c)
+pub fn with_next(rt: &impl Print, t: Tally, name: &str, c: Comparison) -> io::Result<Tally> {
+    with_case(rt, t, name, one_more(t.cases), c)
 }
 
 // Prints the counts, with the name of the cases between them.
-pub fn print_tally(t: Tally, name: &[u8]) {
-    io::print_decimal(STDOUT_FILENO, t.cases);
-    io::write_all(STDOUT_FILENO, name);
-    io::print_decimal(STDOUT_FILENO, t.differ);
-    io::write_all(STDOUT_FILENO, b" differ\n");
+pub fn print_tally(rt: &impl Print, t: Tally, name: &str) -> io::Result<()> {
+    println!(rt; "{}{name}{} differ", t.cases, t.differ)?;
     if !t.well_formed {
-        io::write_all(STDOUT_FILENO, b"the list is malformed\n");
+        println!(rt; "the list is malformed")?;
     }
+    Ok(())
 }

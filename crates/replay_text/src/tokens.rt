@@ -1,6 +1,8 @@
 // The tokens of a list, apart by spaces and line ends.
 use crate::digits::{digit_of, with_digit};
 use float_bits::float_of;
+use std::io;
+use std::io::BufRead;
 
 // No token is longer, with what stands before it.
 const MOST_BYTES: usize = 1000;
@@ -15,12 +17,6 @@ pub struct Token {
     pub number: u64,
 }
 
-#[derive(Clone, Copy)]
-enum Byte {
-    Is(u8),
-    End,
-}
-
 // A token as far as it was read, and whether it may go on.
 #[derive(Clone, Copy)]
 struct Reading {
@@ -28,13 +24,12 @@ struct Reading {
     more: bool,
 }
 
-fn next_byte() -> Byte {
-    let mut byte = [0u8; 1];
-    let n = io::read_full(0, &mut byte);
-    if n == 0 {
-        return Byte::End;
+fn next_byte(list: &mut impl BufRead) -> io::Result<Option<u8>> {
+    let byte = list.fill_buf()?.first().copied();
+    if byte.is_some() {
+        list.consume(1);
     }
-    Byte::Is(byte[0])
+    Ok(byte)
 }
 
 fn is_space(b: u8) -> bool {
@@ -71,13 +66,13 @@ fn read_byte(t: Token, b: u8) -> Reading {
     }
 }
 
-fn read_on(t: Token) -> Reading {
-    match next_byte() {
-        Byte::Is(b) => read_byte(t, b),
-        Byte::End => Reading {
+fn read_on(list: &mut impl BufRead, t: Token) -> io::Result<Reading> {
+    match next_byte(list)? {
+        Some(b) => Ok(read_byte(t, b)),
+        None => Ok(Reading {
             token: t,
             more: false,
-        },
+        }),
     }
 }
 
@@ -90,16 +85,16 @@ fn no_token() -> Token {
     }
 }
 
-pub fn next_token() -> Token {
+pub fn next_token(list: &mut impl BufRead) -> io::Result<Token> {
     let mut t = no_token();
     for _ in 0..MOST_BYTES {
-        let r = read_on(t);
+        let r = read_on(list, t)?;
         t = r.token;
         if !r.more {
             break;
         }
     }
-    t
+    Ok(t)
 }
 
 pub fn is_number(t: Token) -> bool {
@@ -107,37 +102,37 @@ pub fn is_number(t: Token) -> bool {
 }
 
 // Reads a number for each of the slice; false where there is none.
-pub fn read_numbers(xs: &mut [u64]) -> bool {
+pub fn read_numbers(list: &mut impl BufRead, xs: &mut [u64]) -> io::Result<bool> {
     for i in 0..xs.len() {
-        let t = next_token();
+        let t = next_token(list)?;
         if !is_number(t) {
-            return false;
+            return Ok(false);
         }
         xs[i] = t.number;
     }
-    true
+    Ok(true)
 }
 
 // The same for floats, by their bits.
-pub fn read_floats(xs: &mut [f64]) -> bool {
+pub fn read_floats(list: &mut impl BufRead, xs: &mut [f64]) -> io::Result<bool> {
     for i in 0..xs.len() {
-        let t = next_token();
+        let t = next_token(list)?;
         if !is_number(t) {
-            return false;
+            return Ok(false);
         }
         xs[i] = float_of(t.number);
     }
-    true
+    Ok(true)
 }
 
 // The same for marks: 1 is true.
-pub fn read_marks(xs: &mut [bool]) -> bool {
+pub fn read_marks(list: &mut impl BufRead, xs: &mut [bool]) -> io::Result<bool> {
     for i in 0..xs.len() {
-        let t = next_token();
+        let t = next_token(list)?;
         if !is_number(t) {
-            return false;
+            return Ok(false);
         }
         xs[i] = t.number == 1;
     }
-    true
+    Ok(true)
 }

@@ -4,6 +4,8 @@
 use replay_text::comparison::{Comparison, both, equal_if, malformed, same_floats, same_numbers};
 use replay_text::tokens::{Token, next_token};
 use run::{Event, Kind, Rejection, Stop};
+use std::io;
+use std::io::BufRead;
 
 const QUESTION: u64 = 0x71;
 
@@ -109,32 +111,43 @@ pub fn first_of(xs: &[f64], count: usize) -> &[f64] {
 }
 
 // Reads the words of a point, which must have so many numbers.
-fn same_point(point: &[f64], numbers: usize) -> Comparison {
-    let c = same_floats(first_of(point, numbers));
-    both(c, equal_if(point.len() == numbers))
+fn same_point(list: &mut impl BufRead, point: &[f64], numbers: usize) -> io::Result<Comparison> {
+    let c = same_floats(list, first_of(point, numbers))?;
+    Ok(both(c, equal_if(point.len() == numbers)))
 }
 
 // The numbers behind the letter that was read, and then the words of the point.
-fn same_rest(letter: u64, line: &[u64; 8], point: &[f64], numbers: usize) -> Comparison {
+fn same_rest(
+    list: &mut impl BufRead,
+    letter: u64,
+    line: &[u64; 8],
+    point: &[f64],
+    numbers: usize,
+) -> io::Result<Comparison> {
     let words = &line[..];
     match letter {
         QUESTION => {
-            let c = same_numbers(&words[1..4]);
-            both(c, same_point(point, numbers))
+            let c = same_numbers(list, &words[1..4])?;
+            Ok(both(c, same_point(list, point, numbers)?))
         }
         FINISH => {
-            let c = same_numbers(&words[1..8]);
-            both(c, same_point(point, numbers))
+            let c = same_numbers(list, &words[1..8])?;
+            Ok(both(c, same_point(list, point, numbers)?))
         }
-        REFUSED => same_numbers(&words[1..2]),
-        _ => malformed(),
+        REFUSED => same_numbers(list, &words[1..2]),
+        _ => Ok(malformed()),
     }
 }
 
 // Reads the answer that the list has next, with so many words for a point.
-pub fn same_answer(answer: Event, point: &[f64], numbers: usize) -> Comparison {
+pub fn same_answer(
+    list: &mut impl BufRead,
+    answer: Event,
+    point: &[f64],
+    numbers: usize,
+) -> io::Result<Comparison> {
     let line = line_of(answer);
-    let t = next_token();
+    let t = next_token(list)?;
     let c = same_letter(&line, t);
-    both(c, same_rest(t.text, &line, point, numbers))
+    Ok(both(c, same_rest(list, t.text, &line, point, numbers)?))
 }

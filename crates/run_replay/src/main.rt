@@ -6,42 +6,48 @@
 mod answer;
 mod replay;
 
-use libc::STDOUT_FILENO;
 use replay::{Counts, nothing_yet, replay};
 use replay_text::tally::print_tally;
 use replay_text::tokens::next_token;
+use std::io;
+use std::io::{BufRead, Input};
 
 // More runs are not read: their number shows it.
 const MOST_RUNS: u64 = 1000000;
 
 // Runs until the list ends, or is not well formed.
-fn replay_list(start: &mut [f64], rows: &mut [f64], area: &mut [f64]) -> Counts {
+fn replay_list(
+    rt: &impl Print,
+    list: &mut impl BufRead,
+    start: &mut [f64],
+    rows: &mut [f64],
+    area: &mut [f64],
+) -> io::Result<Counts> {
     let mut k = nothing_yet();
     for _ in 0..MOST_RUNS {
-        let first = next_token();
+        let first = next_token(list)?;
         if first.length == 0 {
             break;
         }
-        k = replay(k, first, start, rows, area);
+        k = replay(rt, list, k, first, start, rows, area)?;
         let calls = k.calls;
         if !calls.well_formed {
             break;
         }
     }
-    k
+    Ok(k)
 }
 
 // There is room for a start of 30 variables, and for rows that are too many.
-fn replay_sized() -> Counts {
+fn replay_sized(rt: &impl Print, list: &mut impl BufRead) -> io::Result<Counts> {
     let mut start = [0.0; 60];
     let mut rows = [0.0; 1000];
     let mut area = [0.0; 8000];
-    replay_list(&mut start, &mut rows, &mut area)
+    replay_list(rt, list, &mut start, &mut rows, &mut area)
 }
 
-fn main() {
-    let k = replay_sized();
-    io::print_decimal(STDOUT_FILENO, k.runs);
-    io::write_all(STDOUT_FILENO, b" runs, ");
-    print_tally(k.calls, b" calls, ");
+fn main(rt: HostRuntime) -> io::Result<()> {
+    let k = replay_sized(&rt, &mut rt.reader())?;
+    print!(rt; "{} runs, ", k.runs)?;
+    print_tally(&rt, k.calls, " calls, ")
 }

@@ -4,11 +4,12 @@
 use crate::answer::{first_of, same_answer};
 use float_bits::float_of;
 use interval::Scalar;
-use libc::STDOUT_FILENO;
 use replay_text::comparison::Comparison;
 use replay_text::tally::{Tally, malformed_after, no_cases, one_more, with_case};
 use replay_text::tokens::{Token, next_token, read_floats, read_numbers};
 use run::{Returned, State};
+use std::io;
+use std::io::BufRead;
 
 const RUN: u64 = 0x72756E;
 
@@ -73,57 +74,70 @@ fn malformed(k: Counts) -> Counts {
 }
 
 // The number of a run in which a call differs, before that of the call.
-fn print_run(run: u64, c: Comparison) {
+fn print_run(rt: &impl Print, run: u64, c: Comparison) -> io::Result<()> {
     if c.well_formed && !c.same {
-        io::write_all(STDOUT_FILENO, b"run ");
-        io::print_decimal(STDOUT_FILENO, run);
+        print!(rt; "run {run}")?;
     }
+    Ok(())
 }
 
 // One call more, with how its answer compares.
-fn counted(k: Counts, c: Comparison) -> Counts {
-    print_run(k.runs, c);
-    Counts {
-        calls: with_case(k.calls, b", call ", k.call, c),
+fn counted(rt: &impl Print, k: Counts, c: Comparison) -> io::Result<Counts> {
+    print_run(rt, k.runs, c)?;
+    Ok(Counts {
+        calls: with_case(rt, k.calls, ", call ", k.call, c)?,
         call: one_more(k.call),
         more: c.well_formed,
         ..k
-    }
+    })
 }
 
 // The answer to a call, where points have so many numbers.
-fn compared(k: Counts, out: Returned, area: &[f64], numbers: usize) -> Counts {
+fn compared(
+    rt: &impl Print,
+    list: &mut impl BufRead,
+    k: Counts,
+    out: Returned,
+    area: &[f64],
+    numbers: usize,
+) -> io::Result<Counts> {
     let answer = out.event;
     let state = out.state;
-    counted(k, same_answer(answer, run::point(state, area), numbers))
+    let c = same_answer(list, answer, run::point(state, area), numbers)?;
+    counted(rt, k, c)
 }
 
-fn read_cut(m: usize, count: usize, rows: &mut [f64]) -> Reply {
+fn read_cut(
+    list: &mut impl BufRead,
+    m: usize,
+    count: usize,
+    rows: &mut [f64],
+) -> io::Result<Reply> {
     if count > rows.len() {
-        return Reply::Malformed;
+        return Ok(Reply::Malformed);
     }
-    if !read_floats(&mut rows[..count]) {
-        return Reply::Malformed;
+    if !read_floats(list, &mut rows[..count])? {
+        return Ok(Reply::Malformed);
     }
-    Reply::Rows(m, count)
+    Ok(Reply::Rows(m, count))
 }
 
-fn read_rows(rows: &mut [f64]) -> Reply {
+fn read_rows(list: &mut impl BufRead, rows: &mut [f64]) -> io::Result<Reply> {
     let mut w = [0u64; 2];
-    if !read_numbers(&mut w) {
-        return Reply::Malformed;
+    if !read_numbers(list, &mut w)? {
+        return Ok(Reply::Malformed);
     }
-    read_cut(w[0] as usize, w[1] as usize, rows)
+    read_cut(list, w[0] as usize, w[1] as usize, rows)
 }
 
-fn read_reply(rows: &mut [f64]) -> Reply {
-    let t = next_token();
+fn read_reply(list: &mut impl BufRead, rows: &mut [f64]) -> io::Result<Reply> {
+    let t = next_token(list)?;
     let text = t.text;
     match text {
-        ROWS => read_rows(rows),
-        NONE => Reply::NoRows,
-        END => Reply::End,
-        _ => Reply::Malformed,
+        ROWS => read_rows(list, rows),
+        NONE => Ok(Reply::NoRows),
+        END => Ok(Reply::End),
+        _ => Ok(Reply::Malformed),
     }
 }
 
@@ -147,62 +161,81 @@ fn made(reply: Reply, st: State, rows: &[f64], area: &mut [f64]) -> Returned {
 }
 
 // The next reply of a run, or its end.
-fn replay_reply(p: Progress, numbers: usize, rows: &mut [f64], area: &mut [f64]) -> Progress {
+fn replay_reply(
+    rt: &impl Print,
+    list: &mut impl BufRead,
+    p: Progress,
+    numbers: usize,
+    rows: &mut [f64],
+    area: &mut [f64],
+) -> io::Result<Progress> {
     let before = p.counts;
     let out = p.out;
     let state = out.state;
-    let reply = read_reply(rows);
+    let reply = read_reply(list, rows)?;
     let k = after(before, reply);
     if !k.more {
-        return Progress { counts: k, out };
+        return Ok(Progress { counts: k, out });
     }
     let next = made(reply, state, rows, area);
-    let counts = compared(k, next, area, numbers);
-    Progress { counts, out: next }
+    let counts = compared(rt, list, k, next, area, numbers)?;
+    Ok(Progress { counts, out: next })
 }
 
 fn replay_replies(
+    rt: &impl Print,
+    list: &mut impl BufRead,
     before: Counts,
     first: Returned,
     numbers: usize,
     rows: &mut [f64],
     area: &mut [f64],
-) -> Counts {
-    let counts = compared(before, first, area, numbers);
+) -> io::Result<Counts> {
+    let counts = compared(rt, list, before, first, area, numbers)?;
     let mut p = Progress { counts, out: first };
     for _ in 0..MOST {
-        p = replay_reply(p, numbers, rows, area);
+        p = replay_reply(rt, list, p, numbers, rows, area)?;
         let k = p.counts;
         if !k.more {
-            return k;
+            return Ok(k);
         }
     }
-    p.counts
+    Ok(p.counts)
 }
 
 // With a start of the run's length.
 fn replay_from(
+    rt: &impl Print,
+    list: &mut impl BufRead,
     k: Counts,
     h: Head,
     start: &mut [f64],
     rows: &mut [f64],
     area: &mut [f64],
-) -> Counts {
-    if !read_floats(start) {
-        return malformed(k);
+) -> io::Result<Counts> {
+    if !read_floats(list, start)? {
+        return Ok(malformed(k));
     }
     let first = run::begin(h.n, h.s, h.limit, start, h.max_step, area);
-    replay_replies(k, first, start.len(), rows, area)
+    replay_replies(rt, list, k, first, start.len(), rows, area)
 }
 
 // With a start that must be long enough.
-fn replay_cut(k: Counts, h: Head, start: &mut [f64], rows: &mut [f64], area: &mut [f64]) -> Counts {
+fn replay_cut(
+    rt: &impl Print,
+    list: &mut impl BufRead,
+    k: Counts,
+    h: Head,
+    start: &mut [f64],
+    rows: &mut [f64],
+    area: &mut [f64],
+) -> io::Result<Counts> {
     let n = h.n;
     if n > start.len() / 2 {
-        return malformed(k);
+        return Ok(malformed(k));
     }
     let numbers = 2 * n;
-    replay_from(k, h, &mut start[..numbers], rows, area)
+    replay_from(rt, list, k, h, &mut start[..numbers], rows, area)
 }
 
 fn head_of(w: &[u64; 5]) -> Head {
@@ -217,33 +250,42 @@ fn head_of(w: &[u64; 5]) -> Head {
     }
 }
 
-fn replay_run(k: Counts, start: &mut [f64], rows: &mut [f64], area: &mut [f64]) -> Counts {
+fn replay_run(
+    rt: &impl Print,
+    list: &mut impl BufRead,
+    k: Counts,
+    start: &mut [f64],
+    rows: &mut [f64],
+    area: &mut [f64],
+) -> io::Result<Counts> {
     let mut w = [0u64; 5];
-    if !read_numbers(&mut w) {
-        return malformed(k);
+    if !read_numbers(list, &mut w)? {
+        return Ok(malformed(k));
     }
-    replay_cut(k, head_of(&w), start, rows, area)
+    replay_cut(rt, list, k, head_of(&w), start, rows, area)
 }
 
 // The run that starts with a token.
 pub fn replay(
+    rt: &impl Print,
+    list: &mut impl BufRead,
     k: Counts,
     first: Token,
     start: &mut [f64],
     rows: &mut [f64],
     area: &mut [f64],
-) -> Counts {
+) -> io::Result<Counts> {
     if first.text != RUN {
-        return malformed(k);
+        return Ok(malformed(k));
     }
     let begun = Counts {
         call: 0,
         more: true,
         ..k
     };
-    let ended = replay_run(begun, start, rows, area);
-    Counts {
+    let ended = replay_run(rt, list, begun, start, rows, area)?;
+    Ok(Counts {
         runs: one_more(ended.runs),
         ..ended
-    }
+    })
 }

@@ -2,14 +2,15 @@
 // All of it is sheet::settle_text; here a text is read and a slot is printed.
 #![tactic(auto)]
 
-ghost use Rattle.std.specs.Prelude.{◌≡◌, length, take};
-ghost use Rattle.io.specs.Counts.{IsPrefixLen};
+ghost use Rattle.std.specs.Prelude.{◌≡◌, ◌<◌, length, take, IfOk, IfSome, OnOk};
+ghost use Rattle.std.specs.Io.KnownBytes.{Appends, Consumes, IsAtEnd};
 ghost use Rattle.run.specs.Limits.{AREA};
-ghost use Rattle.settle.specs.Printed.{before_zero};
+ghost use Rattle.settle.specs.Printed.{IsPrefixLen, before_zero};
 ghost use Rattle.sheet.specs.Printing.{SLOT};
 ghost use Rattle.sheet.specs.Settling.{print_of};
 
-use libc::{STDIN_FILENO, STDOUT_FILENO};
+use std::io;
+use std::io::{Input, Read, Write};
 
 // How many bytes stand before the first zero byte.
 fn printed(slot: &[u8]) -> usize
@@ -34,16 +35,45 @@ fn settled(text: &[u8], area: &mut [f64], slot: &mut [u8]) -> usize
     printed(slot)
 }
 
-fn settle(text: &[u8]) {
+fn print_settled<W: Write>(text: &[u8], output: &mut W) -> io::Result<()>
+    ensures { OnOk result (Appends (W.contents output.old) (W.contents output.new)
+        (print_of text.now)) }
+{
     let mut area = [0.0; 8000];
     let mut slot = [0u8; 320];
     let length = settled(text, &mut area, &mut slot);
-    io::write_all(STDOUT_FILENO, &slot[..length]);
+    output.write_all(&slot[..length])
 }
 
-// One byte more than a sheet may have is enough to see that a text is too long.
-fn main() {
+// Reads until the bytes are full or the input ends, and returns how many it put at their start.
+fn read_full<R: Read>(input: &mut R, bytes: &mut [u8]) -> io::Result<usize>
+    ensures prefix_len { IfOk result (λ n. IsPrefixLen n bytes.new) }
+    ensures text { IfOk result (λ n. Consumes (R.remaining input.old) (R.remaining input.new)
+        (take n bytes.new)) }
+    ensures end { IfOk result (λ n. n < length bytes.old → IsAtEnd (R.remaining input.new)) }
+{
+    let mut done = 0;
+    while done < bytes.len() {
+        let n = input.read(&mut bytes[done..])?;
+        if n == 0 {
+            break;
+        }
+        done += n;
+    }
+    Ok(done)
+}
+
+// Prints just what the whole input prints. One byte more than a sheet may have is enough to see that a text is too
+// long.
+fn settle<R: Read, W: Write>(input: &mut R, output: &mut W) -> io::Result<()>
+    ensures { OnOk result (IfSome (R.remaining input.old) (λ text.
+        Appends (W.contents output.old) (W.contents output.new) (print_of text))) }
+{
     let mut text = [0u8; 4097];
-    let length = io::read_full(STDIN_FILENO, &mut text);
-    settle(&text[..length]);
+    let length = read_full(input, &mut text)?;
+    print_settled(&text[..length], output)
+}
+
+fn main(rt: HostRuntime) -> io::Result<()> {
+    settle(&mut rt.reader(), &mut io::writer(&rt))
 }

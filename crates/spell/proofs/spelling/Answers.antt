@@ -10,7 +10,7 @@ use lib.ListN.{length, replicate, take, length-append}
 use lib.Seq.{take_at, length-take-le}
 use Rattle.interval.specs.Result.{ok, refused}
 use Rattle.interval.proofs.Results.{refused_ok}
-use Rattle.io.specs.Counts.{IsPrefixLen}
+use Rattle.spell.specs.Counts.{IsPrefixLen}
 use Rattle.sheet.specs.Lines.{padded_to}
 use Rattle.sheet.specs.Sheet.{most_bytes, read_of}
 use Rattle.sheet.specs.Spelling.{AfterSpelling, after_spelling, returned_in, written_text}
