@@ -358,9 +358,9 @@ module _ (st : State) (w : Memory) (few : Few st) (b : st.counts.iterations < st
       (shift_from st.moving (landed_at st w).constraints w.landed) _
       (shifted_yields st.moving (landed_at st w).constraints w.landed)
       (λ s. elim s as (λ x. ShiftSized x → Kept st.sizes st.counts.question (elim x as (λ y. AfterSlots) [
-            | to next ↦ question st (with_asked st w next) kind.Correction st.counts.corrections
-            | stay ↦ judge st w theta
-          ])) [
+        | to next ↦ question st (with_asked st w next) kind.Correction st.counts.corrections
+        | stay ↦ judge st w theta
+      ])) [
         | to next ↦ λ h.
             record {
               sizes_kept = refl;

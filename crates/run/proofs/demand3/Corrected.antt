@@ -45,10 +45,10 @@ correct_after law S st w L few theta theta-is =
     or_refuse_after S st.sizes st w (shift_from st.moving (landed_at st w).constraints w.landed) _
     (shifted_yields st.moving (landed_at st w).constraints w.landed)
     (λ s. elim s as (λ x. shift_from st.moving (landed_at st w).constraints w.landed ≡ ok x → ShiftSized x
-        → After S st.sizes (elim x as (λ y. AfterSlots) [
-          | to next ↦ question st (with_asked st w next) kind.Correction st.counts.corrections
-          | stay ↦ judge st w theta
-        ])) [
+    → After S st.sizes (elim x as (λ y. AfterSlots) [
+      | to next ↦ question st (with_asked st w next) kind.Correction st.counts.corrections
+      | stay ↦ judge st w theta
+    ])) [
       | to next ↦ λ e u.
           correction_after S st (with_asked st w next) S.history.mu L.consistent L.count_bounds
           L.below_limit few L.landed-rows L.landed_point L.landed_asked

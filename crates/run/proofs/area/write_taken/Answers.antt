@@ -50,13 +50,13 @@ copy-requires-2 c =
     let count = (each_same c.numbers_in-count.ensures).landed-rows in
     let f : c.numbers_in-count.result.landed_rows ≤ rows_len =
     omega (arith, count, landed_rows_fit c.args.st c.requires.1) in
-    let long = (let the-long-cleared : length c.clear_from.new.area ≡ area_length c.args.st.sizes = 
+    let long = (let the-long-cleared : length c.clear_from.new.area ≡ area_length c.args.st.sizes =
     omega (
-  arith,
-  c.clear_from.auto,
-  c.copy.auto,
-  c.requires.0,
-) in the-long-cleared) in (
+      arith,
+      c.clear_from.auto,
+      c.copy.auto,
+      c.requires.0,
+    ) in the-long-cleared) in (
       slots_apart z indices.landed_rows indices.standing_rows at.landed-rows at.standing-rows f f refl,
       place_room z indices.landed_rows (lit< tt) at.landed-rows f long,
       place_room z indices.standing_rows (lit< tt) at.standing-rows f long,
@@ -74,31 +74,31 @@ clear_from-requires-2 c =
     (omega (
       arith,
       c.copy-2.auto,
-      (let the-long-cleared : length c.clear_from.new.area ≡ area_length c.args.st.sizes = 
-    omega (
-  arith,
-  c.clear_from.auto,
-  c.copy.auto,
-  c.requires.0,
-) in the-long-cleared),
+      (let the-long-cleared : length c.clear_from.new.area ≡ area_length c.args.st.sizes =
+          omega (
+            arith,
+            c.clear_from.auto,
+            c.copy.auto,
+            c.requires.0,
+          ) in the-long-cleared),
     ))
 
 pub write-requires : goal.write-requires
 write-requires c =
     place_room c.args.st.sizes indices.curvature (lit< tt)
     (each_same c.places-at.ensures).curvature
-    (omega (arith, c.requires.3, curvature_fits c.args.st c.requires.1)) ((let the-long_after : length c.clear_from-2.new.area ≡ area_length c.args.st.sizes = 
+    (omega (arith, c.requires.3, curvature_fits c.args.st c.requires.1)) ((let the-long_after : length c.clear_from-2.new.area ≡ area_length c.args.st.sizes =
     omega (
       arith,
       c.clear_from-2.auto,
       c.copy-2.auto,
-      (let the-long-cleared : length c.clear_from.new.area ≡ area_length c.args.st.sizes = 
-    omega (
-  arith,
-  c.clear_from.auto,
-  c.copy.auto,
-  c.requires.0,
-) in the-long-cleared),
+      (let the-long-cleared : length c.clear_from.new.area ≡ area_length c.args.st.sizes =
+          omega (
+            arith,
+            c.clear_from.auto,
+            c.copy.auto,
+            c.requires.0,
+          ) in the-long-cleared),
     ) in the-long_after))
 
 pub overflow_add-at : goal.overflow_add-at
@@ -121,19 +121,19 @@ write-requires-2 c =
       slot_room c.args.st.sizes indices.filter (lit< tt),
       c.requires.2,
       c.write.auto,
-      (let the-long_after : length c.clear_from-2.new.area ≡ area_length c.args.st.sizes = 
-    omega (
-      arith,
-      c.clear_from-2.auto,
-      c.copy-2.auto,
-      (let the-long-cleared : length c.clear_from.new.area ≡ area_length c.args.st.sizes = 
-    omega (
-  arith,
-  c.clear_from.auto,
-  c.copy.auto,
-  c.requires.0,
-) in the-long-cleared),
-    ) in the-long_after),
+      (let the-long_after : length c.clear_from-2.new.area ≡ area_length c.args.st.sizes =
+          omega (
+            arith,
+            c.clear_from-2.auto,
+            c.copy-2.auto,
+            (let the-long-cleared : length c.clear_from.new.area ≡ area_length c.args.st.sizes =
+                omega (
+                  arith,
+                  c.clear_from.auto,
+                  c.copy.auto,
+                  c.requires.0,
+                ) in the-long-cleared),
+          ) in the-long_after),
     )
 
 pub shape_of-area : goal.shape_of-area
@@ -141,19 +141,19 @@ shape_of-area c = omega (
   arith,
   c.write-2.auto,
   c.write.auto,
-  (let the-long_after : length c.clear_from-2.new.area ≡ area_length c.args.st.sizes = 
-    omega (
-      arith,
-      c.clear_from-2.auto,
-      c.copy-2.auto,
-      (let the-long-cleared : length c.clear_from.new.area ≡ area_length c.args.st.sizes = 
-    omega (
-  arith,
-  c.clear_from.auto,
-  c.copy.auto,
-  c.requires.0,
-) in the-long-cleared),
-    ) in the-long_after),
+  (let the-long_after : length c.clear_from-2.new.area ≡ area_length c.args.st.sizes =
+      omega (
+        arith,
+        c.clear_from-2.auto,
+        c.copy-2.auto,
+        (let the-long-cleared : length c.clear_from.new.area ≡ area_length c.args.st.sizes =
+            omega (
+              arith,
+              c.clear_from.auto,
+              c.copy.auto,
+              c.requires.0,
+            ) in the-long-cleared),
+      ) in the-long_after),
   c.requires.0,
 )
 

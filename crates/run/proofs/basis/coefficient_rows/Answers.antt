@@ -34,11 +34,10 @@ nonzero_rem-p c =
     rows_positive c.args.m c.args.r c.loop-p-test.true
 
 pub coefficient_at-requires : goal.coefficient_at-requires
-coefficient_at-requires c =
-    (
-      omega (arith, c.requires.0, packed_row c.args.m c.args.r c.loop-p-test.true),
-      omega (arith, c.requires.1.0, packed_column c.args.m c.args.r c.loop-p-test.true),
-    )
+coefficient_at-requires c = (
+  omega (arith, c.requires.0, packed_row c.args.m c.args.r c.loop-p-test.true),
+  omega (arith, c.requires.1.0, packed_column c.args.m c.args.r c.loop-p-test.true),
+)
 
 pub overflow_step-p : goal.overflow_step-p
 overflow_step-p c =

@@ -25,15 +25,14 @@ landed_point-requires c =
     (p.0, p.1.bounded.few_variables)
 
 pub shift_from-shifted-requires : goal.shift_from-shifted-requires
-shift_from-shifted-requires c =
-    (
-      record {
-        few = rw c.landed_counts.ensures
-            (landed_rows_of c.requires.1.bounded);
-        marks = c.well_formed.0.1.1.1.1.1.1.1.1.1.1.0.1.0.1;
-      },
-      refl,
-    )
+shift_from-shifted-requires c = (
+  record {
+    few = rw c.landed_counts.ensures
+        (landed_rows_of c.requires.1.bounded);
+    marks = c.well_formed.0.1.1.1.1.1.1.1.1.1.1.0.1.0.1;
+  },
+  refl,
+)
 
 pub judge_landed-requires : goal.judge_landed-requires
 judge_landed-requires c =

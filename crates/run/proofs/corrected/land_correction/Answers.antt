@@ -41,7 +41,7 @@ pub returns-then-kept : goal.returns-then-kept
 returns-then-kept c w h t l =
     let a = c.args in
     let new : result_of c.violation-new.result ≡ violation_of (rows_at a.st a.m a.rows.now).constraints =
-        rw c.row_counts.ensures at c.violation-new.ensures in
+    rw c.row_counts.ensures at c.violation-new.ensures in
     let old = c.landed_violation-old.ensures w h.within.holds l.landed-rows in
     let e = nearer_read c.is_nearer.ensures new old
     ∙ ap truth_of c.in-Value.is in
@@ -57,7 +57,7 @@ pub returns-in-Value : goal.returns-in-Value
 returns-in-Value c w h t l =
     let a = c.args in
     let new : result_of c.violation-new.result ≡ violation_of (rows_at a.st a.m a.rows.now).constraints =
-        rw c.row_counts.ensures at c.violation-new.ensures in
+    rw c.row_counts.ensures at c.violation-new.ensures in
     let old = c.landed_violation-old.ensures w h.within.holds l.landed-rows in
     let e = nearer_read c.is_nearer.ensures new old
     ∙ ap truth_of c.in-Value.is in
@@ -77,7 +77,7 @@ returns-in-Refused c w h t l =
     let a = c.args in
     let old = c.landed_violation-old.ensures w h.within.holds l.landed-rows in
     let new : result_of c.violation-new.result ≡ violation_of (rows_at a.st a.m a.rows.now).constraints =
-        rw c.row_counts.ensures at c.violation-new.ensures in
+    rw c.row_counts.ensures at c.violation-new.ensures in
     let e = nearer_read c.is_nearer.ensures new old ∙ ap truth_of c.in-Refused.is in
     correction_by a.st w a.m a.rows.now a.theta
     (or_refused a.st w (next a.st w a.m a.rows.now a.theta) e (c.refuse.ensures w h.within))

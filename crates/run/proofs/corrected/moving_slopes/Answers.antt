@@ -30,13 +30,12 @@ nonzero_rem-p c =
     (let the-some-variable : (p : ℕ) → p < c.args.c.m * c.args.c.n → 0 < c.args.c.n = λ p h. rows_positive c.args.c.m c.args.c.n {p = p} h in the-some-variable c.loop-p.p c.loop-p-test.true)
 
 pub slope_of-v-requires : goal.slope_of-v-requires
-slope_of-v-requires c =
-    (
-      rw c.constraints-e.ensures
-          (constraints_small c.requires.0.few),
-      omega
-          (arith, (let the-room : c.args.c.m * c.args.c.n ≤ 144 = few c.requires.0.few.few_constraints c.requires.0.few.few_variables in the-room), c.loop-p-test.true, div-le_self c.loop-p.p c.args.c.n),
-    )
+slope_of-v-requires c = (
+  rw c.constraints-e.ensures
+      (constraints_small c.requires.0.few),
+  omega
+      (arith, (let the-room : c.args.c.m * c.args.c.n ≤ 144 = few c.requires.0.few.few_constraints c.requires.0.few.few_variables in the-room), c.loop-p-test.true, div-le_self c.loop-p.p c.args.c.n),
+)
 
 pub nonzero_rem-p-in-loop-p : goal.nonzero_rem-p-in-loop-p
 nonzero_rem-p-in-loop-p c =

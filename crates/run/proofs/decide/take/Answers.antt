@@ -20,7 +20,7 @@ unfolding of_bits
 take_with-requires c =
     let mu = c.args.st.search.mu in
     let g = c.well_formed.0.1.1.1.1.1.0.1.1.0.1.1 in
-    let third = sym ((let the-divided : result_of c.div.result ≡ div_of c.args.st.search.mu (degenerate three64) = 
+    let third = sym ((let the-divided : result_of c.div.result ≡ div_of c.args.st.search.mu (degenerate three64) =
     let mu = c.args.st.search.mu in
     c.div.ensures.value ∙ ap (λ (x : Scalar). div_of mu x) c.degenerate.ensures in the-divided))
     ∙ ap result_of c.in-Value-div.is in
@@ -34,7 +34,7 @@ returns-in-Value-div c w h =
     let a = c.args in
     let near = sym (c.linear_of.ensures w h.landed_is) ∙ ap truth_of
     c.in-Value.is in
-    let third = sym ((let the-divided : result_of c.div.result ≡ div_of c.args.st.search.mu (degenerate three64) = 
+    let third = sym ((let the-divided : result_of c.div.result ≡ div_of c.args.st.search.mu (degenerate three64) =
     let mu = c.args.st.search.mu in
     c.div.ensures.value ∙ ap (λ (x : Scalar). div_of mu x) c.degenerate.ensures in the-divided)) ∙ ap result_of
     c.in-Value-div.is in
@@ -54,7 +54,7 @@ returns-in-Refused-div c w h =
     let a = c.args in
     let near = sym (c.linear_of.ensures w h.landed_is) ∙ ap truth_of
     c.in-Value.is in
-    let third = sym ((let the-divided : result_of c.div.result ≡ div_of c.args.st.search.mu (degenerate three64) = 
+    let third = sym ((let the-divided : result_of c.div.result ≡ div_of c.args.st.search.mu (degenerate three64) =
     let mu = c.args.st.search.mu in
     c.div.ensures.value ∙ ap (λ (x : Scalar). div_of mu x) c.degenerate.ensures in the-divided)) ∙ ap result_of
     c.in-Refused-div.is in

@@ -29,13 +29,12 @@ pub slice_bounds-learn-end : goal.slice_bounds-learn-end
 slice_bounds-learn-end c = sym (length-take-le _ _ ((let the-fits : 2 * (c.args.st.sizes.n * c.args.st.sizes.n) ≤ 288 = curvature_fits c.args.st.sizes c.args.st.sizes.n c.requires.1.bounded.few_variables in the-fits)))
 
 pub learn-requires : goal.learn-requires
-learn-requires c =
-    (
-      c.requires.0,
-      standing_rows_of c.requires.1.bounded,
-      landed_rows_of c.requires.1.bounded,
-      length-take-le _ _ ((let the-fits : 2 * (c.args.st.sizes.n * c.args.st.sizes.n) ≤ 288 = curvature_fits c.args.st.sizes c.args.st.sizes.n c.requires.1.bounded.few_variables in the-fits)),
-    )
+learn-requires c = (
+  c.requires.0,
+  standing_rows_of c.requires.1.bounded,
+  landed_rows_of c.requires.1.bounded,
+  length-take-le _ _ ((let the-fits : 2 * (c.args.st.sizes.n * c.args.st.sizes.n) ≤ 288 = curvature_fits c.args.st.sizes c.args.st.sizes.n c.requires.1.bounded.few_variables in the-fits)),
+)
 
 pub refuse-requires : goal.refuse-requires
 refuse-requires c =

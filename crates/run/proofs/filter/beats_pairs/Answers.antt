@@ -17,7 +17,7 @@ unfolding all_to
 loop-i-preserved c = (
   search rules,
   rw add-one (c.still_beats-so_far.ensures
-  ∙ rw (c.loop-i.invariant.1, get_or_default c.args.pairs.now c.loop-i.i _ no_pair c.loop-i-test.true)),
+      ∙ rw (c.loop-i.invariant.1, get_or_default c.args.pairs.now c.loop-i.i _ no_pair c.loop-i-test.true)),
 )
 
 pub returns : goal.returns

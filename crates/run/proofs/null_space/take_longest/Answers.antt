@@ -9,23 +9,29 @@ use borrow.Author.Rules.{rules}
 use Rattle.run.proofs.null_space.take_longest.Goals as goal
 
 pub overflow_mul-best : goal.overflow_mul-best
-overflow_mul-best c = omega (arith, (let the-near : c.longest-best.result.place < 12 = 
-    omega (
-      arith,
-      c.requires.0,
-      longest_place _ _ _ c.longest-best.ensures,
-      longest_low c.args.k c.args.left.now (c.args.k - 1),
-    ) in the-near))
+overflow_mul-best c = omega (
+  arith,
+  (let the-near : c.longest-best.result.place < 12 =
+      omega (
+        arith,
+        c.requires.0,
+        longest_place _ _ _ c.longest-best.ensures,
+        longest_low c.args.k c.args.left.now (c.args.k - 1),
+      ) in the-near),
+)
 
 pub unit-requires : goal.unit-requires
 unit-requires c = (
-  omega (arith, (let the-near : c.longest-best.result.place < 12 = 
-    omega (
-      arith,
-      c.requires.0,
-      longest_place _ _ _ c.longest-best.ensures,
-      longest_low c.args.k c.args.left.now (c.args.k - 1),
-    ) in the-near)),
+  omega (
+    arith,
+    (let the-near : c.longest-best.result.place < 12 =
+        omega (
+          arith,
+          c.requires.0,
+          longest_place _ _ _ c.longest-best.ensures,
+          longest_low c.args.k c.args.left.now (c.args.k - 1),
+        ) in the-near),
+  ),
   (
     omega (
       arith,

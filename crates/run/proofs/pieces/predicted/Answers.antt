@@ -1,6 +1,5 @@
 -- `predicted` meets its contract: where the checks passed the counts fit.
 use Rattle.run.proofs.pieces.predicted.Goals as goal
-
 use Rattle.run.specs.Pieces.{predicted_reply}
 use Rattle.run.proofs.PieceLaws.{finished, sized_passed, wants_passed}
 use borrow.Author.Rules.{rules}

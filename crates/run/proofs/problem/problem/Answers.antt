@@ -21,10 +21,13 @@ slopes-requires c =
 
 pub squeeze-requires : goal.squeeze-requires
 squeeze-requires c =
-    let p = c.requires.few_rows.1 in
-    ((let the-sum_near : Small c.sum-e.result = 
-    let f = c.requires.few_rows.0 in
-    subst Small (sym c.sum-e.ensures) (sum_small f) in the-sum_near), p.few, p.long)
+    let p = c.requires.few_rows.1 in (
+      (let the-sum_near : Small c.sum-e.result =
+          let f = c.requires.few_rows.0 in
+          subst Small (sym c.sum-e.ensures) (sum_small f) in the-sum_near),
+      p.few,
+      p.long,
+    )
 
 pub fill_undamped-requires : goal.fill_undamped-requires
 fill_undamped-requires c =
@@ -37,9 +40,9 @@ scalings-requires c =
 
 pub gradient-requires : goal.gradient-requires
 gradient-requires c = (
-  (let the-sum_near : Small c.sum-e.result = 
-    let f = c.requires.few_rows.0 in
-    subst Small (sym c.sum-e.ensures) (sum_small f) in the-sum_near),
+  (let the-sum_near : Small c.sum-e.result =
+      let f = c.requires.few_rows.0 in
+      subst Small (sym c.sum-e.ensures) (sum_small f) in the-sum_near),
   c.requires.few_rows.1,
 )
 
@@ -54,7 +57,7 @@ returns c =
     let u = undamped_filled a.c.n k _ _ _ a.c.m a.b.now _ few
     c.fill_undamped.ensures
     c.scalings.ensures c.gradient.ensures in
-    let jr = squeezed_chosen k _ few ((let the-sum_near : Small c.sum-e.result = 
+    let jr = squeezed_chosen k _ few ((let the-sum_near : Small c.sum-e.result =
     let f = c.requires.few_rows.0 in
     subst Small (sym c.sum-e.ensures) (sum_small f) in the-sum_near)).few_rows refl
     c.squeeze.ensures in

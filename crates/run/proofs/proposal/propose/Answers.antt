@@ -49,8 +49,8 @@ returns-then-drop c =
     let lambda = c.damped_step.new.lambda in
     let x : Step = record { delta = raw; lambda = lambda; independent = c.in-Found.r } in
     let expected : expects_of from raw ≡ truth_of c.expects.result =
-        sym (rw (c.standing_rows-rows.ensures, c.curvature_for-b.ensures) at c.expects.ensures
-        ∙ expects_reads from raw) in
+    sym (rw (c.standing_rows-rows.ensures, c.curvature_for-b.ensures) at c.expects.ensures
+    ∙ expects_reads from raw) in
     rw (
       c.standing_rows-rows.ensures,
       c.curvature_for-b.ensures,
@@ -69,8 +69,8 @@ returns-in-Value c =
     let lambda = c.damped_step.new.lambda in
     let x : Step = record { delta = raw; lambda = lambda; independent = c.in-Found.r } in
     let expected : expects_of from raw ≡ truth_of c.expects.result =
-        sym (rw (c.standing_rows-rows.ensures, c.curvature_for-b.ensures) at c.expects.ensures
-        ∙ expects_reads from raw) in
+    sym (rw (c.standing_rows-rows.ensures, c.curvature_for-b.ensures) at c.expects.ensures
+    ∙ expects_reads from raw) in
     sym (proposal_by from a.state.mu a.state.radius (found x)
     (stepped raw lambda c.damped_step.ensures (c.requires.prepared_at.steps a.state.mu) c.in-Found.is)
     ∙ proposed_not from a.state.mu a.state.radius x (expected ∙ ap truth_of c.in-Value.is ∙ ap ok c.if-drop.false))
@@ -83,8 +83,8 @@ returns-in-Refused-expects c =
     let lambda = c.damped_step.new.lambda in
     let x : Step = record { delta = raw; lambda = lambda; independent = c.in-Found.r } in
     let expected : expects_of from raw ≡ truth_of c.expects.result =
-        sym (rw (c.standing_rows-rows.ensures, c.curvature_for-b.ensures) at c.expects.ensures
-        ∙ expects_reads from raw) in
+    sym (rw (c.standing_rows-rows.ensures, c.curvature_for-b.ensures) at c.expects.ensures
+    ∙ expects_reads from raw) in
     sym (proposal_by from a.state.mu a.state.radius (found x)
     (stepped raw lambda c.damped_step.ensures (c.requires.prepared_at.steps a.state.mu) c.in-Found.is)
     ∙ proposed_refused from a.state.mu a.state.radius x (expected ∙ ap truth_of c.in-Refused-expects.is))

@@ -36,7 +36,7 @@ pub returns-in-Refused : goal.returns-in-Refused
 returns-in-Refused c =
     let a = c.args in
     unfactored a.t a.a.now a.w.now _ c.in-Refused.is
-    ((let the-ended : let a = c.args in let l = c.cholesky.new in done_of c.cholesky.result (factor_of l.l l.left_out) ≡ cholesky_of a.t a.a.now = 
+    ((let the-ended : let a = c.args in let l = c.cholesky.new in done_of c.cholesky.result (factor_of l.l l.left_out) ≡ cholesky_of a.t a.a.now =
     cholesky_result c.cholesky.result _ _ _ _ (omega (arith, c.requires.0)) c.requires.1.0
     (length-take-le _ _ ((let the-room : 2 * (c.args.t * c.args.t) ≤ 288 = omega (arith, few c.requires.0 c.requires.0) in the-room))) (length-take-le _ _ c.requires.0) c.cholesky.ensures in the-ended))
 
@@ -62,7 +62,7 @@ returns-then-any c =
     let m = front_kept _ f.left_out _ c.requires.0 g.left_out in
     weights_none a.t a.a.now a.w.now (factor_of f.l f.left_out)
     c.in-Finished.is
-    ((let the-ended : let a = c.args in let l = c.cholesky.new in done_of c.cholesky.result (factor_of l.l l.left_out) ≡ cholesky_of a.t a.a.now = 
+    ((let the-ended : let a = c.args in let l = c.cholesky.new in done_of c.cholesky.result (factor_of l.l l.left_out) ≡ cholesky_of a.t a.a.now =
     cholesky_result c.cholesky.result _ _ _ _ (omega (arith, c.requires.0)) c.requires.1.0
     (length-take-le _ _ ((let the-room : 2 * (c.args.t * c.args.t) ≤ 288 = omega (arith, few c.requires.0 c.requires.0) in the-room))) (length-take-le _ _ c.requires.0) c.cholesky.ensures in the-ended)) n m c.any.ensures c.if-any.true
 
@@ -95,12 +95,12 @@ returns-in-Refused-solve_cholesky c =
     let m = front_kept _ f.left_out _ c.requires.0 g.left_out in
     weights_refused a.t a.a.now a.w.now (factor_of f.l f.left_out)
     c.in-Finished.is
-    ((let the-ended : let a = c.args in let l = c.cholesky.new in done_of c.cholesky.result (factor_of l.l l.left_out) ≡ cholesky_of a.t a.a.now = 
+    ((let the-ended : let a = c.args in let l = c.cholesky.new in done_of c.cholesky.result (factor_of l.l l.left_out) ≡ cholesky_of a.t a.a.now =
     cholesky_result c.cholesky.result _ _ _ _ (omega (arith, c.requires.0)) c.requires.1.0
     (length-take-le _ _ ((let the-room : 2 * (c.args.t * c.args.t) ≤ 288 = omega (arith, few c.requires.0 c.requires.0) in the-room))) (length-take-le _ _ c.requires.0) c.cholesky.ensures in the-ended)) n m
     c.any.ensures _
     c.if-any.false
-    ((let the-done : let a = c.args in let f = c.cholesky.new in done_of c.solve_cholesky.result c.solve_cholesky.new.x ≡ solve_of a.t f.l f.left_out a.w.now = 
+    ((let the-done : let a = c.args in let f = c.cholesky.new in done_of c.solve_cholesky.result c.solve_cholesky.new.x ≡ solve_of a.t f.l f.left_out a.w.now =
     let p = c.requires in
     let f = c.cholesky.new in
     let g = c.cholesky.auto in
@@ -140,11 +140,11 @@ returns c =
     (rw (front_kept _ x _ ((let the-short : 2 * c.args.t ≤ 24 = omega (arith, c.requires.0) in the-short)) kx) at c.sharp.ensures) in
     weights_solved a.t a.a.now a.w.now (factor_of f.l f.left_out)
     c.in-Finished.is
-    ((let the-ended : let a = c.args in let l = c.cholesky.new in done_of c.cholesky.result (factor_of l.l l.left_out) ≡ cholesky_of a.t a.a.now = 
+    ((let the-ended : let a = c.args in let l = c.cholesky.new in done_of c.cholesky.result (factor_of l.l l.left_out) ≡ cholesky_of a.t a.a.now =
     cholesky_result c.cholesky.result _ _ _ _ (omega (arith, c.requires.0)) c.requires.1.0
     (length-take-le _ _ ((let the-room : 2 * (c.args.t * c.args.t) ≤ 288 = omega (arith, few c.requires.0 c.requires.0) in the-room))) (length-take-le _ _ c.requires.0) c.cholesky.ensures in the-ended)) n m
     c.any.ensures _
-    c.if-any.false ((let the-done : let a = c.args in let f = c.cholesky.new in done_of c.solve_cholesky.result c.solve_cholesky.new.x ≡ solve_of a.t f.l f.left_out a.w.now = 
+    c.if-any.false ((let the-done : let a = c.args in let f = c.cholesky.new in done_of c.solve_cholesky.result c.solve_cholesky.new.x ≡ solve_of a.t f.l f.left_out a.w.now =
     let p = c.requires in
     let f = c.cholesky.new in
     let g = c.cholesky.auto in

@@ -22,11 +22,10 @@ use Rattle.run.proofs.search.seek_from.Goals as goal
 
 -- how the question so far is followed, from what it stands on and what is written: delta, lambda and the next point
 module _ (S : Standing) (max : Scalar) (here : Search) (p : declared.Proposal) {got : Turn}
-  (delta lambda next : List Float)
-  (follows : (on : Search → Found) (d l n : List Float) →
-      turn_result got on d l n ≡ follow on S.e.constraints.count max here (proposal_result p d l n))
-  (proposes : proposal_result p delta lambda next ≡ proposal_of S here.mu here.radius) where
-
+    (delta lambda next : List Float)
+    (follows : (on : Search → Found) (d l n : List Float) →
+    turn_result got on d l n ≡ follow on S.e.constraints.count max here (proposal_result p d l n))
+    (proposes : proposal_result p delta lambda next ≡ proposal_of S here.mu here.radius) where
   followed-as : (r : Turn) → got ≡ r → (on : Search → Found) →
       turn_result r on delta lambda next
       ≡ follow on S.e.constraints.count max here (proposal_of S here.mu here.radius)

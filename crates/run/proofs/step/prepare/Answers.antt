@@ -46,8 +46,7 @@ prepare_kept-requires c =
     let p = c.requires in
     let k = c.keep-k in
     let u = c.problem.new.undamped in
-    let lu : length u ≡ 336 = undamped-long c.args.fixed.now u p.3 c.problem.auto.undamped in
-    (
+    let lu : length u ≡ 336 = undamped-long c.args.fixed.now u p.3 c.problem.auto.undamped in (
       omega (arith, kept_few _ _ k.ensures, p.0.few_variables),
       (p.0.few_constraints, (p.2, second_clear c.args.fixed.now p.3 u lu)),
     )
