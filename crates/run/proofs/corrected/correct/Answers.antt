@@ -41,7 +41,8 @@ judge_landed-requires c =
 pub returns-in-Stay : goal.returns-in-Stay
 returns-in-Stay c w h =
     let a = c.args in
-    correct_stays a.st w a.theta refl (shifted_read a.st h c.landed_counts.ensures c.landed_counts-2.ensures c.landed_rows.ensures
+    correct_stays a.st w a.theta refl
+    (shifted_read a.st h c.landed_counts.ensures c.landed_counts-2.ensures c.landed_rows.ensures
     c.landed_point.ensures c.shift_from-shifted.ensures)
     (ap (λ (r : Shifted). shifted_of r c.shift_from-shifted.new.next) c.in-Stay.is)
     (c.judge_landed.ensures w h)
@@ -54,7 +55,8 @@ refuse-requires c =
 pub returns-in-Refused : goal.returns-in-Refused
 returns-in-Refused c w h =
     let a = c.args in
-    correct_refused a.st w a.theta refl (shifted_read a.st h c.landed_counts.ensures c.landed_counts-2.ensures c.landed_rows.ensures
+    correct_refused a.st w a.theta refl
+    (shifted_read a.st h c.landed_counts.ensures c.landed_counts-2.ensures c.landed_rows.ensures
     c.landed_point.ensures c.shift_from-shifted.ensures)
     (ap (λ (r : Shifted). shifted_of r c.shift_from-shifted.new.next) c.in-Refused.is)
     (c.refuse.ensures w h.from-standing.within)
@@ -73,7 +75,8 @@ returns c w h =
     let a = c.args in
     let x = c.shift_from-shifted in
     let next = x.new.next in
-    correct_asks a.st w a.theta refl (shifted_read a.st h c.landed_counts.ensures c.landed_counts-2.ensures c.landed_rows.ensures
+    correct_asks a.st w a.theta refl
+    (shifted_read a.st h c.landed_counts.ensures c.landed_counts-2.ensures c.landed_rows.ensures
     c.landed_point.ensures c.shift_from-shifted.ensures)
     (ap (λ (r : Shifted). shifted_of r next) c.in-To.is)
     (c.ask.ensures _ _

@@ -16,44 +16,49 @@ use Rattle.run.proofs.CorrectedLaws.{slope_is}
 use Rattle.run.proofs.corrected.moving_slopes.Goals as goal
 
 pub overflow_mul-q : goal.overflow_mul-q
-overflow_mul-q c = omega (arith, (let the-room : c.args.c.m * c.args.c.n ≤ 144 = few c.requires.0.few.few_constraints c.requires.0.few.few_variables in the-room))
+overflow_mul-q c = omega (arith, few c.requires.0.few.few_constraints c.requires.0.few.few_variables)
 
 pub loop-p-init : goal.loop-p-init
 loop-p-init c = (search rules, search rules, sym (list_to-none _ _))
 
 pub nonzero_div-p : goal.nonzero_div-p
 nonzero_div-p c =
-    (let the-some-variable : (p : ℕ) → p < c.args.c.m * c.args.c.n → 0 < c.args.c.n = λ p h. rows_positive c.args.c.m c.args.c.n {p = p} h in the-some-variable c.loop-p.p c.loop-p-test.true)
+    rows_positive c.args.c.m c.args.c.n {p = c.loop-p.p} c.loop-p-test.true
 
 pub nonzero_rem-p : goal.nonzero_rem-p
 nonzero_rem-p c =
-    (let the-some-variable : (p : ℕ) → p < c.args.c.m * c.args.c.n → 0 < c.args.c.n = λ p h. rows_positive c.args.c.m c.args.c.n {p = p} h in the-some-variable c.loop-p.p c.loop-p-test.true)
+    rows_positive c.args.c.m c.args.c.n {p = c.loop-p.p} c.loop-p-test.true
 
 pub slope_of-v-requires : goal.slope_of-v-requires
-slope_of-v-requires c = (
-  rw c.constraints-e.ensures
-      (constraints_small c.requires.0.few),
-  omega
-      (arith, (let the-room : c.args.c.m * c.args.c.n ≤ 144 = few c.requires.0.few.few_constraints c.requires.0.few.few_variables in the-room), c.loop-p-test.true, div-le_self c.loop-p.p c.args.c.n),
-)
+slope_of-v-requires c =
+    (
+      rw c.constraints-e.ensures
+          (constraints_small c.requires.0.few),
+      omega (
+        arith,
+        few c.requires.0.few.few_constraints c.requires.0.few.few_variables,
+        c.loop-p-test.true,
+        div-le_self c.loop-p.p c.args.c.n,
+      ),
+    )
 
 pub nonzero_rem-p-in-loop-p : goal.nonzero_rem-p-in-loop-p
 nonzero_rem-p-in-loop-p c =
-    (let the-some-variable : (p : ℕ) → p < c.args.c.m * c.args.c.n → 0 < c.args.c.n = λ p h. rows_positive c.args.c.m c.args.c.n {p = p} h in the-some-variable c.loop-p.p c.loop-p-test.true)
+    rows_positive c.args.c.m c.args.c.n {p = c.loop-p.p} c.loop-p-test.true
 
 pub bounds-moving-p : goal.bounds-moving-p
 bounds-moving-p c =
     omega (
       arith,
       mod-lt c.loop-p.p
-          ((let the-some-variable : (p : ℕ) → p < c.args.c.m * c.args.c.n → 0 < c.args.c.n = λ p h. rows_positive c.args.c.m c.args.c.n {p = p} h in the-some-variable c.loop-p.p c.loop-p-test.true)),
+          (rows_positive c.args.c.m c.args.c.n {p = c.loop-p.p} c.loop-p-test.true),
     )
 
 pub overflow_step-p : goal.overflow_step-p
 overflow_step-p c =
     omega (
       arith,
-      (let the-room : c.args.c.m * c.args.c.n ≤ 144 = few c.requires.0.few.few_constraints c.requires.0.few.few_variables in the-room),
+      few c.requires.0.few.few_constraints c.requires.0.few.few_variables,
     )
 
 pub loop-p-preserved : goal.loop-p-preserved

@@ -16,7 +16,8 @@ use Rattle.run.proofs.CorrectedLaws.{slope_is}
 use Rattle.run.proofs.corrected.moving_slopes.Given as goal
 
 abbrev pub invariant-loop-p : goal.invariant-loop-p
-invariant-loop-p l = (l.p ≤ l.q) × (length l.jc ≡ length l.initial.jc) × (l.jc ≡ list_to (λ k. moving_slope l.moving (rows_in l.xs l.e) (k / l.n) (k % l.n)) l.p
+invariant-loop-p l = (l.p ≤ l.q) × (length l.jc ≡ length l.initial.jc)
+    × (l.jc ≡ list_to (λ k. moving_slope l.moving (rows_in l.xs l.e) (k / l.n) (k % l.n)) l.p
     ++ drop (2 * l.p) l.initial.jc)
 
 abbrev pub decreases-loop-p : goal.decreases-loop-p

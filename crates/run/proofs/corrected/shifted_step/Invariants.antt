@@ -11,7 +11,8 @@ use Rattle.run.proofs.VectorLaws.{fill_none, fill_first, at_next}
 use Rattle.run.proofs.corrected.shifted_step.Given as goal
 
 abbrev pub invariant-loop-i : goal.invariant-loop-i
-invariant-loop-i l = (l.i ≤ l.n) × (length l.step ≡ length l.initial.step) × (l.step ≡ fill_to l.initial.step 0 (sharp_sum l.initial.step l.d) l.i)
+invariant-loop-i l = (l.i ≤ l.n) × (length l.step ≡ length l.initial.step)
+    × (l.step ≡ fill_to l.initial.step 0 (sharp_sum l.initial.step l.d) l.i)
 
 abbrev pub decreases-loop-i : goal.decreases-loop-i
 decreases-loop-i l = l.n - l.i

@@ -15,8 +15,10 @@ curvature_for-requires c =
 
 pub write-requires : goal.write-requires
 write-requires c =
+    let p = c.requires in
+    let long = curvature_length c.args.st c.args.area.now p.1.few_variables p.0 in
     rw c.curvature_for.ensures
-    (omega (arith, (let the-before-long : length (curvature_for c.args.st.sizes c.args.st.search.plain c.args.area.now) ≡ (numbers_in c.args.st).curvature = curvature_length c.args.st c.args.area.now c.requires.1.few_variables c.requires.0 in the-before-long), c.requires.3))
+    (omega (arith, long, c.requires.3))
 
 pub step-requires : goal.step-requires
 step-requires c =
@@ -56,8 +58,8 @@ update_curvature-requires c =
 pub returns : goal.returns
 returns c w t =
     let e = c.curvature_for.ensures in
-    let b = c.write.ensures
-    ∙ written_all _ _ (omega (arith, ap length e, (let the-before-long : length (curvature_for c.args.st.sizes c.args.st.search.plain c.args.area.now) ≡ (numbers_in c.args.st).curvature = curvature_length c.args.st c.args.area.now c.requires.1.few_variables c.requires.0 in the-before-long), c.requires.3)) ∙ e in
+    let long = curvature_length c.args.st c.args.area.now c.requires.1.few_variables c.requires.0 in
+    let b = c.write.ensures ∙ written_all _ _ (omega (arith, ap length e, long, c.requires.3)) ∙ e in
     learned_is c.args.st c.requires.1.few_variables t
     c.standing_counts-c.ensures
     c.landed_counts-d.ensures b c.step.ensures

@@ -20,9 +20,7 @@ unfolding of_bits
 take_with-requires c =
     let mu = c.args.st.search.mu in
     let g = c.well_formed.0.1.1.1.1.1.0.1.1.0.1.1 in
-    let third = sym ((let the-divided : result_of c.div.result ≡ div_of c.args.st.search.mu (degenerate three64) =
-    let mu = c.args.st.search.mu in
-    c.div.ensures.value ∙ ap (λ (x : Scalar). div_of mu x) c.degenerate.ensures in the-divided))
+    let third = sym (c.div.ensures.value ∙ ap (λ (x : Scalar). div_of mu x) c.degenerate.ensures)
     ∙ ap result_of c.in-Value-div.is in
     let u = c.requires.1 in
     let positive = shrunk_positive mu _ (yes g.0.1, yes g.1.0.1) u.bounded.damping third in
@@ -34,10 +32,8 @@ returns-in-Value-div c w h =
     let a = c.args in
     let near = sym (c.linear_of.ensures w h.landed_is) ∙ ap truth_of
     c.in-Value.is in
-    let third = sym ((let the-divided : result_of c.div.result ≡ div_of c.args.st.search.mu (degenerate three64) =
-    let mu = c.args.st.search.mu in
-    c.div.ensures.value ∙ ap (λ (x : Scalar). div_of mu x) c.degenerate.ensures in the-divided)) ∙ ap result_of
-    c.in-Value-div.is in
+    let third = sym (c.div.ensures.value ∙ ap (λ (x : Scalar). div_of a.st.search.mu x) c.degenerate.ensures)
+    ∙ ap result_of c.in-Value-div.is in
     take_known a.st w a.theta a.span near
     (third_known a.st w a.theta a.span
     c.in-Value.linear third c.shrunk-mu.ensures
@@ -54,10 +50,8 @@ returns-in-Refused-div c w h =
     let a = c.args in
     let near = sym (c.linear_of.ensures w h.landed_is) ∙ ap truth_of
     c.in-Value.is in
-    let third = sym ((let the-divided : result_of c.div.result ≡ div_of c.args.st.search.mu (degenerate three64) =
-    let mu = c.args.st.search.mu in
-    c.div.ensures.value ∙ ap (λ (x : Scalar). div_of mu x) c.degenerate.ensures in the-divided)) ∙ ap result_of
-    c.in-Refused-div.is in
+    let third = sym (c.div.ensures.value ∙ ap (λ (x : Scalar). div_of a.st.search.mu x) c.degenerate.ensures)
+    ∙ ap result_of c.in-Refused-div.is in
     take_known a.st w a.theta a.span near
     (third_refused a.st w a.theta a.span
     c.in-Value.linear third

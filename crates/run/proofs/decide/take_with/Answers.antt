@@ -7,6 +7,8 @@ use lib.ListN.{length}
 use lib.Seq.{length-take-le}
 use Rattle.linear.specs.LinearResult.{done_of}
 use Rattle.linear.specs.declared.results.Done.{Done}
+use Rattle.run.specs.declared.state.State.{State}
+use Rattle.run.specs.program.Endings.{Underway}
 use Rattle.run.proofs.AnsweredLaws.{learned_known, learned_refused, stands_on}
 use Rattle.run.proofs.DecideLaws.{stood, sum_read, all_read, read_all, taken_known}
 use Rattle.run.proofs.LengthsKept.{learned_length}
@@ -16,6 +18,10 @@ use Rattle.run.proofs.Prefixes.{front_room, front_kept}
 use borrow.Author.Rules.{rules}
 use Rattle.run.proofs.decide.take_with.Goals as goal
 
+-- the curvature fits the array
+fits : (st : State) → Underway st → 2 * (st.sizes.n * st.sizes.n) ≤ 288
+fits st u = curvature_fits st.sizes st.sizes.n u.bounded.few_variables
+
 pub overflow_mul-count : goal.overflow_mul-count
 overflow_mul-count c = omega (arith, curvature_fits c.args.st.sizes _ c.requires.1.bounded.few_variables)
 
@@ -23,18 +29,19 @@ pub overflow_mul-count-2 : goal.overflow_mul-count-2
 overflow_mul-count-2 c = omega (arith, curvature_fits c.args.st.sizes _ c.requires.1.bounded.few_variables)
 
 pub slice_bounds-entries-end : goal.slice_bounds-entries-end
-slice_bounds-entries-end c = (let the-fits : 2 * (c.args.st.sizes.n * c.args.st.sizes.n) ≤ 288 = curvature_fits c.args.st.sizes c.args.st.sizes.n c.requires.1.bounded.few_variables in the-fits)
+slice_bounds-entries-end c = fits c.args.st c.requires.1
 
 pub slice_bounds-learn-end : goal.slice_bounds-learn-end
-slice_bounds-learn-end c = sym (length-take-le _ _ ((let the-fits : 2 * (c.args.st.sizes.n * c.args.st.sizes.n) ≤ 288 = curvature_fits c.args.st.sizes c.args.st.sizes.n c.requires.1.bounded.few_variables in the-fits)))
+slice_bounds-learn-end c = sym (length-take-le _ _ (fits c.args.st c.requires.1))
 
 pub learn-requires : goal.learn-requires
-learn-requires c = (
-  c.requires.0,
-  standing_rows_of c.requires.1.bounded,
-  landed_rows_of c.requires.1.bounded,
-  length-take-le _ _ ((let the-fits : 2 * (c.args.st.sizes.n * c.args.st.sizes.n) ≤ 288 = curvature_fits c.args.st.sizes c.args.st.sizes.n c.requires.1.bounded.few_variables in the-fits)),
-)
+learn-requires c =
+    (
+      c.requires.0,
+      standing_rows_of c.requires.1.bounded,
+      landed_rows_of c.requires.1.bounded,
+      length-take-le _ _ (fits c.args.st c.requires.1),
+    )
 
 pub refuse-requires : goal.refuse-requires
 refuse-requires c =
@@ -63,12 +70,12 @@ sum_squared-f-requires c =
 pub slice_bounds-entries-end-2 : goal.slice_bounds-entries-end-2
 slice_bounds-entries-end-2 c =
     let l = c.learn in
-    front_room _ l.new.b _ ((let the-fits : 2 * (c.args.st.sizes.n * c.args.st.sizes.n) ≤ 288 = curvature_fits c.args.st.sizes c.args.st.sizes.n c.requires.1.bounded.few_variables in the-fits)) l.auto.b
+    front_room _ l.new.b _ (fits c.args.st c.requires.1) l.auto.b
 
 pub slice_bounds-write_taken-end : goal.slice_bounds-write_taken-end
 slice_bounds-write_taken-end c =
     let l = c.learn in
-    sym (length-take-le _ _ (front_room _ l.new.b _ ((let the-fits : 2 * (c.args.st.sizes.n * c.args.st.sizes.n) ≤ 288 = curvature_fits c.args.st.sizes c.args.st.sizes.n c.requires.1.bounded.few_variables in the-fits)) l.auto.b))
+    sym (length-take-le _ _ (front_room _ l.new.b _ (fits c.args.st c.requires.1) l.auto.b))
 
 pub write_taken-requires : goal.write_taken-requires
 write_taken-requires c =
@@ -78,7 +85,7 @@ write_taken-requires c =
       c.requires.0,
       limits_of b,
       omega (arith, u.below, b.few_iterations),
-      length-take-le _ _ (front_room _ l.new.b _ ((let the-fits : 2 * (c.args.st.sizes.n * c.args.st.sizes.n) ≤ 288 = curvature_fits c.args.st.sizes c.args.st.sizes.n c.requires.1.bounded.few_variables in the-fits)) l.auto.b),
+      length-take-le _ _ (front_room _ l.new.b _ (fits c.args.st c.requires.1) l.auto.b),
     )
 
 pub standing_on-requires : goal.standing_on-requires
@@ -105,7 +112,7 @@ returns c w h =
     let sum = sum_read st known.within.holds known.standing_whole.standing-rows c.standing_counts-c.ensures
     c.standing_rows.ensures
     c.sum_squared-f.ensures in
-    let held = rw (front_kept _ b _ ((let the-fits : 2 * (c.args.st.sizes.n * c.args.st.sizes.n) ≤ 288 = curvature_fits c.args.st.sizes c.args.st.sizes.n c.requires.1.bounded.few_variables in the-fits)) l.auto.b) at
+    let held = rw (front_kept _ b _ (fits c.args.st c.requires.1) l.auto.b) at
     (c.write_taken.ensures w known.within known.standing_whole h.landed_whole) in
     learned_known st w a.theta a.span a.mu a.radius e
     (stands_on st w a.theta a.span a.mu a.radius b c.standing_on.ensures

@@ -13,7 +13,8 @@ use Rattle.run.specs.Judgement.{sum_change}
 use Rattle.run.proofs.judgement.sum_change.Given as goal
 
 abbrev pub invariant-loop-i : goal.invariant-loop-i
-invariant-loop-i l = (l.i ≤ l.count) × (l.total ≡ dot_to (λ k. sub_of (value_at (rows_in l.xs l.e) k) (value_at (rows_in l.ys l.f) k))
+invariant-loop-i l = (l.i ≤ l.count)
+    × (l.total ≡ dot_to (λ k. sub_of (value_at (rows_in l.xs l.e) k) (value_at (rows_in l.ys l.f) k))
     (λ k. add_of (value_at (rows_in l.xs l.e) k) (value_at (rows_in l.ys l.f) k)) l.i)
 
 abbrev pub decreases-loop-i : goal.decreases-loop-i

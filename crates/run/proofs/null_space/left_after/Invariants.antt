@@ -9,7 +9,8 @@ use Rattle.run.proofs.NullSpaceLaws.{after_turn}
 use Rattle.run.proofs.null_space.left_after.Given as goal
 
 abbrev pub invariant-loop-t : goal.invariant-loop-t
-invariant-loop-t l = (l.t ≤ l.r) × (length l.left ≡ length l.initial.left) × (l.left ≡ left_after l.k l.q l.initial.left l.p l.t)
+invariant-loop-t l = (l.t ≤ l.r) × (length l.left ≡ length l.initial.left)
+    × (l.left ≡ left_after l.k l.q l.initial.left l.p l.t)
 
 abbrev pub decreases-loop-t : goal.decreases-loop-t
 decreases-loop-t l = l.r - l.t

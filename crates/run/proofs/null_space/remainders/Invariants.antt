@@ -12,7 +12,8 @@ use Rattle.run.proofs.TwoRows.{two_remainders}
 use Rattle.run.proofs.null_space.remainders.Given as goal
 
 abbrev pub invariant-loop-h : goal.invariant-loop-h
-invariant-loop-h l = (l.h ≤ l.half) × (length l.left ≡ length l.initial.left) × (l.left ≡ remainders_to l.k l.r l.q (2 * l.h))
+invariant-loop-h l = (l.h ≤ l.half) × (length l.left ≡ length l.initial.left)
+    × (l.left ≡ remainders_to l.k l.r l.q (2 * l.h))
 
 abbrev pub decreases-loop-h : goal.decreases-loop-h
 decreases-loop-h l = l.half - l.h

@@ -1,37 +1,29 @@
 -- `take_longest` meets its contract: the root decides, then the test on the length, and each arm is the definition's.
+use mathlib.Core.List.{List}
 use mathlib.Core.Path.{◌≡◌}
-use Prim.Native.Nat.{suc, ◌+◌, ◌-◌, ◌<◌}
+use Prim.Native.Nat.{ℕ, suc, ◌≤◌, ◌+◌, ◌-◌, ◌<◌}
 use native.Mathlib.Omega.{arith}
-use lib.Ieee.{of_bits}
+use lib.Ieee.{Float, of_bits}
+use Rattle.run.specs.declared.null_space.Remainder.{Remainder}
+use Rattle.run.specs.program.NullSpace.{longest_in}
 use Rattle.run.proofs.NullSpaceLaws.{longest_place, longest_root, longest_low, turn_refused, turn_last, turn_on}
 use Rattle.run.proofs.NullSpaceLaws.{turn_full}
 use borrow.Author.Rules.{rules}
 use Rattle.run.proofs.null_space.take_longest.Goals as goal
 
+-- the longest remainder's place
+near : (k : ℕ) (left : List Float) {best : Remainder} → k ≤ 12 → best ≡ longest_in k left (k - 1) → best.place < 12
+near k left h e = omega (arith, h, longest_place _ _ _ e, longest_low k left (k - 1))
+
+after : (most count : ℕ) → count < most → most - count ≡ suc (most - (count + 1))
+after most count h = omega (arith, h)
+
 pub overflow_mul-best : goal.overflow_mul-best
-overflow_mul-best c = omega (
-  arith,
-  (let the-near : c.longest-best.result.place < 12 =
-      omega (
-        arith,
-        c.requires.0,
-        longest_place _ _ _ c.longest-best.ensures,
-        longest_low c.args.k c.args.left.now (c.args.k - 1),
-      ) in the-near),
-)
+overflow_mul-best c = omega (arith, near c.args.k c.args.left.now c.requires.0 c.longest-best.ensures)
 
 pub unit-requires : goal.unit-requires
 unit-requires c = (
-  omega (
-    arith,
-    (let the-near : c.longest-best.result.place < 12 =
-        omega (
-          arith,
-          c.requires.0,
-          longest_place _ _ _ c.longest-best.ensures,
-          longest_low c.args.k c.args.left.now (c.args.k - 1),
-        ) in the-near),
-  ),
+  omega (arith, near c.args.k c.args.left.now c.requires.0 c.longest-best.ensures),
   (
     omega (
       arith,
@@ -52,7 +44,7 @@ returns-then-count-most c =
     let r =
     rw c.in-Value.is at c.sqrt.ensures.value in
     turn_full _ _
-    ((let the-after : c.args.most - c.args.count ≡ suc (c.args.most - (c.args.count + 1)) = omega (arith, c.requires.1.0) in the-after)) (longest_place _ _ _ b) (longest_root _ _ _ b r)
+    (after c.args.most c.args.count c.requires.1.0) (longest_place _ _ _ b) (longest_root _ _ _ b r)
     c.sharpen-length.ensures
     c.definitely_greater.ensures
     c.if-definitely_greater.true
@@ -66,7 +58,7 @@ returns-then-definitely_greater c =
     let r =
     rw c.in-Value.is at c.sqrt.ensures.value in
     turn_on _ _
-    ((let the-after : c.args.most - c.args.count ≡ suc (c.args.most - (c.args.count + 1)) = omega (arith, c.requires.1.0) in the-after)) (longest_place _ _ _ b)
+    (after c.args.most c.args.count c.requires.1.0) (longest_place _ _ _ b)
     (longest_root _ _ _ b r)
     c.sharpen-length.ensures
     c.definitely_greater.ensures
@@ -80,7 +72,7 @@ returns-in-Value c =
     let r =
     rw c.in-Value.is at c.sqrt.ensures.value in
     turn_last _ _
-    ((let the-after : c.args.most - c.args.count ≡ suc (c.args.most - (c.args.count + 1)) = omega (arith, c.requires.1.0) in the-after))
+    (after c.args.most c.args.count c.requires.1.0)
     (longest_place _ _ _ b) (longest_root _ _ _ b r) c.sharpen-length.ensures
     c.definitely_greater.ensures c.if-definitely_greater.false
 
@@ -88,5 +80,5 @@ pub returns-in-Refused : goal.returns-in-Refused
 returns-in-Refused c =
     let b = c.longest-best.ensures in
     let r = rw c.in-Refused.is at c.sqrt.ensures.value in
-    turn_refused _ _ ((let the-after : c.args.most - c.args.count ≡ suc (c.args.most - (c.args.count + 1)) = omega (arith, c.requires.1.0) in the-after))
+    turn_refused _ _ (after c.args.most c.args.count c.requires.1.0)
     (longest_place _ _ _ b) (longest_root _ _ _ b r)

@@ -11,7 +11,8 @@ use Rattle.run.proofs.TwoRows.{without_two}
 use Rattle.run.proofs.null_space.without.Given as goal
 
 abbrev pub invariant-loop-h : goal.invariant-loop-h
-invariant-loop-h l = (l.h ≤ l.half) × (length l.left ≡ length l.initial.left) × (l.left ≡ without_to l.k l.z l.t l.initial.left (2 * l.h))
+invariant-loop-h l = (l.h ≤ l.half) × (length l.left ≡ length l.initial.left)
+    × (l.left ≡ without_to l.k l.z l.t l.initial.left (2 * l.h))
 
 abbrev pub decreases-loop-h : goal.decreases-loop-h
 decreases-loop-h l = l.half - l.h

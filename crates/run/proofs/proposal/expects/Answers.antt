@@ -35,18 +35,15 @@ squared-left-requires c =
 pub returns-then-definitely_greater : goal.returns-then-definitely_greater
 unfolding expects_of of_bits
 returns-then-definitely_greater c =
-    rw (
-      ← dropped c.args.point c.args.rows.now c.args.b.now c.args.delta.now c.sum.ensures c.squared-left.ensures
-          c.sub.ensures.value c.curvature_along.ensures c.sub-drop.ensures.value c.definitely_greater.ensures,
-      c.if-definitely_greater.true,
-    )
+    let a = c.args in
+    let d = dropped a.point a.rows.now a.b.now a.delta.now c.sum.ensures c.squared-left.ensures c.sub.ensures.value
+    c.curvature_along.ensures c.sub-drop.ensures.value c.definitely_greater.ensures in
+    rw (← d, c.if-definitely_greater.true)
 
 pub returns : goal.returns
 unfolding expects_of of_bits
 returns c =
-    rw (
-      ← dropped c.args.point c.args.rows.now c.args.b.now c.args.delta.now c.sum.ensures c.squared-left.ensures
-          c.sub.ensures.value c.curvature_along.ensures c.sub-drop.ensures.value c.definitely_greater.ensures,
-      c.if-definitely_greater.false,
-      ← c.predicted.ensures,
-    ) c.falls.ensures
+    let a = c.args in
+    let d = dropped a.point a.rows.now a.b.now a.delta.now c.sum.ensures c.squared-left.ensures c.sub.ensures.value
+    c.curvature_along.ensures c.sub-drop.ensures.value c.definitely_greater.ensures in
+    rw (← d, c.if-definitely_greater.false, ← c.predicted.ensures) c.falls.ensures

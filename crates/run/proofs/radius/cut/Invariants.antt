@@ -15,7 +15,8 @@ use Rattle.run.proofs.VectorLaws.{fill_turn, at_fill_ahead}
 use Rattle.run.proofs.radius.cut.Given as goal
 
 abbrev pub invariant-loop-i : goal.invariant-loop-i
-invariant-loop-i l = (l.i ≤ l.n) × (length l.delta ≡ length l.initial.delta) × (l.delta ≡ fill_to l.initial.delta 0 (λ j. choose_of (mul_of (at l.initial.delta j) l.shrink)) l.i)
+invariant-loop-i l = (l.i ≤ l.n) × (length l.delta ≡ length l.initial.delta)
+    × (l.delta ≡ fill_to l.initial.delta 0 (λ j. choose_of (mul_of (at l.initial.delta j) l.shrink)) l.i)
 
 abbrev pub decreases-loop-i : goal.decreases-loop-i
 decreases-loop-i l = l.n - l.i

@@ -8,7 +8,7 @@ use Rattle.run.specs.program.Reduced.{curved, spanned}
 use Rattle.run.specs.declared.reduced.WeightsEnd.{WeightsEnd}
 use Rattle.run.specs.declared.reduced.WeightsEnd.TheVariants as a
 use Rattle.run.specs.contracts.reduced.WeightsEnd.{the_type}
-use Prim.Native.Nat.{◌*◌, ◌≤◌}
+use Prim.Native.Nat.{ℕ, ◌*◌, ◌≤◌}
 use native.Mathlib.Omega.{arith}
 use lib.Ieee.{of_bits}
 use lib.Seq.{length-take-le}
@@ -23,17 +23,20 @@ others a.Found n = absurd (n refl)
 others a.NotPositive n = inl refl
 others (a.Refused e) n = inr refl
 
+short : {t : ℕ} → t ≤ 12 → 2 * t ≤ 24
+short h = omega (arith, h)
+
 pub force-requires : goal.force-requires
 unfolding of_bits
 force-requires c = (c.requires.0, refl)
 
 pub slice_bounds-weigh-end-2 : goal.slice_bounds-weigh-end-2
 slice_bounds-weigh-end-2 c =
-    sym (length-take-le _ _ ((let the-short : 2 * c.args.count ≤ 24 = omega (arith, c.requires.1) in the-short)))
+    sym (length-take-le _ _ (short c.requires.1))
 
 pub weigh-end-requires : goal.weigh-end-requires
 weigh-end-requires c =
-    (c.requires.0, (c.requires.1, length-take-le _ _ ((let the-short : 2 * c.args.count ≤ 24 = omega (arith, c.requires.1) in the-short))))
+    (c.requires.0, (c.requires.1, length-take-le _ _ (short c.requires.1)))
 
 pub returns-in_default : goal.returns-in_default
 returns-in_default c =
@@ -45,13 +48,13 @@ returns-in_default c =
 pub slice_bounds-w-end-2 : goal.slice_bounds-w-end-2
 slice_bounds-w-end-2 c =
     front_room _ c.weigh-end.new.w _
-    ((let the-short : 2 * c.args.count ≤ 24 = omega (arith, c.requires.1) in the-short)) c.weigh-end.auto.w
+    (short c.requires.1) c.weigh-end.auto.w
 
 pub slice_bounds-combine-end : goal.slice_bounds-combine-end
 slice_bounds-combine-end c =
     sym (length-take-le _ _
     (front_room _ c.weigh-end.new.w _
-    ((let the-short : 2 * c.args.count ≤ 24 = omega (arith, c.requires.1) in the-short)) c.weigh-end.auto.w))
+    (short c.requires.1) c.weigh-end.auto.w))
 
 pub returns : goal.returns
 returns c =
@@ -60,6 +63,6 @@ returns c =
     c.in-Found.is
     (front_kept _
     c.weigh-end.new.w _
-    ((let the-short : 2 * c.args.count ≤ 24 = omega (arith, c.requires.1) in the-short))
+    (short c.requires.1)
     c.weigh-end.auto.w)
     c.combine.ensures

@@ -13,7 +13,8 @@ use Rattle.run.proofs.VectorLaws.{fill_turn}
 use Rattle.run.proofs.reduced.h_times_row.Given as goal
 
 abbrev pub invariant-loop-p : goal.invariant-loop-p
-invariant-loop-p l = (l.p ≤ l.half) × (length l.hz ≡ length l.initial.hz) × (l.hz ≡ fill_to l.initial.hz (12 * l.t) (λ j. choose_of (dot_to (row l.h j) (row l.z l.t) l.k))
+invariant-loop-p l = (l.p ≤ l.half) × (length l.hz ≡ length l.initial.hz)
+    × (l.hz ≡ fill_to l.initial.hz (12 * l.t) (λ j. choose_of (dot_to (row l.h j) (row l.z l.t) l.k))
     (2 * l.p))
 
 abbrev pub decreases-loop-p : goal.decreases-loop-p

@@ -11,7 +11,8 @@ use borrow.Author.Rules.{rules}
 use Rattle.run.proofs.reduced.h_times_rows.Given as goal
 
 abbrev pub invariant-loop-t : goal.invariant-loop-t
-invariant-loop-t l = (l.t ≤ l.count) × (length l.hz ≡ length l.initial.hz) × (l.hz ≡ fill_rows matrix (λ s i. choose_of (dot_to (row l.h i) (row l.z s) l.k)) l.k l.t)
+invariant-loop-t l = (l.t ≤ l.count) × (length l.hz ≡ length l.initial.hz)
+    × (l.hz ≡ fill_rows matrix (λ s i. choose_of (dot_to (row l.h i) (row l.z s) l.k)) l.k l.t)
 
 abbrev pub decreases-loop-t : goal.decreases-loop-t
 decreases-loop-t l = l.count - l.t

@@ -1,6 +1,5 @@
--- `free_step_lem` meets its contract: the weights along the directions decide, then whether the step and what pulls against
--- it
--- are finite; the multipliers end it.
+-- `free_step` meets its contract: the weights along the directions decide, then whether the step and what pulls against
+-- it are finite; the multipliers end it.
 use mathlib.Core.Path.{◌∙◌, refl}
 use lib.Ieee.{of_bits}
 use native.Mathlib.Omega.{arith}

@@ -14,7 +14,8 @@ use Rattle.run.specs.Vectors.{minus_scaled, combined_to}
 use Rattle.run.proofs.vectors.combine.Given as goal
 
 abbrev pub invariant-loop-t : goal.invariant-loop-t
-invariant-loop-t l = (l.t ≤ l.count) × (length l.d ≡ length l.initial.d) × (l.d ≡ combined_to l.k l.weights l.rows l.initial.d l.t)
+invariant-loop-t l = (l.t ≤ l.count) × (length l.d ≡ length l.initial.d)
+    × (l.d ≡ combined_to l.k l.weights l.rows l.initial.d l.t)
 
 abbrev pub decreases-loop-t : goal.decreases-loop-t
 decreases-loop-t l = l.count - l.t
