@@ -79,4 +79,4 @@ returns c =
     c.begin-out.result
     c.begin-out.new.area
     c.begin-out.ensures c.loop-i.invariant.0 c.loop-i-test.false
-    c.shared_slice_known-4-1.given
+    c.type_inv.numbers
