@@ -75,8 +75,8 @@ pub returns : goal.returns
 returns c =
     let a = c.args in
     play_ends (record { n = a.n; s = a.s; limit = a.limit }) a.start.now
-    a.max-step a.area.now a.codes.now a.ms.now a.numbers.now
+    a.max_step a.area.now a.codes.now a.ms.now a.numbers.now
     c.begin-out.result
     c.begin-out.new.area
     c.begin-out.ensures c.loop-i.invariant.0 c.loop-i-test.false
-    c.shared_slice_known-4-1.given
+    c.type_inv.numbers

@@ -34,13 +34,18 @@ pub overflow_mul-size : goal.overflow_mul-size
 overflow_mul-size c = omega (arith, c.loop-i.invariant.1)
 
 pub overflow_sub-b : goal.overflow_sub-b
-overflow_sub-b c = (digit (get_or c.args.text.now c.loop-i.i 0) (sym c.is_digit-in-loop-i.ensures ∙ c.if-not-is_digit-2.false)).0
+overflow_sub-b c =
+    (digit _ (sym c.is_digit-in-loop-i.ensures ∙ c.if-not-is_digit-2.false)).0
 
 pub overflow_cast-b : goal.overflow_cast-b
-overflow_cast-b c = omega (arith, digit (get_or c.args.text.now c.loop-i.i 0) (sym c.is_digit-in-loop-i.ensures ∙ c.if-not-is_digit-2.false))
+overflow_cast-b c =
+    omega (arith, digit (get_or c.args.text.now c.loop-i.i 0)
+      (sym c.is_digit-in-loop-i.ensures ∙ c.if-not-is_digit-2.false))
 
 pub overflow_add-size : goal.overflow_add-size
-overflow_add-size c = omega (arith, digit (get_or c.args.text.now c.loop-i.i 0) (sym c.is_digit-in-loop-i.ensures ∙ c.if-not-is_digit-2.false), c.loop-i.invariant.1)
+overflow_add-size c =
+    omega (arith, digit (get_or c.args.text.now c.loop-i.i 0)
+      (sym c.is_digit-in-loop-i.ensures ∙ c.if-not-is_digit-2.false), c.loop-i.invariant.1)
 
 pub loop-i-preserved : goal.loop-i-preserved
 loop-i-preserved c =

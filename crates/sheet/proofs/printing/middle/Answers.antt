@@ -11,7 +11,7 @@ use Rattle.sheet.proofs.printing.middle.Goals as goal
 
 pub returns : goal.returns
 returns c =
-    let e = (let the-word-is : c.word_text-word.result ≡ middle_of c.args.x = rw c.sharpen.ensures at (rw c.bits_of.ensures at c.word_text-word.ensures) in the-word-is) in
+    let e = (rw c.sharpen.ensures at (rw c.bits_of.ensures at c.word_text-word.ensures)) in
     let place = c.args.place in (
       c.append.ensures.0 ∙ ap (λ (w : List ℕ). place + length w) e ∙ ap (λ (n : ℕ). place + n) (length_word _),
       appends_as c.append.ensures.1 e,

@@ -8,25 +8,25 @@ use Rattle.sheet.proofs.RowLaws.{rows_is}
 use Rattle.sheet.proofs.rows.rows_at.Goals as goal
 
 pub overflow_mul-sum : goal.overflow_mul-sum
-overflow_mul-sum c = omega (arith, (let the-near : c.args.rules.count * (c.args.n + 1) ≤ 156 = few_rows c.requires.0.few c.requires.1 in the-near))
+overflow_mul-sum c = omega (arith, (few_rows c.requires.0.few c.requires.1))
 
 pub sum_values-requires : goal.sum_values-requires
 sum_values-requires c =
-    (c.requires.1, omega (arith, (let the-near : c.args.rules.count * (c.args.n + 1) ≤ 156 = few_rows c.requires.0.few c.requires.1 in the-near)))
+    (c.requires.1, omega (arith, (few_rows c.requires.0.few c.requires.1)))
 
 pub overflow_add-sum-2 : goal.overflow_add-sum-2
 overflow_add-sum-2 c =
-    omega (arith, (let the-near : c.args.rules.count * (c.args.n + 1) ≤ 156 = few_rows c.requires.0.few c.requires.1 in the-near), c.requires.1)
+    omega (arith, (few_rows c.requires.0.few c.requires.1), c.requires.1)
 
 pub sum_slopes-requires : goal.sum_slopes-requires
 sum_slopes-requires c =
-    (c.requires.1, omega (arith, (let the-near : c.args.rules.count * (c.args.n + 1) ≤ 156 = few_rows c.requires.0.few c.requires.1 in the-near), c.requires.1))
+    (c.requires.1, omega (arith, (few_rows c.requires.0.few c.requires.1), c.requires.1))
 
 pub returns : goal.returns
 returns c =
     let a = c.args in
     rows_is a.n a.rules a.x.now a.aims.now a.rows.now
-    (c.well_formed.1.0.1.1.1.0.1.0.1) c.requires.0.few c.requires.2
+    c.well_formed.1.0.1.1.1.0.1.0.1 c.requires.0.few c.requires.2
     c.values.ensures
     c.slopes.ensures
     c.sum_values.ensures

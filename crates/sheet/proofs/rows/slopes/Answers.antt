@@ -15,7 +15,7 @@ use Rattle.sheet.proofs.RowLaws.{rule_near, rule-in, row_below}
 use Rattle.sheet.proofs.rows.slopes.Goals as goal
 
 pub overflow_mul-p-end : goal.overflow_mul-p-end
-overflow_mul-p-end c = omega (arith, (let the-all : c.args.rules.count * c.args.n ≤ 144 = few c.requires.0.few c.requires.1 in the-all))
+overflow_mul-p-end c = omega (arith, (few c.requires.0.few c.requires.1))
 
 pub loop-p-init : goal.loop-p-init
 unfolding fill_to
@@ -27,16 +27,16 @@ nonzero_div-rule c =
     rows_positive a.rules.count a.n {p = c.loop-p.p} c.loop-p-test.true
 
 pub offset_bounds-rules-p : goal.offset_bounds-rules-p
-offset_bounds-rules-p c = omega (arith, (let the-row : c.loop-p.p / c.args.n < c.args.rules.count = row_below _ c.args.n c.loop-p-test.true in the-row), c.requires.0.few)
+offset_bounds-rules-p c = omega (arith, (row_below _ c.args.n c.loop-p-test.true), c.requires.0.few)
 
 pub bounds-rules-p : goal.bounds-rules-p
-bounds-rules-p c = omega (arith, (let the-row : c.loop-p.p / c.args.n < c.args.rules.count = row_below _ c.args.n c.loop-p-test.true in the-row), c.requires.0.few)
+bounds-rules-p c = omega (arith, (row_below _ c.args.n c.loop-p-test.true), c.requires.0.few)
 
 pub overflow_add-base : goal.overflow_add-base
 overflow_add-base c =
     omega (
       arith,
-      (let the-all : c.args.rules.count * c.args.n ≤ 144 = few c.requires.0.few c.requires.1 in the-all),
+      (few c.requires.0.few c.requires.1),
       c.loop-p-test.true,
       c.requires.2,
     )
@@ -48,13 +48,13 @@ nonzero_rem-p c =
 
 pub slope-requires : goal.slope-requires
 slope-requires c =
-    rule_near c.args.rules ((let the-long : length c.args.rules.list ≡ 12 = c.well_formed.1.0.1.1.1.0.1.0.1 in the-long)) c.requires.0 _ _ ((let the-row : c.loop-p.p / c.args.n < c.args.rules.count = row_below _ c.args.n c.loop-p-test.true in the-row))
+    rule_near c.args.rules c.well_formed.1.0.1.1.1.0.1.0.1 c.requires.0 _ _ (row_below _ c.args.n c.loop-p-test.true)
 
 pub overflow_step-p : goal.overflow_step-p
 overflow_step-p c =
     omega (
       arith,
-      (let the-all : c.args.rules.count * c.args.n ≤ 144 = few c.requires.0.few c.requires.1 in the-all),
+      (few c.requires.0.few c.requires.1),
       c.loop-p-test.true,
     )
 
@@ -67,8 +67,8 @@ loop-p-preserved c =
       c.put.ensures
           ∙ fill_turn _ _ (λ q. slope_of a.x.now (rule_at (list_in a.rules) (q / a.n)) (q % a.n)) l.p l.invariant.2
           (c.slope.ensures ∙ ap (λ r. slope_of a.x.now r (l.p % a.n))
-          (rule-in a.rules ((let the-long : length c.args.rules.list ≡ 12 = c.well_formed.1.0.1.1.1.0.1.0.1 in the-long)) c.requires.0 (l.p / a.n) _
-          ((let the-row : c.loop-p.p / c.args.n < c.args.rules.count = row_below _ c.args.n c.loop-p-test.true in the-row)))),
+          (rule-in a.rules c.well_formed.1.0.1.1.1.0.1.0.1 c.requires.0 (l.p / a.n) _
+          (row_below _ c.args.n c.loop-p-test.true))),
     )
 
 pub returns : goal.returns

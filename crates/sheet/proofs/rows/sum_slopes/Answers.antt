@@ -19,7 +19,7 @@ use Rattle.sheet.proofs.rows.sum_slopes.Goals as goal
 use Rattle.sheet.proofs.rows.sum_slopes.Goals.{then-p-n, else-p-n}
 
 pub overflow_mul-p-end : goal.overflow_mul-p-end
-overflow_mul-p-end c = omega (arith, (let the-all : c.args.n * c.args.n ≤ 144 = few c.requires.0 c.requires.0 in the-all))
+overflow_mul-p-end c = omega (arith, (few c.requires.0 c.requires.0))
 
 pub loop-p-init : goal.loop-p-init
 unfolding fill_to
@@ -35,7 +35,7 @@ pub overflow_add-base : goal.overflow_add-base
 overflow_add-base c =
     omega (
       arith,
-      (let the-all : c.args.n * c.args.n ≤ 144 = few c.requires.0 c.requires.0 in the-all),
+      (few c.requires.0 c.requires.0),
       c.loop-p-test.true,
       c.requires.1,
     )
@@ -44,7 +44,7 @@ pub overflow_step-p : goal.overflow_step-p
 overflow_step-p c =
     omega (
       arith,
-      (let the-all : c.args.n * c.args.n ≤ 144 = few c.requires.0 c.requires.0 in the-all),
+      (few c.requires.0 c.requires.0),
       c.loop-p-test.true,
     )
 

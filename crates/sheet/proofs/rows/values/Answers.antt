@@ -17,7 +17,7 @@ loop-k-init c = (search rules, refl, refl)
 
 pub value-requires : goal.value-requires
 value-requires c =
-    rule_near c.args.rules ((let the-long : length c.args.rules.list ≡ 12 = c.well_formed.0.1.1.1.0.1.0.1 in the-long)) c.requires _ _ c.loop-k-test.true
+    rule_near c.args.rules c.well_formed.0.1.1.1.0.1.0.1 c.requires _ _ c.loop-k-test.true
 
 pub loop-k-preserved : goal.loop-k-preserved
 loop-k-preserved c =
@@ -27,7 +27,7 @@ loop-k-preserved c =
       search rules,
       c.put.ensures ∙ fill_first _ (λ i. f (rule_at (list_in c.args.rules) i)) l.k l.invariant.2
           (c.value.ensures
-          ∙ ap f (rule-in c.args.rules ((let the-long : length c.args.rules.list ≡ 12 = c.well_formed.0.1.1.1.0.1.0.1 in the-long)) c.requires l.k _
+          ∙ ap f (rule-in c.args.rules c.well_formed.0.1.1.1.0.1.0.1 c.requires l.k _
           c.loop-k-test.true)),
     )
 

@@ -21,12 +21,12 @@ returns-then-is_outside c =
     let a = c.args in
     c.reply_none.ensures
     ∙ answer_none (sheet_by a.sheet) a.aims.now a.st a.area.now _
-    ((let the-rows_are : let a = c.args in c.rows_at.new.rows ≡ rows_of (length (sheet_by a.sheet).coordinates) (sheet_by a.sheet).rules (point_of a.st a.area.now) a.aims.now = rw (c.point.ensures, ← c.requires.settles.all_coordinates) at c.rows_at.ensures in the-rows_are)) ((let the-each-rule : let a = c.args in a.sheet.rules.count ≡ length (sheet_by a.sheet).rules = sym c.requires.settles.all_rules in the-each-rule)) c.reply-out.ensures
+    (rw (c.point.ensures, ← c.requires.settles.all_coordinates) at c.rows_at.ensures) (sym c.requires.settles.all_rules) c.reply-out.ensures
     (sym c.is_outside.ensures ∙ c.if-is_outside.true)
 
 pub returns : goal.returns
 returns c =
     let a = c.args in
     answer_rows (sheet_by a.sheet) a.aims.now a.st a.area.now _
-    ((let the-rows_are : let a = c.args in c.rows_at.new.rows ≡ rows_of (length (sheet_by a.sheet).coordinates) (sheet_by a.sheet).rules (point_of a.st a.area.now) a.aims.now = rw (c.point.ensures, ← c.requires.settles.all_coordinates) at c.rows_at.ensures in the-rows_are)) ((let the-each-rule : let a = c.args in a.sheet.rules.count ≡ length (sheet_by a.sheet).rules = sym c.requires.settles.all_rules in the-each-rule)) c.reply-out.ensures
+    (rw (c.point.ensures, ← c.requires.settles.all_coordinates) at c.rows_at.ensures) (sym c.requires.settles.all_rules) c.reply-out.ensures
     (sym c.is_outside.ensures ∙ c.if-is_outside.false)

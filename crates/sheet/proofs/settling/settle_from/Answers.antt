@@ -17,6 +17,5 @@ returns c =
     let a = c.args in
     c.answers.ensures
     ∙ ap (λ (b : AfterCall). answers_to most_replies (sheet_by a.sheet) a.aims.now b)
-    (begun_as c.requires a.start.now a.area.now ((let the-reach-is : c.from_i64-reach.result ≡ from_i64 (pos c.args.sheet.reach) = 
-    let h = c.requires.settles.small_reach in
-    c.from_i64-reach.ensures ∙ ap from_i64 (to_z_pos w64 c.args.sheet.reach (omega (arith, h))) in the-reach-is)) c.begin-first.ensures)
+    (begun_as c.requires a.start.now a.area.now ((let h = c.requires.settles.small_reach in
+    c.from_i64-reach.ensures ∙ ap from_i64 (to_z_pos w64 c.args.sheet.reach (omega (arith, h))))) c.begin-first.ensures)

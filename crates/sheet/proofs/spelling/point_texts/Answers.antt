@@ -24,8 +24,8 @@ loop-i-preserved c =
       c.point_text-end.auto.out ∙ l.invariant.1,
       omega (arith, c.point_text-end.ensures.0, l.invariant.2),
       point_turn l.i c.args.points.coordinates (pos 0) (omega (arith, (let the-long : length c.args.points.coordinates ≡ 12 = search rules in the-long)))
-          (to_z-of_z {w = w64} (sfits_of c.point_text-arg-in-loop-i-1.given))
-          (to_z-of_z {w = w64} (sfits_of c.point_text-arg-in-loop-i-2-1.given))
+          (to_z-of_z {w = w64} (sfits_of (search rules)))
+          (to_z-of_z {w = w64} (sfits_of (search rules)))
           l.invariant.3 c.point_text-end.ensures.1,
     )
 

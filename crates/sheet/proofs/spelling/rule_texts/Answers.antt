@@ -20,7 +20,7 @@ loop-i-preserved c =
       omega arith,
       c.rule_text-end.auto.out ∙ l.invariant.1,
       omega (arith, c.rule_text-end.ensures.0, l.invariant.2),
-      rule_turn l.i c.args.rules.list _ (omega (arith, (let the-long : length c.args.rules.list ≡ 12 = c.well_formed.1.1.0.1.1.1.0.1.0.1 in the-long))) l.invariant.3 c.rule_text-end.ensures.1,
+      rule_turn l.i c.args.rules.list _ (omega (arith, c.well_formed.1.1.0.1.1.1.0.1.0.1)) l.invariant.3 c.rule_text-end.ensures.1,
     )
 
 pub returns : goal.returns

@@ -12,10 +12,10 @@ use Rattle.sheet.proofs.spelling.write_sheet.Goals as goal
 pub rule_texts-requires : goal.rule_texts-requires
 rule_texts-requires c =
     let p = c.requires.0 in
-    let f = (let the-so_far : (length c.number_line-fifth.new.out ≡ most_bytes) × (c.number_line-fifth.result ≤ 391) = 
+    let f : (length c.number_line-fifth.new.out ≡ most_bytes) × (c.number_line-fifth.result ≤ 391) =
     let p = c.requires in (
-      c.number_line-fifth.auto.out ∙ c.number_line-fourth.auto.out ∙ c.number_line-third.auto.out ∙ c.point_texts-second.auto.out
-          ∙ c.number_line-first.auto.out ∙ c.clear_bytes.auto.out ∙ p.1,
+      c.number_line-fifth.auto.out ∙ c.number_line-fourth.auto.out ∙ c.number_line-third.auto.out
+          ∙ c.point_texts-second.auto.out ∙ c.number_line-first.auto.out ∙ c.clear_bytes.auto.out ∙ p.1,
       omega (
         arith,
         p.0.few_points,
@@ -25,25 +25,8 @@ rule_texts-requires c =
         c.point_texts-second.ensures.0,
         c.number_line-first.ensures.0,
       ),
-    ) in the-so_far) in
+    ) in
     (p.all_rules, p.near.few, omega (arith, p.near.few, f.0, f.1))
-
-pub shape_of-out : goal.shape_of-out
-shape_of-out c =
-    c.rule_texts.auto.out ∙ ((let the-so_far : (length c.number_line-fifth.new.out ≡ most_bytes) × (c.number_line-fifth.result ≤ 391) = 
-    let p = c.requires in (
-      c.number_line-fifth.auto.out ∙ c.number_line-fourth.auto.out ∙ c.number_line-third.auto.out ∙ c.point_texts-second.auto.out
-          ∙ c.number_line-first.auto.out ∙ c.clear_bytes.auto.out ∙ p.1,
-      omega (
-        arith,
-        p.0.few_points,
-        c.number_line-fifth.ensures.0,
-        c.number_line-fourth.ensures.0,
-        c.number_line-third.ensures.0,
-        c.point_texts-second.ensures.0,
-        c.number_line-first.ensures.0,
-      ),
-    ) in the-so_far)).0 ∙ sym c.requires.1
 
 pub returns : goal.returns
 returns c =
