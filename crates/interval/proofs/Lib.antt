@@ -19,6 +19,7 @@ pub mod RootBits
 pub mod RootCases
 pub mod RootNearest
 pub mod Product
+pub mod ProductEnds
 pub mod Infinite
 pub mod Inverse
 pub mod Enclosure

@@ -20,6 +20,7 @@ use Rattle.interval.proofs.Rounding.{magnitude_lt}
 use Rattle.interval.proofs.Rank.{rank, count, neg_round}
 use Rattle.interval.proofs.Outward.{positive_fits, down_rank, rank_neg}
 use Rattle.interval.proofs.Enclosure.Add.{le_scaled}
+use Rattle.interval.proofs.ProductEnds.{product_ends}
 use Rattle.interval.proofs.Corners.{P-mul, N-mul, ext}
 use Rattle.interval.proofs.Product.{corner_low, product_low, mul_number}
 use Rattle.interval.proofs.Order.{Number, least_any, greatest_any}
@@ -422,14 +423,14 @@ mul_within x y p q j k J K tx ty o a b =
       right = λ u v. elim (o.right u v) [ inl h ↦ inr (neg_finite x.lo h) | inr h ↦ inl (neg_finite x.hi h) ];
     })
     (neg_within x p j a) b in
-    record {
+    subst (λ (z : Scalar). Within z (p *ℤ q) (j * k)) (sym (product_ends x y)) (record {
       low_end = product_below (least A B C D) x y p q j k J K ls.number tx ty
           (record { ll = ls.at_p; lh = ls.at_q; hl = ls.at_r; hh = ls.at_s }) o a b;
       high_end =
           un_high (next_up g) (p *ℤ q) (j * k)
           (subst (λ (z : ℤ). LowerBound (neg (next_up g)) z (j * k)) (minus_times p q)
           (subst (λ (z : Float). LowerBound (neg (next_up z)) (neg_ℤ p *ℤ q) (j * k)) (neg_neg g) turned));
-    }
+    })
 
 -- a square needs nothing
 pub square_within : (x : Scalar) (p : ℤ) (j : ℕ) → 0 < j → Fits x → Within x p j → Within (mul_of x x) (p *ℤ p) (j * j)

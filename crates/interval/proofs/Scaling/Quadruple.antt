@@ -10,7 +10,7 @@ use Rattle.interval.specs.declared.Scalar.{Scalar}
 use Rattle.interval.specs.Enclosure.{units_of}
 use Rattle.interval.specs.Float.{least, greatest, lesser, greater}
 use Rattle.interval.specs.Pattern.{inf_bits, magnitude}
-use Rattle.interval.specs.Scalar.{two64}
+use Rattle.interval.specs.Scalar.{degenerate, two64}
 use Rattle.interval.specs.Scaling.{four64, quadruple, quadrupled, quadruple_times}
 use Rattle.interval.specs.Step.{next_up, next_down}
 use Rattle.interval.proofs.Integers.{P, N}
@@ -28,6 +28,7 @@ use Rattle.interval.proofs.Order.{least_any, greatest_any}
 use Rattle.interval.proofs.Spacing.{at_ge, at_most, magnitude_infinity, magnitude_le, at_own, at_same, doubled}
 use Rattle.interval.proofs.Spacing.{magnitude_doubled, magnitude_inj, around, magnitude_around, foot_magnitude}
 use Rattle.interval.proofs.Spacing.{gap_of}
+use Rattle.interval.proofs.ProductEnds.{middle_ends}
 
 abbrev L : ℕ
 L = 2 ^ low binary64
@@ -212,7 +213,8 @@ half_rank s b p h = go s (pattern_value s b p h)
 quadruple_is : (x : Float) (v : Float) → mul binary64 x four64 ≡ v → NonNegative v
     → quadruple x ≡ div binary64 (add binary64 (next_down v) (next_up v)) two64
 quadruple_is x v e s =
-    ap (λ (z : Float). div binary64 (add binary64 (next_down (least z z z z)) (next_up (greatest z z z z))) two64) e
+    middle_ends (degenerate x) (degenerate four64)
+    ∙ ap (λ (z : Float). div binary64 (add binary64 (next_down (least z z z z)) (next_up (greatest z z z z))) two64) e
     ∙ ap (λ (z : Float). div binary64 (add binary64 (next_down z) (next_up (greatest v v v v))) two64) (same_four v s).0
     ∙ ap (λ (z : Float). div binary64 (add binary64 (next_down v) (next_up z)) two64) (same_four v s).1
 

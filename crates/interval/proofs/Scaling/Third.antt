@@ -11,7 +11,7 @@ use Rattle.interval.specs.declared.Scalar.{Scalar}
 use Rattle.interval.specs.Enclosure.{units_of}
 use Rattle.interval.specs.Float.{least, greatest}
 use Rattle.interval.specs.Pattern.{inf_bits, magnitude}
-use Rattle.interval.specs.Scalar.{zero64, one64, two64}
+use Rattle.interval.specs.Scalar.{zero64, one64, two64, degenerate, inverse}
 use Rattle.interval.specs.Scaling.{three64, third}
 use Rattle.interval.specs.Step.{next_up, next_down}
 use Rattle.interval.proofs.Integers.{P, N, parts_of_lt}
@@ -28,6 +28,7 @@ use Rattle.interval.proofs.MinMax.{either_least, either_greatest}
 use Rattle.interval.proofs.OrderUnits.{lt_units}
 use Rattle.interval.proofs.OneSided.Ends.{zero_fits}
 use Rattle.interval.proofs.Spacing.{at_most, magnitude_le}
+use Rattle.interval.proofs.ProductEnds.{middle_ends}
 use Rattle.interval.proofs.Scaling.Quadruple.{round_pattern, Pattern, pattern-P, pattern_value, pattern_under}
 use Rattle.interval.proofs.Scaling.Quadruple.{magnitude_some, magnitude_only}
 
@@ -220,9 +221,10 @@ third_above mu a b pa ha pb hb h =
     let low-m = ls.at_p (subst (λ (z : Float). T (not (is_nan z))) (sym sa.0)
     (round_number binary64 false (magnitude binary64 a * 1501199875790165) (2 ^ low binary64 * 2 ^ 52))) in
     let s = add binary64 (next_down m) (next_up g) in
-    half_above s (add-fits binary64 (next_down m) (next_up g))
+    subst (λ (z : Float). T (lt zero64 z) → (c : ℕ) × Pattern z c × (0 < c)) (sym (middle_ends mu (inverse (degenerate three64))))
+    (half_above s (add-fits binary64 (next_down m) (next_up g))
     (sum_under (next_down m) (next_up g) (down_fits m) fm (up_fits g) fg (P-under (next_down m) B1 (down_fits m) fm
-    (omega (arith, ka.1))) (P-under (next_up g) (B1 + 1) (up_fits g) fg (omega arith))) h
+    (omega (arith, ka.1))) (P-under (next_up g) (B1 + 1) (up_fits g) fg (omega arith)))) h
   where
     bound : (v : Float) (x c : ℕ) → v ≡ round binary64 false x c → at binary64 x c ≤ B1
         → NonNegative v × (rank binary64 v ≤ inf_bits binary64 + B1)
