@@ -13,10 +13,11 @@ loop-i-init c = (omega arith, refl, scanned_none _)
 
 pub returns-then-slot-i-eq0 : goal.returns-then-slot-i-eq0
 returns-then-slot-i-eq0 c =
-    let l = c.loop-i in (
-      (omega arith, sym (length-take-le _ _ (omega arith))),
-      scanned_zero _ _ l.invariant.2 c.loop-i-test.true c.if-slot-i-eq0.true,
-    )
+    let l = c.loop-i in
+    record {
+      prefix_len = (omega arith, sym (length-take-le _ _ (omega arith)));
+      slot_value = scanned_zero _ _ l.invariant.2 c.loop-i-test.true c.if-slot-i-eq0.true;
+    }
 
 pub loop-i-preserved : goal.loop-i-preserved
 loop-i-preserved c =
@@ -26,4 +27,7 @@ loop-i-preserved c =
 pub returns : goal.returns
 returns c =
     let l = c.loop-i in
-    ((omega arith, sym (length-take-le _ _ (omega arith))), scanned_all _ l.i l.invariant.2 (omega arith))
+    record {
+      prefix_len = (omega arith, sym (length-take-le _ _ (omega arith)));
+      slot_value = scanned_all _ l.i l.invariant.2 (omega arith);
+    }
