@@ -52,7 +52,7 @@ pub returns-in-Written : goal.returns-in-Written
 returns-in-Written c =
     let p = c.print_spelling in
     let q =
-        printed c.args.text.now c.args.out.now c.requires p.result p.ensures _ (ap returned_in c.in-Written.is) in
+    printed c.args.text.now c.args.out.now c.requires p.result p.ensures _ (ap returned_in c.in-Written.is) in
     record { prefix_len = q.0; out_after = q.1 }
 
 pub returns-in-Refused : goal.returns-in-Refused
