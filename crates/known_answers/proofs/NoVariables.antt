@@ -61,16 +61,16 @@ norm_none f = refl
 -- ---- the step
 
 -- a problem of no variables and no constraints
-kept_step : (c : ℕ → Scalar) (wide jc h : List Float)
+kept-step : (c : ℕ → Scalar) (wide jc h : List Float)
     → kept_step (problem_in 0 0 c wide jc h vector) ≡ ok (found (step_in vector vector 0))
 unfolding kept_step bind basis_of fold_r correction_of least_squares_of combined_to directions_of directions_to free_step
     cholesky_of refused_to weights_of any_to solve_of stepped_by pull_of fill_to multipliers_of spread_to
-kept_step c wide jc h = rw (zeros_finite 24 12 (omega arith))
+kept-step c wide jc h = rw (zeros_finite 24 12 (omega arith))
 
 step_none : (rows b : List Float) (moving : List Bool) (mu : Scalar)
     → step_of 0 (evaluation_of (record { n = 0; m = 0; s = 0 }) rows) b moving mu ≡ ok (found (step_in vector vector 0))
 unfolding step_of problem_of kept_to damped_of fill_rows gradient_of fill_to spread_to bind
-step_none rows b moving mu = rw (zeros_finite 288 144 (omega arith), kept_step _ _ _ _)
+step_none rows b moving mu = rw (zeros_finite 288 144 (omega arith), kept-step _ _ _ _)
 
 -- ---- no expected drop
 

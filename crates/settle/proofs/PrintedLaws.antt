@@ -92,13 +92,13 @@ name stop.Budget = λ t. refl
 middle : (x : Scalar) → Passes (middle_of x)
 middle x = word_to 16 (to_bits binary64 (sharpen x).lo)
 
-at_key : Passes at_key
+at-key : Passes at_key
 unfolding before_zero
-at_key t = refl
+at-key t = refl
 
 point-line : (x y : Scalar) → Passes (point_line x y)
 point-line x y =
-    line at_key (middle_of x ++ (COMMA ∷ middle_of y)) at_key
+    line at_key (middle_of x ++ (COMMA ∷ middle_of y)) at-key
     (both (middle_of x) (COMMA ∷ middle_of y) (middle x)
     (both (COMMA ∷ []) (middle_of y) (byte COMMA (omega arith)) (middle y)))
 

@@ -12,13 +12,16 @@ ghost use Rattle.sheet.specs.Settling.{print_of};
 use std::io;
 use std::io::{Input, Read, Write};
 
+// The byte that stands behind what is printed.
+const END: u8 = 0;
+
 // How many bytes stand before the first zero byte.
 fn printed(slot: &[u8]) -> usize
     ensures prefix_len { IsPrefixLen result slot.now }
     ensures slot_value { take result slot.now ≡ before_zero slot.now }
 {
     for i in 0..slot.len() {
-        if slot[i] == 0 {
+        if slot[i] == END {
             return i;
         }
     }

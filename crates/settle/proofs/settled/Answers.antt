@@ -8,4 +8,7 @@ use Rattle.settle.proofs.settled.Goals as goal
 pub returns : goal.returns
 returns c =
     let q = settled_slot _ _ _ c.requires.0 c.requires.1 c.settle_text.ensures in
-    (c.printed.ensures.0, c.printed.ensures.1 ∙ ap before_zero q ∙ before_padded _)
+    record {
+      prefix_len = c.printed.ensures.prefix_len;
+      slot_after = c.printed.ensures.slot_value ∙ ap before_zero q ∙ before_padded _;
+    }

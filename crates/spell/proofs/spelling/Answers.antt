@@ -17,10 +17,8 @@ use Rattle.sheet.specs.Spelling.{AfterSpelling, after_spelling, returned_in, wri
 use Rattle.sheet.specs.Spelling.{printed_spelling, print_spelling_of}
 use Rattle.sheet.specs.declared.spelling.Spelled.{Spelled}
 use Rattle.sheet.proofs.SheetLaws.{same}
+use Rattle.spell.proofs.WholeText.{print_of}
 use Rattle.spell.proofs.spelling.Goals as goal
-
-abbrev print_of : List ℕ → List ℕ
-print_of text = printed_spelling (read_of text)
 
 -- what a call leaves in bytes of the right length
 is_written : (text out : List ℕ) → length out ≡ most_bytes → print_spelling_of text out ≡ written_text (print_of text)
@@ -53,8 +51,9 @@ module _ (text out : List ℕ) (fits : length out ≡ most_bytes) (r : Spelled) 
 pub returns-in-Written : goal.returns-in-Written
 returns-in-Written c =
     let p = c.print_spelling in
-    printed c.args.text.now c.args.out.now c.requires p.result p.ensures _
-    (ap returned_in c.in-Written.is)
+    let q =
+    printed c.args.text.now c.args.out.now c.requires p.result p.ensures _ (ap returned_in c.in-Written.is) in
+    record { prefix_len = q.0; out_after = q.1 }
 
 pub returns-in-Refused : goal.returns-in-Refused
 returns-in-Refused c =
