@@ -305,9 +305,9 @@ module _ (st : State) (w : Memory) (theta : Scalar) where
   correct_asks =
       or_refuse_asks st w (shift_from st.moving (landed_at st w).constraints w.landed) _
       (λ s. elim s as (λ x. AsksOpen (elim x as (λ y. AfterSlots) [
-          | to next ↦ question st (with_asked st w next) kind.Correction st.counts.corrections
-          | stay ↦ judge st w theta
-        ])) [
+        | to next ↦ question st (with_asked st w next) kind.Correction st.counts.corrections
+        | stay ↦ judge st w theta
+      ])) [
         | to next ↦ λ e. (kind.Correction, refl)
         | stay ↦ judge_asks
       ])

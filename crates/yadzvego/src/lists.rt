@@ -75,12 +75,7 @@ pub fn yadzvego_linear_sharp(n: usize, v: &[f64], out: &mut [f64]) -> u64
     number_of_done(linear::sharp(n, v, out))
 }
 
-pub fn yadzvego_linear_cholesky(
-    n: usize,
-    a: &[f64],
-    l: &mut [f64],
-    left_out: &mut [bool],
-) -> u64
+pub fn yadzvego_linear_cholesky(n: usize, a: &[f64], l: &mut [f64], left_out: &mut [bool]) -> u64
     ensures { written result (factor_of l.new left_out.new)
         ≡ written_of (cholesky_reply n a.now (factor_of l.old left_out.old)) }
 {

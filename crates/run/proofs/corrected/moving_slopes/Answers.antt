@@ -30,17 +30,16 @@ nonzero_rem-p c =
     rows_positive c.args.c.m c.args.c.n {p = c.loop-p.p} c.loop-p-test.true
 
 pub slope_of-v-requires : goal.slope_of-v-requires
-slope_of-v-requires c =
-    (
-      rw c.constraints-e.ensures
-          (constraints_small c.requires.0.few),
-      omega (
-        arith,
-        few c.requires.0.few.few_constraints c.requires.0.few.few_variables,
-        c.loop-p-test.true,
-        div-le_self c.loop-p.p c.args.c.n,
-      ),
-    )
+slope_of-v-requires c = (
+  rw c.constraints-e.ensures
+      (constraints_small c.requires.0.few),
+  omega (
+    arith,
+    few c.requires.0.few.few_constraints c.requires.0.few.few_variables,
+    c.loop-p-test.true,
+    div-le_self c.loop-p.p c.args.c.n,
+  ),
+)
 
 pub nonzero_rem-p-in-loop-p : goal.nonzero_rem-p-in-loop-p
 nonzero_rem-p-in-loop-p c =

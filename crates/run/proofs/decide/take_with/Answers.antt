@@ -35,13 +35,12 @@ pub slice_bounds-learn-end : goal.slice_bounds-learn-end
 slice_bounds-learn-end c = sym (length-take-le _ _ (fits c.args.st c.requires.1))
 
 pub learn-requires : goal.learn-requires
-learn-requires c =
-    (
-      c.requires.0,
-      standing_rows_of c.requires.1.bounded,
-      landed_rows_of c.requires.1.bounded,
-      length-take-le _ _ (fits c.args.st c.requires.1),
-    )
+learn-requires c = (
+  c.requires.0,
+  standing_rows_of c.requires.1.bounded,
+  landed_rows_of c.requires.1.bounded,
+  length-take-le _ _ (fits c.args.st c.requires.1),
+)
 
 pub refuse-requires : goal.refuse-requires
 refuse-requires c =

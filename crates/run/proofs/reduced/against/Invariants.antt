@@ -19,7 +19,7 @@ use Rattle.run.proofs.reduced.against.Given as goal
 abbrev pub invariant-loop-t : goal.invariant-loop-t
 invariant-loop-t l = (l.t ≤ l.count) × (length l.out ≡ length l.initial.out)
     × (l.out ≡ list_to (λ j. choose_of (neg_of (dot_to (row l.z j) (at l.force) l.k))) l.t
-        ++ drop (2 * l.t) l.initial.out)
+    ++ drop (2 * l.t) l.initial.out)
 
 abbrev pub decreases-loop-t : goal.decreases-loop-t
 decreases-loop-t l = l.count - l.t

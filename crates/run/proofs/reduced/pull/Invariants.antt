@@ -17,7 +17,7 @@ use Rattle.run.proofs.reduced.pull.Given as goal
 abbrev pub invariant-loop-i : goal.invariant-loop-i
 invariant-loop-i l = (l.i ≤ l.k) × (length l.out ≡ length l.initial.out)
     × (l.out ≡ fill_to vector 0 (λ j. choose_of (neg_of (add_of (at l.g j)
-        (h_times_at (curved l.k l.h l.g) (at l.v) j)))) l.i)
+    (h_times_at (curved l.k l.h l.g) (at l.v) j)))) l.i)
 
 abbrev pub decreases-loop-i : goal.decreases-loop-i
 decreases-loop-i l = l.k - l.i

@@ -43,8 +43,8 @@ returns-in-Refused c =
     let a = c.args in
     let f = c.cholesky.new in
     let ended : done_of c.cholesky.result (factor_of f.l f.left_out) ≡ cholesky_of a.t a.a.now =
-        cholesky_result c.cholesky.result _ _ _ _ (omega (arith, c.requires.0)) c.requires.1.0
-        (length-take-le _ _ (room c.requires.0)) (length-take-le _ _ c.requires.0) c.cholesky.ensures in
+    cholesky_result c.cholesky.result _ _ _ _ (omega (arith, c.requires.0)) c.requires.1.0
+    (length-take-le _ _ (room c.requires.0)) (length-take-le _ _ c.requires.0) c.cholesky.ensures in
     unfactored a.t a.a.now a.w.now _ c.in-Refused.is
     ended
 
@@ -67,8 +67,8 @@ returns-then-any c =
     let f = c.cholesky.new in
     let g = c.cholesky.auto in
     let ended : done_of c.cholesky.result (factor_of f.l f.left_out) ≡ cholesky_of a.t a.a.now =
-        cholesky_result c.cholesky.result _ _ _ _ (omega (arith, c.requires.0)) c.requires.1.0
-        (length-take-le _ _ (room c.requires.0)) (length-take-le _ _ c.requires.0) c.cholesky.ensures in
+    cholesky_result c.cholesky.result _ _ _ _ (omega (arith, c.requires.0)) c.requires.1.0
+    (length-take-le _ _ (room c.requires.0)) (length-take-le _ _ c.requires.0) c.cholesky.ensures in
     let n = g.left_out ∙ length-take-le _ _ c.requires.0 in
     let m = front_kept _ f.left_out _ c.requires.0 g.left_out in
     weights_none a.t a.a.now a.w.now (factor_of f.l f.left_out)
@@ -101,14 +101,14 @@ returns-in-Refused-solve_cholesky c =
     let f = c.cholesky.new in
     let g = c.cholesky.auto in
     let ended : done_of c.cholesky.result (factor_of f.l f.left_out) ≡ cholesky_of a.t a.a.now =
-        cholesky_result c.cholesky.result _ _ _ _ (omega (arith, c.requires.0)) c.requires.1.0
-        (length-take-le _ _ (room c.requires.0)) (length-take-le _ _ c.requires.0) c.cholesky.ensures in
+    cholesky_result c.cholesky.result _ _ _ _ (omega (arith, c.requires.0)) c.requires.1.0
+    (length-take-le _ _ (room c.requires.0)) (length-take-le _ _ c.requires.0) c.cholesky.ensures in
     let done : done_of c.solve_cholesky.result c.solve_cholesky.new.x ≡ solve_of a.t f.l f.left_out a.w.now =
-        solve_fronts c.solve_cholesky.result a.t f.l f.left_out a.w.now _ c.solve_cholesky.new.x
-        (omega (arith, c.requires.0)) (g.l ∙ length-take-le _ _ (room c.requires.0))
-        (g.left_out ∙ length-take-le _ _ c.requires.0) c.requires.1.1 (length-take-le _ _ (short c.requires.0))
-        (front_kept _ f.l _ (room c.requires.0) g.l) (front_kept _ f.left_out _ c.requires.0 g.left_out)
-        c.solve_cholesky.ensures in
+    solve_fronts c.solve_cholesky.result a.t f.l f.left_out a.w.now _ c.solve_cholesky.new.x
+    (omega (arith, c.requires.0)) (g.l ∙ length-take-le _ _ (room c.requires.0))
+    (g.left_out ∙ length-take-le _ _ c.requires.0) c.requires.1.1 (length-take-le _ _ (short c.requires.0))
+    (front_kept _ f.l _ (room c.requires.0) g.l) (front_kept _ f.left_out _ c.requires.0 g.left_out)
+    c.solve_cholesky.ensures in
     let n = g.left_out ∙ length-take-le _ _ c.requires.0 in
     let m = front_kept _ f.left_out _ c.requires.0 g.left_out in
     weights_refused a.t a.a.now a.w.now (factor_of f.l f.left_out)
@@ -139,14 +139,14 @@ returns c =
     let f = c.cholesky.new in
     let g = c.cholesky.auto in
     let ended : done_of c.cholesky.result (factor_of f.l f.left_out) ≡ cholesky_of a.t a.a.now =
-        cholesky_result c.cholesky.result _ _ _ _ (omega (arith, c.requires.0)) c.requires.1.0
-        (length-take-le _ _ (room c.requires.0)) (length-take-le _ _ c.requires.0) c.cholesky.ensures in
+    cholesky_result c.cholesky.result _ _ _ _ (omega (arith, c.requires.0)) c.requires.1.0
+    (length-take-le _ _ (room c.requires.0)) (length-take-le _ _ c.requires.0) c.cholesky.ensures in
     let done : done_of c.solve_cholesky.result c.solve_cholesky.new.x ≡ solve_of a.t f.l f.left_out a.w.now =
-        solve_fronts c.solve_cholesky.result a.t f.l f.left_out a.w.now _ c.solve_cholesky.new.x
-        (omega (arith, c.requires.0)) (g.l ∙ length-take-le _ _ (room c.requires.0))
-        (g.left_out ∙ length-take-le _ _ c.requires.0) c.requires.1.1 (length-take-le _ _ (short c.requires.0))
-        (front_kept _ f.l _ (room c.requires.0) g.l) (front_kept _ f.left_out _ c.requires.0 g.left_out)
-        c.solve_cholesky.ensures in
+    solve_fronts c.solve_cholesky.result a.t f.l f.left_out a.w.now _ c.solve_cholesky.new.x
+    (omega (arith, c.requires.0)) (g.l ∙ length-take-le _ _ (room c.requires.0))
+    (g.left_out ∙ length-take-le _ _ c.requires.0) c.requires.1.1 (length-take-le _ _ (short c.requires.0))
+    (front_kept _ f.l _ (room c.requires.0) g.l) (front_kept _ f.left_out _ c.requires.0 g.left_out)
+    c.solve_cholesky.ensures in
     let n = g.left_out ∙ length-take-le _ _ c.requires.0 in
     let m = front_kept _ f.left_out _ c.requires.0 g.left_out in
     let x = c.solve_cholesky.new.x in

@@ -18,7 +18,7 @@ use Rattle.run.proofs.vectors.unit.Given as goal
 abbrev pub invariant-loop-p : goal.invariant-loop-p
 invariant-loop-p l = (l.p ≤ l.k) × (length l.to ≡ length l.initial.to)
     × ((len : Scalar) → result_of l.inverse ≡ inverse_of len
-        → l.to ≡ fill_to l.initial.to l.t0 (unit_at (along l.v l.v0 1) len) l.p)
+    → l.to ≡ fill_to l.initial.to l.t0 (unit_at (along l.v l.v0 1) len) l.p)
 
 abbrev pub decreases-loop-p : goal.decreases-loop-p
 decreases-loop-p l = l.k - l.p

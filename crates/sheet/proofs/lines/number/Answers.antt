@@ -10,7 +10,9 @@ use Rattle.sheet.proofs.AppendLaws.{appends_as}
 use Rattle.sheet.proofs.lines.number.Goals as goal
 
 pub returns : goal.returns
-returns c =
-    (omega (arith, c.append.ensures.0), appends_as c.append.ensures.1 ((let d = c.decimal-d.result in
-    let e = c.decimal-d.ensures in
-    take_all (20 - d.first) (drop d.first d.digits) (simp length-drop (omega (arith, e.2))) ∙ e.0)))
+returns c = (
+  omega (arith, c.append.ensures.0),
+  appends_as c.append.ensures.1 ((let d = c.decimal-d.result in
+      let e = c.decimal-d.ensures in
+      take_all (20 - d.first) (drop d.first d.digits) (simp length-drop (omega (arith, e.2))) ∙ e.0)),
+)

@@ -94,11 +94,10 @@ pub overflow_add-v-then-v-lt0 : goal.overflow_add-v-then-v-lt0
 overflow_add-v-then-v-lt0 c = size_fits (below c.args.v c.ranges.v c.if-v-lt0.true)
 
 pub returns-then-v-lt0 : goal.returns-then-v-lt0
-returns-then-v-lt0 c =
-    (
-      omega (arith, c.number.ensures.0, c.append-digits.ensures.0),
-      appends_as (then c.append-digits.ensures.1 c.number.ensures.1) (text (below c.args.v c.ranges.v c.if-v-lt0.true)),
-    )
+returns-then-v-lt0 c = (
+  omega (arith, c.number.ensures.0, c.append-digits.ensures.0),
+  appends_as (then c.append-digits.ensures.1 c.number.ensures.1) (text (below c.args.v c.ranges.v c.if-v-lt0.true)),
+)
 
 -- ---- from 0 on
 

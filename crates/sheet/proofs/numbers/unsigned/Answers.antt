@@ -39,13 +39,20 @@ overflow_sub-b c =
 
 pub overflow_cast-b : goal.overflow_cast-b
 overflow_cast-b c =
-    omega (arith, digit (get_or c.args.text.now c.loop-i.i 0)
-      (sym c.is_digit-in-loop-i.ensures ∙ c.if-not-is_digit-2.false))
+    omega (
+      arith,
+      digit (get_or c.args.text.now c.loop-i.i 0)
+          (sym c.is_digit-in-loop-i.ensures ∙ c.if-not-is_digit-2.false),
+    )
 
 pub overflow_add-size : goal.overflow_add-size
 overflow_add-size c =
-    omega (arith, digit (get_or c.args.text.now c.loop-i.i 0)
-      (sym c.is_digit-in-loop-i.ensures ∙ c.if-not-is_digit-2.false), c.loop-i.invariant.1)
+    omega (
+      arith,
+      digit (get_or c.args.text.now c.loop-i.i 0)
+          (sym c.is_digit-in-loop-i.ensures ∙ c.if-not-is_digit-2.false),
+      c.loop-i.invariant.1,
+    )
 
 pub loop-i-preserved : goal.loop-i-preserved
 loop-i-preserved c =

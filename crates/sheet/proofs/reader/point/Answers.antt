@@ -14,7 +14,8 @@ use Rattle.sheet.proofs.Tests.{both, not_first, told, passes, refuses}
 use Rattle.sheet.proofs.LineLaws.{point_capped, same_point}
 use Rattle.sheet.proofs.reader.point.Goals as goal
 use Rattle.sheet.proofs.reader.point.Goals.{
-  else-is_near-via-then-is_near+else-is_near-2, else-is_near-via-else-is_near,
+  else-is_near-via-then-is_near+else-is_near-2,
+  else-is_near-via-else-is_near,
 }
 
 pub whole-requires : goal.whole-requires

@@ -5,7 +5,8 @@ use mathlib.Core.Logic.{⊎_elim}
 use Rattle.sheet.proofs.SheetLaws.{read_long, read_surplus, read_whole, read_fault}
 use Rattle.sheet.proofs.reader.read.Goals as goal
 use Rattle.sheet.proofs.reader.read.Goals.{
-  else-sheet-via-then-sheet+else-sheet-text, else-sheet-via-else-sheet,
+  else-sheet-via-then-sheet+else-sheet-text,
+  else-sheet-via-else-sheet,
 }
 
 pub returns-then-text-gt-MOST_BYTES : goal.returns-then-text-gt-MOST_BYTES

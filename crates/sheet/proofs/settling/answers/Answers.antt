@@ -26,8 +26,7 @@ answer-out-requires c = rw c.loop.invariant.1
 
 pub loop-preserved : goal.loop-preserved
 loop-preserved c =
-    let v = c.loop.invariant in
-    (
+    let v = c.loop.invariant in (
       omega arith,
       c.answer-out.auto.rows ∙ v.1,
       c.answer-out.auto.area ∙ v.2,

@@ -12,13 +12,12 @@ pub returns-then-slot-ne-SLOT : goal.returns-then-slot-ne-SLOT
 returns-then-slot-ne-SLOT c = slot_refused _ _ _ c.if-slot-ne-SLOT.true
 
 pub print_found-requires : goal.print_found-requires
-print_found-requires c =
-    (
-      found_settles c.args.text.now
-          c.read.result c.read.type_inv c.read.ensures,
-      c.if-slot-ne-SLOT.false,
-      c.if-area-ne-AREA.false,
-    )
+print_found-requires c = (
+  found_settles c.args.text.now
+      c.read.result c.read.type_inv c.read.ensures,
+  c.if-slot-ne-SLOT.false,
+  c.if-area-ne-AREA.false,
+)
 
 pub returns : goal.returns
 returns c =

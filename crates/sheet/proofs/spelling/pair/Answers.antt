@@ -5,8 +5,7 @@ use Rattle.sheet.proofs.AppendLaws.{then}
 use Rattle.sheet.proofs.spelling.pair.Goals as goal
 
 pub returns : goal.returns
-returns c =
-    (
-      omega (arith, c.number.ensures.0, c.append-second.ensures.0, c.number-first.ensures.0),
-      then c.number-first.ensures.1 (then c.append-second.ensures.1 c.number.ensures.1),
-    )
+returns c = (
+  omega (arith, c.number.ensures.0, c.append-second.ensures.0, c.number-first.ensures.0),
+  then c.number-first.ensures.1 (then c.append-second.ensures.1 c.number.ensures.1),
+)

@@ -18,8 +18,7 @@ loop-i-init c = (omega arith, refl, omega arith, points_none)
 
 pub loop-i-preserved : goal.loop-i-preserved
 loop-i-preserved c =
-    let l = c.loop-i in
-    (
+    let l = c.loop-i in (
       omega arith,
       c.point_text-end.auto.out ∙ l.invariant.1,
       omega (arith, c.point_text-end.ensures.0, l.invariant.2),

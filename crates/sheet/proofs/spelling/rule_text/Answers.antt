@@ -27,16 +27,14 @@ returns-then-rule-eq-SPAN c =
 
 pub returns-then-rule-eq-LEVEL : goal.returns-then-rule-eq-LEVEL
 unfolding rule_text
-returns-then-rule-eq-LEVEL c =
-    (
-      omega (arith, c.aligned_text.ensures.0),
-      rw (ne_eqb _ _ c.if-rule-eq-SPAN.false, eq-eqb _ _ c.if-rule-eq-LEVEL.true) c.aligned_text.ensures.1,
-    )
+returns-then-rule-eq-LEVEL c = (
+  omega (arith, c.aligned_text.ensures.0),
+  rw (ne_eqb _ _ c.if-rule-eq-SPAN.false, eq-eqb _ _ c.if-rule-eq-LEVEL.true) c.aligned_text.ensures.1,
+)
 
 pub returns : goal.returns
 unfolding rule_text
-returns c =
-    (
-      omega (arith, c.aligned_text-2.ensures.0),
-      rw (ne_eqb _ _ c.if-rule-eq-SPAN.false, ne_eqb _ _ c.if-rule-eq-LEVEL.false) c.aligned_text-2.ensures.1,
-    )
+returns c = (
+  omega (arith, c.aligned_text-2.ensures.0),
+  rw (ne_eqb _ _ c.if-rule-eq-SPAN.false, ne_eqb _ _ c.if-rule-eq-LEVEL.false) c.aligned_text-2.ensures.1,
+)

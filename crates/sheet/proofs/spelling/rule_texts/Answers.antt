@@ -15,8 +15,7 @@ loop-i-init c = (omega arith, refl, omega arith, rules_none)
 
 pub loop-i-preserved : goal.loop-i-preserved
 loop-i-preserved c =
-    let l = c.loop-i in
-    (
+    let l = c.loop-i in (
       omega arith,
       c.rule_text-end.auto.out ∙ l.invariant.1,
       omega (arith, c.rule_text-end.ensures.0, l.invariant.2),

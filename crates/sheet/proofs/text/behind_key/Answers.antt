@@ -18,12 +18,11 @@ returns-in-Fault c =
     ∙ key_fault _ _ _ c.loop-k-test.true (told (rest_at _) c.behind.ensures c.in-Fault.is))
 
 pub loop-k-preserved : goal.loop-k-preserved
-loop-k-preserved c =
-    (
-      search rules,
-      c.loop-k.invariant.1
-          ∙ key_turn _ _ _ c.loop-k-test.true (told (rest_at _) c.behind.ensures c.in-At.is),
-    )
+loop-k-preserved c = (
+  search rules,
+  c.loop-k.invariant.1
+      ∙ key_turn _ _ _ c.loop-k-test.true (told (rest_at _) c.behind.ensures c.in-At.is),
+)
 
 pub returns : goal.returns
 returns c = sym (c.loop-k.invariant.1 ∙ key_end _ _ _ c.loop-k-test.false)
