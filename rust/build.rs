@@ -1,5 +1,5 @@
 //! Finds libyadzvego.a: in the folder that YADZVEGO_LIB names, in ../lib, where the bundle has it, or in
-//! ../target/staticlib, where `rt staticlib yadzvego` writes it.
+//! ../target/staticlib, where `./bundle` writes it.
 
 use std::env;
 use std::path::{Path, PathBuf};
@@ -22,7 +22,7 @@ fn main() {
             println!("cargo::rustc-link-lib=static=yadzvego");
         }
         _ => println!(
-            "cargo::error=no {}: run `rt staticlib yadzvego`, or set YADZVEGO_LIB to the folder of the archive",
+            "cargo::error=no {}: run `./bundle`, or set YADZVEGO_LIB to the folder of the archive",
             archive.display()
         ),
     }
