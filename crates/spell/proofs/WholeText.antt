@@ -3,7 +3,7 @@ use Rattle.std.proofs.Common.{◌≡◌, ℕ, ◌+◌, ◌<◌, Bool, true, fals
 use Rattle.std.proofs.Common.{refl, ap, sym, ◌∙◌, subst, arith, length, length-append, append-nil}
 use borrow.Author.Tests.{true-ltb, false-ltb}
 use lib.Dec.{ltb}
-use Rattle.core.specs.declared.option.Option.{Option}
+use Rattle.std.specs.declared.option.Option.{Option}
 use Rattle.std.specs.Io.KnownBytes.{Consumes, IsAtEnd}
 use Rattle.sheet.proofs.SheetLaws.{read_long}
 use Rattle.sheet.specs.Sheet.{most_bytes, read_of}

@@ -11,8 +11,10 @@ use Rattle.yadzvego.proofs.yadzvego_reply.Goals as goal
 
 pub returns-then-not-numbers_fit : goal.returns-then-not-numbers_fit
 unfolding reply_export
-returns-then-not-numbers_fit c = rw c.altered.ensures
-    (sym (not_called _ _ _ (sym c.numbers_fit.ensures ∙ c.if-not-numbers_fit.true)))
+returns-then-not-numbers_fit c =
+    let a = c.args in
+    rw c.altered.ensures
+    (sym (not_called a.run a.area.now (λ (st : State). reply_of st a.area.now a.m a.rows.now) (sym c.numbers_fit.ensures ∙ c.if-not-numbers_fit.true)))
 
 pub returns : goal.returns
 unfolding reply_export
@@ -23,4 +25,4 @@ returns c =
     (ap (after_export_over a.run) c.reply.ensures
     ∙ ap (λ (st : State). after_export_over a.run (reply_of st a.area.now a.m a.rows.now))
     c.state_at.ensures
-    ∙ sym (called _ _ _ fits))
+    ∙ sym (called a.run a.area.now (λ (st : State). reply_of st a.area.now a.m a.rows.now) fits))

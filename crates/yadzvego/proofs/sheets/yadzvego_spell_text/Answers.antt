@@ -19,8 +19,10 @@ crossed r x e q = (
 
 pub returns-in-Written : goal.returns-in-Written
 returns-in-Written c =
-    crossed c.spell_text.result _ c.spell_text.ensures c.in-Written.is
+    let q = crossed c.spell_text.result _ c.spell_text.ensures c.in-Written.is in
+    record { value = q.0; out_after = q.1 }
 
 pub returns-in-Refused : goal.returns-in-Refused
 returns-in-Refused c =
-    crossed c.spell_text.result _ c.spell_text.ensures c.in-Refused.is
+    let q = crossed c.spell_text.result _ c.spell_text.ensures c.in-Refused.is in
+    record { value = q.0; out_after = q.1 }
