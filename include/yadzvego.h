@@ -1,6 +1,6 @@
 /* Least squares under constraints over interval ends: the calls of a run by question and reply, sheets that are settled
  * or spelled by one call, the interval arithmetic, and lists and small matrices of intervals, in libyadzvego.a
- * (`./bundle`).
+ * (`./bundle` writes it).
  *
  * An interval is two numbers, lo then hi. A slice is a pointer to that many numbers, and none that is written overlaps
  * another. Every function takes every number and every length, and ends; what it cannot do is refused by a number:
