@@ -1,5 +1,8 @@
 -- Every list of calls is played by some codes, counts and numbers: a call that is refused for its m or for a length is
 -- refused as one over no numbers is, and rows of k numbers are code 2 k + 2 or 2 k + 3 with them in front.
+use Rattle.run.specs.declared.refusal.Refusal.TheVariants.{Altered, TooMany, WrongLength}
+use Rattle.std.specs.Prelude.{None, Option, Some}
+use Rattle.run.specs.declared.state.Kind.{Kind}
 use Prim.Native.Nat.{ℕ, ◌+◌, ◌*◌, ◌%◌, ◌<◌}
 use mathlib.Core.Path.{◌≡◌, refl, sym, ap, ◌∙◌, subst}
 use mathlib.Core.Logic.{◌⊎◌, ◌≢◌, inl, inr}
@@ -17,8 +20,6 @@ use Rattle.run.specs.Demand.{same, other, Floats, Call, rows, none, Allowed, Run
 use Rattle.run.specs.Area.{area_length}
 use Rattle.run.specs.Limits.{CONSTRAINTS}
 use Rattle.run.specs.Rows.{row_numbers, row_counts}
-use Rattle.run.specs.declared.state.Phase.{Phase}
-use Rattle.run.specs.declared.state.Phase.TheVariants.{Open, Over}
 use Rattle.run.specs.declared.state.Sizes.{Sizes}
 use Rattle.run.specs.declared.state.State.{State}
 use Rattle.run.proofs.Cleared.{demand1}
@@ -39,12 +40,12 @@ use Rattle.call_list.specs.CallList.{
 module _ (st : State) (a own : List Float) where
   none_refused :
       length a ≢ area_length st.sizes →
-      (v : Bool) (p : Phase) →
-      call_result_by (checks v 4 (unchanged st a) (none_open st a p)) own
-      ≡ call_result_by (checks v 4 (unchanged st []) (none_open st [] p)) own
+      (v : Bool) (p : Option Kind) →
+      call_result_by (checks v Altered (unchanged st a) (none_open st a p)) own
+      ≡ call_result_by (checks v Altered (unchanged st []) (none_open st [] p)) own
   none_refused x false p = refl
-  none_refused x true Over = refl
-  none_refused x true (Open k) = rw (ne_eqb (length a) (area_length st.sizes) x) refl
+  none_refused x true None = refl
+  none_refused x true (Some k) = rw (ne_eqb (length a) (area_length st.sizes) x) refl
 
   -- the area or the rows have another length
   lengths :
@@ -60,18 +61,18 @@ module _ (st : State) (a own : List Float) where
   rows_refused :
       (m : ℕ) (xs : List Float) →
       (CONSTRAINTS < m) ⊎ ((length a ≢ area_length st.sizes) ⊎ (length xs ≢ row_numbers (row_counts st.sizes m))) →
-      (v : Bool) (p : Phase) →
-      call_result_by (checks v 4 (unchanged st a) (reply_open st a m xs p)) own
-      ≡ call_result_by (checks v 4 (unchanged st []) (reply_open st [] m xs p)) own
+      (v : Bool) (p : Option Kind) →
+      call_result_by (checks v Altered (unchanged st a) (reply_open st a m xs p)) own
+      ≡ call_result_by (checks v Altered (unchanged st []) (reply_open st [] m xs p)) own
   rows_refused m xs x false p = refl
-  rows_refused m xs x true Over = refl
-  rows_refused m xs (inl x) true (Open k) = rw (lt-leb m CONSTRAINTS x) refl
-  rows_refused m xs (inr x) true (Open k) =
+  rows_refused m xs x true None = refl
+  rows_refused m xs (inl x) true (Some k) = rw (lt-leb m CONSTRAINTS x) refl
+  rows_refused m xs (inr x) true (Some k) =
       rw (lengths xs (area_length st.sizes) (row_numbers (row_counts st.sizes m)) x)
       (either (constraints_fit m))
     where
-      either : (b : Bool) → call_result_by (checks b 1 (unchanged st a) (unchanged st a 2)) own
-          ≡ call_result_by (checks b 1 (unchanged st []) (unchanged st [] 2)) own
+      either : (b : Bool) → call_result_by (checks b TooMany (unchanged st a) (unchanged st a WrongLength)) own
+          ≡ call_result_by (checks b TooMany (unchanged st []) (unchanged st [] WrongLength)) own
       either true = refl
       either false = refl
 

@@ -37,24 +37,14 @@ fn end_of(code: usize, at: usize, count: usize) -> usize
     requires { at ≤ count }
     ensures { result ≡ at + min (count_of code) (count - at) }
 {
-    if code < 2 {
-        return at;
-    }
-    let k = code / 2 - 1;
-    if k < count - at {
-        return at + k;
-    }
-    count
+    at + (code / 2).saturating_sub(1).min(count - at)
 }
 
 // How many constraint rows the i-th call has: none, where the list is shorter.
 fn constraints_of(ms: &[usize], i: usize) -> usize
     ensures { result ≡ get_or ms.now i 0 }
 {
-    if i < ms.len() {
-        return ms[i];
-    }
-    0
+    ms.get(i).copied().unwrap_or(0)
 }
 
 // Begins a run as `run::begin` does and makes one call for each of `codes`: an even code over the area, an odd one over

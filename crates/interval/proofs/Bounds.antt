@@ -1,7 +1,10 @@
 -- An interval by two upper bounds, -lo and hi. Both are stepped up, so the two ends are worked out alike: turning the
 -- signs turns a product and the least of four exactly, and a sum but for the sign of a zero, from which the step up is
 -- the same. The step is one pattern, less where the sign is set; it starts from no -0, and infinity stays.
-use Rattle.std.proofs.Common.{◌≡◌, ℕ, zero, suc, ◌+◌, ◌-◌, ◌*◌, ◌/◌, ◌^◌, ◌<◌, ◌≤◌, Bool, true, false, cond, not, ◌&&◌, T, ltb, ℤ, pos, sym, refl, ap, ◌∙◌, subst, inl, inr, le_of_eq, zero-lt-suc, add_comm, le_antisymm, mul-pos, zero-mul, mul-one, mul_right_comm, arith, lit<, lit≤, ltb→lt, nltb→le}
+use Rattle.std.proofs.Common.{◌≡◌, ℕ, zero, suc, ◌+◌, ◌-◌, ◌*◌, ◌/◌, ◌^◌, ◌<◌, ◌≤◌, Bool, true, false, cond, not, ◌&&◌}
+use Rattle.std.proofs.Common.{T, ltb, ℤ, pos, sym, refl, ap, ◌∙◌, subst, inl, inr, le_of_eq, zero-lt-suc, add_comm}
+use Rattle.std.proofs.Common.{le_antisymm, mul-pos, zero-mul, mul-one, mul_right_comm, arith, lit<, lit≤, ltb→lt}
+use Rattle.std.proofs.Common.{nltb→le}
 use native.Mathlib.Nat.{eq_of_mul-eq-mul_right}
 use mathlib.Core.Bool.{beq}
 use lib.Ieee.{Float, nan, inf, fin, binary64, low, up, down, round, sum, add, sub, mul, neg, below, lt, le, eq, fits}

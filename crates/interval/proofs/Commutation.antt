@@ -1,6 +1,7 @@
 -- Products of intervals commute: the four products of the ends are the same, the second and the third exchanged, so the
 -- greatest and the least of them have the same rank, and a step from either zero is the same.
-use Rattle.std.proofs.Common.{◌≡◌, ℕ, zero, suc, ◌≤◌, Bool, true, false, not, T, ℤ, sym, refl, ap, ◌∙◌, inl, inr, zero-le, le_antisymm, arith}
+use Rattle.std.proofs.Common.{◌≡◌, ℕ, zero, suc, ◌≤◌, Bool, true, false, not, T, ℤ, sym, refl, ap, ◌∙◌, inl, inr}
+use Rattle.std.proofs.Common.{zero-le, le_antisymm, arith}
 use lib.Ieee.{Float, nan, inf, fin, binary64, neg, fits, is_nan, to_bits, of_bits}
 use lib.Ieee.Bits.{of_bits-to_bits}
 use lib.Ieee.Fits.{mul-fits, neg-fits}

@@ -1,5 +1,6 @@
 -- Whole numbers: what is at most each of the four products of the ends is at most every product of what lies between.
-use Rattle.std.proofs.Common.{◌≡◌, ℕ, suc, ◌+◌, ◌*◌, ◌<◌, ◌≤◌, T, ℤ, pos, negsuc, ◌*ℤ◌, sym, ap, ◌∙◌, subst, mul-le-mul_right, mul_assoc, add-mul, mul-zero, zero-mul, le_of_mul-le-mul_right, arith}
+use Rattle.std.proofs.Common.{◌≡◌, ℕ, suc, ◌+◌, ◌*◌, ◌<◌, ◌≤◌, T, ℤ, pos, negsuc, ◌*ℤ◌, sym, ap, ◌∙◌, subst}
+use Rattle.std.proofs.Common.{mul-le-mul_right, mul_assoc, add-mul, mul-zero, zero-mul, le_of_mul-le-mul_right, arith}
 use native.Mathlib.Nat.{mul-mul-mul_comm}
 use lib.IntN.{*ℤ_comm}
 use lib.Signed.{le_z}
@@ -71,7 +72,8 @@ anti_right n z w h = subst (λ (t : ℤ). T (le_z t (negsuc n *ℤ z))) (*ℤ_co
     (subst (λ (t : ℤ). T (le_z (w *ℤ negsuc n) t)) (*ℤ_comm z (negsuc n)) (anti z w n h))
 
 -- ---- the ends a ≤ x ≤ b and c ≤ y ≤ d
-low_side : (r a c y d : ℤ) → T (le_z c y) → T (le_z y d) → T (le_z r (a *ℤ c)) → T (le_z r (a *ℤ d)) → T (le_z r (a *ℤ y))
+low_side : (r a c y d : ℤ) → T (le_z c y) → T (le_z y d) → T (le_z r (a *ℤ c)) → T (le_z r (a *ℤ d))
+    → T (le_z r (a *ℤ y))
 low_side r (pos n) c y d h k p q = le_z-trans r (pos n *ℤ c) (pos n *ℤ y) p (mono_right n c y h)
 low_side r (negsuc n) c y d h k p q = le_z-trans r (negsuc n *ℤ d) (negsuc n *ℤ y) q (anti_right n y d k)
 

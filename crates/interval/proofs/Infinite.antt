@@ -1,5 +1,6 @@
 -- What infinities and zeros do: their products, their signs, and steps from and to them.
-use Rattle.std.proofs.Common.{◌≡◌, ℕ, zero, suc, ◌+◌, ◌-◌, ◌*◌, ◌^◌, ◌<◌, ◌≤◌, Bool, true, false, cond, not, T, ◌⊎◌, ℤ, sym, refl, ap, ◌∙◌, subst, inl, inr, mul-pos, zero-mul, arith}
+use Rattle.std.proofs.Common.{◌≡◌, ℕ, zero, suc, ◌+◌, ◌-◌, ◌*◌, ◌^◌, ◌<◌, ◌≤◌, Bool, true, false, cond, not, T, ◌⊎◌, ℤ}
+use Rattle.std.proofs.Common.{sym, refl, ap, ◌∙◌, subst, inl, inr, mul-pos, zero-mul, arith}
 use lib.Dec.{eqb-suc-zero}
 use lib.Ieee.{Float, nan, inf, fin, binary64, low, up, down, round, mul, neg, unlike, fits, to_bits, of_bits, is_nan}
 use lib.Ieee.Exact.{HasValue}
@@ -78,7 +79,8 @@ value_finite (inf _) a l h = elim h [ ]
 
 pub down_finite : (v : Float) → NonNegative v → T (fits binary64 v) → T (finite (next_down v))
 unfolding NonNegative next_up neg
-down_finite v (inl e) t = subst (λ (z : Float). T (finite (next_down z))) (sym e) (unfold of_bits in unfold to_bits in tt)
+down_finite v (inl e) t =
+    subst (λ (z : Float). T (finite (next_down z))) (sym e) (unfold of_bits in unfold to_bits in tt)
 down_finite v (inr w) t =
     subst (λ (z : Float). T (fits binary64 z) → T (finite (next_down z))) (sym w.2) (go w.0 w.1) t
   where
@@ -110,7 +112,8 @@ up_any (fin true (suc m) e) t h =
     let b = to_bits binary64 (fin false (suc m) e) - 1 in
     let u = bits_under binary64 (suc m) e (positive_fits (suc m) e t) in
     inl (neg_finite (of_bits binary64 b)
-    (value_finite (of_bits binary64 b) (magnitude binary64 b) (2 ^ low binary64) (of_bits-val binary64 b (omega arith))))
+    (value_finite (of_bits binary64 b) (magnitude binary64 b) (2 ^ low binary64)
+    (of_bits-val binary64 b (omega arith))))
 
 -- ---- signs
 pub neg_neg : (x : Float) → neg (neg x) ≡ x

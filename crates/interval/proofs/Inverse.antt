@@ -1,5 +1,9 @@
 -- 1 / y is rounded once and stepped outward: so the inverse of a positive end is past the reciprocal of the end.
-use Rattle.std.proofs.Common.{◌≡◌, ℕ, zero, suc, ◌+◌, ◌*◌, ◌/◌, ◌^◌, ◌<◌, ◌≤◌, Bool, true, false, not, T, eqb, ℤ, pos, ◌*ℤ◌, sym, refl, ap, ◌∙◌, subst, inl, inr, zero-le, le_trans, le_of_eq, le_refl, lt_of_lt_of_le, lt_irrefl, mul-le-mul_right, zero-lt-suc, mul_assoc, mul_comm, eq-zero-or-pos, mul-le-mul_left, mul-pos, one-mul, zero-mul, mul-one, mul_right_comm, le_of_mul-le-mul_right, arith, pow_pos}
+use Rattle.std.proofs.Common.{◌≡◌, ℕ, zero, suc, ◌+◌, ◌*◌, ◌/◌, ◌^◌, ◌<◌, ◌≤◌, Bool, true, false, not, T, eqb, ℤ, pos}
+use Rattle.std.proofs.Common.{◌*ℤ◌, sym, refl, ap, ◌∙◌, subst, inl, inr, zero-le, le_trans, le_of_eq, le_refl}
+use Rattle.std.proofs.Common.{lt_of_lt_of_le, lt_irrefl, mul-le-mul_right, zero-lt-suc, mul_assoc, mul_comm}
+use Rattle.std.proofs.Common.{eq-zero-or-pos, mul-le-mul_left, mul-pos, one-mul, zero-mul, mul-one, mul_right_comm}
+use Rattle.std.proofs.Common.{le_of_mul-le-mul_right, arith, pow_pos}
 use lib.Dec.{eqb-suc-zero}
 use lib.Signed.{le_z}
 use lib.Ieee.{Float, fin, binary64, low, up, down, round, div, fits, to_bits}
@@ -171,7 +175,8 @@ pub hi_pos : (m : ℕ) (e : ℤ) → T (fits binary64 (fin false (suc m) e))
 hi_pos m e f h q k g =
     H2 (units_of binary64 (next_up (div binary64 one64 (fin false (suc m) e))))
     (magnitude binary64 (to_bits binary64 (fin false (suc m) e))) q k L64 (pow_pos (low binary64)) (up_of false m e f h)
-    (below_pos (units_of binary64 (fin false (suc m) e)) (magnitude binary64 (to_bits binary64 (fin false (suc m) e))) q k
+    (below_pos (units_of binary64 (fin false (suc m) e))
+    (magnitude binary64 (to_bits binary64 (fin false (suc m) e))) q k
     L64 (units_pos (suc m) e f) (sides_pos (suc m) e) g)
 
 -- ---- the signs of the ends

@@ -1,6 +1,8 @@
 -- The number chosen from an interval, by its two upper bounds b and a: zero is among [-b, a] where the lesser of them
 -- is not negative, and the middle is half of a - b, since the order of two terms does not change their sum.
-use Rattle.std.proofs.Common.{◌≡◌, ℕ, zero, suc, ◌+◌, ◌-◌, ◌*◌, ◌<◌, ◌≤◌, Bool, true, false, cond, not, ◌&&◌, ◌||◌, T, eqb, ltb, leb, sym, refl, ap, ◌∙◌, mul_comm, add_comm, zero-mul, arith, le→leb, eqb→eq, ltb→lt, lt→ltb, leb→le, nltb→le}
+use Rattle.std.proofs.Common.{◌≡◌, ℕ, zero, suc, ◌+◌, ◌-◌, ◌*◌, ◌<◌, ◌≤◌, Bool, true, false, cond, not, ◌&&◌, ◌||◌, T}
+use Rattle.std.proofs.Common.{eqb, ltb, leb, sym, refl, ap, ◌∙◌, mul_comm, add_comm, zero-mul, arith, le→leb, eqb→eq}
+use Rattle.std.proofs.Common.{ltb→lt, lt→ltb, leb→le, nltb→le}
 use lib.Arith.{le→nltb, lt→nleb}
 use lib.Dec.{not_T}
 use lib.Ieee.{Float, nan, inf, fin, binary64, up, down, round, sum, add, sub, neg, lt, le, eq, is_nan, to_bits}
@@ -66,7 +68,8 @@ unfolding rank is_nan
 rank_sign nan n = absurd n.1
 rank_sign (inf true) n = refl
 rank_sign (inf false) n = refl
-rank_sign (fin false m e) n = sym (is_true (leb (inf_bits binary64) (inf_bits binary64 + to_bits binary64 (fin false m e)))
+rank_sign (fin false m e) n =
+    sym (is_true (leb (inf_bits binary64) (inf_bits binary64 + to_bits binary64 (fin false m e)))
     (le→leb (inf_bits binary64) (inf_bits binary64 + to_bits binary64 (fin false m e)) (omega arith)))
 rank_sign (fin true zero e) n =
     sym (is_true (leb (inf_bits binary64) (inf_bits binary64 - to_bits binary64 (fin false zero e)))

@@ -1,6 +1,7 @@
 -- Rust's min, max and abs against the plain choices by `lt`: where the first number is no NaN, min and max are those
 -- choices, so a fold that starts from an infinity is one of plain choices.
-use Rattle.std.proofs.Common.{◌≡◌, ℕ, zero, suc, ◌+◌, ◌*◌, ◌<◌, Bool, true, false, cond, not, ◌||◌, T, ltb, ◌⊎◌, ℤ, sym, refl, ap, ◌∙◌, subst, inl, inr, true≢false, zero-lt-suc, mul-pos, arith, lt→ltb}
+use Rattle.std.proofs.Common.{◌≡◌, ℕ, zero, suc, ◌+◌, ◌*◌, ◌<◌, Bool, true, false, cond, not, ◌||◌, T, ltb, ◌⊎◌, ℤ, sym}
+use Rattle.std.proofs.Common.{refl, ap, ◌∙◌, subst, inl, inr, true≢false, zero-lt-suc, mul-pos, arith, lt→ltb}
 use lib.Ieee.{Float, nan, inf, fin, up, down, neg, lt, le, eq, ne, is_nan}
 use lib.Ieee.Bits.{is_true}
 use lib.Ieee.Compare.{differs_from_itself}

@@ -1,6 +1,8 @@
 -- The root r is nearer than every other finite float: a lesser one is at most the float next below r, a greater one at
 -- least the float next above it, and so are the midpoints with r. The root of a zero is that zero.
-use Rattle.std.proofs.Common.{◌≡◌, ℕ, zero, suc, ◌+◌, ◌*◌, ◌^◌, ◌<◌, ◌≤◌, Bool, true, false, not, T, ◌⊎◌, ℤ, pos, negsuc, ◌+ℤ◌, ◌*ℤ◌, sym, ap, subst, inl, inr, zero-le, mul-le-mul, mul-pos, zero-mul, arith, le→leb, ltb→lt, lt→ltb, leb→le, T_not}
+use Rattle.std.proofs.Common.{◌≡◌, ℕ, zero, suc, ◌+◌, ◌*◌, ◌^◌, ◌<◌, ◌≤◌, Bool, true, false, not, T, ◌⊎◌, ℤ, pos}
+use Rattle.std.proofs.Common.{negsuc, ◌+ℤ◌, ◌*ℤ◌, sym, ap, subst, inl, inr, zero-le, mul-le-mul, mul-pos, zero-mul}
+use Rattle.std.proofs.Common.{arith, le→leb, ltb→lt, lt→ltb, leb→le, T_not}
 use lib.Signed.{le_z, lt_z}
 use lib.Ieee.{Float, fin, binary64, low, lt, fits}
 use lib.Ieee.Scale.{finite}

@@ -1,6 +1,7 @@
 -- One pattern down from x is one pattern up from -x with the sign turned: one more with the sign's weight for a number
 -- that is not positive, and one less for a positive one.
-use Rattle.std.proofs.Common.{◌≡◌, ℕ, ◌+◌, ◌-◌, ◌%◌, ◌<◌, ◌≤◌, Bool, true, false, cond, not, T, pos, sym, refl, ap, ◌∙◌, subst, true≢false, arith}
+use Rattle.std.proofs.Common.{◌≡◌, ℕ, ◌+◌, ◌-◌, ◌%◌, ◌<◌, ◌≤◌, Bool, true, false, cond, not, T, pos, sym, refl, ap, ◌∙◌}
+use Rattle.std.proofs.Common.{subst, true≢false, arith}
 use mathlib.Core.Bool.{false≢true}
 use lib.Ieee.{Float, nan, inf, fin, binary64, of_bits, to_bits, neg, is_nan, nan_bits, lt, le, fits}
 use lib.Ieee.Fits.{neg-fits}

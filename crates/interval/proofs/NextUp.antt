@@ -1,10 +1,14 @@
 -- The pattern of a negative number is that of its size with the sign's weight. So one pattern up is one more for a
 -- number that is not negative, and one less for a negative one.
-use Rattle.std.proofs.Common.{◌≡◌, ℕ, zero, suc, ◌+◌, ◌-◌, ◌*◌, ◌/◌, ◌%◌, ◌^◌, ◌<◌, ◌≤◌, Bool, true, false, cond, not, ◌||◌, T, eqb, ltb, leb, ◌⊎◌, ℤ, pos, sym, refl, ap, ◌∙◌, subst, inl, inr, true≢false, lt_irrefl, mod-eq_of_lt, zero-lt-suc, mul-pos, zero-mul, mul-one, arith, le→leb, eqb→eq, nltb→le}
+use Rattle.std.proofs.Common.{◌≡◌, ℕ, zero, suc, ◌+◌, ◌-◌, ◌*◌, ◌/◌, ◌%◌, ◌^◌, ◌<◌, ◌≤◌, Bool, true, false, cond, not}
+use Rattle.std.proofs.Common.{◌||◌, T, eqb, ltb, leb, ◌⊎◌, ℤ, pos, sym, refl, ap, ◌∙◌, subst, inl, inr, true≢false}
+use Rattle.std.proofs.Common.{lt_irrefl, mod-eq_of_lt, zero-lt-suc, mul-pos, zero-mul, mul-one, arith, le→leb, eqb→eq}
+use Rattle.std.proofs.Common.{nltb→le}
 use native.Mathlib.Nat.{div-eq_of_lt}
 use mathlib.Core.Bool.{beq, false≢true}
 use lib.Arith.{lt→nleb, le→nltb}
-use lib.Ieee.{Float, nan, inf, fin, binary64, up, down, low, prec, size, hid, ones, top, odd, of_fields, of_bits, to_bits}
+use lib.Ieee.{Float, nan, inf, fin, binary64, up, down, low, prec, size, hid, ones, top, odd, of_fields, of_bits}
+use lib.Ieee.{to_bits}
 use lib.Ieee.{neg, is_nan, nan_bits, lt, le, eq, fits}
 use lib.Ieee.Fits.{and_l, up_pos, down_pos}
 use lib.Ieee.Bits.{nan_bits_above, is_true, is_false}
@@ -57,7 +61,8 @@ fields_neg (suc x) t = go (eqb (suc x) (ones binary64)) (eqb t 0) (hid binary64 
     go true false n = refl
     go false b n = digits n
 
-pub of_bits-neg : (n : ℕ) → n ≤ inf_bits binary64 → of_bits binary64 (9223372036854775808 + n) ≡ neg (of_bits binary64 n)
+pub of_bits-neg : (n : ℕ) → n ≤ inf_bits binary64
+    → of_bits binary64 (9223372036854775808 + n) ≡ neg (of_bits binary64 n)
 unfolding of_bits
 of_bits-neg n h =
     let small : n < 9223372036854775808 = omega (arith, h) in
@@ -177,8 +182,10 @@ down_side x t w =
 -- ---- the pattern that `pattern_above` gives, for either sign s
 pub record Stepped (x : Float) (s : Bool) : Type 0 where
   pub some : s ≡ false → 1 ≤ to_bits binary64 x
-  pub number : T (not (nan_bits binary64 (cond s (to_bits binary64 x % 9223372036854775808 + 1) (to_bits binary64 x - 1))))
-  pub next : of_bits binary64 (cond s (to_bits binary64 x % 9223372036854775808 + 1) (to_bits binary64 x - 1)) ≡ next_up x
+  pub number : T (not (nan_bits binary64
+      (cond s (to_bits binary64 x % 9223372036854775808 + 1) (to_bits binary64 x - 1))))
+  pub next : of_bits binary64
+      (cond s (to_bits binary64 x % 9223372036854775808 + 1) (to_bits binary64 x - 1)) ≡ next_up x
 
 pub stepped : (x : Float) → T (fits binary64 x) → lt x (inf false) ≡ true → Stepped x (le (fin false 0 (pos 0)) x)
 stepped x t a = go (le (fin false 0 (pos 0)) x) refl

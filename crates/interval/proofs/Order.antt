@@ -1,6 +1,9 @@
 -- The ranks are in the order of `lt`. So the least of several floats has the least rank, and units of finite floats are
 -- in the order of their ranks.
-use Rattle.std.proofs.Common.{◌≡◌, ℕ, ◌+◌, ◌-◌, ◌*◌, ◌^◌, ◌<◌, ◌≤◌, Bool, true, false, cond, not, T, ℤ, sym, refl, ap, ◌∙◌, subst, inl, inr, zero-le, le_trans, le_of_eq, le_refl, le_of_lt, lt_irrefl, mul-le-mul_right, mul_assoc, mul_comm, eq-zero-or-pos, mul-pos, zero-mul, mul_right_comm, not-le_of_lt, le_of_mul-le-mul_right, arith, ltb→lt, nltb→le}
+use Rattle.std.proofs.Common.{◌≡◌, ℕ, ◌+◌, ◌-◌, ◌*◌, ◌^◌, ◌<◌, ◌≤◌, Bool, true, false, cond, not, T, ℤ, sym, refl, ap}
+use Rattle.std.proofs.Common.{◌∙◌, subst, inl, inr, zero-le, le_trans, le_of_eq, le_refl, le_of_lt, lt_irrefl}
+use Rattle.std.proofs.Common.{mul-le-mul_right, mul_assoc, mul_comm, eq-zero-or-pos, mul-pos, zero-mul, mul_right_comm}
+use Rattle.std.proofs.Common.{not-le_of_lt, le_of_mul-le-mul_right, arith, ltb→lt, nltb→le}
 use lib.Ieee.{Float, nan, inf, fin, binary64, low, up, down, below, lt, fits, to_bits, is_nan}
 use lib.Ieee.Fits.{down_pos, inf-fits}
 use lib.Ieee.Scale.{finite}

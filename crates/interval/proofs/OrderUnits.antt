@@ -1,6 +1,8 @@
 -- The order of finite floats is the order of their units: `lt` and `le` cross-multiply, and so do units. So a definite
 -- answer about two intervals holds of all that lies within them.
-use Rattle.std.proofs.Common.{◌≡◌, ℕ, ◌+◌, ◌*◌, ◌^◌, ◌<◌, Bool, true, false, ◌||◌, T, eqb, ◌⊎◌, ℤ, pos, ◌*ℤ◌, sym, ap, ◌∙◌, subst, inl, inr, le_of_eq, le_of_lt, mul_comm, add-mul, lt_of_mul-lt-mul_right, eq-or-lt_of_le, mul-lt-mul_of_pos_right, mul-pos, arith, eqb→eq, ltb→lt, lt→ltb, pow_pos}
+use Rattle.std.proofs.Common.{◌≡◌, ℕ, ◌+◌, ◌*◌, ◌^◌, ◌<◌, Bool, true, false, ◌||◌, T, eqb, ◌⊎◌, ℤ, pos, ◌*ℤ◌, sym, ap}
+use Rattle.std.proofs.Common.{◌∙◌, subst, inl, inr, le_of_eq, le_of_lt, mul_comm, add-mul, lt_of_mul-lt-mul_right}
+use Rattle.std.proofs.Common.{eq-or-lt_of_le, mul-lt-mul_of_pos_right, mul-pos, arith, eqb→eq, ltb→lt, lt→ltb, pow_pos}
 use native.Mathlib.Nat.{eq_of_mul-eq-mul_right}
 use lib.Dec.{not_T}
 use lib.Signed.{le_z, lt_z}
@@ -91,7 +93,8 @@ unfolding lt
 units_lt (fin s m e) (fin t n d) tx hx ty hy h =
     parts_below s (m * up e * down d) t (n * up d * down e)
     (over_lt _ _ _ _ (down e * down d) (2 ^ low binary64) (mul-pos (down_pos e) (down_pos d)) (sym (left s m e t n d tx
-    ty)) (sym (right s m e t n d tx ty)) (parts_of_lt (units_of binary64 (fin s m e)) (units_of binary64 (fin t n d)) h))
+    ty)) (sym (right s m e t n d tx ty))
+    (parts_of_lt (units_of binary64 (fin s m e)) (units_of binary64 (fin t n d)) h))
 units_lt nan y tx hx ty hy h = elim hx [ ]
 units_lt (inf _) y tx hx ty hy h = elim hx [ ]
 units_lt (fin s m e) nan tx hx ty hy h = elim hy [ ]
@@ -198,6 +201,7 @@ pub not_less : (x y : Scalar) (p q : ℤ) (c : ℕ) → 0 < c → Fits x → Fit
 not_less x y p q c C tx ty a b k = is_false (definitely_less x y) (not_T (definitely_less x y)
     (λ h. omega (arith, parts_of_lt p q (less_within x y p q c C tx ty a b h), parts_of_le q p k)))
 
-pub not_greater : (x y : Scalar) (p q : ℤ) (c : ℕ) → 0 < c → Fits x → Fits y → Within x p c → Within y q c → T (le_z p q)
+pub not_greater : (x y : Scalar) (p q : ℤ) (c : ℕ) → 0 < c → Fits x → Fits y → Within x p c → Within y q c
+    → T (le_z p q)
     → definitely_greater x y ≡ false
 not_greater x y p q c C tx ty a b k = not_less y x q p c C ty tx b a k

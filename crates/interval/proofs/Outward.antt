@@ -1,6 +1,9 @@
 -- A step is one rank. So a rounded fraction, stepped outward, is past the fraction.
-use Rattle.std.proofs.Common.{◌≡◌, ℕ, zero, suc, ◌+◌, ◌-◌, ◌*◌, ◌^◌, ◌<◌, ◌≤◌, Bool, true, false, not, T, ℤ, sym, refl, ap, ◌∙◌, subst, inl, inr, true≢false, zero-le, lt_irrefl, zero-lt-suc, suc-mul, mul_comm, eq-zero-or-pos, eq-or-lt_of_le, zero-mul, arith, lit≤, pow_pos}
-use lib.Ieee.{Float, nan, inf, fin, Format, binary64, low, prec, up, down, neg, fits, to_bits, of_bits, is_nan, hid, ones}
+use Rattle.std.proofs.Common.{◌≡◌, ℕ, zero, suc, ◌+◌, ◌-◌, ◌*◌, ◌^◌, ◌<◌, ◌≤◌, Bool, true, false, not, T, ℤ, sym, refl}
+use Rattle.std.proofs.Common.{ap, ◌∙◌, subst, inl, inr, true≢false, zero-le, lt_irrefl, zero-lt-suc, suc-mul, mul_comm}
+use Rattle.std.proofs.Common.{eq-zero-or-pos, eq-or-lt_of_le, zero-mul, arith, lit≤, pow_pos}
+use lib.Ieee.{Float, nan, inf, fin, Format, binary64, low, prec, up, down, neg, fits, to_bits, of_bits, is_nan, hid}
+use lib.Ieee.{ones}
 use lib.Ieee.Bits.{of_bits-to_bits, to_bits-of_bits, of_bits-fits, nan_bits_is}
 use lib.Ieee.Exact.{HasValue}
 use lib.Ieee.Fits.{neg-fits, inf-fits, nan-fits}
@@ -151,7 +154,8 @@ neg_rising nan h = h
 neg_rising (inf s) h = tt
 neg_rising (fin s m e) h = tt
 
-pub up_rank : (x : Float) → T (fits binary64 x) → T (finite (next_up x)) → rank binary64 (next_up x) ≡ rank binary64 x + 1
+pub up_rank : (x : Float) → T (fits binary64 x) → T (finite (next_up x))
+    → rank binary64 (next_up x) ≡ rank binary64 x + 1
 up_rank x t h = rank_up x t (up_rising x h)
 
 pub down_rank : (x : Float) → T (fits binary64 x) → T (finite (next_down x))

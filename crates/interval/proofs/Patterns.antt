@@ -1,7 +1,12 @@
 -- The bit patterns below an infinity's stand for whole numbers of the format's smallest value (`magnitude`), which grow
 -- with the pattern; rounding keeps them.
 use Rattle.interval.specs.Pattern.{inf_bits, significand, shift_of, fields_magnitude, magnitude}
-use Rattle.std.proofs.Common.{◌≡◌, ℕ, zero, suc, ◌+◌, ◌-◌, ◌*◌, ◌/◌, ◌%◌, ◌^◌, ◌<◌, ◌≤◌, Bool, true, false, cond, not, T, eqb, ltb, leb, ℤ, sym, refl, ap, ◌∙◌, subst, inl, inr, true≢false, le_of_eq, lt_of_lt_of_le, le_of_suc-le-suc, lt_irrefl, mod-lt, mod-eq_of_lt, zero-lt-suc, mul_assoc, suc-mul, mul_comm, div-lt_iff_lt-mul, eq-zero-or-pos, mul-lt-mul_of_pos_right, mul-pos, div-add-mod', zero-add, zero-mul, arith, lit<, eqb→eq, ltb→lt, nltb→le, pow_pos, pow_mono, shl_lt}
+use Rattle.std.proofs.Common.{◌≡◌, ℕ, zero, suc, ◌+◌, ◌-◌, ◌*◌, ◌/◌, ◌%◌, ◌^◌, ◌<◌, ◌≤◌, Bool, true, false, cond, not}
+use Rattle.std.proofs.Common.{T, eqb, ltb, leb, ℤ, sym, refl, ap, ◌∙◌, subst, inl, inr, true≢false, le_of_eq}
+use Rattle.std.proofs.Common.{lt_of_lt_of_le, le_of_suc-le-suc, lt_irrefl, mod-lt, mod-eq_of_lt, zero-lt-suc, mul_assoc}
+use Rattle.std.proofs.Common.{suc-mul, mul_comm, div-lt_iff_lt-mul, eq-zero-or-pos, mul-lt-mul_of_pos_right, mul-pos}
+use Rattle.std.proofs.Common.{div-add-mod', zero-add, zero-mul, arith, lit<, eqb→eq, ltb→lt, nltb→le, pow_pos, pow_mono}
+use Rattle.std.proofs.Common.{shl_lt}
 use native.Mathlib.Nat.{pow-succ'}
 use lib.Dec.{not_T, nleb→lt}
 use lib.Arith.{lt_of_le-ne, digits_div, digits_mod, lt→nleb, le→nltb}

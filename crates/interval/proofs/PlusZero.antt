@@ -1,6 +1,8 @@
 -- x + 0 is x but for -0. A sum is -0 only where both terms are: two floats are whole numbers of units, so a sum or a
 -- difference that is not 0 is at least one unit, and does not round to 0.
-use Rattle.std.proofs.Common.{◌≡◌, ℕ, zero, suc, ◌+◌, ◌-◌, ◌*◌, ◌^◌, ◌<◌, ◌≤◌, Bool, true, false, cond, ◌&&◌, T, ltb, ℤ, pos, sym, refl, ap, ◌∙◌, subst, inl, inr, le_trans, le_of_eq, lt_irrefl, mul-le-mul_right, suc-mul, add-mul, mul-pos, one-mul, zero-mul, arith, lit<, ltb→lt, pow_pos}
+use Rattle.std.proofs.Common.{◌≡◌, ℕ, zero, suc, ◌+◌, ◌-◌, ◌*◌, ◌^◌, ◌<◌, ◌≤◌, Bool, true, false, cond, ◌&&◌, T, ltb, ℤ}
+use Rattle.std.proofs.Common.{pos, sym, refl, ap, ◌∙◌, subst, inl, inr, le_trans, le_of_eq, lt_irrefl, mul-le-mul_right}
+use Rattle.std.proofs.Common.{suc-mul, add-mul, mul-pos, one-mul, zero-mul, arith, lit<, ltb→lt, pow_pos}
 use mathlib.Core.Bool.{false≢true}
 use lib.Ieee.{Float, nan, inf, fin, binary64, low, up, down, round, sum, add, neg, lt, fits, to_bits, of_bits}
 use lib.Ieee.Bits.{of_bits-to_bits}
@@ -88,7 +90,8 @@ negative_kept v t (inl e) b = subst (λ (z : Float). Kept (neg z)) (sym e) (kept
 negative_kept v t (inr w) b = subst (λ (z : Float). T (fits binary64 z) → 1 ≤ to_bits binary64 z → Kept (neg z))
     (sym w.2) (go w.0 w.1) t b
   where
-    go : (m : ℕ) (e : ℤ) → T (fits binary64 (fin false m e)) → 1 ≤ to_bits binary64 (fin false m e) → Kept (fin true m e)
+    go : (m : ℕ) (e : ℤ) → T (fits binary64 (fin false m e)) → 1 ≤ to_bits binary64 (fin false m e)
+        → Kept (fin true m e)
     go zero e t b = absurd (lt_irrefl 0 (subst (λ (z : ℕ). 1 ≤ z) (zero_bits binary64 e t) b))
     go (suc m) e t b = plus_zero true m e (neg-fits binary64 (fin false (suc m) e) t)
 

@@ -1,6 +1,8 @@
 -- The product of two points: equal floats are the same or both zeros, so the four products of the ends are the same or
 -- all zeros, and the first is the greatest and the least of them.
-use Rattle.std.proofs.Common.{◌≡◌, ℕ, zero, suc, ◌*◌, ◌<◌, Bool, true, false, cond, not, ◌&&◌, ◌||◌, T, eqb, ltb, ◌⊎◌, ℤ, sym, refl, ap, ◌∙◌, subst, inl, inr, true≢false, le_refl, lt_irrefl, zero-lt-suc, mul-pos, zero-mul, eqb→eq}
+use Rattle.std.proofs.Common.{◌≡◌, ℕ, zero, suc, ◌*◌, ◌<◌, Bool, true, false, cond, not, ◌&&◌, ◌||◌, T, eqb, ltb, ◌⊎◌}
+use Rattle.std.proofs.Common.{ℤ, sym, refl, ap, ◌∙◌, subst, inl, inr, true≢false, le_refl, lt_irrefl, zero-lt-suc}
+use Rattle.std.proofs.Common.{mul-pos, zero-mul, eqb→eq}
 use mathlib.Core.Bool.{beq, false≢true}
 use lib.Arith.{le→nltb}
 use lib.Ieee.{Float, nan, inf, fin, binary64, up, down, round, mul, neg, unlike, below, level, lt, eq, fits}

@@ -1,6 +1,8 @@
 -- A product is rounded once; a number that is at most the four products of the ends, stepped down, is at most every
 -- product of what lies between.
-use Rattle.std.proofs.Common.{◌≡◌, ℕ, ◌+◌, ◌*◌, ◌^◌, ◌<◌, ◌≤◌, Bool, true, false, not, T, ℤ, pos, ◌*ℤ◌, sym, ap, ◌∙◌, subst, inl, inr, mul_assoc, mul_comm, add-mul, mul-pos, mul-zero, zero-mul, mul-one, arith}
+use Rattle.std.proofs.Common.{◌≡◌, ℕ, ◌+◌, ◌*◌, ◌^◌, ◌<◌, ◌≤◌, Bool, true, false, not, T, ℤ, pos, ◌*ℤ◌, sym, ap, ◌∙◌}
+use Rattle.std.proofs.Common.{subst, inl, inr, mul_assoc, mul_comm, add-mul, mul-pos, mul-zero, zero-mul, mul-one}
+use Rattle.std.proofs.Common.{arith}
 use native.Mathlib.Nat.{mul-mul-mul_comm}
 use lib.Signed.{le_z}
 use lib.Ieee.{Float, fin, Format, binary64, low, up, down, round, mul, neg, unlike, fits, is_nan}
@@ -158,4 +160,5 @@ product_low r a b c d p q l j k L ac ad bc bd ap' pb cq qd =
     (quadruple r b d l j k bd) in
     unscale (r *ℤ pos (j * k)) ((p *ℤ q) *ℤ pos l) l L
     (subst (λ (z : ℤ). T (le_z z (((p *ℤ q) *ℤ pos l) *ℤ pos l))) (turn r l (j * k))
-    (subst (λ (z : ℤ). T (le_z ((r *ℤ pos l) *ℤ pos (j * k)) z)) (scale_mul p q l l ∙ sym (scale_scale (p *ℤ q) l l)) h))
+    (subst (λ (z : ℤ). T (le_z ((r *ℤ pos l) *ℤ pos (j * k)) z))
+    (scale_mul p q l l ∙ sym (scale_scale (p *ℤ q) l l)) h))

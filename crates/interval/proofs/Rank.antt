@@ -1,6 +1,8 @@
 -- The rank of a float among all floats of its format, as one natural number: the zeros have rank `inf_bits`, a step up
 -- adds 1, and the order of ranks is the order of numbers.
-use Rattle.std.proofs.Common.{◌≡◌, ℕ, zero, suc, ◌+◌, ◌-◌, ◌*◌, ◌/◌, ◌^◌, ◌<◌, ◌≤◌, Bool, true, false, cond, T, ltb, ℤ, sym, refl, ap, ◌∙◌, subst, inl, inr, le_of_lt, lt_irrefl, mul-le-mul_right, add-mul, eq-zero-or-pos, mul-pos, zero-mul, mul-div_cancel, arith, pow_pos}
+use Rattle.std.proofs.Common.{◌≡◌, ℕ, zero, suc, ◌+◌, ◌-◌, ◌*◌, ◌/◌, ◌^◌, ◌<◌, ◌≤◌, Bool, true, false, cond, T, ltb, ℤ}
+use Rattle.std.proofs.Common.{sym, refl, ap, ◌∙◌, subst, inl, inr, le_of_lt, lt_irrefl, mul-le-mul_right, add-mul}
+use Rattle.std.proofs.Common.{eq-zero-or-pos, mul-pos, zero-mul, mul-div_cancel, arith, pow_pos}
 use lib.Ieee.{Float, nan, inf, fin, Format, prec, emax, low, up, down, odd, units, round, neg, fits, to_bits}
 use lib.Ieee.Exact.{HasValue, round_exact}
 use lib.Ieee.Fits.{round-fits, round_is, down_pos, neg-fits}

@@ -1,6 +1,7 @@
 -- The steps of `root_bits` keep the number c * 2 ^ e, and the digits and the exponent put together are the pattern of
 -- the rounded root.
-use Rattle.std.proofs.Common.{◌≡◌, ℕ, zero, suc, ◌+◌, ◌-◌, ◌*◌, ◌/◌, ◌%◌, ◌^◌, ◌<◌, ◌≤◌, sym, refl, ap, ◌∙◌, subst, le_trans, le_of_eq, mul_assoc, mul-one, arith, pow-add}
+use Rattle.std.proofs.Common.{◌≡◌, ℕ, zero, suc, ◌+◌, ◌-◌, ◌*◌, ◌/◌, ◌%◌, ◌^◌, ◌<◌, ◌≤◌, sym, refl, ap, ◌∙◌, subst}
+use Rattle.std.proofs.Common.{le_trans, le_of_eq, mul_assoc, mul-one, arith, pow-add}
 use native.Mathlib.Nat.{pow-succ'}
 use lib.Ieee.{binary64, low, of_bits}
 use Rattle.interval.specs.Pattern.{inf_bits, fields_magnitude, magnitude}

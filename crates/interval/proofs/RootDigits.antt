@@ -1,6 +1,12 @@
 -- The rounded root from 54 digits q of the root of the significand: the last digit says whether the fraction is below
 -- or above a half, since an odd q is never exact.
-use Rattle.std.proofs.Common.{◌≡◌, ℕ, zero, suc, ◌+◌, ◌-◌, ◌*◌, ◌/◌, ◌%◌, ◌^◌, ◌<◌, ◌≤◌, Bool, true, false, cond, not, T, eqb, ltb, leb, ◌⊎◌, sym, refl, ap, ◌∙◌, subst, inl, inr, true≢false, zero-le, le_trans, le_of_eq, lt_of_lt_of_le, lt_of_le_of_lt, add-zero, lt_irrefl, mul-le-mul_right, zero-lt-suc, mul_assoc, suc-mul, mul_comm, add-mul, mul-le-mul, eq-or-lt_of_le, mul-lt-mul_of_pos_right, mul-pos, lt_of_not-le, div-add-mod', not-le_of_lt, le_of_mul-le-mul_right, mul_left_comm, add-one, arith, eqb→eq, ltb→lt, leb→le, nltb→le, pow_pos, pow_mono, pow-add}
+use Rattle.std.proofs.Common.{◌≡◌, ℕ, zero, suc, ◌+◌, ◌-◌, ◌*◌, ◌/◌, ◌%◌, ◌^◌, ◌<◌, ◌≤◌, Bool, true, false, cond, not}
+use Rattle.std.proofs.Common.{T, eqb, ltb, leb, ◌⊎◌, sym, refl, ap, ◌∙◌, subst, inl, inr, true≢false, zero-le, le_trans}
+use Rattle.std.proofs.Common.{le_of_eq, lt_of_lt_of_le, lt_of_le_of_lt, add-zero, lt_irrefl, mul-le-mul_right}
+use Rattle.std.proofs.Common.{zero-lt-suc, mul_assoc, suc-mul, mul_comm, add-mul, mul-le-mul, eq-or-lt_of_le}
+use Rattle.std.proofs.Common.{mul-lt-mul_of_pos_right, mul-pos, lt_of_not-le, div-add-mod', not-le_of_lt}
+use Rattle.std.proofs.Common.{le_of_mul-le-mul_right, mul_left_comm, add-one, arith, eqb→eq, ltb→lt, leb→le, nltb→le}
+use Rattle.std.proofs.Common.{pow_pos, pow_mono, pow-add}
 use Prim.Native.Nat.{compare, Ordering}
 use native.Mathlib.Nat.{eq_of_mul-eq-mul_right}
 use native.Mathlib.Nat.{mul-mul-mul_comm, pow-succ', div-eq_of_lt-le, pow-le-pow_left}
@@ -255,7 +261,8 @@ pub from_value : (f : Format) (v : Float) (b : ℕ) → T (fits f v) → HasValu
     → v ≡ of_bits f b
 from_value f (fin true m e) b t h = absurd (true≢false h.0)
 from_value f (fin false m e) b t h =
-    sym (of_bits-to_bits f (fin false m e) t) ∙ ap (of_bits f) (magnitude_inj f (to_bits f (fin false m e)) b (same_value
+    sym (of_bits-to_bits f (fin false m e) t)
+    ∙ ap (of_bits f) (magnitude_inj f (to_bits f (fin false m e)) b (same_value
     (fin false m e) (magnitude f (to_bits f (fin false m e))) (magnitude f b) (2 ^ low f) (bits_val f m e t) h))
 from_value f lib.Ieee.nan b t h = elim h [ ]
 from_value f (lib.Ieee.inf _) b t h = elim h [ ]

@@ -1,5 +1,7 @@
 -- Long division for roots: from s with s * s + r, 27 digits more by one division by 2 s; one correction suffices.
-use Rattle.std.proofs.Common.{◌≡◌, ℕ, zero, suc, ◌+◌, ◌-◌, ◌*◌, ◌/◌, ◌%◌, ◌^◌, ◌<◌, ◌≤◌, Bool, true, not, T, ltb, sym, ap, subst, le_of_lt, lt_irrefl, mod-lt, mod-eq_of_lt, mul_comm, div-lt_iff_lt-mul, add-mul, mul-le-mul, lt_of_not-le, div-add-mod', mul-add, mul_right_comm, arith}
+use Rattle.std.proofs.Common.{◌≡◌, ℕ, zero, suc, ◌+◌, ◌-◌, ◌*◌, ◌/◌, ◌%◌, ◌^◌, ◌<◌, ◌≤◌, Bool, true, not, T, ltb, sym}
+use Rattle.std.proofs.Common.{ap, subst, le_of_lt, lt_irrefl, mod-lt, mod-eq_of_lt, mul_comm, div-lt_iff_lt-mul}
+use Rattle.std.proofs.Common.{add-mul, mul-le-mul, lt_of_not-le, div-add-mod', mul-add, mul_right_comm, arith}
 use native.Mathlib.Nat.{mul-mul-mul_comm}
 use mathlib.Core.Bool.{false≢true}
 use lib.Arith.{le→nltb}
@@ -71,7 +73,8 @@ pred q h =
 
 pub no_nan : (n : ℕ) → n < 2047 * 2 ^ 52 → T (not (nan_bits binary64 n))
 no_nan n h =
-    subst (λ (z : Bool). T (not z)) (sym (nan_bits_above binary64 n)) (subst (λ (z : ℕ). T (not (ltb (2047 * 2 ^ 52) z)))
+    subst (λ (z : Bool). T (not z)) (sym (nan_bits_above binary64 n))
+    (subst (λ (z : ℕ). T (not (ltb (2047 * 2 ^ 52) z)))
     (sym (mod-eq_of_lt small)) (le→nltb (2047 * 2 ^ 52) n (le_of_lt h)))
   where
     small : n < 2 ^ 63

@@ -3,7 +3,11 @@
 -- The midpoint above is (2 * g + 1) * w or more, and q + 1 ≤ 2 * g + 1. The midpoint below is (2 * g - 1) * w, and 2 *
 -- g - 1 ≤ q; the square of an odd number is not 2 * c, so the order is strict.
 -- Only at g = 2 ^ 52, where the spacing halves, is the float below w away, not 2 * w; but there 2 * g ≤ q.
-use Rattle.std.proofs.Common.{◌≡◌, ℕ, zero, suc, ◌+◌, ◌-◌, ◌*◌, ◌/◌, ◌%◌, ◌^◌, ◌<◌, ◌≤◌, true, false, T, ℤ, pos, sym, refl, ap, ◌∙◌, subst, inl, inr, true≢false, zero-le, le_trans, le_of_eq, le_refl, lt_of_lt_of_le, lt_of_le_of_lt, le_of_lt, lt_irrefl, mul-le-mul_right, zero-lt-suc, mul_assoc, add-mul, mul-le-mul, eq-or-lt_of_le, mul-le-mul_left, mul-lt-mul_of_pos_right, mul-pos, zero-mul, mul-div_cancel, mul_left_comm, arith, le→leb, ltb→lt, lt→ltb, pow_pos}
+use Rattle.std.proofs.Common.{◌≡◌, ℕ, zero, suc, ◌+◌, ◌-◌, ◌*◌, ◌/◌, ◌%◌, ◌^◌, ◌<◌, ◌≤◌, true, false, T, ℤ, pos, sym}
+use Rattle.std.proofs.Common.{refl, ap, ◌∙◌, subst, inl, inr, true≢false, zero-le, le_trans, le_of_eq, le_refl}
+use Rattle.std.proofs.Common.{lt_of_lt_of_le, lt_of_le_of_lt, le_of_lt, lt_irrefl, mul-le-mul_right, zero-lt-suc}
+use Rattle.std.proofs.Common.{mul_assoc, add-mul, mul-le-mul, eq-or-lt_of_le, mul-le-mul_left, mul-lt-mul_of_pos_right}
+use Rattle.std.proofs.Common.{mul-pos, zero-mul, mul-div_cancel, mul_left_comm, arith, le→leb, ltb→lt, lt→ltb, pow_pos}
 use native.Mathlib.Nat.{mul-mul-mul_comm}
 use native.Mathlib.Nat.{pow-succ'}
 use lib.Arith.{lt_of_le-ne}
@@ -141,7 +145,8 @@ lower n c q g j D = elim (le_or_lt g (2 ^ 52)) [
   | inr h ↦
       let p = g - 1 in
       let e : g ≡ p + 1 = omega arith in
-      subst (λ (z : ℕ). sum_sq (magnitude binary64 (pattern j z - 1)) (magnitude binary64 (pattern j z)) < 4 * n) (sym e)
+      subst (λ (z : ℕ). sum_sq (magnitude binary64 (pattern j z - 1)) (magnitude binary64 (pattern j z)) < 4 * n)
+      (sym e)
       (rw
       (D.number, own_magnitude j (p + 1) (omega arith) (omega arith), below_magnitude j p (omega arith) (omega arith))
       (short c q p (2 ^ j) (pow_pos j) D.root_le (omega arith)))
@@ -250,7 +255,8 @@ beside b p h =
     let B : b < inf_bits binary64 = omega arith in
     let i : to_bits binary64 v ≡ b = pattern_bits binary64 b (omega arith) in
     let w =
-    steps v (magnitude binary64 b) (lt_of_le_of_lt zero-le (magnitude_lt binary64 0 b p)) (of_bits-val binary64 b B) in (
+    steps v (magnitude binary64 b) (lt_of_le_of_lt zero-le (magnitude_lt binary64 0 b p))
+    (of_bits-val binary64 b B) in (
       subst (λ (z : Float). At z (magnitude binary64 (b - 1))) (ap (λ (k : ℕ). of_bits binary64 (k - 1)) (sym i) ∙ w.1)
           (at_bits (b - 1) (omega arith)),
       at_bits b B,

@@ -1,6 +1,9 @@
 -- Rounding against the patterns, with no argument about half units: rounding is monotone and keeps what a pattern
 -- stands for, so a / c lies on the right side of every pattern that is not the rounded value's own.
-use Rattle.std.proofs.Common.{◌≡◌, ℕ, zero, suc, ◌+◌, ◌-◌, ◌*◌, ◌^◌, ◌<◌, ◌≤◌, Bool, true, false, cond, not, ◌&&◌, ◌||◌, T, eqb, ltb, leb, ◌⊎◌, ℤ, pos, sym, refl, ap, ◌∙◌, subst, inl, inr, true≢false, lt_trans, le_of_eq, lt_of_lt_of_le, lt_of_le_of_lt, le_of_lt, lt_irrefl, eq-or-lt_of_le, not-le_of_lt, le_of_mul-le-mul_right, arith, eqb→eq, ltb→lt, leb→le, pow_pos}
+use Rattle.std.proofs.Common.{◌≡◌, ℕ, zero, suc, ◌+◌, ◌-◌, ◌*◌, ◌^◌, ◌<◌, ◌≤◌, Bool, true, false, cond, not, ◌&&◌, ◌||◌}
+use Rattle.std.proofs.Common.{T, eqb, ltb, leb, ◌⊎◌, ℤ, pos, sym, refl, ap, ◌∙◌, subst, inl, inr, true≢false, lt_trans}
+use Rattle.std.proofs.Common.{le_of_eq, lt_of_lt_of_le, lt_of_le_of_lt, le_of_lt, lt_irrefl, eq-or-lt_of_le}
+use Rattle.std.proofs.Common.{not-le_of_lt, le_of_mul-le-mul_right, arith, eqb→eq, ltb→lt, leb→le, pow_pos}
 use lib.Dec.{nleb→lt}
 use lib.Ieee.{Float, nan, inf, fin, Format, prec, emax, low, up, down, odd, units, round, le, fits, to_bits}
 use lib.Ieee.Exact.{HasValue}

@@ -1,6 +1,10 @@
 -- The numbers of neighbouring patterns: the gap between them, twice a number, and the two neighbours of a pattern,
 -- which add up to twice it, rounded.
-use Rattle.std.proofs.Common.{◌≡◌, ℕ, zero, suc, ◌+◌, ◌-◌, ◌*◌, ◌/◌, ◌%◌, ◌^◌, ◌<◌, ◌≤◌, Bool, true, false, cond, not, T, ltb, ◌⊎◌, sym, refl, ap, ◌∙◌, subst, inl, inr, zero-le, le_trans, le_of_eq, le_refl, lt_of_le_of_lt, lt_irrefl, mul-le-mul_right, mod-lt, mul_assoc, suc-mul, mul_comm, add-mul, le_antisymm, one-mul, div-add-mod', zero-mul, mul-one, not-le_of_lt, mul_left_comm, arith, lit<, lit≤, ltb→lt, nltb→le, pow_pos, pow_mono}
+use Rattle.std.proofs.Common.{◌≡◌, ℕ, zero, suc, ◌+◌, ◌-◌, ◌*◌, ◌/◌, ◌%◌, ◌^◌, ◌<◌, ◌≤◌, Bool, true, false, cond, not}
+use Rattle.std.proofs.Common.{T, ltb, ◌⊎◌, sym, refl, ap, ◌∙◌, subst, inl, inr, zero-le, le_trans, le_of_eq, le_refl}
+use Rattle.std.proofs.Common.{lt_of_le_of_lt, lt_irrefl, mul-le-mul_right, mod-lt, mul_assoc, suc-mul, mul_comm}
+use Rattle.std.proofs.Common.{add-mul, le_antisymm, one-mul, div-add-mod', zero-mul, mul-one, not-le_of_lt}
+use Rattle.std.proofs.Common.{mul_left_comm, arith, lit<, lit≤, ltb→lt, nltb→le, pow_pos, pow_mono}
 use native.Mathlib.Nat.{pow-succ', eq_of_mul-eq-mul_right}
 use lib.Ieee.{Float, inf, fin, Format, binary64, low, prec, hid, down, size, round, le, to_bits}
 use lib.Ieee.Exact.{HasValue}
@@ -38,7 +42,8 @@ over a c C h = elim (le_or_lt (2 ^ 1024 * c) a) [
 ]
 
 -- a pattern's number, where it does not overflow, is below the edge and rounds to the pattern
-pub in_range : (i : ℕ) → at binary64 (magnitude binary64 i) (2 ^ low binary64) < inf_bits binary64 → i < inf_bits binary64
+pub in_range : (i : ℕ) → at binary64 (magnitude binary64 i) (2 ^ low binary64) < inf_bits binary64
+    → i < inf_bits binary64
 in_range i h = elim (le_or_lt (inf_bits binary64) i) [
   | inr y ↦ y
   | inl y ↦ absurd (not-le_of_lt (over (magnitude binary64 i) (2 ^ low binary64) (pow_pos (low binary64)) h)
@@ -158,7 +163,8 @@ magnitude_convex f b =
     ∙ ap (λ (z : ℕ). z + 2 ^ shift_of x) (sym (magnitude_at f x t (mod-lt b (hid_pos f))) ∙ ap (magnitude f) eb) in
     let g2 : magnitude f (b + 1 + 1) ≡ magnitude f (b + 1) + 2 ^ shift_of y =
     ap (λ (z : ℕ). magnitude f (z + 1)) (sym ec) ∙ magnitude_gap f y u (mod-lt (b + 1) (hid_pos f))
-    ∙ ap (λ (z : ℕ). z + 2 ^ shift_of y) (sym (magnitude_at f y u (mod-lt (b + 1) (hid_pos f))) ∙ ap (magnitude f) ec) in
+    ∙ ap (λ (z : ℕ). z + 2 ^ shift_of y)
+    (sym (magnitude_at f y u (mod-lt (b + 1) (hid_pos f))) ∙ ap (magnitude f) ec) in
     let k : x ≤ y = div_mono b H (b + 1) H (hid_pos f) (hid_pos f) (mul-le-mul_right H (omega arith)) in
     let w : 2 ^ shift_of x ≤ 2 ^ shift_of y = pow_mono (shift_mono x y k) in
     omega arith

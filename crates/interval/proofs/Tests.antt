@@ -1,6 +1,11 @@
 -- What the comparisons of a float with zero, the infinities and itself say of its form.
-use Rattle.std.proofs.Common.{◌≡◌, ℕ, zero, suc, ◌+◌, ◌-◌, ◌*◌, ◌<◌, ◌≤◌, Bool, true, false, not, ◌&&◌, ◌||◌, T, eqb, ltb, ◌⊎◌, ℤ, pos, sym, refl, ap, ◌∙◌, subst, inl, inr, true≢false, le_of_eq, lt_of_le_of_lt, le_of_lt, lt_irrefl, zero-lt-suc, mul-pos, zero-mul, mul-one, arith, lit≤, eqb→eq, ltb→lt, nltb→le}
+use Rattle.std.proofs.Common.{◌≡◌, ℕ, zero, suc, ◌+◌, ◌-◌, ◌*◌, ◌<◌, ◌≤◌, Bool, true, false, not, ◌&&◌, ◌||◌, T, eqb}
+use Rattle.std.proofs.Common.{ltb, ◌⊎◌, ℤ, pos, sym, refl, ap, ◌∙◌, subst, inl, inr, true≢false, le_of_eq}
+use Rattle.std.proofs.Common.{lt_of_le_of_lt, le_of_lt, lt_irrefl, zero-lt-suc, mul-pos, zero-mul, mul-one, arith, lit≤}
+use Rattle.std.proofs.Common.{eqb→eq, ltb→lt, nltb→le}
 use mathlib.Core.Bool.{beq, false≢true}
+use lib.Ieee.Compare.{differs_from_itself}
+use Rattle.std.specs.Float.{float_is_finite}
 use lib.Ieee.{Float, nan, inf, fin, up, down, ne, eq, lt, level, is_nan, neg, fits, to_bits, of_bits, binary64}
 use lib.Ieee.Fits.{and_l, neg-fits, up_pos}
 use lib.Ieee.Compare.{differs_from_itself}
@@ -83,6 +88,24 @@ no_nan_neg nan a = absurd (true≢false a)
 no_nan_neg (inf s) a = tt
 no_nan_neg (fin s m e) a = tt
 
+-- ---- std's tests
+pub same_finite : (x : Float) → float_is_finite x ≡ finite x
+unfolding float_is_finite
+same_finite nan = refl
+same_finite (inf s) = refl
+same_finite (fin s m e) = refl
+
+pub same_nan : (x : Float) → is_nan x ≡ ne x x
+unfolding is_nan ne eq
+same_nan nan = refl
+same_nan (inf true) = refl
+same_nan (inf false) = refl
+same_nan (fin s m e) = go (ne (fin s m e) (fin s m e)) refl
+  where
+    go : (b : Bool) → ne (fin s m e) (fin s m e) ≡ b → false ≡ b
+    go true h = absurd (true≢false (ap finite (differs_from_itself (fin s m e) (subst T (sym h) tt))))
+    go false h = refl
+
 -- ---- the early returns
 pub at_nan : (x : Float) → ne x x ≡ true → x ≡ next_up x
 unfolding next_up
@@ -139,18 +162,3 @@ step_in x t (inr w) =
     (λ (t : T (fits binary64 (fin true (suc w.0) w.1))).
     let u : T (fits binary64 (fin false (suc w.0) w.1)) = neg-fits binary64 (fin true (suc w.0) w.1) t in
     (bits_pos binary64 w.0 w.1 u, le_of_lt (bits_under binary64 (suc w.0) w.1 u), refl)) t
-
--- ---- between the infinities
-pub below_inf : (x : Float) → lt (inf true) x ≡ true → lt x (inf false) ≡ finite x
-unfolding lt
-below_inf nan a = absurd (false≢true a)
-below_inf (inf true) a = absurd (false≢true a)
-below_inf (inf false) a = refl
-below_inf (fin s m e) a = refl
-
-pub above_inf : (x : Float) → lt (inf true) x ≡ false → lt (inf true) x ≡ finite x
-unfolding lt
-above_inf nan a = refl
-above_inf (inf true) a = refl
-above_inf (inf false) a = absurd (true≢false a)
-above_inf (fin s m e) a = absurd (true≢false a)

@@ -3,13 +3,14 @@
 -- A choice inside an interval is a whole number over a power of two, p / 2 ^ k. Where operands and result are finite,
 -- each operation holds the exact result for every choice inside its operands: quotients are cross-multiplied, roots
 -- squared and taken of choices that are not below 0.
-use Rattle.std.specs.Prelude.{◌≡◌, ℕ, zero, suc, ◌+◌, ◌-◌, ◌*◌, ◌/◌, ◌^◌, ◌≤◌, Bool, true, false, cond, T, ◌⊎◌, ℤ, pos, negsuc, ◌*ℤ◌, neg_ℤ, int_le, unsigned_abs, Float}
+use Rattle.std.specs.Prelude.{◌≡◌, Result, ℕ, zero, suc, ◌+◌, ◌-◌, ◌*◌, ◌/◌, ◌^◌, ◌≤◌, Bool, true, false, cond, T, ◌⊎◌}
+use Rattle.std.specs.Prelude.{ℤ, pos, negsuc, ◌*ℤ◌, neg_ℤ, int_le, unsigned_abs, Float}
 use Rattle.std.specs.Float.{nan, inf, fin, Format, binary64}
 use Rattle.std.specs.Float.Ieee.{up, down, fits, low}
 use Rattle.std.specs.Float.Ieee.Scale.{finite}
 use Rattle.interval.specs.Result.{Res, ok, result_of}
 use Rattle.interval.specs.declared.Scalar.{Scalar}
-use Rattle.interval.specs.declared.ScalarResult.{ScalarResult}
+use Rattle.interval.specs.declared.GeopError.{GeopError}
 
 abbrev pub signed : Bool → ℕ → ℤ
 signed false n = pos n
@@ -102,6 +103,6 @@ pub record Gives (v : Scalar) (Law : Scalar → Type 0) (r : Scalar) : Type 0 wh
   pub encloses : Law r
 
 -- r is the result v, and where it is a value the law holds of that
-pub record GivesResult (v : Res Scalar) (Law : Scalar → Type 0) (r : ScalarResult) : Type 0 where
+pub record GivesResult (v : Res Scalar) (Law : Scalar → Type 0) (r : Result Scalar GeopError) : Type 0 where
   pub value : result_of r ≡ v
   pub encloses : (x : Scalar) → result_of r ≡ ok x → Law x

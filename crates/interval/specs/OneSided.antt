@@ -1,7 +1,8 @@
 -- Enclosure (PROTOCOL, Scalars) of each end by itself, whatever the other end is: a finite lower end is a
 -- lower bound, a finite upper end an upper bound.
 -- An infinite end bounds nothing on its own side, and a NaN is no end.
-use Rattle.std.specs.Prelude.{◌≡◌, ℕ, zero, suc, ◌*◌, ◌^◌, true, false, T, ◌⊎◌, ℤ, pos, negsuc, ◌*ℤ◌, neg_ℤ, int_le, Float}
+use Rattle.std.specs.Prelude.{◌≡◌, ℕ, zero, suc, ◌*◌, ◌^◌, true, false, T, ◌⊎◌, ℤ, pos, negsuc, ◌*ℤ◌, neg_ℤ, int_le}
+use Rattle.std.specs.Prelude.{Float}
 use Rattle.std.specs.Float.{inf, binary64}
 use Rattle.std.specs.Float.Ieee.{low}
 use Rattle.std.specs.Float.Ieee.Scale.{finite}

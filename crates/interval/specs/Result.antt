@@ -1,10 +1,8 @@
 -- What an operation that may refuse gives: a value, or the number of the refusal (PROTOCOL, Refusals).
-use Rattle.std.specs.Prelude.{ℕ}
+use Rattle.std.specs.Prelude.{ℕ, Result, Ok, Err}
 use Rattle.interval.specs.declared.Scalar.{Scalar}
 use Rattle.interval.specs.declared.GeopError.{GeopError}
 use Rattle.interval.specs.declared.GeopError.TheVariants.{SqrtOfNegative, DivisorContainsZero}
-use Rattle.interval.specs.declared.ScalarResult.{ScalarResult}
-use Rattle.interval.specs.declared.ScalarResult.TheVariants.{Value, Refused}
 
 pub data Res (A : Type 0) : Type 0 where
   ok : A → Res A
@@ -15,6 +13,6 @@ abbrev pub number_of : GeopError → ℕ
 number_of SqrtOfNegative = 5
 number_of DivisorContainsZero = 6
 
-abbrev pub result_of : ScalarResult → Res Scalar
-result_of (Value x) = ok x
-result_of (Refused e) = refused (number_of e)
+abbrev pub result_of : Result Scalar GeopError → Res Scalar
+result_of (Ok x) = ok x
+result_of (Err e) = refused (number_of e)

@@ -13,7 +13,7 @@ ghost use Rattle.interval.specs.Scalar.{inverse_of, clamped};
 use crate::float::{greatest_of, least_of, max_of};
 use crate::root::nearest_root;
 use crate::step::{next_down, next_up};
-use crate::{GeopError, Scalar, ScalarResult};
+use crate::{GeopError, Scalar};
 
 // The least and the greatest of four products, stepped outward. A product of two intervals is least and greatest where
 // both factors are ends, and which ends depends on the signs, so all four products are compared.
@@ -83,13 +83,13 @@ impl Scalar {
     }
 
     // The reciprocals of the ends, exchanged and stepped outward. Refused where the interval could be zero.
-    pub fn inverse(self) -> ScalarResult
+    pub fn inverse(self) -> Result<Scalar, GeopError>
         ensures { result_of result ≡ inverse_of self }
     {
         if self.holds_zero() {
-            return ScalarResult::Refused(GeopError::DivisorContainsZero);
+            return Err(GeopError::DivisorContainsZero);
         }
-        ScalarResult::Value(Scalar {
+        Ok(Scalar {
             lo: next_down(1.0 / self.hi),
             hi: next_up(1.0 / self.lo),
         })
@@ -97,13 +97,11 @@ impl Scalar {
 
     // The product with the divisor's inverse, as in the Rust: a quotient of the ends would round otherwise. Refused
     // where the divisor could be zero, since the quotient could then be any number.
-    pub fn div(self, other: Scalar) -> ScalarResult
+    pub fn div(self, other: Scalar) -> Result<Scalar, GeopError>
         ensures { GivesResult (div_of self other) (EnclosesQuotient self other) result }
     {
-        match other.inverse() {
-            ScalarResult::Value(i) => ScalarResult::Value(self.mul(i)),
-            ScalarResult::Refused(e) => ScalarResult::Refused(e),
-        }
+        let inverse = other.inverse()?;
+        Ok(self.mul(inverse))
     }
 
     pub fn abs(self) -> Scalar
@@ -125,13 +123,13 @@ impl Scalar {
     }
 
     // Refused where the interval is definitely negative. The lower end is stepped down last, so it may lie below zero.
-    pub fn sqrt(self) -> ScalarResult
+    pub fn sqrt(self) -> Result<Scalar, GeopError>
         ensures { GivesResult (sqrt_of self) (EnclosesRoot self) result }
     {
         if self.hi < 0.0 {
-            return ScalarResult::Refused(GeopError::SqrtOfNegative);
+            return Err(GeopError::SqrtOfNegative);
         }
-        ScalarResult::Value(Scalar {
+        Ok(Scalar {
             lo: next_down(nearest_root(clamped_at_zero(self.lo))),
             hi: next_up(nearest_root(self.hi)),
         })

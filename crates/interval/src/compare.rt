@@ -6,7 +6,6 @@ ghost use Rattle.interval.specs.Scalar.{could_be_equal, definitely_not_equal, co
 ghost use Rattle.interval.specs.Scalar.{could_be_less, definitely_less, is_zero, is_finite};
 
 use crate::Scalar;
-use crate::float::is_finite_f64;
 
 impl Scalar {
     pub fn could_be_equal(self, other: Scalar) -> bool
@@ -55,6 +54,6 @@ impl Scalar {
     pub fn is_finite(self) -> bool
         ensures { result ≡ is_finite self }
     {
-        is_finite_f64(self.lo) && is_finite_f64(self.hi)
+        self.lo.is_finite() && self.hi.is_finite()
     }
 }

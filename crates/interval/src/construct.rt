@@ -4,7 +4,7 @@ ghost use Rattle.interval.specs.Result.{result_of};
 ghost use Rattle.interval.specs.Scalar.{degenerate, from_i64, from_ratio};
 
 use crate::step::{next_down, next_up};
-use crate::{GeopError, Scalar, ScalarResult};
+use crate::{GeopError, Scalar};
 
 impl Scalar {
     pub const ZERO: Scalar = Scalar { lo: 0.0, hi: 0.0 };
@@ -28,14 +28,14 @@ impl Scalar {
     }
 
     // The quotient of the nearest floats, stepped outward, so it encloses num / den where both are floats.
-    pub fn from_ratio(num: i64, den: i64) -> ScalarResult
+    pub fn from_ratio(num: i64, den: i64) -> Result<Scalar, GeopError>
         ensures { result_of result ≡ from_ratio num den }
     {
         if den == 0 {
-            return ScalarResult::Refused(GeopError::DivisorContainsZero);
+            return Err(GeopError::DivisorContainsZero);
         }
         let exact = std::num::nearest_i64_to_f64(num) / std::num::nearest_i64_to_f64(den);
-        ScalarResult::Value(Scalar {
+        Ok(Scalar {
             lo: next_down(exact),
             hi: next_up(exact),
         })

@@ -1,6 +1,5 @@
 // Rust's f64::min and f64::max: a NaN is passed over, and of two equal numbers the first is taken.
 ghost use Rattle.std.specs.Prelude.{◌≡◌};
-ghost use Rattle.std.specs.Float.Ieee.Scale.{finite};
 ghost use Rattle.interval.specs.Float.{fmin, fmax, lesser, greater, least, greatest};
 
 // fmin for an a that is a number.
@@ -20,7 +19,7 @@ pub fn greater_of(a: f64, b: f64) -> f64
 pub fn min_of(a: f64, b: f64) -> f64
     ensures { result ≡ fmin a b }
 {
-    if a != a {
+    if a.is_nan() {
         return b;
     }
     lesser_of(a, b)
@@ -29,7 +28,7 @@ pub fn min_of(a: f64, b: f64) -> f64
 pub fn max_of(a: f64, b: f64) -> f64
     ensures { result ≡ fmax a b }
 {
-    if a != a {
+    if a.is_nan() {
         return b;
     }
     greater_of(a, b)
@@ -40,18 +39,14 @@ pub fn max_of(a: f64, b: f64) -> f64
 pub fn least_of(p: f64, q: f64, r: f64, s: f64) -> f64
     ensures { result ≡ least p q r s }
 {
-    lesser_of(lesser_of(lesser_of(lesser_of(1.0 / 0.0, p), q), r), s)
+    lesser_of(lesser_of(lesser_of(lesser_of(f64::INFINITY, p), q), r), s)
 }
 
 pub fn greatest_of(p: f64, q: f64, r: f64, s: f64) -> f64
     ensures { result ≡ greatest p q r s }
 {
-    greater_of(greater_of(greater_of(greater_of(-1.0 / 0.0, p), q), r), s)
-}
-
-// Whether x is neither an infinity nor a NaN.
-pub fn is_finite_f64(x: f64) -> bool
-    ensures { result ≡ finite x }
-{
-    -1.0 / 0.0 < x && x < 1.0 / 0.0
+    greater_of(
+        greater_of(greater_of(greater_of(f64::NEG_INFINITY, p), q), r),
+        s,
+    )
 }

@@ -6,6 +6,9 @@
 // ends included. The operations also promise enclosure (`specs/Enclosure.antt`).
 #![tactic(auto)]
 
+ghost use Rattle.std.specs.Prelude.{◌≡◌};
+ghost use Rattle.interval.specs.Result.{number_of};
+
 mod arithmetic;
 mod compare;
 mod construct;
@@ -24,15 +27,20 @@ pub struct Scalar {
     pub hi: f64,
 }
 
-// Why an operation is refused: numbers 5 and 6 of PROTOCOL, Refusals.
+// Why an operation is refused: numbers 5 and 6 of PROTOCOL, Refusals, by which it crosses to C and is printed.
 #[derive(Clone, Copy)]
 pub enum GeopError {
     SqrtOfNegative,
     DivisorContainsZero,
 }
 
-#[derive(Clone, Copy)]
-pub enum ScalarResult {
-    Value(Scalar),
-    Refused(GeopError),
+impl From<GeopError> for usize {
+    ghost from_gives = { λ e n. n ≡ number_of e };
+
+    fn from(e: GeopError) -> usize {
+        match e {
+            GeopError::SqrtOfNegative => 5,
+            GeopError::DivisorContainsZero => 6,
+        }
+    }
 }

@@ -22,7 +22,7 @@ fn pattern_above(not_negative: bool, b: u64) -> u64
 pub fn next_up(x: f64) -> f64
     ensures { result ≡ next_up x }
 {
-    if x < 1.0 / 0.0 {
+    if x < f64::INFINITY {
         return f64::from_bits(pattern_above(x >= 0.0, f64::to_bits(x)));
     }
     x
@@ -44,7 +44,7 @@ fn pattern_below(not_positive: bool, b: u64) -> u64
 pub fn next_down(x: f64) -> f64
     ensures { result ≡ next_down x }
 {
-    if -x < 1.0 / 0.0 {
+    if -x < f64::INFINITY {
         return f64::from_bits(pattern_below(-x >= 0.0, f64::to_bits(x)));
     }
     x

@@ -1,5 +1,8 @@
 -- A begin that is accepted leaves the run that `begun_of` gives: its sizes are within the limits, its area has room for
 -- it, and number 4 does not refuse it.
+use Rattle.run.specs.declared.refusal.Refusal.{Refusal}
+use Rattle.run.specs.declared.refusal.Refusal.TheVariants.{OutsideDomain, TooMany, WrongLength}
+use Rattle.std.specs.Prelude.{Some}
 use Prim.Native.Nat.{ℕ, ◌*◌, zero-le}
 use mathlib.Core.Bool.{Bool, true, false, ◌&&◌}
 use mathlib.Core.Path.{◌≡◌, refl}
@@ -20,7 +23,6 @@ use Rattle.run.specs.State.{state_with, no_run}
 use Rattle.run.specs.Damping.{first_mu}
 use Rattle.run.specs.Calls.{begin_of, begun_of}
 use Rattle.run.specs.declared.state.Kind.TheVariants as kind
-use Rattle.run.specs.declared.state.Phase.TheVariants.{Open}
 use Rattle.run.specs.declared.state.Sizes.{Sizes}
 use Rattle.run.specs.declared.state.State.{State}
 use Rattle.run.proofs.AreaLaws.{length_clear}
@@ -34,14 +36,14 @@ use Rattle.known_answers.specs.KnownAnswers.{between}
 use Rattle.known_answers.proofs.Zeros.{zeros_all}
 
 -- a check, passed or not
-checked : (P : AfterCall → Type 0) (b : Bool) (k : ℕ) (back : ℕ → AfterCall) (next : AfterCall) → P (back k)
+checked : (P : AfterCall → Type 0) (b : Bool) (k : Refusal) (back : Refusal → AfterCall) (next : AfterCall) → P (back k)
     → (b ≡ true → P next)
     → P (checks b k back next)
 checked P true k back next p h = h refl
 checked P false k back next p h = p
 
 abbrev pub begun_state : Sizes → Scalar → State
-begun_state z max = state_with z first_mu max (Open kind.Start)
+begun_state z max = state_with z first_mu max (Some kind.Start)
 
 pub record Begins (z : Sizes) (start : List Float) (max : Scalar) (b : AfterCall) : Type 0 where
   pub is : b ≡ begun_of z start max
@@ -52,12 +54,12 @@ pub begins : (z : Sizes) (start : List Float) (max : Scalar) (a : List Float) �
     → Begins z start max (begin_of z start max a)
 unfolding begin_of
 begins z start max a =
-    checked IfAccepted (sizes_fit z) 1 (unchanged no_run a) _ (not_asked 1)
+    checked IfAccepted (sizes_fit z) TooMany (unchanged no_run a) _ (not_asked TooMany)
     (λ fit.
-    checked IfAccepted (eqb (length start) (2 * z.n) && eqb (length a) (area_length z)) 2 (unchanged no_run a) _
-    (not_asked 2)
+    checked IfAccepted (eqb (length start) (2 * z.n) && eqb (length a) (area_length z)) WrongLength (unchanged no_run a) _
+    (not_asked WrongLength)
     (λ g.
-    checked IfAccepted (all_in_domain start z.n && step_fits max) 3 (unchanged no_run a) _ (not_asked 3)
+    checked IfAccepted (all_in_domain start z.n && step_fits max) OutsideDomain (unchanged no_run a) _ (not_asked OutsideDomain)
     (λ h q. record {
       is = refl;
       fit = fit;
@@ -67,7 +69,7 @@ begins z start max a =
     IfAccepted : AfterCall → Type 0
     IfAccepted b = Accepted b → Begins z start max b
 
-    not_asked : (k : ℕ) → IfAccepted (unchanged no_run a k)
+    not_asked : (k : Refusal) → IfAccepted (unchanged no_run a k)
     not_asked k q = absurd (let z : ◌≡◌ {A = ℕ} 0 1 = cc in omega arith)
 
 pub begun_area : (z : Sizes) (start : List Float) (max : Scalar) → sizes_fit z ≡ true → length start ≡ 2 * z.n

@@ -1,5 +1,6 @@
 -- The known answers, by one theorem. P1 to P10 are computed from the definitions; in P10 to P13 an accepted begin
 -- leaves the run that `begun_of` gives, and its next call passes every check.
+use Rattle.std.specs.Prelude.{Some}
 use Prim.Native.Nat.{ℕ, ◌+◌, ◌*◌}
 use mathlib.Core.Bool.{true}
 use mathlib.Core.Path.{◌≡◌, refl, ap, ◌∙◌}
@@ -22,10 +23,9 @@ use Rattle.run.specs.Checks.{all_in_domain, constraints_fit}
 use Rattle.run.specs.Damping.{first_mu}
 use Rattle.run.specs.State.{state_with}
 use Rattle.run.specs.program.Checks.{open_of, check_of, check_rows_of}
-use Rattle.run.specs.declared.checks.Checked.TheVariants.{Accept}
+use Rattle.std.specs.Prelude.{Ok}
 use Rattle.run.specs.declared.state.Event.TheVariants.{Finish}
 use Rattle.run.specs.declared.state.Kind.TheVariants as kind
-use Rattle.run.specs.declared.state.Phase.TheVariants.{Open}
 use Rattle.run.specs.declared.state.Sizes.{Sizes}
 use Rattle.run.specs.declared.state.Stop.TheVariants as stop
 use Rattle.run.proofs.CheckLaws.{none_accepted, rows_accepted}
@@ -40,13 +40,13 @@ module _ (z : Sizes) (start : List Float) (max : Scalar) (b : AfterCall) (g : Be
   whole : HasRoom z (area_of z (begun_memory start))
   whole = begun_area z start max g.fit g.size
 
-  accepted : check_of (begun_state z max) (length (area_of z (begun_memory start))) ≡ Accept kind.Start
+  accepted : check_of (begun_state z max) (length (area_of z (begun_memory start))) ≡ Ok kind.Start
   unfolding check_of open_of
   accepted = rw (begun_valid z max g.fit, eq-eqb _ _ whole)
 
   accepted_rows : (m : ℕ) (rows : List Float) → constraints_fit m ≡ true → length rows ≡ row_numbers (row_counts z m)
       → all_in_domain rows ((m + z.s) * (z.n + 1)) ≡ true
-      → check_rows_of (begun_state z max) (length (area_of z (begun_memory start))) m rows ≡ Accept kind.Start
+      → check_rows_of (begun_state z max) (length (area_of z (begun_memory start))) m rows ≡ Ok kind.Start
   unfolding check_rows_of open_of
   accepted_rows m rows few l d = rw (begun_valid z max g.fit, few, eq-eqb _ _ whole, eq-eqb _ _ l, d)
 
@@ -68,7 +68,7 @@ module _ (z : Sizes) (start : List Float) (max : Scalar) (b : AfterCall) (g : Be
 -- ---- the table
 
 budget : (z : Sizes) (mu max : Scalar) (w : Memory) (m : ℕ) (rows : List Float) → z.limit ≡ 0
-    → (started (state_with z mu max (Open kind.Start)) w m rows).event ≡ Finish stop.Budget 0 0 0
+    → (started (state_with z mu max (Some kind.Start)) w m rows).event ≡ Finish stop.Budget 0 0 0
 unfolding started iterate
 budget z mu max w m rows e = rw e
 

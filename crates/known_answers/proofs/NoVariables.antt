@@ -1,5 +1,6 @@
 -- With no variable and no row there is a step, of no length, and neither the sum nor the violation is expected to drop:
 -- each of the two drops is worked out between zeros, and stepped outward it holds 0.
+use Rattle.std.specs.Prelude.{Some}
 use Prim.Native.Nat.{ℕ, ◌*◌, ◌≤◌}
 use mathlib.Core.Bool.{Bool, true, false}
 use mathlib.Core.Path.{◌≡◌, refl}
@@ -37,7 +38,6 @@ use Rattle.run.specs.Iterate.{iterate, search, left_at}
 use Rattle.run.specs.State.{state_with}
 use Rattle.run.specs.declared.state.Event.TheVariants.{Finish}
 use Rattle.run.specs.declared.state.Kind.TheVariants as kind
-use Rattle.run.specs.declared.state.Phase.TheVariants.{Open}
 use Rattle.run.specs.declared.state.Search.{Search}
 use Rattle.run.specs.declared.state.Stop.TheVariants as stop
 use Rattle.known_answers.specs.KnownAnswers.{bits, sizes}
@@ -97,6 +97,6 @@ search_none x rows b moving max y = rw (proposal_none x rows b moving y.mu y.rad
 
 -- in the first iteration
 pub started_none : (mu max : Scalar) (w : Memory) (rows : List Float)
-    → (started (state_with (sizes 0 0 5) mu max (Open kind.Start)) w 0 rows).event ≡ Finish (stop.Flat 0 0) 0 0 0
+    → (started (state_with (sizes 0 0 5) mu max (Some kind.Start)) w 0 rows).event ≡ Finish (stop.Flat 0 0) 0 0 0
 unfolding started iterate search violation_of left_at squared_of plus_to
 started_none mu max w rows = rw (norm_none _, root_of_zero, search_none _ _ _ _ _ _)

@@ -1,6 +1,6 @@
 // What the program prints: floats by their bits, and the answers of the crates with the protocol's numbers.
 use float_bits::{bits_of, word_text};
-use interval::{GeopError, Scalar, ScalarResult};
+use interval::{GeopError, Scalar};
 use run::{Event, Kind, Returned, Stop};
 use std::io;
 
@@ -15,18 +15,15 @@ pub fn print_scalar(rt: &impl Print, x: Scalar) -> io::Result<()> {
     print_float(rt, x.hi)
 }
 
-fn print_refusal(rt: &impl Print, e: GeopError) -> io::Result<()> {
-    match e {
-        GeopError::SqrtOfNegative => print!(rt; "refusal 5"),
-        GeopError::DivisorContainsZero => print!(rt; "refusal 6"),
-    }
+fn print_refusal(rt: &impl Print, number: usize) -> io::Result<()> {
+    print!(rt; "refusal {number}")
 }
 
 // The two ends, or the number of the refusal.
-pub fn print_result(rt: &impl Print, r: ScalarResult) -> io::Result<()> {
+pub fn print_result(rt: &impl Print, r: Result<Scalar, GeopError>) -> io::Result<()> {
     match r {
-        ScalarResult::Value(x) => print_scalar(rt, x)?,
-        ScalarResult::Refused(e) => print_refusal(rt, e)?,
+        Ok(x) => print_scalar(rt, x)?,
+        Err(e) => print_refusal(rt, usize::from(e))?,
     }
     println!(rt;)
 }
@@ -79,7 +76,7 @@ pub fn print_case(rt: &impl Print, name: &str, r: Returned) -> io::Result<()> {
         Event::Finish(stop, iterations, turn_downs, standing) => {
             print_finish(rt, stop, iterations, turn_downs, standing)?
         }
-        Event::Refused(number) => print!(rt; "refusal {number}")?,
+        Event::Refused(refusal) => print_refusal(rt, usize::from(refusal))?,
     }
     println!(rt;)
 }

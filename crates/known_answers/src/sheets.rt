@@ -3,19 +3,15 @@ use std::io;
 
 // The bytes before the first zero.
 fn print_slot(rt: &impl Print, slot: &[u8]) -> io::Result<()> {
-    for i in 0..slot.len() {
-        if slot[i] == 0 {
-            return rt.write_all(&slot[..i]);
-        }
-    }
-    rt.write_all(slot)
+    let end = slot.iter().position(|&b| b == 0).unwrap_or(slot.len());
+    rt.write_all(&slot[..end])
 }
 
 fn print_sheet(rt: &impl Print, name: &str, text: &[u8]) -> io::Result<()> {
     let mut area = [0.0; 8000];
     let mut slot = [0u8; 320];
     println!(rt; "sheet: {name}")?;
-    sheet::settle_text(text, &mut area, &mut slot);
+    let _ = sheet::settle_text(text, &mut area, &mut slot);
     print_slot(rt, &slot)
 }
 

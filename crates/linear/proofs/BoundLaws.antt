@@ -7,7 +7,7 @@ use lib.Ieee.{Float, inf, binary64, add, sub, mul, div, neg, lt, le, fits, is_na
 use lib.Ieee.Fits.{add-fits, neg-fits}
 use Rattle.interval.specs.declared.Scalar.{Scalar}
 use Rattle.interval.specs.Float.{lesser, greatest}
-use Rattle.interval.specs.Scalar.{zero64, two64, zero_s, degenerate, could_be_equal, add_of, sub_of, mul_of, is_sharp}
+use Rattle.interval.specs.Scalar.{zero64, two64, zero_s, degenerate, could_be_equal, add_of, sub_of, mul_of}
 use Rattle.interval.specs.Step.{next_up}
 use Rattle.interval.proofs.Given.{yes}
 use Rattle.interval.proofs.MinMax.{lt_second}
@@ -17,7 +17,6 @@ use Rattle.interval.proofs.Outward.{up_fits, down_fits}
 use Rattle.interval.proofs.PlusZero.{plus_zero_kept, above_plus_zero, next_sum, sum_kept}
 use Rattle.interval.proofs.Bounds.{Kept, neg_neg, add_below, sub_below, sub_above, mul_below, mul_below_second}
 use Rattle.interval.proofs.Bounds.{products_number, sum_number, up_above}
-use Rattle.linear.proofs.Sums.{holds}
 use Rattle.linear.specs.declared.bounds.Bounds.{Bounds}
 use Rattle.linear.specs.Bounds.{bounds_of, scalar_of, is_proper, unsigned, Bounding}
 use Rattle.linear.specs.Choose.{choose_of}
@@ -94,7 +93,8 @@ module _ (x y : Scalar) {g h : Float}
   pub second_bounds : {u v : Float} → u ≡ next_up g → v ≡ next_up h
       → Bounding (mul_of x y) (record { below = u; above = v })
   second_bounds eu ev =
-      stepped (mul_of x y) g h second_below second_above eu ev (ap next_up eg ∙ sym (mul_below_second x y)) (ap next_up eh)
+      stepped (mul_of x y) g h second_below second_above eu ev (ap next_up eg ∙ sym (mul_below_second x y))
+      (ap next_up eh)
 
 -- ---- z + s and z - s, where p is the bounds of s
 module _ (z : Bounds) (s : Scalar) {p : Bounds} (proper : T (is_proper z)) (b : Bounding s p) where
@@ -186,11 +186,6 @@ module _ (z : Bounds) (x y : Scalar) {p : Bounds} (proper : T (is_proper z)) (tb
       → Bounding (sub_of (scalar_of z) (mul_of x y)) (record { below = u; above = v })
   product_difference_bounds eu ev = difference_bounds z (mul_of x y) proper (product_bounding x y)
       (eu ∙ product_difference_below.1) (ev ∙ product_difference_above.1)
-
-pub both_sharp : (x y : Scalar) (b : Bool) → b ≡ (is_sharp x && is_sharp y) → not b ≡ false
-    → T (is_sharp x) × T (is_sharp y)
-both_sharp x y b eb e = let h = yes (sym eb ∙ holds b e) in
-    (yes (and_first (is_sharp x) (is_sharp y) h), yes (and_second (is_sharp x) (is_sharp y) h))
 
 -- ---- the number chosen, by the bounds
 module _ (b : Bounds) (proper : T (is_proper b)) (tb : T (fits binary64 b.below)) (ta : T (fits binary64 b.above))

@@ -20,7 +20,8 @@ use Rattle.interval.specs.Scalar.{zero64, zero_s, mul_of, inverse}
 use Rattle.linear.specs.Flat.{at, put, along, zeros}
 use Rattle.linear.specs.Results.{bind, fold_r}
 use Rattle.linear.specs.Dot.{minus_to}
-use Rattle.linear.specs.Cholesky.{Pivot, root, left_out_pivot, pivot_of, row_to, pivot_at, is_refused, mark_at, factor_at}
+use Rattle.linear.specs.Cholesky.{Pivot, root, left_out_pivot, pivot_of, row_to, pivot_at, is_refused, mark_at}
+use Rattle.linear.specs.Cholesky.{factor_at}
 use Rattle.linear.specs.Cholesky.{refused_to, Factor, factor_of, entry, cholesky_of}
 use Rattle.linear.specs.CholeskyRows.{entry_step, clear_row, settle, pivot_step, row_step}
 use Rattle.linear.specs.Calls.{blank}

@@ -4,7 +4,7 @@ use Prim.Native.Nat.{ℕ, ◌+◌, ◌*◌, ◌≤◌, ◌<◌}
 use mathlib.Core.Logic.{⊎_elim}
 use mathlib.Core.Path.{◌≡◌, refl, ◌∙◌}
 use mathlib.Core.List.{List}
-use native.Mathlib.Nat.{lt_of_not-le, not-suc-le-zero, suc-mul}
+use native.Mathlib.Nat.{suc-mul}
 use native.Mathlib.Numerals.{add-one}
 use native.Mathlib.Omega.{arith}
 use lib.Ieee.{Float}
@@ -12,7 +12,7 @@ use lib.ListN.{length}
 use Rattle.interval.specs.declared.Scalar.{Scalar}
 use Rattle.linear.specs.Dot.{dot_to}
 use Rattle.linear.specs.Flat.{at, put, along}
-use Rattle.linear.specs.Solved.{gram_at, LowerRows}
+use Rattle.linear.specs.Solved.{gram_at}
 use Rattle.linear.proofs.Cells.{cell_inside, cell_row, cell_column}
 use Rattle.linear.proofs.FactorEntries.{same_or_not}
 use Rattle.linear.proofs.FlatLaws.{length_put, at_put_same, at_put_other}
@@ -34,12 +34,6 @@ module _ (f : ℕ → ℕ → Scalar) (m : ℕ) where
   -- rows from i on below c are filled before column t, and those above i up to the diagonal
   abbrev pub Filled : ℕ → ℕ → ℕ → List Float → Type 0
   Filled i c t g = (r k : ℕ) → r < c → k ≤ r → (i ≤ r → k < t) → at g (r * m + k) ≡ f r k
-
-  pub filled_none : (i c : ℕ) (g : List Float) → LowerRows f m i g → Filled i c 0 g
-  filled_none i c g rows r k hr hk h = rows r k (lt_of_not-le (λ l. not-suc-le-zero (h l))) hk
-
-  pub filled_all : (i c t : ℕ) (g : List Float) → c ≤ t → Filled i c t g → LowerRows f m c g
-  filled_all i c t g h fill r k hr hk = fill r k hr hk (λ _. omega arith)
 
   before : (k t : ℕ) → k < t + 1 → (k ≡ t → ⊥) → k < t
   before k t h n = ⊎_elim (λ e. absurd (n e)) (λ d. omega arith) (same_or_not k t)

@@ -61,7 +61,8 @@ module _ (a b : ℕ → ℕ → Scalar) (n : ℕ) (same : SameBelow a b n) where
   marks_same zero h = refl
   marks_same (suc k) h = rw (marks_same k (omega arith), mark_same k h)
 
-pub cholesky_lower : (n : ℕ) (a b : List Float) → SameBelow (entry n a) (entry n b) n → cholesky_of n a ≡ cholesky_of n b
+pub cholesky_lower : (n : ℕ) (a b : List Float) → SameBelow (entry n a) (entry n b) n
+    → cholesky_of n a ≡ cholesky_of n b
 unfolding cholesky_of
 cholesky_lower n a b same =
     rw (

@@ -328,7 +328,8 @@ norm_given f n r o = norm_chosen f n r (λ i. units_of binary64 (f i).lo) (low b
 -- ---- a definite answer about two norms, of n and of m scalars
 module _ (f g : ℕ → Scalar) (n m : ℕ) (rf : Rows f n) (rg : Rows g m) (x y : Scalar) (ex : norm_of f n ≡ ok x)
     (ey : norm_of g m ≡ ok y) where
-  exact_less : (p q : ℕ → ℤ) → nat_abs (squares_to q m) < nat_abs (squares_to p n) → T (lt_z (squares_to q m) (squares_to p n))
+  exact_less : (p q : ℕ → ℤ) → nat_abs (squares_to q m) < nat_abs (squares_to p n)
+      → T (lt_z (squares_to q m) (squares_to p n))
   exact_less p q h =
       rw (squares_size q m, squares_size p n) (lt→ltb (nat_abs (squares_to q m)) (nat_abs (squares_to p n)) h)
 

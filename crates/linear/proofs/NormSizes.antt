@@ -19,7 +19,8 @@ use Rattle.interval.specs.Enclosure.{units_of, Fits, Finite}
 use Rattle.interval.specs.Float.{greater}
 use Rattle.interval.specs.OneSided.{Within}
 use Rattle.interval.specs.Result.{Res, ok}
-use Rattle.interval.specs.Scalar.{zero_s, degenerate, add_of, mul_of, div_of, abs_of, max_of, sqrt_of, definitely_greater}
+use Rattle.interval.specs.Scalar.{zero_s, degenerate, add_of, mul_of, div_of, abs_of, max_of, sqrt_of}
+use Rattle.interval.specs.Scalar.{definitely_greater}
 use Rattle.interval.proofs.Bounded.Ends.{bounded_weaken, zero_bounded, abs_bounded, max_bounded}
 use Rattle.interval.proofs.Bounded.Product.{mul_bounded}
 use Rattle.interval.proofs.Bounded.Quotient.{div_bounded}

@@ -14,7 +14,8 @@ use Rattle.linear.specs.Cholesky.{Pivot, root, left_out_pivot, usable, root_pivo
 -- ---- a root that is kept
 
 kept_usable : (u : Bool) (v r : Scalar) → usable (div_of (degenerate one64) v) ≡ u
-    → ◌≡◌ {A = Res Pivot} (ok (pick u (root v) left_out_pivot)) (ok (root r)) → usable (div_of (degenerate one64) r) ≡ true
+    → ◌≡◌ {A = Res Pivot} (ok (pick u (root v) left_out_pivot)) (ok (root r))
+    → usable (div_of (degenerate one64) r) ≡ true
 kept_usable true v r h e = let q : v ≡ r = cc in rw (← q) h
 kept_usable false v r h e = let z : ◌≡◌ {A = ℕ} 0 1 = cc in absurd (omega arith)
 
@@ -55,7 +56,8 @@ unfolding root_pivot
 root_refused (ok v) e = cc
 root_refused (refused j) e = cc
 
-picked_refused : (b : Bool) (s : Scalar) {k : ℕ} → pick b (root_pivot (sqrt_of s)) (ok left_out_pivot) ≡ refused k → k ≡ 5
+picked_refused : (b : Bool) (s : Scalar) {k : ℕ} → pick b (root_pivot (sqrt_of s)) (ok left_out_pivot) ≡ refused k
+    → k ≡ 5
 picked_refused true s e = sqrt_five s (root_refused (sqrt_of s) e)
 picked_refused false s e = cc
 

@@ -1,17 +1,17 @@
 -- One reflection, law by law as the code takes it: the normal, a column reflected, and the marks beside it. Each takes
 -- what the calls gave, one equation a call, since the scalars' operations are written out wherever they stand.
-use Prim.Native.Nat.{ℕ, zero, suc, ◌+◌, ◌*◌, ◌≤◌, ◌<◌}
+use Rattle.std.specs.Prelude.{Result, Ok, Err}
+use Prim.Native.Nat.{ℕ, zero, suc, ◌*◌, ◌<◌}
 use mathlib.Core.Bool.{Bool}
 use mathlib.Core.List.{List}
 use mathlib.Core.Path.{◌≡◌, sym}
-use native.Mathlib.Nat.{mul-le-mul, mul-zero, not-suc-le-zero}
+use native.Mathlib.Nat.{mul-zero, not-suc-le-zero}
 use native.Mathlib.Omega.{arith}
 use lib.Ieee.{Float}
 use Rattle.interval.specs.declared.Scalar.{Scalar}
 use Rattle.interval.specs.Result.{Res, ok, refused}
 use Rattle.interval.specs.Scalar.{two64, degenerate, sub_of, mul_of, div_of}
-use Rattle.linear.specs.declared.results.Done.{Done}
-use Rattle.linear.specs.declared.results.Done.TheVariants as d
+use Rattle.linear.specs.declared.results.LinearError.{LinearError}
 use Rattle.linear.specs.LinearResult.{done_of}
 use Rattle.linear.specs.Flat.{at, put, along}
 use Rattle.linear.specs.Dot.{dot_to}
@@ -20,11 +20,6 @@ use Rattle.linear.specs.Cholesky.{factor_of}
 use Rattle.linear.specs.Scaled.{minus_scaled}
 use Rattle.linear.specs.Householder.{alpha_of, normal_of, reflect_step, with_marks}
 use Rattle.linear.proofs.Folds.{bind_ok, bind_refused}
-
--- ---- the columns: r of m rows, and the right-hand side
-
-pub columns_small : {r m : ℕ} → r ≤ 24 → m ≤ 24 → (r + 1) * m ≤ 600
-columns_small {r} {m} h k = mul-le-mul {n₁ = r + 1} {m₁ = m} {n₂ = 25} {m₂ = 24} (omega arith) k
 
 -- a place in them is in a row
 pub rows_positive : (k m : ℕ) {p : ℕ} → p < k * m → 0 < m
@@ -49,7 +44,8 @@ module _ (v : List Float) (vv : Scalar) (n base : ℕ) (cols : List Float) {s p 
   unfolding reflect_step
   reflect_refused e = sym (bind_refused _ (sym (rw (ep, es) at e)))
 
-pub with-marks : (r : Done) (cols : List Float) (left : List Bool) (s : Res (List Float)) → done_of r cols ≡ s
+pub with-marks : (r : Result (Unit {0}) LinearError) (cols : List Float) (left : List Bool) (s : Res (List Float))
+    → done_of r cols ≡ s
     → done_of r (factor_of cols left) ≡ with_marks left s
-with-marks d.Finished cols left s e = rw (← e)
-with-marks (d.Refused k) cols left s e = rw (← e)
+with-marks (Ok u) cols left s e = rw (← e)
+with-marks (Err k) cols left s e = rw (← e)

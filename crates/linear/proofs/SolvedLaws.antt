@@ -1,4 +1,5 @@
 -- `minus_solved` is the factor of J Jᵀ, and then the values by that factor.
+use Rattle.std.specs.Prelude.{Result}
 use mathlib.Core.Path.{◌≡◌, refl, sym, ap, ◌∙◌}
 use Prim.Native.Nat.{ℕ, ◌+◌, ◌*◌, ◌≤◌}
 use mathlib.Core.Bool.{Bool}
@@ -8,6 +9,7 @@ use lib.Ieee.{Float}
 use lib.ListN.{length, take}
 use Rattle.interval.specs.Result.{Res, ok, refused}
 use Rattle.interval.specs.declared.Scalar.{Scalar}
+use Rattle.linear.specs.declared.results.LinearError.{LinearError}
 use Rattle.linear.specs.LinearResult.{done_of}
 use Rattle.linear.specs.Calls.{blank, minus_factored_reply}
 use Rattle.linear.specs.Cholesky.{Factor, factor_of, cholesky_of}
@@ -20,7 +22,6 @@ use Rattle.linear.specs.Results.{bind}
 use Rattle.linear.specs.Solved.{gram_of, gram_at, LowerRows, multipliers_of, minus_at, minus_of, minus_solved_of}
 use Rattle.linear.specs.Solved.{gram_factor_of, minus_factored_of}
 use Rattle.linear.specs.Substitution.{solve_of}
-use Rattle.linear.specs.declared.results.Done.{Done}
 use Rattle.linear.proofs.Agree.{minus_to-ext, list_to-ext}
 use Rattle.linear.proofs.Folds.{bind_ok, bind_refused}
 use Rattle.linear.proofs.Lists.{at_take}
@@ -49,17 +50,19 @@ module _ (m n : ℕ) (jc rhs from : List Float) where
 
 -- ---- what the code works out
 module _ (m n : ℕ) (jc : List Float) where
-  pub gram_factor : (g : List Float) (r : Done) (f : Factor) → LowerRows (gram_at n jc) m m g
+  pub gram_factor : (g : List Float) (r : Result (Unit {0}) LinearError) (f : Factor) → LowerRows (gram_at n jc) m m g
       → replied r f ≡ reply_of (blank m) (cholesky_of m g) → replied r f ≡ reply_of (blank m) (gram_factor_of m n jc)
   unfolding gram_factor_of
   gram_factor g r f e h = h ∙ ap (λ x. reply_of (blank m) x) (cholesky_gram m n jc g e)
 
-  pub factor_done : (r : Done) (f : Factor) → replied r f ≡ reply_of (blank m) (gram_factor_of m n jc)
+  pub factor_done : (r : Result (Unit {0}) LinearError) (f : Factor)
+      → replied r f ≡ reply_of (blank m) (gram_factor_of m n jc)
       → gram_factor_of m n jc ≡ done_of r f
   factor_done r f h = sym (done_is r f (blank m) (gram_factor_of m n jc) h)
 
   -- the values read the first m scalars of k alone
-  minus_start : (from k : List Float) → 2 * m ≤ length k → minus_of m n jc from (take (2 * m) k) ≡ minus_of m n jc from k
+  minus_start : (from k : List Float) → 2 * m ≤ length k
+      → minus_of m n jc from (take (2 * m) k) ≡ minus_of m n jc from k
   unfolding minus_of
   minus_start from k room =
       list_to-ext _ _ n
@@ -68,7 +71,8 @@ module _ (m n : ℕ) (jc : List Float) where
       (minus_to-ext (along jc i n) (along jc i n) (at (take (2 * m) k)) (at k) (at from i) m (λ j _. refl)
       (λ j h. at_take k m j h room)))
 
-  pub minus_factored : (l : List Float) (left : List Bool) (rhs from k : List Float) (r : Done) → 2 * m ≤ length k
+  pub minus_factored : (l : List Float) (left : List Bool) (rhs from k : List Float) (r : Result (Unit {0}) LinearError)
+      → 2 * m ≤ length k
       → replied r (take (2 * m) k) ≡ reply_of (zeros (2 * m)) (solve_of m l left rhs)
       → done_of r (minus_of m n jc from k) ≡ minus_factored_of m n jc (factor_of l left) rhs from
   unfolding minus_factored_of

@@ -68,7 +68,8 @@ dot_less f g n m rf rg h p q k a b =
     less_within (dot_to g g m) (dot_to f f n) (squares_to q m) (squares_to p n) (2 ^ k * 2 ^ k) (mul-pos (pow_pos k)
     (pow_pos k)) (dot_fits g g m) (dot_fits f f n) (dot_within g m rg q k b) (dot_within f n rf p k a) h
 
-pub dot_greater : (f g : ℕ → Scalar) (n m : ℕ) → Rows f n → Rows g m → T (definitely_greater (dot_to f f n) (dot_to g g m))
+pub dot_greater : (f g : ℕ → Scalar) (n m : ℕ) → Rows f n → Rows g m
+    → T (definitely_greater (dot_to f f n) (dot_to g g m))
     → (p q : ℕ → ℤ) (k : ℕ) → Chosen f n p k → Chosen g m q k → T (lt_z (squares_to q m) (squares_to p n))
 dot_greater f g n m rf rg h = dot_less f g n m rf rg h
 

@@ -1,21 +1,18 @@
 -- Sums of products by their bounds: one product more, whatever the sum starts from, and the points among the factors.
 use mathlib.Core.Path.{◌≡◌, refl, sym, ap, ◌∙◌, subst}
 use mathlib.Core.List.{List}
-use mathlib.Core.Bool.{Bool, true, false, not, ◌&&◌}
 use Prim.Native.Nat.{ℕ, ◌+◌, ◌≤◌}
 use native.Mathlib.Nat.{le_refl, le_antisymm}
-use lib.Dec.{T}
 use lib.Ieee.{Float, neg, lt}
 use lib.ListN.{length, take}
 use lib.Seq.{take_all}
 use Rattle.interval.specs.declared.Scalar.{Scalar}
-use Rattle.interval.specs.Scalar.{zero_s, add_of, mul_of, is_sharp}
-use Rattle.interval.proofs.Given.{yes}
+use Rattle.interval.specs.Scalar.{zero_s, add_of, mul_of}
 use Rattle.linear.specs.declared.bounds.Bounds.{Bounds}
 use Rattle.linear.specs.Bounds.{bounds_of, scalar_of, Bounding}
 use Rattle.linear.specs.Dot.{plus_to}
 use Rattle.linear.specs.Lengths.{Inside}
-use Rattle.linear.proofs.Sums.{holds, plus_to-more}
+use Rattle.linear.proofs.Sums.{plus_to-more}
 use Rattle.linear.proofs.BoundLaws.{bounds_back, bounding}
 
 pub zero_bounds : {b : Bounds} → b ≡ bounds_of zero_s → Bounding zero_s b
@@ -38,16 +35,6 @@ module _ (f g : ℕ → Scalar) where
   pub gone_last : (z : Scalar) (done t k : ℕ) (s₀ s : Bounds) {r : Scalar} → GoneOn done s₀ t s
       → Bounding (plus_to f g z done) s₀ → t ≤ k → k ≤ t → r ≡ scalar_of s → r ≡ plus_to f g z k
   gone_last z done t k s₀ s o b h l e = rw (le_antisymm h l) at (e ∙ bounds_back (o z b).value)
-
-pub three_sharp : (x y z : Scalar) (b : Bool) → b ≡ (is_sharp x && (is_sharp y && is_sharp z)) → not b ≡ false
-    → T (is_sharp x) × T (is_sharp y) × T (is_sharp z)
-three_sharp x y z b eb e = each (is_sharp x) (is_sharp y) (is_sharp z) (yes (sym eb ∙ holds b e))
-  where
-    each : (p q r : Bool) → T (p && (q && r)) → T p × T q × T r
-    each true true true h = (tt, tt, tt)
-    each true true false h = absurd h
-    each true false r h = absurd h
-    each false q r h = absurd h
 
 -- ---- a slice made anew is the slice
 pub anew : (l : List Float) → take (length l) l ≡ l

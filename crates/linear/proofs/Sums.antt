@@ -14,11 +14,13 @@ use Rattle.linear.specs.Flat.{at, along}
 use Rattle.linear.specs.Dot.{plus_to, minus_to, points_from}
 
 module _ (f g : ℕ → Scalar) (z : Scalar) {s x y p r : Scalar} (i : ℕ) where
-  pub plus_to-more : s ≡ plus_to f g z i → x ≡ f i → y ≡ g i → p ≡ mul_of x y → r ≡ add_of s p → r ≡ plus_to f g z (i + 1)
+  pub plus_to-more : s ≡ plus_to f g z i → x ≡ f i → y ≡ g i → p ≡ mul_of x y → r ≡ add_of s p
+      → r ≡ plus_to f g z (i + 1)
   unfolding plus_to
   plus_to-more es ex ey ep er = rw (add-one, er, ep, ex, ey, es)
 
-  pub minus_to-more : s ≡ minus_to f g z i → x ≡ f i → y ≡ g i → p ≡ mul_of x y → r ≡ sub_of s p → r ≡ minus_to f g z (i + 1)
+  pub minus_to-more : s ≡ minus_to f g z i → x ≡ f i → y ≡ g i → p ≡ mul_of x y → r ≡ sub_of s p
+      → r ≡ minus_to f g z (i + 1)
   unfolding minus_to
   minus_to-more es ex ey ep er = rw (add-one, er, ep, ex, ey, es)
 
@@ -88,7 +90,8 @@ module _ (f g : ℕ → Scalar) where
       (eb : b ≡ (is_sharp x && is_sharp y)) where
     tested : (is_sharp (f t) && is_sharp (g t)) ≡ b
     tested =
-        sym (eb ∙ ap (λ (z : Scalar). is_sharp z && is_sharp y) ex ∙ ap (λ (z : Scalar). is_sharp (f t) && is_sharp z) ey)
+        sym (eb ∙ ap (λ (z : Scalar). is_sharp z && is_sharp y) ex
+        ∙ ap (λ (z : Scalar). is_sharp (f t) && is_sharp z) ey)
 
     pub points_on : not b ≡ false → points_from f g t (k - t) ≡ points_from f g (t + 1) (k - (t + 1))
     points_on e =

@@ -1,10 +1,10 @@
 -- A walk along a run of scalars with its place cut off at the list's end: the place is the run's, or both are outside
 -- the list.
-use Prim.Native.Nat.{ℕ, ◌+◌, ◌-◌, ◌*◌, ◌/◌, ◌≤◌, ◌<◌, min}
+use Prim.Native.Nat.{ℕ, ◌+◌, ◌*◌, ◌≤◌, min}
 use mathlib.Core.Logic.{⊎_elim}
 use mathlib.Core.Path.{◌≡◌, sym, ap, ◌∙◌}
 use mathlib.Core.List.{List}
-use native.Mathlib.Nat.{le_refl, mul-le-mul, suc-mul}
+use native.Mathlib.Nat.{suc-mul}
 use native.Mathlib.Numerals.{add-one}
 use native.Mathlib.Omega.{arith}
 use borrow.Author.Tests.{le-ltb}
@@ -12,7 +12,6 @@ use lib.Ieee.{Float, nan}
 use lib.ListN.{length}
 use Rattle.interval.specs.Scalar.{degenerate}
 use Rattle.linear.specs.Flat.{at}
-use Rattle.linear.specs.Lengths.{Inside}
 use Rattle.linear.proofs.FlatLaws.{at_outside}
 use Rattle.linear.proofs.FactorEntries.{same_or_not}
 
@@ -46,11 +45,3 @@ cut_next base t e q h = omega arith
 
 pub cut_size : {size n i p : ℕ} → Cut size i p → n ≡ size → Cut n i p
 cut_size e h = rw h e
-
--- the places are inside where the last of them is
-pub inside_reach : (base step k len : ℕ) → base < len / 2 - (k - 1) * step → Inside base step k len
-inside_reach base step k len h t l =
-    let m : t * step ≤ (k - 1) * step = mul-le-mul (omega (arith, l)) (le_refl step) in omega (arith, h, m)
-
-pub inside_row : (base k len : ℕ) → k ≤ len / 2 → base ≤ len / 2 - k → Inside base 1 k len
-inside_row base k len h l t m = omega (arith, h, l, m)

@@ -1,7 +1,8 @@
 -- `cholesky`: the factor L of a symmetric matrix, L Lᵀ = a, with pivots left out, by entries and marks. Only the lower
 -- triangle of a is read. Nothing here speaks of the order of work: an entry is given by the entries in the columns
 -- before it.
-use Rattle.std.specs.Prelude.{ℕ, zero, suc, ◌+◌, ◌*◌, ◌/◌, ◌%◌, Bool, true, false, ◌||◌, List, [], ◌∷◌, ◌++◌, eqb, ltb, Float}
+use Rattle.std.specs.Prelude.{ℕ, zero, suc, ◌+◌, ◌*◌, ◌/◌, ◌%◌, Bool, true, false, ◌||◌, List, [], ◌∷◌, ◌++◌, eqb, ltb}
+use Rattle.std.specs.Prelude.{Float}
 use Rattle.interval.specs.declared.Scalar.{Scalar}
 use Rattle.interval.specs.Result.{Res, ok, refused}
 use Rattle.interval.specs.Scalar.{one64, zero_s, degenerate, pick, mul_of, div_of, inverse, sqrt_of}

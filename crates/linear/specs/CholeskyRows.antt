@@ -1,22 +1,23 @@
 -- The factor worked out row by row, as the Rust does: what each step of the program promises. That these steps give the
 -- entries and marks of `cholesky_of` is a theorem (proofs/CholeskyRows).
-use Rattle.std.specs.Prelude.{ℕ, zero, suc, ◌+◌, ◌*◌, Bool, true, false, List, Float, get_or, set}
+use Rattle.std.specs.Prelude.{ℕ, zero, suc, ◌+◌, ◌*◌, Bool, true, false, List, Float, get_or, set, Result, Ok, Err}
+use Rattle.std.specs.Prelude.{Option, Some, None}
 use Rattle.interval.specs.Result.{Res, ok, refused}
 use Rattle.interval.specs.Result as scalar
+use Rattle.interval.specs.declared.GeopError.{GeopError}
+use Rattle.interval.specs.declared.Scalar.{Scalar}
 use Rattle.interval.specs.Scalar.{zero_s, pick, div_of}
 use Rattle.linear.specs.Flat.{at, put, along}
 use Rattle.linear.specs.Dot.{minus_to}
 use Rattle.linear.specs.Results.{bind, fold_r}
 use Rattle.linear.specs.Substitution.{store_r}
 use Rattle.linear.specs.Cholesky.{Pivot, root, left_out_pivot, pivot_of, Factor}
-use Rattle.linear.specs.declared.factor.Pivoted.{Pivoted}
-use Rattle.linear.specs.declared.factor.Pivoted.TheVariants as p
 
 -- the program's pivot as a result
-abbrev pub pivot_result : Pivoted → Res Pivot
-pivot_result (p.Root r) = ok (root r)
-pivot_result p.LeftOut = ok left_out_pivot
-pivot_result (p.Refused e) = refused (scalar.number_of e)
+abbrev pub pivot_result : Result (Option Scalar) GeopError → Res Pivot
+pivot_result (Ok (Some r)) = ok (root r)
+pivot_result (Ok None) = ok left_out_pivot
+pivot_result (Err e) = refused (scalar.number_of e)
 
 -- the entry of row i and column j below the diagonal
 unfoldable pub entry_step : ℕ → List Float → List Bool → ℕ → List Float → ℕ → Res (List Float)

@@ -1,6 +1,7 @@
 -- Scalars in a flat list of numbers: the i-th has its lower end at 2 i and its upper end at 2 i + 1. Reading outside
 -- the list gives NaN, and writing there changes nothing.
-use Rattle.std.specs.Prelude.{ℕ, zero, suc, ◌+◌, ◌*◌, Bool, List, [], ◌∷◌, ◌++◌, ltb, Float, get_or, set, length, replicate}
+use Rattle.std.specs.Prelude.{ℕ, zero, suc, ◌+◌, ◌*◌, Bool, List, [], ◌∷◌, ◌++◌, ltb, Float, get_or, set, length}
+use Rattle.std.specs.Prelude.{replicate}
 use Rattle.std.specs.Float.{nan}
 use Rattle.interval.specs.declared.Scalar.{Scalar}
 use Rattle.interval.specs.Scalar.{degenerate, zero64, pick}

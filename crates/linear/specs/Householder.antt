@@ -1,6 +1,7 @@
 -- `least_squares`: the y with |rows y - rhs| least, by Householder reflections, each value chosen. The rows stand by
 -- columns in one list, column t at t * m, the right-hand side last.
-use Rattle.std.specs.Prelude.{ℕ, ◌+◌, ◌*◌, ◌-◌, ◌/◌, ◌%◌, min, Bool, true, false, not, ◌||◌, List, ltb, Float, get_or, set, replicate}
+use Rattle.std.specs.Prelude.{ℕ, ◌+◌, ◌*◌, ◌-◌, ◌/◌, ◌%◌, min, Bool, true, false, not, ◌||◌, List, ltb, Float, get_or}
+use Rattle.std.specs.Prelude.{set, replicate}
 use Rattle.interval.specs.declared.Scalar.{Scalar}
 use Rattle.interval.specs.Result.{Res, ok, refused}
 use Rattle.interval.specs.Scalar.{zero_s, two64, degenerate, pick, neg_of, sub_of, mul_of, div_of, definitely_greater}

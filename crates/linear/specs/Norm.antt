@@ -3,7 +3,8 @@
 use Rattle.std.specs.Prelude.{ℕ, zero, suc}
 use Rattle.interval.specs.declared.Scalar.{Scalar}
 use Rattle.interval.specs.Result.{Res, ok}
-use Rattle.interval.specs.Scalar.{zero_s, pick, add_of, mul_of, div_of, abs_of, sqrt_of, max_of, upper, definitely_greater}
+use Rattle.interval.specs.Scalar.{zero_s, pick, add_of, mul_of, div_of, abs_of, sqrt_of, max_of, upper}
+use Rattle.interval.specs.Scalar.{definitely_greater}
 use Rattle.linear.specs.Results.{bind}
 use Rattle.linear.specs.Dot.{dot_to}
 

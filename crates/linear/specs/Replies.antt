@@ -1,16 +1,16 @@
 -- What a call that writes a slice leaves: how it ended, and what the slice holds then. A check that fails refuses with
 -- nothing written; a refusal by the scalars leaves the output clear.
-use Rattle.std.specs.Prelude.{ℕ, Bool, true, false}
+use Rattle.std.specs.Prelude.{ℕ, Bool, true, false, Result}
 use Rattle.interval.specs.Result.{Res, ok, refused}
 use Rattle.linear.specs.LinearResult.{done_of}
 use Rattle.linear.specs.Results.{kept}
-use Rattle.linear.specs.declared.results.Done.{Done}
+use Rattle.linear.specs.declared.results.LinearError.{LinearError}
 
 pub record Reply (A : Type 0) : Type 0 where
   pub ended : Res (Unit {0})
   pub out : A
 
-abbrev pub replied : {A : Type 0} → Done → A → Reply A
+abbrev pub replied : {A : Type 0} → Result (Unit {0}) LinearError → A → Reply A
 replied d x = record { ended = done_of d tt; out = x }
 
 abbrev pub forget : {A : Type 0} → Res A → Res (Unit {0})

@@ -1,6 +1,6 @@
 // An interval by two upper bounds: that of its numbers with their signs turned, -lo, and hi. To step the lower end down
 // is to step -lo up, so both ends are worked out alike, side by side, and by no test of a sign.
-ghost use Rattle.std.specs.Prelude.{◌≡◌, not, cond, T};
+ghost use Rattle.std.specs.Prelude.{◌≡◌, not, T};
 ghost use Rattle.std.specs.Float.{binary64};
 ghost use Rattle.std.specs.Float.Ieee.{add, is_nan};
 ghost use Rattle.interval.specs.Scalar.{zero64, add_of, sub_of, mul_of, is_sharp};
@@ -17,21 +17,8 @@ pub struct Bounds {
     pub above: f64,
 }
 
-// The greatest finite float.
-const MOST: f64 = 1.7976931348623157e308;
-
 // The least float above 0.
 const LEAST: f64 = 5e-324;
-
-// 1 where it holds, else 0.
-fn one_if(holds: bool) -> u64
-    ensures { result ≡ cond holds 1 0 }
-{
-    if holds {
-        return 1;
-    }
-    0
-}
 
 // The next float up from a number that is not -0: one pattern less for a negative number, one more for another, and
 // infinity stays.
@@ -40,7 +27,7 @@ fn step_on(x: f64) -> f64
     ensures { result ≡ next_up x }
 {
     let b = f64::to_bits(x);
-    f64::from_bits(b - 2 * (b / 9223372036854775808) + one_if(x <= MOST))
+    f64::from_bits(b - 2 * (b / 9223372036854775808) + u64::from(x <= f64::MAX))
 }
 
 // The next float up from a number: a +0 added makes +0 of -0 and changes no other.
@@ -70,8 +57,8 @@ fn point_product(x: Scalar, y: Scalar) -> Bounds
 {
     let p = x.lo * y.lo;
     Bounds {
-        below: step_up(greater_of(-1.0 / 0.0, -p)) + 0.0,
-        above: step_up(greater_of(-1.0 / 0.0, p)) + 0.0,
+        below: step_up(greater_of(f64::NEG_INFINITY, -p)) + 0.0,
+        above: step_up(greater_of(f64::NEG_INFINITY, p)) + 0.0,
     }
 }
 
@@ -114,7 +101,7 @@ pub fn scalar_of(b: Bounds) -> Scalar
 pub fn is_proper(b: Bounds) -> bool
     ensures { result ≡ is_proper b }
 {
-    b.below > -1.0 / 0.0 && b.above > -1.0 / 0.0
+    b.below > f64::NEG_INFINITY && b.above > f64::NEG_INFINITY
 }
 
 // The bounds of z plus a product, from those of the product. No sum here is -0, so step_on is enough, and a loop that

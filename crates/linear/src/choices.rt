@@ -8,7 +8,7 @@ ghost use Rattle.linear.specs.Choose.{choose_of, sharp_of};
 ghost use Rattle.linear.specs.Replies.{replied};
 
 use crate::flat::{at, put};
-use crate::results::{Done, LinearError};
+use crate::results::LinearError;
 use interval::Scalar;
 
 pub fn choose(v: Scalar) -> Scalar
@@ -31,18 +31,18 @@ fn sharp_into(v: &[f64], out: &mut [f64], n: usize)
 }
 
 // Each of v chosen, into out: sharp values do not widen what is worked out from them.
-pub fn sharp(n: usize, v: &[f64], out: &mut [f64]) -> Done
+pub fn sharp(n: usize, v: &[f64], out: &mut [f64]) -> Result<(), LinearError>
     ensures { replied result out.new ≡ sharp_reply n v.now out.old }
 {
     if n > 24 {
-        return Done::Refused(LinearError::TooMany);
+        return Err(LinearError::TooMany);
     }
     if v.len() != 2 * n {
-        return Done::Refused(LinearError::WrongLength);
+        return Err(LinearError::WrongLength);
     }
     if out.len() != 2 * n {
-        return Done::Refused(LinearError::WrongLength);
+        return Err(LinearError::WrongLength);
     }
     sharp_into(v, out, n);
-    Done::Finished
+    Ok(())
 }

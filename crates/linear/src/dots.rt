@@ -18,7 +18,7 @@ use crate::bounds::{
     Bounds, bounds_of, is_proper, minus_fresh, plus_points, plus_product, scalar_of,
 };
 use crate::flat::{Places, ahead, at, at_inside, both_inside, in_column, in_row, is_row_inside};
-use crate::results::{LinearError, LinearResult};
+use crate::results::LinearError;
 use interval::Scalar;
 
 // The bounds of the first terms of a sum, and how many they are.
@@ -39,10 +39,7 @@ pub fn are_points(x: Scalar, y: Scalar) -> bool
 fn is_plain(i: Places, a: usize, j: Places, b: usize, z: Scalar, k: usize) -> bool
     ensures { result ≡ true → Plain i a j b k (bounds_of z) }
 {
-    if both_inside(i.base, i.step, a, j.base, j.step, b, k) {
-        return is_proper(bounds_of(z));
-    }
-    false
+    both_inside(i.base, i.step, a, j.base, j.step, b, k) && is_proper(bounds_of(z))
 }
 
 // The terms of plus_dot up to the first whose factors are not both points.
@@ -200,10 +197,7 @@ struct BegunTwo {
 fn are_three_points(x: Scalar, y: Scalar, z: Scalar) -> bool
     ensures { result ≡ (is_sharp x && (is_sharp y && is_sharp z)) }
 {
-    if x.is_sharp() {
-        return are_points(y, z);
-    }
-    false
+    x.is_sharp() && are_points(y, z)
 }
 
 // The terms of two sums with the same second factors, up to the first term whose factors are not all points.
@@ -287,10 +281,7 @@ fn two_inside(
 fn are_rows_inside(a0: usize, a1: usize, a: usize, b0: usize, b: usize, k: usize) -> bool
     ensures { result ≡ true → ThreeInside a0 a1 1 a b0 b k }
 {
-    if is_row_inside(a0, k, a) && is_row_inside(a1, k, a) {
-        return is_row_inside(b0, k, b);
-    }
-    false
+    is_row_inside(a0, k, a) && is_row_inside(a1, k, a) && is_row_inside(b0, k, b)
 }
 
 // row_dot of two rows of a with one of b.
@@ -314,10 +305,7 @@ pub fn two_rows(a: &[f64], a0: usize, a1: usize, b: &[f64], b0: usize, k: usize)
 fn are_runs_inside(a0: usize, a1: usize, sa: usize, a: usize, b0: usize, b: usize, k: usize) -> bool
     ensures { result ≡ true → ThreeInside a0 a1 sa a b0 b k }
 {
-    if both_inside(a0, sa, a, a1, sa, a, k) {
-        return is_row_inside(b0, k, b);
-    }
-    false
+    both_inside(a0, sa, a, a1, sa, a, k) && is_row_inside(b0, k, b)
 }
 
 // y and z, each less k products of a run of a with the same row of b: by the loop of two_rows, with the signs turned.
@@ -361,17 +349,17 @@ pub fn dot_of(a: &[f64], b: &[f64], n: usize) -> Scalar
 }
 
 // Σ a b, folded from zero.
-pub fn dot(n: usize, a: &[f64], b: &[f64]) -> LinearResult
+pub fn dot(n: usize, a: &[f64], b: &[f64]) -> Result<Scalar, LinearError>
     ensures { result_of result ≡ dot_reply n a.now b.now }
 {
     if n > 24 {
-        return LinearResult::Refused(LinearError::TooMany);
+        return Err(LinearError::TooMany);
     }
     if a.len() != 2 * n {
-        return LinearResult::Refused(LinearError::WrongLength);
+        return Err(LinearError::WrongLength);
     }
     if b.len() != 2 * n {
-        return LinearResult::Refused(LinearError::WrongLength);
+        return Err(LinearError::WrongLength);
     }
-    LinearResult::Value(dot_of(a, b, n))
+    Ok(dot_of(a, b, n))
 }

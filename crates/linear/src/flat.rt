@@ -39,7 +39,7 @@ pub fn at(xs: &[f64], i: usize) -> Scalar
             hi: xs[k + 1],
         };
     }
-    Scalar::degenerate(0.0 / 0.0)
+    Scalar::degenerate(f64::NAN)
 }
 
 // The i-th scalar of those inside.
@@ -62,28 +62,19 @@ fn is_inside(base: usize, step: usize, k: usize, len: usize) -> bool
     if k == 0 {
         return true;
     }
-    if k > 65535 {
-        return false;
-    }
-    if step > 65535 {
+    if k > 65535 || step > 65535 {
         return false;
     }
     let reach = (k - 1) * step;
     let half = len / 2;
-    if reach < half {
-        return base < half - reach;
-    }
-    false
+    reach < half && base < half - reach
 }
 
 // The same of two runs.
 pub fn both_inside(a0: usize, sa: usize, a: usize, b0: usize, sb: usize, b: usize, k: usize) -> bool
     ensures { result ≡ true → BothInside a0 sa a b0 sb b k }
 {
-    if is_inside(a0, sa, k, a) {
-        return is_inside(b0, sb, k, b);
-    }
-    false
+    is_inside(a0, sa, k, a) && is_inside(b0, sb, k, b)
 }
 
 // Whether k scalars from base on are inside len numbers: a step of 1 needs no product.
@@ -91,23 +82,14 @@ pub fn is_row_inside(base: usize, k: usize, len: usize) -> bool
     ensures { result ≡ true → Inside base 1 k len }
 {
     let half = len / 2;
-    if k <= half {
-        return base <= half - k;
-    }
-    false
+    k <= half && base <= half - k
 }
 
 // i + step, or len where that is beyond it.
 pub fn ahead(i: usize, step: usize, len: usize) -> usize
     ensures { result ≡ min (i + step) len }
 {
-    if i >= len {
-        return len;
-    }
-    if step >= len - i {
-        return len;
-    }
-    i + step
+    i.saturating_add(step).min(len)
 }
 
 // base + j * step, or len where that is beyond it: a place at len is outside, as those behind it are, and nothing
@@ -115,13 +97,7 @@ pub fn ahead(i: usize, step: usize, len: usize) -> usize
 fn place(base: usize, step: usize, j: usize, len: usize) -> usize
     ensures { result ≡ min (base + j * step) len }
 {
-    if step < 2 {
-        return ahead(base, j * step, len);
-    }
-    if j > len / step {
-        return len;
-    }
-    ahead(base, j * step, len)
+    ahead(base, j.saturating_mul(step), len)
 }
 
 // The j-th scalar from base on, step apart; NaN outside the slice.
@@ -156,7 +132,5 @@ pub fn put_inside(xs: &mut [f64], i: usize, v: Scalar)
 pub fn clear(xs: &mut [f64])
     ensures { xs.new ≡ zeros (length xs.old) }
 {
-    for i in 0..xs.len() {
-        xs[i] = 0.0;
-    }
+    xs.fill(0.0);
 }

@@ -1,7 +1,7 @@
 // Least squares by Householder reflections: each takes a column onto its diagonal, and is applied to the columns from
 // it on and to the right-hand side. Every number is chosen, since these are the model's own. A column with nothing left
 // of it after the reflections before is left out, as a pivot that could be zero is: its value is zero.
-ghost use Rattle.std.specs.Prelude.{◌≡◌, ◌+◌, ◌*◌, ◌-◌, ◌<◌, ◌≤◌, min, length};
+ghost use Rattle.std.specs.Prelude.{◌≡◌, ◌+◌, ◌*◌, ◌-◌, ◌<◌, ◌≤◌, length};
 ghost use Rattle.interval.specs.Result as scalar;
 ghost use Rattle.linear.specs.LinearResult.{done_of};
 ghost use Rattle.linear.specs.Calls.{least_squares_reply};
@@ -16,14 +16,13 @@ ghost use Rattle.linear.specs.Results.{fold_r};
 
 use crate::choices::choose;
 use crate::dots::{dot_of, minus_dot, row_dot};
-use crate::factor::unmark;
 use crate::flat::{at, clear, in_column, in_row, put};
 use crate::norms::norm_of;
-use crate::results::{Done, LinearError};
+use crate::results::LinearError;
 use crate::scaled::minus_scaled;
-use crate::store::store;
+use crate::stored::store;
 use crate::substitution::cleared;
-use interval::{Scalar, ScalarResult};
+use interval::{GeopError, Scalar};
 
 // The p-th scalar of the columns.
 fn column_entry(m: usize, r: usize, rows: &[f64], rhs: &[f64], p: usize) -> Scalar
@@ -81,39 +80,42 @@ fn normal(x: &mut [f64], length: Scalar)
 }
 
 // One column reflected.
-fn reflect(v: &[f64], vv: Scalar, n: usize, base: usize, cols: &mut [f64]) -> Done
+fn reflect(
+    v: &[f64],
+    vv: Scalar,
+    n: usize,
+    base: usize,
+    cols: &mut [f64],
+) -> Result<(), LinearError>
     ensures { done_of result cols.new ≡ reflect_step v.now vv n base cols.old }
 {
     let s = row_dot(v, 0, cols, base, n);
-    let q = s.mul(Scalar::TWO).div(vv);
-    match q {
-        ScalarResult::Value(f) => {
-            minus_scaled(cols, base, f, v, 0, n);
-            Done::Finished
-        }
-        ScalarResult::Refused(e) => Done::Refused(LinearError::Arithmetic(e)),
-    }
+    let q = s.mul(Scalar::TWO).div(vv)?;
+    minus_scaled(cols, base, q, v, 0, n);
+    Ok(())
 }
 
 // k columns from column j on reflected.
-fn reflect_all(m: usize, j: usize, v: &[f64], vv: Scalar, cols: &mut [f64], k: usize) -> Done
+fn reflect_all(
+    m: usize,
+    j: usize,
+    v: &[f64],
+    vv: Scalar,
+    cols: &mut [f64],
+    k: usize,
+) -> Result<(), LinearError>
     requires { (j < m) × (m ≤ 24) × (j + k ≤ 25) }
     ensures { done_of result cols.new ≡ reflect_to m j v.now vv cols.old k }
 {
     let n = m - j;
     for t in 0..k {
-        match reflect(v, vv, n, (j + t) * m + j, cols) {
-            Done::Finished => {}
-            Done::Refused(e) => {
-                return Done::Refused(e);
-            }
-        }
+        reflect(v, vv, n, (j + t) * m + j, cols)?;
     }
-    Done::Finished
+    Ok(())
 }
 
 // The columns from j on reflected by the normal v, unless v could be zero.
-fn reflect_by(m: usize, r: usize, j: usize, v: &[f64], cols: &mut [f64]) -> Done
+fn reflect_by(m: usize, r: usize, j: usize, v: &[f64], cols: &mut [f64]) -> Result<(), LinearError>
     requires { Column m r j }
     ensures { done_of result cols.new ≡ reflect_by m r j v.now cols.old }
 {
@@ -121,7 +123,7 @@ fn reflect_by(m: usize, r: usize, j: usize, v: &[f64], cols: &mut [f64]) -> Done
     if vv.definitely_greater(Scalar::ZERO) {
         return reflect_all(m, j, v, vv, cols, r + 1 - j);
     }
-    Done::Finished
+    Ok(())
 }
 
 // Column j's reflection, for its length; v holds the column.
@@ -133,7 +135,7 @@ fn reflect_with(
     left_out: &mut [bool],
     v: &mut [f64],
     len: Scalar,
-) -> Done
+) -> Result<(), LinearError>
     requires { Column m r j × (length left_out.old ≡ r) × (v.old ≡ tail_of m cols.old j) }
     ensures { done_of result (factor_of cols.new left_out.new)
         ≡ reflect_with m r j (factor_of cols.old left_out.old) (scalar.ok len) }
@@ -143,7 +145,7 @@ fn reflect_with(
         return reflect_by(m, r, j, v, cols);
     }
     left_out[j] = true;
-    Done::Finished
+    Ok(())
 }
 
 // Column j's reflection, where it asks for one.
@@ -154,16 +156,14 @@ fn householder_step(
     cols: &mut [f64],
     left_out: &mut [bool],
     v: &mut [f64],
-) -> Done
+) -> Result<(), LinearError>
     requires { Column m r j × (length left_out.old ≡ r) × (length v.old ≡ 2 * (m - j)) }
     ensures { done_of result (factor_of cols.new left_out.new)
         ≡ householder_step m r (factor_of cols.old left_out.old) j }
 {
     tail(m, cols, j, v);
-    match norm_of(v, m - j) {
-        ScalarResult::Value(length) => reflect_with(m, r, j, cols, left_out, v, length),
-        ScalarResult::Refused(e) => Done::Refused(LinearError::Arithmetic(e)),
-    }
+    let length = norm_of(v, m - j)?;
+    reflect_with(m, r, j, cols, left_out, v, length)
 }
 
 // The reflections of the first k columns.
@@ -174,31 +174,24 @@ fn reflections(
     cols: &mut [f64],
     left_out: &mut [bool],
     v: &mut [f64],
-) -> Done
+) -> Result<(), LinearError>
     requires { MarkedColumns m r k (length left_out.old) × (2 * m ≤ length v.old) }
     ensures { done_of result (factor_of cols.new left_out.new)
         ≡ fold_r (householder_step m r) (factor_of cols.old left_out.old) k }
 {
     for j in 0..k {
         let e = 2 * (m - j);
-        match householder_step(m, r, j, cols, left_out, &mut v[..e]) {
-            Done::Finished => {}
-            Done::Refused(e) => {
-                return Done::Refused(e);
-            }
-        }
+        householder_step(m, r, j, cols, left_out, &mut v[..e])?;
     }
-    Done::Finished
+    Ok(())
 }
 
 // A quotient's value, chosen.
-fn chosen_of(q: ScalarResult) -> ScalarResult
+fn chosen_of(q: Result<Scalar, GeopError>) -> Result<Scalar, GeopError>
     ensures { scalar.result_of result ≡ chosen (scalar.result_of q) }
 {
-    match q {
-        ScalarResult::Value(v) => ScalarResult::Value(choose(v)),
-        ScalarResult::Refused(e) => ScalarResult::Refused(e),
-    }
+    let v = q?;
+    Ok(choose(v))
 }
 
 // The value of column j = k - 1 - t, from those behind it.
@@ -210,7 +203,7 @@ fn value_row(
     left_out: &[bool],
     y: &mut [f64],
     t: usize,
-) -> Done
+) -> Result<(), LinearError>
     requires { MarkedColumns m r k (length left_out.now) × (t < k) }
     ensures { done_of result y.new
         ≡ value_step m r k (factor_of cols.now left_out.now) y.old t }
@@ -218,10 +211,10 @@ fn value_row(
     let j = k - 1 - t;
     let d = at(cols, j * m + j);
     if left_out[j] {
-        return Done::Finished;
+        return Ok(());
     }
     if !d.definitely_not_equal(Scalar::ZERO) {
-        return Done::Finished;
+        return Ok(());
     }
     let z = at(cols, r * m + j);
     let p = in_column((j + 1) * m + j, m);
@@ -230,30 +223,22 @@ fn value_row(
 }
 
 // The values, from the last column to the first.
-fn values(m: usize, r: usize, k: usize, cols: &[f64], left_out: &[bool], y: &mut [f64]) -> Done
+fn values(
+    m: usize,
+    r: usize,
+    k: usize,
+    cols: &[f64],
+    left_out: &[bool],
+    y: &mut [f64],
+) -> Result<(), LinearError>
     requires { MarkedColumns m r k (length left_out.now) }
     ensures { done_of result y.new
         ≡ fold_r (value_step m r k (factor_of cols.now left_out.now)) y.old k }
 {
     for t in 0..k {
-        match value_row(m, r, k, cols, left_out, y, t) {
-            Done::Finished => {}
-            Done::Refused(e) => {
-                return Done::Refused(e);
-            }
-        }
+        value_row(m, r, k, cols, left_out, y, t)?;
     }
-    Done::Finished
-}
-
-// The lesser of two counts.
-fn fewer(a: usize, b: usize) -> usize
-    ensures { result ≡ min a b }
-{
-    if a < b {
-        return a;
-    }
-    b
+    Ok(())
 }
 
 // The whole, with scratch slices of the right lengths; y is clear where it is refused.
@@ -266,98 +251,92 @@ fn squares_in(
     cols: &mut [f64],
     left_out: &mut [bool],
     v: &mut [f64],
-) -> Done
+) -> Result<(), LinearError>
     requires { OutputLengths m r (length y.old) × (length cols.old ≡ 2 * ((r + 1) * m))
         × (length left_out.old ≡ r) × (2 * m ≤ length v.old) }
     ensures { replied result y.new
         ≡ reply_of (zeros (2 * r)) (least_squares_of m r rows.now rhs.now) }
 {
     clear(y);
-    unmark(left_out);
+    left_out.fill(false);
     columns(m, r, rows, rhs, cols);
-    let k = fewer(r, m);
-    match reflections(m, r, k, cols, left_out, v) {
-        Done::Finished => cleared(values(m, r, k, cols, left_out, y), y),
-        Done::Refused(e) => Done::Refused(e),
-    }
+    let k = r.min(m);
+    reflections(m, r, k, cols, left_out, v)?;
+    cleared(values(m, r, k, cols, left_out, y), y)
 }
 
-// The same with scratch slices that are long enough.
-fn squares_cut(
+// The same with arrays of its own, of these lengths.
+fn squares_by<const COLUMNS: usize, const MARKS: usize, const NORMAL: usize>(
     m: usize,
     r: usize,
     rows: &[f64],
     rhs: &[f64],
     y: &mut [f64],
-    cols: &mut [f64],
-    left_out: &mut [bool],
-    v: &mut [f64],
-) -> Done
-    requires { OutputLengths m r (length y.old) × (2 * ((r + 1) * m) ≤ length cols.old)
-        × (r ≤ length left_out.old) × (2 * m ≤ length v.old) }
+) -> Result<(), LinearError>
+    requires { OutputLengths m r (length y.old) × (2 * ((r + 1) * m) ≤ COLUMNS) × (COLUMNS ≤ 1200)
+        × (r ≤ MARKS) × (MARKS ≤ 24) × (2 * m ≤ NORMAL) × (NORMAL ≤ 48) }
     ensures { replied result y.new
         ≡ reply_of (zeros (2 * r)) (least_squares_of m r rows.now rhs.now) }
 {
+    let mut cols = [0.0; COLUMNS];
+    let mut left_out = [false; MARKS];
+    let mut v = [0.0; NORMAL];
     let e = 2 * ((r + 1) * m);
-    squares_in(m, r, rows, rhs, y, &mut cols[..e], &mut left_out[..r], v)
+    squares_in(
+        m,
+        r,
+        rows,
+        rhs,
+        y,
+        &mut cols[..e],
+        &mut left_out[..r],
+        &mut v,
+    )
 }
 
-// The same of at most 12 rows and columns, as a run has them, with arrays of its own, which are a quarter of those for
-// 24.
-fn squares_small(m: usize, r: usize, rows: &[f64], rhs: &[f64], y: &mut [f64]) -> Done
-    requires { OutputLengths m r (length y.old) × (m ≤ 12) × (r ≤ 12) }
-    ensures { replied result y.new
-        ≡ reply_of (zeros (2 * r)) (least_squares_of m r rows.now rhs.now) }
-{
-    let mut cols = [0.0; 312];
-    let mut left_out = [false; 12];
-    let mut v = [0.0; 24];
-    squares_cut(m, r, rows, rhs, y, &mut cols, &mut left_out, &mut v)
-}
-
-// The same of at most 24.
-fn squares_large(m: usize, r: usize, rows: &[f64], rhs: &[f64], y: &mut [f64]) -> Done
-    requires { OutputLengths m r (length y.old) }
-    ensures { replied result y.new
-        ≡ reply_of (zeros (2 * r)) (least_squares_of m r rows.now rhs.now) }
-{
-    let mut cols = [0.0; 1200];
-    let mut left_out = [false; 24];
-    let mut v = [0.0; 48];
-    squares_cut(m, r, rows, rhs, y, &mut cols, &mut left_out, &mut v)
-}
-
-// The whole, with arrays of its own; the lengths are checked.
-fn squares_sized(m: usize, r: usize, rows: &[f64], rhs: &[f64], y: &mut [f64]) -> Done
+// The same of at most 24 rows and columns; at most 12, as a run has them, have arrays a quarter of those for 24.
+fn squares_sized(
+    m: usize,
+    r: usize,
+    rows: &[f64],
+    rhs: &[f64],
+    y: &mut [f64],
+) -> Result<(), LinearError>
     requires { OutputLengths m r (length y.old) }
     ensures { replied result y.new
         ≡ reply_of (zeros (2 * r)) (least_squares_of m r rows.now rhs.now) }
 {
     if m <= 12 && r <= 12 {
-        return squares_small(m, r, rows, rhs, y);
+        return squares_by::<312, 12, 24>(m, r, rows, rhs, y);
     }
-    squares_large(m, r, rows, rhs, y)
+    squares_by::<1200, 24, 48>(m, r, rows, rhs, y)
 }
 
 // The y with |rows y - rhs| least, for m rows of r columns.
-pub fn least_squares(m: usize, r: usize, rows: &[f64], rhs: &[f64], y: &mut [f64]) -> Done
+pub fn least_squares(
+    m: usize,
+    r: usize,
+    rows: &[f64],
+    rhs: &[f64],
+    y: &mut [f64],
+) -> Result<(), LinearError>
     ensures { replied result y.new
         ≡ least_squares_reply m r rows.now rhs.now y.old }
 {
     if m > 24 {
-        return Done::Refused(LinearError::TooMany);
+        return Err(LinearError::TooMany);
     }
     if r > 24 {
-        return Done::Refused(LinearError::TooMany);
+        return Err(LinearError::TooMany);
     }
     if rows.len() != 2 * (m * r) {
-        return Done::Refused(LinearError::WrongLength);
+        return Err(LinearError::WrongLength);
     }
     if rhs.len() != 2 * m {
-        return Done::Refused(LinearError::WrongLength);
+        return Err(LinearError::WrongLength);
     }
     if y.len() != 2 * r {
-        return Done::Refused(LinearError::WrongLength);
+        return Err(LinearError::WrongLength);
     }
     squares_sized(m, r, rows, rhs, y)
 }

@@ -18,7 +18,7 @@ mod norms;
 mod results;
 mod scaled;
 mod solved;
-mod store;
+mod stored;
 mod substitution;
 
 pub use choices::{choose, sharp};
@@ -27,7 +27,8 @@ pub use factor::cholesky;
 pub use flat::{Places, along, at, clear, in_column, in_row, put};
 pub use householder::least_squares;
 pub use norms::norm;
-pub use results::{Done, LinearError, LinearResult};
+pub use results::LinearError;
 pub use scaled::minus_scaled;
 pub use solved::{gram_factor, minus_factored, minus_solved};
+pub use stored::store;
 pub use substitution::solve_cholesky;

@@ -12,8 +12,8 @@ ghost use Rattle.linear.specs.Norm.{largest_to, times, scaled_squares, scaled_ro
 use crate::bounds::{bounds_of, plus_square, scalar_of};
 use crate::dots::dot_of;
 use crate::flat::at;
-use crate::results::{LinearError, LinearResult};
-use interval::{Scalar, ScalarResult, greater_of};
+use crate::results::LinearError;
+use interval::{GeopError, Scalar, greater_of};
 
 // The greatest size among the first n, by two upper bounds: both ends are worked out at once, whatever their signs.
 fn largest(v: &[f64], n: usize) -> Scalar
@@ -42,31 +42,24 @@ fn squares_times(v: &[f64], i: Scalar, n: usize) -> Scalar
 
 // The sum of the squares of the first n, each over g. A quotient is the product with the divisor's inverse, so one
 // inverse serves them all.
-fn scaled_squares(v: &[f64], g: Scalar, n: usize) -> ScalarResult
+fn scaled_squares(v: &[f64], g: Scalar, n: usize) -> Result<Scalar, GeopError>
     requires { 0 < n }
     ensures { scalar.result_of result ≡ scaled_squares (at v.now) g n }
 {
-    match g.inverse() {
-        ScalarResult::Value(i) => ScalarResult::Value(squares_times(v, i, n)),
-        ScalarResult::Refused(e) => ScalarResult::Refused(e),
-    }
+    let i = g.inverse()?;
+    Ok(squares_times(v, i, n))
 }
 
 // The root of the sum of squares, scaled back.
-fn scaled_root(g: Scalar, squares: ScalarResult) -> ScalarResult
+fn scaled_root(g: Scalar, squares: Result<Scalar, GeopError>) -> Result<Scalar, GeopError>
     ensures { scalar.result_of result ≡ scaled_root g (scalar.result_of squares) }
 {
-    match squares {
-        ScalarResult::Value(s) => match s.sqrt() {
-            ScalarResult::Value(r) => ScalarResult::Value(g.mul(r)),
-            ScalarResult::Refused(e) => ScalarResult::Refused(e),
-        },
-        ScalarResult::Refused(e) => ScalarResult::Refused(e),
-    }
+    let root = squares?.sqrt()?;
+    Ok(g.mul(root))
 }
 
 // The length of the first n. Where no size is definitely positive there is nothing to divide by.
-pub fn norm_of(v: &[f64], n: usize) -> ScalarResult
+pub fn norm_of(v: &[f64], n: usize) -> Result<Scalar, GeopError>
     ensures { scalar.result_of result ≡ norm_of (at v.now) n }
 {
     let g = largest(v, n);
@@ -76,25 +69,15 @@ pub fn norm_of(v: &[f64], n: usize) -> ScalarResult
     dot_of(v, v, n).sqrt()
 }
 
-// A scalar's result as the answer of a call.
-fn answer(r: ScalarResult) -> LinearResult
-    ensures { result_of result ≡ scalar.result_of r }
-{
-    match r {
-        ScalarResult::Value(x) => LinearResult::Value(x),
-        ScalarResult::Refused(e) => LinearResult::Refused(LinearError::Arithmetic(e)),
-    }
-}
-
 // The root of the sum of squares of v.
-pub fn norm(n: usize, v: &[f64]) -> LinearResult
+pub fn norm(n: usize, v: &[f64]) -> Result<Scalar, LinearError>
     ensures { result_of result ≡ norm_reply n v.now }
 {
     if n > 24 {
-        return LinearResult::Refused(LinearError::TooMany);
+        return Err(LinearError::TooMany);
     }
     if v.len() != 2 * n {
-        return LinearResult::Refused(LinearError::WrongLength);
+        return Err(LinearError::WrongLength);
     }
-    answer(norm_of(v, n))
+    Ok(norm_of(v, n)?)
 }

@@ -1,5 +1,9 @@
-// How a call ends: the numbers are given in specs/LinearResult.antt.
-use interval::{GeopError, Scalar};
+// Why a call is refused, and the number of each refusal (PROTOCOL, Refusals).
+ghost use Rattle.std.specs.Prelude.{◌≡◌};
+ghost use Rattle.linear.specs.LinearResult.{number_of};
+ghost use Rattle.linear.specs.declared.results.LinearError.TheVariants.{Arithmetic};
+
+use interval::GeopError;
 
 #[derive(Clone, Copy)]
 pub enum LinearError {
@@ -8,16 +12,22 @@ pub enum LinearError {
     Arithmetic(GeopError),
 }
 
-// Of a function that gives a scalar.
-#[derive(Clone, Copy)]
-pub enum LinearResult {
-    Value(Scalar),
-    Refused(LinearError),
+impl From<GeopError> for LinearError {
+    ghost from_gives = { λ e r. r ≡ Arithmetic e };
+
+    fn from(e: GeopError) -> LinearError {
+        LinearError::Arithmetic(e)
+    }
 }
 
-// Of a function that writes its result into a slice.
-#[derive(Clone, Copy)]
-pub enum Done {
-    Finished,
-    Refused(LinearError),
+impl From<LinearError> for usize {
+    ghost from_gives = { λ e n. n ≡ number_of e };
+
+    fn from(e: LinearError) -> usize {
+        match e {
+            LinearError::TooMany => 1,
+            LinearError::WrongLength => 2,
+            LinearError::Arithmetic(g) => usize::from(g),
+        }
+    }
 }

@@ -13,7 +13,7 @@ use crate::choices::choose;
 use crate::dots::{minus_dot, row_dot, two_minus, two_rows};
 use crate::factor::factor_sized;
 use crate::flat::{at, clear, in_column, in_row, put};
-use crate::results::{Done, LinearError};
+use crate::results::LinearError;
 use crate::substitution::{cleared, solve_sized};
 use interval::Scalar;
 
@@ -102,7 +102,7 @@ fn gram_factor_sized(
     g: &mut [f64],
     l: &mut [f64],
     left_out: &mut [bool],
-) -> Done
+) -> Result<(), LinearError>
     requires { Counts m n × (length g.old ≡ 2 * (m * m))
         × FactorLengths m (length l.old) (length left_out.old) }
     ensures { replied result (factor_of l.new left_out.new)
@@ -113,7 +113,13 @@ fn gram_factor_sized(
 }
 
 // k, at the start of a slice that is long enough.
-fn multipliers(m: usize, l: &[f64], left_out: &[bool], rhs: &[f64], k: &mut [f64]) -> Done
+fn multipliers(
+    m: usize,
+    l: &[f64],
+    left_out: &[bool],
+    rhs: &[f64],
+    k: &mut [f64],
+) -> Result<(), LinearError>
     requires { (m ≤ 24) × (length left_out.now ≡ m) × (2 * m ≤ length k.old) }
     ensures { replied result (take (2 * m) k.new)
         ≡ reply_of (zeros (2 * m)) (solve_of m l.now left_out.now rhs.now) }
@@ -131,28 +137,28 @@ pub fn gram_factor(
     g: &mut [f64],
     l: &mut [f64],
     left_out: &mut [bool],
-) -> Done
+) -> Result<(), LinearError>
     ensures { replied result (g.new, factor_of l.new left_out.new)
         ≡ gram_factor_reply m n jc.now g.old
         (factor_of l.old left_out.old) }
 {
     if m > 24 {
-        return Done::Refused(LinearError::TooMany);
+        return Err(LinearError::TooMany);
     }
     if n > 24 {
-        return Done::Refused(LinearError::TooMany);
+        return Err(LinearError::TooMany);
     }
     if jc.len() != 2 * (m * n) {
-        return Done::Refused(LinearError::WrongLength);
+        return Err(LinearError::WrongLength);
     }
     if g.len() != 2 * (m * m) {
-        return Done::Refused(LinearError::WrongLength);
+        return Err(LinearError::WrongLength);
     }
     if l.len() != 2 * (m * m) {
-        return Done::Refused(LinearError::WrongLength);
+        return Err(LinearError::WrongLength);
     }
     if left_out.len() != m {
-        return Done::Refused(LinearError::WrongLength);
+        return Err(LinearError::WrongLength);
     }
     let d = gram_factor_sized(m, n, jc, g, l, left_out);
     clear(g);
@@ -169,34 +175,34 @@ pub fn minus_factored(
     rhs: &[f64],
     from: &[f64],
     out: &mut [f64],
-) -> Done
+) -> Result<(), LinearError>
     ensures { replied result out.new
         ≡ minus_factored_reply m n jc.now (factor_of l.now left_out.now)
         rhs.now from.now out.old }
 {
     if m > 24 {
-        return Done::Refused(LinearError::TooMany);
+        return Err(LinearError::TooMany);
     }
     if n > 24 {
-        return Done::Refused(LinearError::TooMany);
+        return Err(LinearError::TooMany);
     }
     if jc.len() != 2 * (m * n) {
-        return Done::Refused(LinearError::WrongLength);
+        return Err(LinearError::WrongLength);
     }
     if l.len() != 2 * (m * m) {
-        return Done::Refused(LinearError::WrongLength);
+        return Err(LinearError::WrongLength);
     }
     if left_out.len() != m {
-        return Done::Refused(LinearError::WrongLength);
+        return Err(LinearError::WrongLength);
     }
     if rhs.len() != 2 * m {
-        return Done::Refused(LinearError::WrongLength);
+        return Err(LinearError::WrongLength);
     }
     if from.len() != 2 * n {
-        return Done::Refused(LinearError::WrongLength);
+        return Err(LinearError::WrongLength);
     }
     if out.len() != 2 * n {
-        return Done::Refused(LinearError::WrongLength);
+        return Err(LinearError::WrongLength);
     }
     let mut k = [0.0; 48];
     let d = multipliers(m, l, left_out, rhs, &mut k);
@@ -215,38 +221,37 @@ fn solved_in(
     g: &mut [f64],
     l: &mut [f64],
     left_out: &mut [bool],
-) -> Done
+) -> Result<(), LinearError>
     requires { SolvedLengths m n (length jc.now) (length rhs.now) (length from.now) (length out.old)
         × (length g.old ≡ 2 * (m * m)) × FactorLengths m (length l.old) (length left_out.old) }
     ensures { replied result out.new
         ≡ reply_of (zeros (2 * n)) (minus_solved_of m n jc.now rhs.now from.now) }
 {
-    match gram_factor_sized(m, n, jc, g, l, left_out) {
-        Done::Finished => minus_factored(m, n, jc, l, left_out, rhs, from, out),
-        Done::Refused(e) => {
-            clear(out);
-            Done::Refused(e)
-        }
+    let end = gram_factor_sized(m, n, jc, g, l, left_out);
+    if end.is_err() {
+        clear(out);
+        return end;
     }
+    minus_factored(m, n, jc, l, left_out, rhs, from, out)
 }
 
-// The same with scratch slices that are long enough.
-fn solved_cut(
+// The same with arrays of its own, of these lengths.
+fn solved_by<const ENTRIES: usize, const MARKS: usize>(
     m: usize,
     n: usize,
     jc: &[f64],
     rhs: &[f64],
     from: &[f64],
     out: &mut [f64],
-    g: &mut [f64],
-    l: &mut [f64],
-    left_out: &mut [bool],
-) -> Done
+) -> Result<(), LinearError>
     requires { SolvedLengths m n (length jc.now) (length rhs.now) (length from.now) (length out.old)
-        × (2 * (m * m) ≤ length g.old) × (2 * (m * m) ≤ length l.old) × (m ≤ length left_out.old) }
+        × (2 * (m * m) ≤ ENTRIES) × (ENTRIES ≤ 1152) × (m ≤ MARKS) × (MARKS ≤ 24) }
     ensures { replied result out.new
         ≡ reply_of (zeros (2 * n)) (minus_solved_of m n jc.now rhs.now from.now) }
 {
+    let mut g = [0.0; ENTRIES];
+    let mut l = [0.0; ENTRIES];
+    let mut left_out = [false; MARKS];
     let s = 2 * (m * m);
     solved_in(
         m,
@@ -261,41 +266,23 @@ fn solved_cut(
     )
 }
 
-// The same of at most 12 rows, as a run has them, with arrays of its own, which are a quarter of those for 24.
-fn solved_small(m: usize, n: usize, jc: &[f64], rhs: &[f64], from: &[f64], out: &mut [f64]) -> Done
-    requires { SolvedLengths m n (length jc.now) (length rhs.now) (length from.now) (length out.old)
-        × (m ≤ 12) }
-    ensures { replied result out.new
-        ≡ reply_of (zeros (2 * n)) (minus_solved_of m n jc.now rhs.now from.now) }
-{
-    let mut g = [0.0; 288];
-    let mut l = [0.0; 288];
-    let mut left_out = [false; 12];
-    solved_cut(m, n, jc, rhs, from, out, &mut g, &mut l, &mut left_out)
-}
-
-// The same of at most 24.
-fn solved_large(m: usize, n: usize, jc: &[f64], rhs: &[f64], from: &[f64], out: &mut [f64]) -> Done
-    requires { SolvedLengths m n (length jc.now) (length rhs.now) (length from.now) (length out.old) }
-    ensures { replied result out.new
-        ≡ reply_of (zeros (2 * n)) (minus_solved_of m n jc.now rhs.now from.now) }
-{
-    let mut g = [0.0; 1152];
-    let mut l = [0.0; 1152];
-    let mut left_out = [false; 24];
-    solved_cut(m, n, jc, rhs, from, out, &mut g, &mut l, &mut left_out)
-}
-
-// The whole, with arrays of its own; the lengths are checked.
-fn solved_sized(m: usize, n: usize, jc: &[f64], rhs: &[f64], from: &[f64], out: &mut [f64]) -> Done
+// The same of at most 24 rows; at most 12, as a run has them, have arrays a quarter of those for 24.
+fn solved_sized(
+    m: usize,
+    n: usize,
+    jc: &[f64],
+    rhs: &[f64],
+    from: &[f64],
+    out: &mut [f64],
+) -> Result<(), LinearError>
     requires { SolvedLengths m n (length jc.now) (length rhs.now) (length from.now) (length out.old) }
     ensures { replied result out.new
         ≡ reply_of (zeros (2 * n)) (minus_solved_of m n jc.now rhs.now from.now) }
 {
     if m <= 12 {
-        return solved_small(m, n, jc, rhs, from, out);
+        return solved_by::<288, 12>(m, n, jc, rhs, from, out);
     }
-    solved_large(m, n, jc, rhs, from, out)
+    solved_by::<1152, 24>(m, n, jc, rhs, from, out)
 }
 
 // from - Jᵀ k with J Jᵀ k = rhs, each value chosen; J has m rows of n.
@@ -306,27 +293,27 @@ pub fn minus_solved(
     rhs: &[f64],
     from: &[f64],
     out: &mut [f64],
-) -> Done
+) -> Result<(), LinearError>
     ensures { replied result out.new
         ≡ minus_solved_reply m n jc.now rhs.now from.now out.old }
 {
     if m > 24 {
-        return Done::Refused(LinearError::TooMany);
+        return Err(LinearError::TooMany);
     }
     if n > 24 {
-        return Done::Refused(LinearError::TooMany);
+        return Err(LinearError::TooMany);
     }
     if jc.len() != 2 * (m * n) {
-        return Done::Refused(LinearError::WrongLength);
+        return Err(LinearError::WrongLength);
     }
     if rhs.len() != 2 * m {
-        return Done::Refused(LinearError::WrongLength);
+        return Err(LinearError::WrongLength);
     }
     if from.len() != 2 * n {
-        return Done::Refused(LinearError::WrongLength);
+        return Err(LinearError::WrongLength);
     }
     if out.len() != 2 * n {
-        return Done::Refused(LinearError::WrongLength);
+        return Err(LinearError::WrongLength);
     }
     solved_sized(m, n, jc, rhs, from, out)
 }

@@ -1,9 +1,8 @@
 // A call of the list: its head, then the words of the slices a, b and c and of the marks, which the
 // function reads, then those of the output and of the marks, which it leaves.
 use interval::Scalar;
-use replay_text::comparison::{Comparison, both, equal_if, malformed, same_floats, same_marks};
-use replay_text::tokens::{read_floats, read_marks};
-use std::io;
+use replay_text::error::ListError;
+use replay_text::words::{first_of, read_words, same_words};
 use std::io::BufRead;
 use yadzvego::lists;
 use yadzvego::scalars::ScalarResult;
@@ -23,13 +22,6 @@ pub struct Head {
     pub number: u64,
 }
 
-// What the output holds before a call.
-fn fill(out: &mut [f64]) {
-    for i in 0..out.len() {
-        out[i] = 1.0;
-    }
-}
-
 // A value goes to the output.
 fn given(r: ScalarResult, out: &mut [f64]) -> u64 {
     linear::put(out, 0, r.value);
@@ -41,111 +33,52 @@ fn chosen(v: Scalar, out: &mut [f64]) -> u64 {
     0
 }
 
-// The number of the refusal, 0, or 255 for a code that the list does not have.
-fn called(h: Head, a: &[f64], b: &[f64], c: &[f64], out: &mut [f64], marks: &mut [bool]) -> u64 {
-    let code = h.code;
-    match code {
-        1 => given(lists::yadzvego_linear_dot(h.n, a, b), out),
-        2 => given(lists::yadzvego_linear_norm(h.n, a), out),
-        3 => chosen(linear::at(a, 0), out),
-        4 => lists::yadzvego_linear_sharp(h.n, a, out),
-        5 => lists::yadzvego_linear_cholesky(h.n, a, out, marks),
-        6 => lists::yadzvego_linear_solve_cholesky(h.n, a, marks, b, out),
-        7 => lists::yadzvego_linear_least_squares(h.m, h.n, a, b, out),
-        8 => lists::yadzvego_linear_minus_solved(h.m, h.n, a, b, c, out),
-        _ => 255,
+// The slices that a function only reads.
+#[derive(Clone, Copy)]
+struct Operands<'a> {
+    a: &'a [f64],
+    b: &'a [f64],
+    c: &'a [f64],
+}
+
+impl Head {
+    // The number of the refusal, 0, or 255 for a code that the list does not have.
+    fn call(self, x: Operands, out: &mut [f64], marks: &mut [bool]) -> u64 {
+        let Head { m, n, .. } = self;
+        match self.code {
+            1 => given(lists::yadzvego_linear_dot(n, x.a, x.b), out),
+            2 => given(lists::yadzvego_linear_norm(n, x.a), out),
+            3 => chosen(linear::at(x.a, 0), out),
+            4 => lists::yadzvego_linear_sharp(n, x.a, out),
+            5 => lists::yadzvego_linear_cholesky(n, x.a, out, marks),
+            6 => lists::yadzvego_linear_solve_cholesky(n, x.a, marks, x.b, out),
+            7 => lists::yadzvego_linear_least_squares(m, n, x.a, x.b, out),
+            8 => lists::yadzvego_linear_minus_solved(m, n, x.a, x.b, x.c, out),
+            _ => 255,
+        }
     }
 }
 
-// Makes the call and reads what it must leave.
-fn left(
-    list: &mut impl BufRead,
-    h: Head,
-    a: &[f64],
-    b: &[f64],
-    c: &[f64],
-    out: &mut [f64],
-    marks: &mut [bool],
-) -> io::Result<Comparison> {
-    fill(out);
-    let number = called(h, a, b, c, out, marks);
-    let same_out = same_floats(list, out)?;
-    let same_after = both(same_out, same_marks(list, marks)?);
-    Ok(both(same_after, equal_if(number == h.number)))
-}
-
-// With slices of the call's lengths.
-fn replay_cut(
-    list: &mut impl BufRead,
-    h: Head,
-    a: &mut [f64],
-    b: &mut [f64],
-    c: &mut [f64],
-    out: &mut [f64],
-    marks: &mut [bool],
-) -> io::Result<Comparison> {
-    if !read_floats(list, a)? {
-        return Ok(malformed());
-    }
-    if !read_floats(list, b)? {
-        return Ok(malformed());
-    }
-    if !read_floats(list, c)? {
-        return Ok(malformed());
-    }
-    if !read_marks(list, marks)? {
-        return Ok(malformed());
-    }
-    left(list, h, a, b, c, out, marks)
-}
-
-// With slices that must be long enough.
-fn replay_in(
-    list: &mut impl BufRead,
-    h: Head,
-    a: &mut [f64],
-    b: &mut [f64],
-    c: &mut [f64],
-    out: &mut [f64],
-    marks: &mut [bool],
-) -> io::Result<Comparison> {
-    let na = h.a;
-    let nb = h.b;
-    let nc = h.c;
-    let no = h.out;
-    let nm = h.marks;
-    if na > a.len() {
-        return Ok(malformed());
-    }
-    if nb > b.len() {
-        return Ok(malformed());
-    }
-    if nc > c.len() {
-        return Ok(malformed());
-    }
-    if no > out.len() {
-        return Ok(malformed());
-    }
-    if nm > marks.len() {
-        return Ok(malformed());
-    }
-    replay_cut(
-        list,
-        h,
-        &mut a[..na],
-        &mut b[..nb],
-        &mut c[..nc],
-        &mut out[..no],
-        &mut marks[..nm],
-    )
-}
-
-// There is room for a count of 25, and for a slice that is too long.
-pub fn replay_sized(list: &mut impl BufRead, h: Head) -> io::Result<Comparison> {
+// Makes the call and says whether it leaves what the list says. There is room for a count of 25, and for a slice that
+// is too long.
+pub fn replay_call(list: &mut impl BufRead, head: Head) -> Result<bool, ListError> {
+    // A call that is refused leaves what the output holds before.
+    let mut out = [1.0; 1260];
     let mut a = [0.0; 1260];
     let mut b = [0.0; 60];
     let mut c = [0.0; 60];
-    let mut out = [0.0; 1260];
     let mut marks = [false; 30];
-    replay_in(list, h, &mut a, &mut b, &mut c, &mut out, &mut marks)
+    let a = first_of(&mut a, head.a)?;
+    let b = first_of(&mut b, head.b)?;
+    let c = first_of(&mut c, head.c)?;
+    let out = first_of(&mut out, head.out)?;
+    let marks = first_of(&mut marks, head.marks)?;
+    read_words(list, a)?;
+    read_words(list, b)?;
+    read_words(list, c)?;
+    read_words(list, marks)?;
+    let number = head.call(Operands { a, b, c }, out, marks);
+    let same_out = same_words(list, out)?;
+    let same_marks = same_words(list, marks)?;
+    Ok(same_out && same_marks && number == head.number)
 }

@@ -5,52 +5,37 @@
 
 mod call;
 
-use call::{Head, replay_sized};
-use replay_text::comparison::{Comparison, malformed};
-use replay_text::tally::{no_cases, print_tally, with_next};
-use replay_text::tokens::{Token, is_number, next_token, read_numbers};
+use call::{Head, replay_call};
+use replay_text::error::ListError;
+use replay_text::tally::replay_list;
+use replay_text::tokens::Token;
+use replay_text::words::read_words;
 use std::io;
 use std::io::{BufRead, Input};
 
-// More calls are not read: their number shows it.
-const MOST_CALLS: u64 = 1000000;
-
 // The call that starts with a token, the function's code.
-fn replay(list: &mut impl BufRead, first: Token) -> io::Result<Comparison> {
-    let mut w = [0u64; 8];
-    if !is_number(first) {
-        return Ok(malformed());
-    }
-    if !read_numbers(list, &mut w)? {
-        return Ok(malformed());
-    }
+fn replay(list: &mut impl BufRead, first: Token) -> Result<bool, ListError> {
+    let code = first.number.ok_or(ListError::Malformed)?;
+    let mut words = [0; 8];
+    read_words(list, &mut words)?;
+    let [m, n, a, b, c, marks, out, number] = words;
     let head = Head {
-        code: first.number,
-        m: w[0] as usize,
-        n: w[1] as usize,
-        a: w[2] as usize,
-        b: w[3] as usize,
-        c: w[4] as usize,
-        marks: w[5] as usize,
-        out: w[6] as usize,
-        number: w[7],
+        code,
+        m: m as usize,
+        n: n as usize,
+        a: a as usize,
+        b: b as usize,
+        c: c as usize,
+        marks: marks as usize,
+        out: out as usize,
+        number,
     };
-    replay_sized(list, head)
+    replay_call(list, head)
 }
 
 fn main(rt: HostRuntime) -> io::Result<()> {
     let mut list = rt.reader();
-    let mut t = no_cases();
-    for _ in 0..MOST_CALLS {
-        let first = next_token(&mut list)?;
-        if first.length == 0 {
-            break;
-        }
-        let compared = replay(&mut list, first)?;
-        t = with_next(&rt, t, "call ", compared)?;
-        if !t.well_formed {
-            break;
-        }
-    }
-    print_tally(&rt, t, " calls, ")
+    replay_list(&rt, &mut list, "call ", " calls, ", |list, first| {
+        replay(list, first)
+    })
 }

@@ -1,27 +1,42 @@
 // The tokens of a list, apart by spaces and line ends.
 use crate::digits::{digit_of, with_digit};
-use float_bits::float_of;
+use crate::error::ListError;
 use std::io;
 use std::io::BufRead;
 
 // No token is longer, with what stands before it.
 const MOST_BYTES: usize = 1000;
 
-// How long the token is (0: the list has ended), its last eight bytes as one number, whether each byte is a
-// hexadecimal digit, and the number that the last sixteen digits write.
+// A number has at most so many digits.
+const MOST_DIGITS: usize = 16;
+
+// How long the token is, its last eight bytes as one number, and the number that it writes, if each byte is a
+// hexadecimal digit and there are few enough.
 #[derive(Clone, Copy)]
 pub struct Token {
     pub length: usize,
     pub text: u64,
-    pub digits: bool,
-    pub number: u64,
+    pub number: Option<u64>,
 }
 
-// A token as far as it was read, and whether it may go on.
-#[derive(Clone, Copy)]
-struct Reading {
-    token: Token,
-    more: bool,
+impl Token {
+    const EMPTY: Token = Token {
+        length: 0,
+        text: 0,
+        number: Some(0),
+    };
+
+    fn with_byte(self, b: u8) -> Token {
+        let number = match self.number {
+            Some(n) if self.length < MOST_DIGITS && digit_of(b).is_some() => Some(with_digit(n, b)),
+            _ => None,
+        };
+        Token {
+            length: self.length.saturating_add(1),
+            text: self.text % 0x100000000000000 * 256 + b as u64,
+            number,
+        }
+    }
 }
 
 fn next_byte(list: &mut impl BufRead) -> io::Result<Option<u8>> {
@@ -32,107 +47,27 @@ fn next_byte(list: &mut impl BufRead) -> io::Result<Option<u8>> {
     Ok(byte)
 }
 
-fn is_space(b: u8) -> bool {
-    b == b' ' || b == b'\n'
-}
-
-fn longer(length: usize) -> usize {
-    if length < MOST_BYTES {
-        return length + 1;
-    }
-    length
-}
-
-fn with_byte(t: Token, b: u8) -> Token {
-    Token {
-        length: longer(t.length),
-        text: t.text % 0x100000000000000 * 256 + b as u64,
-        digits: t.digits && digit_of(b) < 16,
-        number: with_digit(t.number, b),
-    }
-}
-
-// A space ends a token that has begun.
-fn read_byte(t: Token, b: u8) -> Reading {
-    if is_space(b) {
-        return Reading {
-            token: t,
-            more: t.length == 0,
-        };
-    }
-    Reading {
-        token: with_byte(t, b),
-        more: true,
-    }
-}
-
-fn read_on(list: &mut impl BufRead, t: Token) -> io::Result<Reading> {
-    match next_byte(list)? {
-        Some(b) => Ok(read_byte(t, b)),
-        None => Ok(Reading {
-            token: t,
-            more: false,
-        }),
-    }
-}
-
-fn no_token() -> Token {
-    Token {
-        length: 0,
-        text: 0,
-        digits: true,
-        number: 0,
-    }
-}
-
-pub fn next_token(list: &mut impl BufRead) -> io::Result<Token> {
-    let mut t = no_token();
+// None where the list has ended.
+pub fn next_token(list: &mut impl BufRead) -> io::Result<Option<Token>> {
+    let mut token = None;
     for _ in 0..MOST_BYTES {
-        let r = read_on(list, t)?;
-        t = r.token;
-        if !r.more {
-            break;
+        match next_byte(list)? {
+            // It ends a token that has begun.
+            Some(b' ' | b'\n') => {
+                if token.is_some() {
+                    break;
+                }
+            }
+            Some(b) => token = Some(token.unwrap_or(Token::EMPTY).with_byte(b)),
+            None => break,
         }
     }
-    Ok(t)
+    Ok(token)
 }
 
-pub fn is_number(t: Token) -> bool {
-    t.digits && t.length > 0 && t.length <= 16
-}
-
-// Reads a number for each of the slice; false where there is none.
-pub fn read_numbers(list: &mut impl BufRead, xs: &mut [u64]) -> io::Result<bool> {
-    for i in 0..xs.len() {
-        let t = next_token(list)?;
-        if !is_number(t) {
-            return Ok(false);
-        }
-        xs[i] = t.number;
-    }
-    Ok(true)
-}
-
-// The same for floats, by their bits.
-pub fn read_floats(list: &mut impl BufRead, xs: &mut [f64]) -> io::Result<bool> {
-    for i in 0..xs.len() {
-        let t = next_token(list)?;
-        if !is_number(t) {
-            return Ok(false);
-        }
-        xs[i] = float_of(t.number);
-    }
-    Ok(true)
-}
-
-// The same for marks: 1 is true.
-pub fn read_marks(list: &mut impl BufRead, xs: &mut [bool]) -> io::Result<bool> {
-    for i in 0..xs.len() {
-        let t = next_token(list)?;
-        if !is_number(t) {
-            return Ok(false);
-        }
-        xs[i] = t.number == 1;
-    }
-    Ok(true)
+// The next token, which must write a number.
+pub fn next_number(list: &mut impl BufRead) -> Result<u64, ListError> {
+    next_token(list)?
+        .and_then(|t| t.number)
+        .ok_or(ListError::Malformed)
 }

@@ -1,4 +1,5 @@
 -- What follows an answer, part by part: each result that is known, or refused, leaves what the definition says.
+use Rattle.std.specs.Prelude.{Some}
 use mathlib.Core.Bool.{Bool, true, false, not, ◌&&◌, ◌||◌}
 use mathlib.Core.Path.{◌≡◌, refl, sym, ap, ap₂, subst, ◌∙◌}
 use mathlib.Core.List.{List}
@@ -38,7 +39,6 @@ use Rattle.run.specs.Answered.{started, answered, answered_none}
 use Rattle.run.specs.declared.state.Kind.{Kind}
 use Rattle.run.specs.declared.state.Kind.TheVariants as kind
 use Rattle.run.specs.declared.state.Returned.{Returned}
-use Rattle.run.specs.declared.state.Phase.TheVariants.{Open}
 use Rattle.run.specs.declared.state.State.{State}
 use Rattle.run.specs.declared.state.Stop.TheVariants as stop
 use Rattle.run.proofs.CheckLaws.{both}
@@ -351,14 +351,14 @@ moved_on moving h b = record {
 }
 
 module _ {st : State} (b : Bounded 1073741824 st) where
-  pub trial_underway : {k : Kind} → k ≡ kind.Trial → phase_fits st (Open k) ≡ true → Underway st
+  pub trial_underway : {k : Kind} → k ≡ kind.Trial → phase_fits st (Some k) ≡ true → Underway st
   trial_underway e f =
-      let g : phase_fits st (Open kind.Trial) ≡ true = subst (λ (x : Kind). phase_fits st (Open x) ≡ true) e f in
+      let g : phase_fits st (Some kind.Trial) ≡ true = subst (λ (x : Kind). phase_fits st (Some x) ≡ true) e f in
       record { bounded = b; below = ltb-true _ _ (both (ltb st.counts.iterations st.sizes.limit) _ g).0 }
 
-  pub correction_underway : {k : Kind} → k ≡ kind.Correction → phase_fits st (Open k) ≡ true → Underway st
+  pub correction_underway : {k : Kind} → k ≡ kind.Correction → phase_fits st (Some k) ≡ true → Underway st
   correction_underway e f =
-      let g : phase_fits st (Open kind.Correction) ≡ true = subst (λ (x : Kind). phase_fits st (Open x) ≡ true) e f in
+      let g : phase_fits st (Some kind.Correction) ≡ true = subst (λ (x : Kind). phase_fits st (Some x) ≡ true) e f in
       record { bounded = b; below = ltb-true _ _ (both (ltb st.counts.iterations st.sizes.limit) _ g).0 }
 
 module _ (st : State) (w : Memory) {k k' : Kind} {o : Returned} {a : List Float} (e : k ≡ k') where

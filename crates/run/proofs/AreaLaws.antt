@@ -1,88 +1,34 @@
 -- The area as slots one behind the other: a run of numbers written over a slot takes its place, and reading a slot
 -- gives what it holds. A slot is asked for by its number in the order, so no law says where one stands.
-use mathlib.Core.Logic.{⊎_elim}
 use mathlib.Core.Path.{◌≡◌, refl, sym, ap, ap₂, subst, ◌∙◌}
 use mathlib.Core.List.{List, [], ◌∷◌, ◌++◌, map, append_assoc, append-nil}
 use Prim.Native.Nat.{ℕ, zero, suc, ◌+◌, ◌-◌, ◌<◌, ◌≤◌}
 use native.Mathlib.Nat.{not-suc-le-zero, le_of_suc-le-suc, add_assoc, add-zero, zero-add}
 use native.Mathlib.Numerals.{add-one}
 use native.Mathlib.Omega.{arith}
-use lib.Ieee.{Float, nan}
-use lib.ListN.{length, take, drop, get_or, set, length-append, length-drop, length-set, length-replicate, length-map}
+use lib.Ieee.{Float}
+use lib.ListN.{length, take, drop, get_or, set, length-append, length-drop, length-replicate, length-map}
 use lib.ListN.{get_or-map, drop_of_length-le, replicate-append-replicate, take-append-drop}
-use lib.Seq.{paste, paste-zero, paste-suc, drop-paste, length-take-le, take-length, take_at, drop_at, drop-drop}
-use lib.Seq.{take-append-add, drop-append-add, get_or-append-add, get_or-drop, get_or-take, take-take, drop-append-le}
+use lib.Seq.{paste, length-take-le, take_at, drop_at, drop-drop}
+use lib.Seq.{take-append-add, drop-append-add, get_or-append-add, take-take, drop-append-le}
 use lib.Seq.{take-append-le, take-add}
 use Rattle.interval.specs.Scalar.{zero64}
 use Rattle.linear.specs.Flat.{zeros}
 use Rattle.run.specs.Area.{Slots, in_order, slot_sizes, start_of, start_in, area_length, spare_at, Memory, part_of}
 use Rattle.run.specs.Area.{padded, joined, padded_slots, area_of}
-use Rattle.run.specs.program.Area.{AtMost, lengths_of, Holds, written, cleared_between, cleared_to, Apart}
+use Rattle.run.specs.program.Area.{AtMost, lengths_of, Holds, written, cleared_between, cleared_to}
 use Rattle.run.specs.declared.state.Sizes.{Sizes}
 use Rattle.run.proofs.PlaceLaws.{slot_before}
 
 -- ---- a run of numbers written
 
--- what a loop that writes s into d from the place at on has left in a after i turns
-pub record Writing (d : List Float) (at : ℕ) (s : List Float) (i : ℕ) (a : List Float) : Type 0 where
-  pub upto : i ≤ length s
-  pub long : length a ≡ length d
-  pub is : a ≡ paste d at s i
-
-pub writing_none : (d : List Float) (at : ℕ) (s : List Float) → Writing d at s 0 d
-writing_none d at s = record { upto = omega arith; long = refl; is = paste-zero d at s }
-
-module _ {d : List Float} {at : ℕ} {s : List Float} {i : ℕ} {a : List Float} where
-  pub writing_more : Writing d at s i a → at + length s ≤ length d → i < length s
-      → Writing d at s (i + 1) (set a (at + i) (get_or s i nan))
-  writing_more w h l = record {
-    upto = omega arith;
-    long = simp length-set w.long;
-    is = rw (add-one, w.is) (paste-suc d at s i nan (omega arith) l);
-  }
-
-  pub writing_all : Writing d at s i a → length s ≤ i → a ≡ written d at s
-  writing_all w l = let u = w.upto in let e : i ≡ length s = omega arith in w.is ∙ rw (e, take-length)
-
-  -- a place behind all that is written is still as it was
-  pub writing_behind : Writing d at s i a → at + length s ≤ length d → (j : ℕ) → at + length s ≤ j
-      → get_or a j nan ≡ get_or d j nan
-  writing_behind w h j l =
-      let u = w.upto in
-      let e : at + i + (j - (at + i)) ≡ j = omega arith in
-      rw (w.is, ← e)
-      (sym (get_or-drop (at + i) (paste d at s i) (j - (at + i)) nan)
-      ∙ ap (λ (r : List Float). get_or r (j - (at + i)) nan) (drop-paste d at s i (omega arith) u)
-      ∙ get_or-drop (at + i) d (j - (at + i)) nan)
-
-  -- and one before it
-  pub writing_before : Writing d at s i a → at ≤ length d → (j : ℕ) → j < at → get_or a j nan ≡ get_or d j nan
-  writing_before w h j l =
-      let p : List Float = take at d in
-      let q : List Float = take i s ++ drop (at + i) d in
-      let e : take at a ≡ take at d =
-      ap (take at) (w.is ∙ append_assoc p (take i s) (drop (at + i) d)) ∙ take_at p q at (length-take-le at d h) in
-      sym (get_or-take at a j nan l) ∙ ap (λ (r : List Float). get_or r j nan) e ∙ get_or-take at d j nan l
-
--- numbers written to a place apart from them
-module _ (d : List Float) (from to count : ℕ)
-    (fit : Apart from to count × (from + count ≤ length d) × (to + count ≤ length d)) where
-  pub length_from : length (take count (drop from d)) ≡ count
-  length_from = length-take-le count (drop from d) (simp length-drop (omega (arith, fit.1)))
-
-  pub copying_more : {i : ℕ} {a : List Float} → Writing d to (take count (drop from d)) i a → i < count
-      → Writing d to (take count (drop from d)) (i + 1) (set a (to + i) (get_or a (from + i) nan))
-  copying_more {i} {a} w h =
-      let l = length_from in
-      let inside : to + length (take count (drop from d)) ≤ length d = omega (arith, fit.2) in
-      let as_it_was : get_or a (from + i) nan ≡ get_or d (from + i) nan =
-      ⊎_elim
-      (λ (k : to + count ≤ from). writing_behind w inside (from + i) (omega arith))
-      (λ (k : from + count ≤ to). writing_before w (omega arith) (from + i) (omega arith))
-      fit.0 in
-      let e : get_or (take count (drop from d)) i nan ≡ get_or a (from + i) nan =
-      get_or-take count (drop from d) i nan h ∙ get_or-drop from d i nan ∙ sym as_it_was in
-      rw e at (writing_more w inside (omega arith))
+-- numbers copied within a list, as the library says it
+pub copied : (d : List Float) (from to count n : ℕ) → n ≡ count → from + count ≤ length d
+    → paste d to (drop from d) n ≡ written d to (take count (drop from d))
+copied d from to count n e h =
+    let l : length (take count (drop from d)) ≡ count =
+    length-take-le count (drop from d) (simp length-drop (omega arith)) in
+    rw (e, l)
 
 -- two runs, one right behind the other, are one run
 pub written_twice : (d s t : List Float) (at to : ℕ) → to ≡ at + length s

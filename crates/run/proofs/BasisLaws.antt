@@ -1,10 +1,11 @@
 -- The basis row by row: each step from what the calls give, never more vectors than rows, and what is read of a problem
 -- and of a basis.
+use Rattle.std.specs.Prelude.{Err, Ok, Result}
 use Prim.Native.Nat.{ℕ, zero, suc, ◌+◌, ◌*◌, ◌-◌, ◌/◌, ◌%◌, ◌<◌, ◌≤◌}
 use mathlib.Core.Bool.{Bool, true, false}
 use mathlib.Core.Path.{◌≡◌, refl, sym, ap, ◌∙◌}
 use mathlib.Core.List.{List, []}
-use native.Mathlib.Nat.{mod-lt, div-lt_iff_lt-mul, lt-suc_self}
+use native.Mathlib.Nat.{lt-suc_self}
 use native.Mathlib.Numerals.{add-one}
 use native.Mathlib.Omega.{arith}
 use lib.Ieee.{Float}
@@ -22,22 +23,15 @@ use Rattle.linear.specs.Householder.{least_squares_of}
 use Rattle.linear.specs.Norm.{norm_of}
 use Rattle.linear.specs.Results.{bind, fold_r}
 use Rattle.linear.specs.Substitution.{store_r}
-use Rattle.linear.specs.declared.results.LinearResult.{LinearResult}
-use Rattle.linear.specs.declared.results.LinearResult.TheVariants as answer
-use Rattle.linear.specs.declared.results.Done.{Done}
-use Rattle.linear.specs.declared.results.Done.TheVariants as done
 use Rattle.linear.specs.declared.results.LinearError.{LinearError}
 use Rattle.linear.proofs.Agree.{norm_of-ext, minus_to-ext, dot_to-ext}
 use Rattle.linear.proofs.Folds.{turn, ends, bind_value, bind_ok, bind_refused}
-use Rattle.linear.proofs.Reflections.{rows_positive}
 use Rattle.linear.proofs.Sums.{along_start, minus_to-commutes}
 use Rattle.run.specs.Problem.{Problem}
 use Rattle.run.specs.Basis.{Basis, Taken, no_rows, coefficients_in, outside_at, part_out, parts_out}
 use Rattle.run.specs.Basis.{gram_step, gram_row, extended, with_dependent, row_step, basis_of, order_at}
 use Rattle.run.specs.Basis.{coefficient_at, correction_of, multiplier_step, multipliers_of}
 use Rattle.run.specs.program.Basis.{basis_by, taken_by, problem_by, row_problem, measured_by, ranked_of, without_gram}
-use Rattle.run.specs.declared.results.CountResult.{CountResult}
-use Rattle.run.specs.declared.results.CountResult.TheVariants as count
 use Rattle.run.specs.Vectors.{vector, row, column, entry, fill_to, minus_scaled, unit_at, combined_to, spread_to}
 use Rattle.run.proofs.Sublists.{at_behind, along_behind, along_take}
 use Rattle.run.proofs.VectorLaws.{at_take, fill_ext}
@@ -53,13 +47,6 @@ pub part_is : (k r : ℕ) (q v c : List Float) (j : ℕ) {d a : Scalar} {v' c' :
     → c' ≡ put c (12 * r + j) a
     → taken_by v' c' ≡ part_out k r q (taken_by v c) j
 part_is k r q v c j ed ea ev ec = rw (ec, ev, ea, ed, along_start)
-
--- a place of m packed rows of r has a row and a column
-pub packed_row : (m r : ℕ) {p : ℕ} → p < m * r → p / r < m
-packed_row m r h = (div-lt_iff_lt-mul (rows_positive m r h)).1 h
-
-pub packed_column : (m r : ℕ) {p : ℕ} → p < m * r → p % r < r
-packed_column m r {p} h = mod-lt p (rows_positive m r h)
 
 -- ---- the first scalars of a list that is longer
 
@@ -85,12 +72,13 @@ left_take k r i wide q a h =
 
 -- ---- an independent row, from what each call gives
 
-done_bind : {A B : Type 0} (d : Done) (x : A) (f : A → B) → done_of d (f x) ≡ bind (done_of d x) (λ y. ok (f y))
+done_bind : {A B : Type 0} (d : Result (Unit {0}) LinearError) (x : A) (f : A → B)
+    → done_of d (f x) ≡ bind (done_of d x) (λ y. ok (f y))
 unfolding bind
-done_bind done.Finished x f = refl
-done_bind (done.Refused e) x f = refl
+done_bind (Ok _) x f = refl
+done_bind (Err e) x f = refl
 
-module _ (k r i : ℕ) (jc q gram c w : List Float) (o : List ℕ) (v v' c' : List Float) (a : LinearResult)
+module _ (k r i : ℕ) (jc q gram c w : List Float) (o : List ℕ) (v v' c' : List Float) (a : Result Scalar LinearError)
     (ev : v ≡ fill_to vector 0 (row jc i) k) (et : taken_by v' c' ≡ parts_out k r q (taken_by v c) r)
     (el : result_of a ≡ norm_of (at v') k) where
   -- the steps after the parts are out
@@ -106,36 +94,40 @@ module _ (k r i : ℕ) (jc q gram c w : List Float) (o : List ℕ) (v v' c' : Li
   unfolding extended
   steps = rw (el, ← ev, ← et)
 
-  pub new_refused : {e : LinearError} → a ≡ answer.Refused e
+  pub new_refused : {e : LinearError} → a ≡ Err e
       → refused (number_of e) ≡ extended (row_problem k [] jc) (basis_by r q gram c w o) i
   unfolding bind
   new_refused ea = sym (rw ea at steps)
 
-  pub new_added : {l l' : Scalar} {q' c'' : List Float} (gram' : List Float) (d : Done) → a ≡ answer.Value l
+  pub new_added : {l l' : Scalar} {q' c'' : List Float} (gram' : List Float) (d : Result (Unit {0}) LinearError)
+      → a ≡ Ok l
       → l' ≡ sharpen l → q' ≡ fill_to q (12 * r) (unit_at (along v' 0 1) l') k → c'' ≡ put c' (12 * r + r) l'
       → done_of d gram' ≡ gram_row k r q' gram
-      → done_of d (basis_by (r + 1) q' gram' c'' w (set o r i)) ≡ extended (row_problem k [] jc) (basis_by r q gram c w o) i
+      → done_of d (basis_by (r + 1) q' gram' c'' w (set o r i))
+      ≡ extended (row_problem k [] jc) (basis_by r q gram c w o) i
   unfolding bind
   new_added {l} {l'} {q'} {c''} gram' d ea es eq ec eg =
       let h : extended (row_problem k [] jc) (basis_by r q gram c w o) i ≡ grown l = rw ea at steps in
-      let g : grown l ≡ bind (done_of d gram') (λ g. ok (basis_by (r + 1) q' g c'' w (set o r i))) = rw (ec, eg, eq, es) in
+      let g : grown l ≡ bind (done_of d gram') (λ g. ok (basis_by (r + 1) q' g c'' w (set o r i))) =
+      rw (ec, eg, eq, es) in
       done_bind d gram' (λ g. basis_by (r + 1) q' g c'' w (set o r i)) ∙ sym g ∙ sym h
 
 -- the Gram factor's newest row, from what each call gives
-module _ (k r : ℕ) (q gram gram' : List Float) (d : Done) (eg : done_of d gram' ≡ fold_r (gram_step k r q) gram r) where
+module _ (k r : ℕ) (q gram gram' : List Float) (d : Result (Unit {0}) LinearError)
+    (eg : done_of d gram' ≡ fold_r (gram_step k r q) gram r) where
   pub gram_on : {z s : Scalar} {y : Res Scalar} {x : Res (List Float)}
-      → d ≡ done.Finished → z ≡ dot_to (row q r) (row q r) k → s ≡ minus_to (row gram' r) (row gram' r) z r
+      → d ≡ Ok tt → z ≡ dot_to (row q r) (row q r) k → s ≡ minus_to (row gram' r) (row gram' r) z r
       → y ≡ sqrt_of s → x ≡ store_r gram' (12 * r + r) y → x ≡ gram_row k r q gram
   unfolding gram_row
   gram_on ed ez es ey ex = (rw (ey, es, ez) at ex) ∙ sym (bind_ok _ (sym (rw ed at eg)))
 
-  pub gram_refused : {e : LinearError} → d ≡ done.Refused e → refused (number_of e) ≡ gram_row k r q gram
+  pub gram_refused : {e : LinearError} → d ≡ Err e → refused (number_of e) ≡ gram_row k r q gram
   unfolding gram_row
   gram_refused ed = sym (bind_refused _ (sym (rw ed at eg)))
 
 -- ---- one row, from what each call gives
 
-module _ (k r i : ℕ) (wide jc q gram c w : List Float) (o : List ℕ) (x : LinearResult) (a : List Float)
+module _ (k r i : ℕ) (wide jc q gram c w : List Float) (o : List ℕ) (x : Result Scalar LinearError) (a : List Float)
     (measured
     : (f : List Float → Scalar → Res Basis)
     → bind (result_of x) (f a) ≡ measured_by (row_problem k wide []) (basis_by r q gram [] [] []) i f) where
@@ -150,12 +142,12 @@ module _ (k r i : ℕ) (wide jc q gram c w : List Float) (o : List ℕ) (x : Lin
   unfolding row_step coefficients_in
   row_is = sym (measured decided)
 
-  pub row_refused : {e : LinearError} → x ≡ answer.Refused e
+  pub row_refused : {e : LinearError} → x ≡ Err e
       → refused (number_of e) ≡ row_step (row_problem k wide jc) before i
   unfolding bind
   row_refused e = sym (rw e at row_is)
 
-  pub row_new : {l : Scalar} {s : Bool} {b : Res Basis} → x ≡ answer.Value l → s ≡ definitely_greater l zero_s
+  pub row_new : {l : Scalar} {s : Bool} {b : Res Basis} → x ≡ Ok l → s ≡ definitely_greater l zero_s
       → s ≡ true → b ≡ extended (row_problem k [] jc) before i → b ≡ row_step (row_problem k wide jc) before i
   unfolding bind extended
   row_new {l} e es et eb =
@@ -165,7 +157,7 @@ module _ (k r i : ℕ) (wide jc q gram c w : List Float) (o : List ℕ) (x : Lin
       eb ∙ sym (h ∙ p)
 
   pub row_dependent : {l : Scalar} {s : Bool} {w' : List Float} (y : List Float) → a ≡ take (2 * r) y
-      → 2 * r ≤ length y → x ≡ answer.Value l → s ≡ definitely_greater l zero_s → s ≡ false
+      → 2 * r ≤ length y → x ≡ Ok l → s ≡ definitely_greater l zero_s → s ≡ false
       → w' ≡ fill_to w (12 * (i - r)) (λ j. choose_of (at y j)) r
       → ok (basis_by r q gram c w' (set o (12 + (i - r)) i)) ≡ row_step (row_problem k wide jc) before i
   unfolding bind
@@ -239,26 +231,26 @@ unfolding basis_of row_step coefficients_in extended
 basis_reads P = refl
 
 -- one row more, or its refusal, from what the call gives
-module _ (P : Problem) (b : Basis) (i : ℕ) (q gram c w : List Float) (o : List ℕ) (x : CountResult)
+module _ (P : Problem) (b : Basis) (i : ℕ) (q gram c w : List Float) (o : List ℕ) (x : Result ℕ LinearError)
     (passed : fold_r (row_step P) no_rows i ≡ ok b)
     (step : ranked_of x q gram c w o ≡ row_step (row_problem P.k P.wide P.jc) b i) where
   step_is : ranked_of x q gram c w o ≡ row_step P b i
   step_is = step ∙ row_reads P b i
 
-  pub rank_next : {s : ℕ} → x ≡ count.Value s → s ≤ b.rank + 1
+  pub rank_next : {s : ℕ} → x ≡ Ok s → s ≤ b.rank + 1
   rank_next e = rank_more P b i (sym (rw e at step_is))
 
-  pub rows_next : {s : ℕ} → x ≡ count.Value s → fold_r (row_step P) no_rows (i + 1) ≡ ok (basis_by s q gram c w o)
+  pub rows_next : {s : ℕ} → x ≡ Ok s → fold_r (row_step P) no_rows (i + 1) ≡ ok (basis_by s q gram c w o)
   rows_next e = turn (row_step P) no_rows i passed ∙ sym (rw e at step_is)
 
-  pub rows_refused : {r : LinearError} → i < P.m → x ≡ count.Refused r
+  pub rows_refused : {r : LinearError} → i < P.m → x ≡ Err r
       → refused (number_of r) ≡ without_gram (basis_of P)
   unfolding basis_of
   rows_refused h e = ap without_gram (sym (ends (row_step P) no_rows h passed (sym (rw e at step_is))))
 
 -- the correction, or its refusal, from what each call gives
 module _ (k m r : ℕ) (c : ℕ → Scalar) (q coefficients dependent : List Float) (order : List ℕ)
-    {rows rhs : List Float} (y : List Float) (d : Done)
+    {rows rhs : List Float} (y : List Float) (d : Result (Unit {0}) LinearError)
     (erows : rows ≡ list_to (λ p. coefficient_at (basis_by r [] [] coefficients dependent []) (p / r) (p % r)) (m * r))
     (erhs : rhs ≡ list_to (λ t. neg_of (choose_of (c (order_at (basis_by r [] [] [] [] order) t)))) m)
     (ey : done_of d y ≡ least_squares_of m r rows rhs) where
@@ -283,7 +275,8 @@ unfolding multipliers_of multiplier_step
 multipliers_reads k b pull = refl
 
 -- the multipliers, once the fold over the vectors ended
-pub multipliers_is : (k : ℕ) (b : Basis) (pull : List Float) (byRow : List Float) (d : Done) {lambda : List Float}
+pub multipliers_is : (k : ℕ) (b : Basis) (pull : List Float) (byRow : List Float) (d : Result (Unit {0}) LinearError)
+    {lambda : List Float}
     → done_of d byRow ≡ fold_r (multiplier_step k b pull) vector b.rank
     → lambda ≡ spread_to b.order byRow b.rank → done_of d lambda ≡ multipliers_of k b pull
 unfolding multipliers_of

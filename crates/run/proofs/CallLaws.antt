@@ -1,4 +1,8 @@
--- What the calls hand back of the area, the point, and what the number that refuses a begin says.
+-- What the calls hand back of the area, the point, and what the checks of a begin say.
+use Rattle.run.specs.declared.refusal.Refusal.{Refusal}
+use Rattle.run.specs.declared.refusal.Refusal.TheVariants.{OutsideDomain, TooMany, WrongLength}
+use Rattle.std.specs.Prelude.{None, Option, Some, Result, Ok, Err}
+use Rattle.run.specs.declared.state.Kind.{Kind}
 use Prim.Native.Nat.{ℕ, ◌+◌, ◌*◌, ◌≤◌}
 use mathlib.Core.Bool.{Bool, true, false, ◌&&◌}
 use mathlib.Core.List.{List, []}
@@ -12,69 +16,79 @@ use Rattle.interval.specs.declared.Scalar.{Scalar}
 use Rattle.interval.specs.Scalar.{pick}
 use Rattle.run.specs.Area.{area_length, HasRoom, point_at, part_of, numbers_in, indices, point_len}
 use Rattle.run.specs.Calls.{AfterCall, checks, unchanged, begun_of, begin_of, point_of}
-use Rattle.run.specs.program.Checks.{refusal_of}
+use Rattle.run.specs.program.Checks.{begin_check}
 use Rattle.run.specs.Checks.{sizes_fit, all_in_domain, step_fits, valid}
 use Rattle.run.specs.Limits.{VARIABLES}
 use Rattle.run.specs.State.{no_run}
-use Rattle.run.specs.declared.state.Phase.{Phase}
-use Rattle.run.specs.declared.state.Phase.TheVariants.{Open, Over}
 use Rattle.run.specs.declared.state.Sizes.{Sizes}
 use Rattle.run.specs.declared.state.State.{State}
 use Rattle.run.proofs.CheckLaws.{both, size_bounds}
 use Rattle.run.proofs.PlaceLaws.{part_inside}
 
--- three checks by the number k that refuses: none is left where k is 0
-refused-by : {k : ℕ} (p q r : Bool) (back : ℕ → AfterCall) (next : AfterCall)
-    → k ≡ pick p (pick q (pick r 0 3) 2) 1 → (k ≡ 0 → ⊥)
-    → back k ≡ checks p 1 back (checks q 2 back (checks r 3 back next))
-refused-by true true true back next e n = absurd (n e)
-refused-by true true false back next e n = ap back e
-refused-by true false r back next e n = ap back e
-refused-by false q r back next e n = ap back e
+abbrev Checked : Type 0
+Checked = Result (Unit {0}) Refusal
 
-passed_by : {k : ℕ} (p q r : Bool) → k ≡ pick p (pick q (pick r 0 3) 2) 1 → k ≡ 0
-    → (p ≡ true) × ((q ≡ true) × (r ≡ true))
-passed_by true true true e z = (refl, (refl, refl))
-passed_by true true false e z = absurd (omega (arith, e, z))
-passed_by true false r e z = absurd (omega (arith, e, z))
-passed_by false q r e z = absurd (omega (arith, e, z))
+abbrev checked_by : Bool → Bool → Bool → Checked
+checked_by p q r = pick p (pick q (pick r (Ok tt) (Err OutsideDomain)) (Err WrongLength)) (Err TooMany)
 
--- the checks of a begin by that number
-module _ (z : Sizes) (start : List Float) (max : Scalar) (a : List Float) {k : ℕ}
-    (e : k ≡ refusal_of z start max (length a)) where
-  pub begin_refused : (k ≡ 0 → ⊥) → unchanged no_run a k ≡ begin_of z start max a
+err_ok : {A : Type 0} {k : Refusal} → ◌≡◌ {A = Checked} (Err k) (Ok tt) → A
+err_ok e = let z : ◌≡◌ {A = ℕ} 0 1 = cc in absurd (omega arith)
+
+abbrev refusal_in : Refusal → Checked → Refusal
+refusal_in k (Ok u) = k
+refusal_in k (Err r) = r
+
+-- three checks: the first that is not passed refuses
+refused-by : {k : Refusal} (p q r : Bool) (back : Refusal → AfterCall) (next : AfterCall)
+    → Err k ≡ checked_by p q r
+    → back k ≡ checks p TooMany back (checks q WrongLength back (checks r OutsideDomain back next))
+refused-by true true true back next e = err_ok e
+refused-by {k} true true false back next e = ap (λ d. back (refusal_in k d)) e
+refused-by {k} true false r back next e = ap (λ d. back (refusal_in k d)) e
+refused-by {k} false q r back next e = ap (λ d. back (refusal_in k d)) e
+
+passed_by : (p q r : Bool) → Ok tt ≡ checked_by p q r → (p ≡ true) × ((q ≡ true) × (r ≡ true))
+passed_by true true true e = (refl, (refl, refl))
+passed_by true true false e = err_ok (sym e)
+passed_by true false r e = err_ok (sym e)
+passed_by false q r e = err_ok (sym e)
+
+-- the checks of a begin
+module _ (z : Sizes) (start : List Float) (max : Scalar) (a : List Float) where
+  pub begin_refused : {k : Refusal} → Err k ≡ begin_check z start max (length a)
+      → unchanged no_run a k ≡ begin_of z start max a
   unfolding begin_of
-  begin_refused n =
+  begin_refused e =
       refused-by (sizes_fit z) (eqb (length start) (2 * z.n) && eqb (length a) (area_length z))
-      (all_in_domain start z.n && step_fits max) (unchanged no_run a) (begun_of z start max) e n
+      (all_in_domain start z.n && step_fits max) (unchanged no_run a) (begun_of z start max) e
 
-  pub begin_lengths : k ≡ 0 → HasRoom z a × (length start ≤ point_len)
+  pub begin_lengths : Ok tt ≡ begin_check z start max (length a) → HasRoom z a × (length start ≤ point_len)
   begin_lengths h =
       let p =
       passed_by (sizes_fit z) (eqb (length start) (2 * z.n) && eqb (length a) (area_length z))
-      (all_in_domain start z.n && step_fits max) e h in
+      (all_in_domain start z.n && step_fits max) h in
       let b = both (eqb (length start) (2 * z.n)) _ p.1.0 in
       let l : length start ≡ 2 * z.n = eqb-true _ _ b.0 in
       (eqb-true _ _ b.1, omega (arith, l, (size_bounds z p.0).n))
 
-  pub begin_passed : k ≡ 0 → begun_of z start max ≡ begin_of z start max a
+  pub begin_passed : Ok tt ≡ begin_check z start max (length a) → begun_of z start max ≡ begin_of z start max a
   unfolding begin_of
   begin_passed h =
       let p =
       passed_by (sizes_fit z) (eqb (length start) (2 * z.n) && eqb (length a) (area_length z))
-      (all_in_domain start z.n && step_fits max) e h in
+      (all_in_domain start z.n && step_fits max) h in
       rw (p.0, p.1.0, p.1.1)
 
 -- ---- the point
 
 -- it is within the area
-pub point_inside : (z : Sizes) (p : Phase) (a : List Float) → HasRoom z a → z.n ≤ VARIABLES
+pub point_inside : (z : Sizes) (p : Option Kind) (a : List Float) → HasRoom z a → z.n ≤ VARIABLES
     → point_at z p + 2 * z.n ≤ length a
-point_inside z (Open k) a room few = part_inside z a room (2 * z.n) indices.asked (lit< tt) (omega (arith, few))
-point_inside z Over a room few = part_inside z a room (2 * z.n) indices.standing (lit< tt) (omega (arith, few))
+point_inside z (Some k) a room few = part_inside z a room (2 * z.n) indices.asked (lit< tt) (omega (arith, few))
+point_inside z None a room few = part_inside z a room (2 * z.n) indices.standing (lit< tt) (omega (arith, few))
 
 module _ (st : State) (a : List Float) where
-  pub point_at_lem : (p : Phase) → valid st ≡ true → HasRoom st.sizes a → st.phase ≡ p
+  pub point_at_lem : (p : Option Kind) → valid st ≡ true → HasRoom st.sizes a → st.phase ≡ p
       → part_of a (point_at st.sizes p) (numbers_in st).standing ≡ point_of st a
   unfolding point_of
   point_at_lem p v l e =

@@ -1,9 +1,12 @@
 -- What the checks tell: the bounds of a run that passes number 4's test, and a reply where its checks refuse it and
 -- where they accept it.
+use Rattle.run.specs.declared.refusal.Refusal.{Refusal}
+use Rattle.run.specs.declared.refusal.Refusal.TheVariants.{TooMany, WrongLength, OutsideDomain, Altered}
+use Rattle.std.specs.Prelude.{None, Option, Some}
 use Prim.Native.Nat.{ℕ, ◌+◌, ◌*◌, ◌<◌, ◌≤◌}
 use mathlib.Core.Bool.{Bool, true, false, ◌&&◌}
-use mathlib.Core.List.{List, [], ◌∷◌}
-use mathlib.Core.Logic.{⊎_elim, ◌≢◌}
+use mathlib.Core.List.{List}
+use mathlib.Core.Logic.{◌≢◌}
 use mathlib.Core.Path.{◌≡◌, refl, sym, ap, ◌∙◌}
 use native.Mathlib.Nat.{mul-le-mul}
 use native.Mathlib.Omega.{arith}
@@ -22,13 +25,10 @@ use Rattle.run.specs.Checks.{most_turn_downs, most_questions}
 use Rattle.run.specs.Calls.{AfterCall, unchanged, in_area, checks, reply_open, reply_of, none_open, reply_none_of}
 use Rattle.run.specs.Endings.{AfterSlots}
 use Rattle.run.specs.program.Checks.{open_in, open_of, then_check, area_check, check_of, rows_check, check_rows_of}
-use Rattle.run.specs.declared.checks.Checked.{Checked}
-use Rattle.run.specs.declared.checks.Checked.TheVariants.{Refuse, Accept}
+use Rattle.std.specs.Prelude.{Result, Ok, Err}
 use Rattle.run.specs.declared.state.Contents.{Contents}
 use Rattle.run.specs.declared.state.Kind.{Kind}
 use Rattle.run.specs.declared.state.Kind.TheVariants as kind
-use Rattle.run.specs.declared.state.Phase.{Phase}
-use Rattle.run.specs.declared.state.Phase.TheVariants.{Open, Over}
 use Rattle.run.specs.declared.state.Sizes.{Sizes}
 use Rattle.run.specs.declared.state.State.{State}
 use Rattle.run.proofs.Booleans.{and_left, and_right}
@@ -78,26 +78,6 @@ content_bounds c e =
 pub contents-fit : {c : Contents} → ContentBounds c → contents_fit c ≡ true
 contents-fit b = rw (le-leb _ _ b.standing, le-leb _ _ b.landed)
 
--- ---- with a question open: what the damping decides, and the iterations where it is not the start's
-
-module _ (st : State) where
-  pub not-positive : (k : Kind) → is_positive st.search.mu ≡ false → false ≡ phase_fits st (Open k)
-  not-positive kind.Start e = sym e
-  not-positive kind.Trial e = sym (and_false (ltb st.counts.iterations st.sizes.limit) e)
-  not-positive kind.Correction e = sym (and_false (ltb st.counts.iterations st.sizes.limit) e)
-
-  pub past_start : (k : Kind) → k ≢ kind.Start → is_positive st.search.mu ≡ true
-      → ltb st.counts.iterations st.sizes.limit ≡ phase_fits st (Open k)
-  past_start kind.Start o e = absurd (o refl)
-  past_start kind.Trial o e = sym (and_true (ltb st.counts.iterations st.sizes.limit) e)
-  past_start kind.Correction o e = sym (and_true (ltb st.counts.iterations st.sizes.limit) e)
-
-  -- where the sizes, the contents and the counts fit, the phase decides
-  pub phase_decides : {r : Bool} → sizes_fit st.sizes ≡ true → contents_fit st.contents ≡ true
-      → counts_fit st ≡ true → r ≡ phase_fits st st.phase → r ≡ valid st
-  unfolding valid
-  phase_decides a b d e = rw (a, b, d) e
-
 pub record Bounds (st : State) : Type 0 where
   pub sizes : SizeBounds st.sizes
   pub contents : ContentBounds st.contents
@@ -127,13 +107,13 @@ bounds st e =
     }
 
 module _ (st : State) where
-  mu_in : (k : Kind) → phase_fits st (Open k) ≡ true → is_positive st.search.mu ≡ true
+  mu_in : (k : Kind) → phase_fits st (Some k) ≡ true → is_positive st.search.mu ≡ true
   mu_in kind.Start e = e
   mu_in kind.Trial e = (both (ltb st.counts.iterations st.sizes.limit) _ e).1
   mu_in kind.Correction e = (both (ltb st.counts.iterations st.sizes.limit) _ e).1
 
   -- with a question open the damping is positive
-  pub open_mu : (k : Kind) → valid st ≡ true → st.phase ≡ Open k → is_positive st.search.mu ≡ true
+  pub open_mu : (k : Kind) → valid st ≡ true → st.phase ≡ Some k → is_positive st.search.mu ≡ true
   open_mu k v e = mu_in k (ap (phase_fits st) (sym e) ∙ (bounds st v).phase)
 
   below : ltb st.counts.iterations st.sizes.limit && is_positive st.search.mu ≡ true
@@ -141,10 +121,10 @@ module _ (st : State) where
   below e = ltb-true _ _ (both (ltb st.counts.iterations st.sizes.limit) _ e).0
 
   -- and with a trial or a correction open iterations are below the limit
-  pub trial_below : valid st ≡ true → st.phase ≡ Open kind.Trial → st.counts.iterations < st.sizes.limit
+  pub trial_below : valid st ≡ true → st.phase ≡ Some kind.Trial → st.counts.iterations < st.sizes.limit
   trial_below v e = below (ap (phase_fits st) (sym e) ∙ (bounds st v).phase)
 
-  pub correction_below : valid st ≡ true → st.phase ≡ Open kind.Correction → st.counts.iterations < st.sizes.limit
+  pub correction_below : valid st ≡ true → st.phase ≡ Some kind.Correction → st.counts.iterations < st.sizes.limit
   correction_below v e = below (ap (phase_fits st) (sym e) ∙ (bounds st v).phase)
 
 -- how many scalars rows have
@@ -156,60 +136,63 @@ few_scalars {n} {m} {s} a b d =
 
 -- a check, passed or not
 pub checked :
-    (P : AfterCall → Type 0) (b : Bool) (k : ℕ) (back : ℕ → AfterCall) (next : AfterCall) →
+    (P : AfterCall → Type 0) (b : Bool) (k : Refusal) (back : Refusal → AfterCall) (next : AfterCall) →
     P (back k) → (b ≡ true → P next) → P (checks b k back next)
 checked P true k back next p h = h refl
 checked P false k back next p h = p
 
 -- ---- what is accepted
 
-refuse_accept : {A : Type 0} {j : ℕ} {k : Kind} → Refuse j ≡ Accept k → A
+refuse_accept : {A : Type 0} {j : Refusal} {k : Kind} → ◌≡◌ {A = Result Kind Refusal} (Err j) (Ok k) → A
 refuse_accept e = let z : ◌≡◌ {A = ℕ} 0 1 = cc in absurd (omega arith)
 
+abbrev Checked : Type 0
+Checked = Result Kind Refusal
+
 -- a check that is passed
-passed : (b : Bool) (next : Checked) (j : ℕ) {k : Kind} → pick b next (Refuse j) ≡ Accept k
-    → (b ≡ true) × (next ≡ Accept k)
+passed : (b : Bool) (next : Checked) (j : Refusal) {k : Kind} → pick b next (Err j) ≡ Ok k
+    → (b ≡ true) × (next ≡ Ok k)
 passed true next j e = (refl, e)
 passed false next j e = refuse_accept e
 
 abbrev kind_in : Checked → Kind
-kind_in (Refuse k) = kind.Start
-kind_in (Accept k) = k
+kind_in (Err k) = kind.Start
+kind_in (Ok k) = k
 
--- a question is open in a run that passes number 4's test
-open_accepted : (st : State) {k : Kind} → open_of st ≡ Accept k → (valid st ≡ true) × (st.phase ≡ Open k)
+-- a question is open in a run that is not altered
+open_accepted : (st : State) {k : Kind} → open_of st ≡ Ok k → (valid st ≡ true) × (st.phase ≡ Some k)
 unfolding open_of
 open_accepted st {k} e =
-    let a = passed (valid st) (open_in st.phase) 4 e in
+    let a = passed (valid st) (open_in st.phase) Altered e in
     (a.0, by st.phase a.1)
   where
-    by : (p : Phase) → open_in p ≡ Accept k → p ≡ Open k
-    by Over x = refuse_accept x
-    by (Open j) x = ap Open (ap kind_in x)
+    by : (p : Option Kind) → open_in p ≡ Ok k → p ≡ Some k
+    by None x = refuse_accept x
+    by (Some j) x = ap Some (ap kind_in x)
 
-pub open_sizes : (st : State) {k : Kind} → open_of st ≡ Accept k → SizeBounds st.sizes
+pub open_sizes : (st : State) {k : Kind} → open_of st ≡ Ok k → SizeBounds st.sizes
 open_sizes st e = (bounds st (open_accepted st e).0).sizes
 
 -- reply none
 pub record Accepted (st : State) (area : ℕ) (k : Kind) : Type 0 where
   pub run : valid st ≡ true
-  pub opened : st.phase ≡ Open k
+  pub opened : st.phase ≡ Some k
   pub whole : area ≡ area_length st.sizes
 
 module _ (st : State) (area : ℕ) (k : Kind) where
-  in-area : open_of st ≡ Accept k → eqb area (area_length st.sizes) ≡ true → Accepted st area k
+  in-area : open_of st ≡ Ok k → eqb area (area_length st.sizes) ≡ true → Accepted st area k
   in-area h e =
       let o = open_accepted st h in
       record { run = o.0; opened = o.1; whole = eqb-true _ _ e }
 
-  then_accepted : (d : Checked) → open_of st ≡ d → then_check d (area_check st.sizes area) ≡ Accept k
+  then_accepted : (d : Checked) → open_of st ≡ d → then_check d (area_check st.sizes area) ≡ Ok k
       → Accepted st area k
-  then_accepted (Refuse j) h x = refuse_accept x
-  then_accepted (Accept j) h x =
-      let b = passed (eqb area (area_length st.sizes)) (Accept j) 2 x in
+  then_accepted (Err j) h x = refuse_accept x
+  then_accepted (Ok j) h x =
+      let b = passed (eqb area (area_length st.sizes)) (Ok j) WrongLength x in
       in-area (h ∙ b.1) b.0
 
-  pub accepted : check_of st area ≡ Accept k → Accepted st area k
+  pub accepted : check_of st area ≡ Ok k → Accepted st area k
   unfolding check_of
   accepted e = then_accepted (open_of st) refl e
 
@@ -221,14 +204,14 @@ pub record AcceptedRows (st : State) (area m : ℕ) (rows : List Float) (k : Kin
   pub inside : all_in_domain rows ((m + st.sizes.s) * (st.sizes.n + 1)) ≡ true
 
 module _ (st : State) (area m : ℕ) (rows : List Float) (k : Kind) where
-  then_rows : (d : Checked) → open_of st ≡ d → then_check d (rows_check st.sizes area m rows) ≡ Accept k
+  then_rows : (d : Checked) → open_of st ≡ d → then_check d (rows_check st.sizes area m rows) ≡ Ok k
       → AcceptedRows st area m rows k
-  then_rows (Refuse j) h x = refuse_accept x
-  then_rows (Accept j) h x =
+  then_rows (Err j) h x = refuse_accept x
+  then_rows (Ok j) h x =
       let whole = eqb area (area_length st.sizes) in
-      let a = passed (constraints_fit m) _ 1 x in
-      let b = passed (whole && eqb (length rows) (row_numbers (row_counts st.sizes m))) _ 2 a.1 in
-      let d = passed (all_in_domain rows ((m + st.sizes.s) * (st.sizes.n + 1))) (Accept j) 3 b.1 in
+      let a = passed (constraints_fit m) _ TooMany x in
+      let b = passed (whole && eqb (length rows) (row_numbers (row_counts st.sizes m))) _ WrongLength a.1 in
+      let d = passed (all_in_domain rows ((m + st.sizes.s) * (st.sizes.n + 1))) (Ok j) OutsideDomain b.1 in
       let l = both whole _ b.0 in
       record {
         reply = in-area st area k (h ∙ d.1) l.0;
@@ -237,7 +220,7 @@ module _ (st : State) (area m : ℕ) (rows : List Float) (k : Kind) where
         inside = d.0;
       }
 
-  pub accepted_rows : check_rows_of st area m rows ≡ Accept k → AcceptedRows st area m rows k
+  pub accepted_rows : check_rows_of st area m rows ≡ Ok k → AcceptedRows st area m rows k
   unfolding check_rows_of
   accepted_rows e = then_rows (open_of st) refl e
 
@@ -245,17 +228,17 @@ module _ (st : State) (area m : ℕ) (rows : List Float) (k : Kind) where
 
 module _ (st : State) (a : List Float) (next : Kind → AfterSlots) where
   abbrev after : Checked → AfterCall
-  after (Refuse j) = unchanged st a j
-  after (Accept k) = in_area (next k)
+  after (Err j) = unchanged st a j
+  after (Ok k) = in_area (next k)
 
-  -- a check that follows, and number 4
-  check_as : (b : Bool) (j : ℕ) (x : AfterCall) (r : Checked) → x ≡ after r
-      → checks b j (unchanged st a) x ≡ after (pick b r (Refuse j))
+  -- a check that follows, and the first
+  check_as : (b : Bool) (j : Refusal) (x : AfterCall) (r : Checked) → x ≡ after r
+      → checks b j (unchanged st a) x ≡ after (pick b r (Err j))
   check_as true j x r e = e
   check_as false j x r e = refl
 
-  open_as : (b : Bool) (x : AfterCall) (p : Phase) (f : Kind → Checked) → x ≡ after (then_check (open_in p) f)
-      → checks b 4 (unchanged st a) x ≡ after (then_check (pick b (open_in p) (Refuse 4)) f)
+  open_as : (b : Bool) (x : AfterCall) (p : Option Kind) (f : Kind → Checked) → x ≡ after (then_check (open_in p) f)
+      → checks b Altered (unchanged st a) x ≡ after (then_check (pick b (open_in p) (Err Altered)) f)
   open_as true x p f e = e
   open_as false x p f e = refl
 
@@ -271,16 +254,16 @@ module _ (st : State) (a : List Float) where
   none_checked =
       open_as st a next_none (valid st) _ st.phase (area_check st.sizes (length a)) (opened st.phase)
     where
-      opened : (p : Phase)
+      opened : (p : Option Kind)
           → none_open st a p ≡ after_none (then_check (open_in p) (area_check st.sizes (length a)))
-      opened Over = refl
-      opened (Open k) =
-          check_as st a next_none (eqb (length a) (area_length st.sizes)) 2 _ (Accept k) refl
+      opened None = refl
+      opened (Some k) =
+          check_as st a next_none (eqb (length a) (area_length st.sizes)) WrongLength _ (Ok k) refl
 
-  pub none_refused : (k : ℕ) → check_of st (length a) ≡ Refuse k → reply_none_of st a ≡ unchanged st a k
+  pub none_refused : (k : Refusal) → check_of st (length a) ≡ Err k → reply_none_of st a ≡ unchanged st a k
   none_refused k e = none_checked ∙ ap after_none e
 
-  pub none_accepted : (k : Kind) → check_of st (length a) ≡ Accept k
+  pub none_accepted : (k : Kind) → check_of st (length a) ≡ Ok k
       → reply_none_of st a ≡ in_area (answered_none k st (memory_of st a))
   none_accepted k e = none_checked ∙ ap after_none e
 
@@ -296,19 +279,19 @@ module _ (st : State) (a : List Float) (m : ℕ) (rows : List Float) where
   rows_checked =
       open_as st a next_rows (valid st) _ st.phase (rows_check st.sizes (length a) m rows) (opened st.phase)
     where
-      opened : (p : Phase)
+      opened : (p : Option Kind)
           → reply_open st a m rows p ≡ after_rows (then_check (open_in p) (rows_check st.sizes (length a) m rows))
-      opened Over = refl
-      opened (Open k) =
+      opened None = refl
+      opened (Some k) =
           let c = row_counts st.sizes m in
           let whole = eqb (length a) (area_length st.sizes) in
-          check_as st a next_rows (constraints_fit m) 1 _ _
-          (check_as st a next_rows (whole && eqb (length rows) (row_numbers c)) 2 _ _
-          (check_as st a next_rows (all_in_domain rows ((c.m + c.s) * (c.n + 1))) 3 _ (Accept k) refl))
+          check_as st a next_rows (constraints_fit m) TooMany _ _
+          (check_as st a next_rows (whole && eqb (length rows) (row_numbers c)) WrongLength _ _
+          (check_as st a next_rows (all_in_domain rows ((c.m + c.s) * (c.n + 1))) OutsideDomain _ (Ok k) refl))
 
-  pub rows_refused : (k : ℕ) → check_rows_of st (length a) m rows ≡ Refuse k → reply_of st a m rows ≡ unchanged st a k
+  pub rows_refused : (k : Refusal) → check_rows_of st (length a) m rows ≡ Err k → reply_of st a m rows ≡ unchanged st a k
   rows_refused k e = rows_checked ∙ ap after_rows e
 
-  pub rows_accepted : (k : Kind) → check_rows_of st (length a) m rows ≡ Accept k
+  pub rows_accepted : (k : Kind) → check_rows_of st (length a) m rows ≡ Ok k
       → reply_of st a m rows ≡ in_area (answered k st (memory_of st a) m rows)
   rows_accepted k e = rows_checked ∙ ap after_rows e

@@ -1,6 +1,10 @@
 -- After a call the area is +0 wherever no number is in use, whatever the contents of the run: the lists of the memory
 -- that the call leaves have just the numbers in use, and the area has +0 behind each of them. A refusal by 1 to 4
 -- leaves state and area as they were.
+use Rattle.run.specs.Refusal.{number_of}
+use Rattle.run.specs.declared.refusal.Refusal.{Refusal}
+use Rattle.run.specs.declared.refusal.Refusal.TheVariants.{Altered, OutsideDomain, TooMany, WrongLength}
+use Rattle.std.specs.Prelude.{None, Option, Some}
 use Prim.Native.Nat.{ℕ, zero, suc, ◌+◌, ◌-◌, ◌*◌, ◌<◌, ◌≤◌}
 use mathlib.Core.Bool.{true, true≢false, ◌&&◌}
 use mathlib.Core.Path.{◌≡◌, refl, sym, ap, ◌∙◌}
@@ -28,8 +32,6 @@ use Rattle.run.specs.Rows.{row_numbers, row_counts}
 use Rattle.run.specs.State.{no_run}
 use Rattle.run.specs.declared.state.Kind.{Kind}
 use Rattle.run.specs.declared.state.Kind.TheVariants as kind
-use Rattle.run.specs.declared.state.Phase.{Phase}
-use Rattle.run.specs.declared.state.Phase.TheVariants.{Open, Over}
 use Rattle.run.specs.declared.state.Sizes.{Sizes}
 use Rattle.run.specs.declared.state.State.{State}
 use Rattle.run.specs.program.Area.{Limits, lengths_of}
@@ -109,20 +111,20 @@ module _ (st : State) (a : List Float) (v : valid st ≡ true) (long : HasRoom s
   own_few : Few st
   own_few = let b = bounds st v in (b.sizes.n, b.contents)
 
-  has_room : (k : Kind) → st.phase ≡ Open k → Room k st
+  has_room : (k : Kind) → st.phase ≡ Some k → Room k st
   has_room kind.Start o = (bounds st v).iterations
   has_room kind.Trial o = trial_below st v o
   has_room kind.Correction o = correction_below st v o
 
   pub reply_kept : (m : ℕ) → m ≤ CONSTRAINTS → (rows : List Float)
-      → length rows ≡ row_numbers (row_counts st.sizes m) → (k : Kind) → st.phase ≡ Open k
+      → length rows ≡ row_numbers (row_counts st.sizes m) → (k : Kind) → st.phase ≡ Some k
       → Kept st.sizes st.counts.question (answered k st (memory_of st a) m rows)
   reply_kept m fits rows many k o =
       let w = memory_of st a in
       answered_kept st w own_few m fits rows many k (has_room k o)
       (whole_read st w (read_lengths st own_limits a long) k o)
 
-  pub reply_none_kept : (k : Kind) → st.phase ≡ Open k
+  pub reply_none_kept : (k : Kind) → st.phase ≡ Some k
       → Kept st.sizes st.counts.question (answered_none k st (memory_of st a))
   reply_none_kept k o =
       let w = memory_of st a in
@@ -132,13 +134,13 @@ module _ (st : State) (a : List Float) (v : valid st ≡ true) (long : HasRoom s
 -- ---- the replies
 
 module _ (st : State) (a : List Float) where
-  refused_replied : (k : ℕ) → k ≤ 4 → Replied st a (unchanged st a k)
+  refused_replied : (k : Refusal) → number_of k ≤ 4 → Replied st a (unchanged st a k)
   refused_replied k h =
       record {
         sizes_kept = refl;
-        cleared = λ e. absurd (true≢false (sym (le-leb k 4 h) ∙ e));
+        cleared = λ e. absurd (true≢false (sym (le-leb (number_of k) 4 h) ∙ e));
         unchanged = λ e. (refl, refl);
-        follows = λ e. absurd (true≢false (sym (le-leb k 4 h) ∙ e));
+        follows = λ e. absurd (true≢false (sym (le-leb (number_of k) 4 h) ∙ e));
       }
 
   kept_replied : SizeBounds st.sizes → (o : AfterSlots) → Kept st.sizes st.counts.question o
@@ -157,21 +159,21 @@ module _ (st : State) (a : List Float) where
 pub reply_leaves : (st : State) (a : List Float) (m : ℕ) (rows : List Float) → Replied st a (reply_of st a m rows)
 unfolding reply_of
 reply_leaves st a m rows =
-    checked (Replied st a) (valid st) 4 (unchanged st a) _ (refused_replied st a 4 (omega arith))
+    checked (Replied st a) (valid st) Altered (unchanged st a) _ (refused_replied st a Altered (omega arith))
     (λ v. opened v st.phase refl)
   where
-    opened : valid st ≡ true → (p : Phase) → st.phase ≡ p → Replied st a (reply_open st a m rows p)
-    opened v Over o = refused_replied st a 4 (omega arith)
-    opened v (Open k) o =
+    opened : valid st ≡ true → (p : Option Kind) → st.phase ≡ p → Replied st a (reply_open st a m rows p)
+    opened v None o = refused_replied st a Altered (omega arith)
+    opened v (Some k) o =
         let z = st.sizes in
         let fits = eqb (length a) (area_length z) in
         let many = eqb (length rows) (row_numbers (row_counts z m)) in
-        checked (Replied st a) (constraints_fit m) 1 (unchanged st a) _ (refused_replied st a 1 (omega arith))
+        checked (Replied st a) (constraints_fit m) TooMany (unchanged st a) _ (refused_replied st a TooMany (omega arith))
         (λ f.
-        checked (Replied st a) (fits && many) 2 (unchanged st a) _ (refused_replied st a 2 (omega arith))
+        checked (Replied st a) (fits && many) WrongLength (unchanged st a) _ (refused_replied st a WrongLength (omega arith))
         (λ e.
-        checked (Replied st a) (all_in_domain rows ((m + z.s) * (z.n + 1))) 3 (unchanged st a) _
-        (refused_replied st a 3 (omega arith))
+        checked (Replied st a) (all_in_domain rows ((m + z.s) * (z.n + 1))) OutsideDomain (unchanged st a) _
+        (refused_replied st a OutsideDomain (omega arith))
         (λ d.
         kept_replied st a (bounds st v).sizes (answered k st (memory_of st a) m rows)
         (reply_kept st a v (eqb-true _ _ (and_left fits many e)) m (leb-true _ _ f) rows
@@ -180,14 +182,14 @@ reply_leaves st a m rows =
 pub reply_none_leaves : (st : State) (a : List Float) → Replied st a (reply_none_of st a)
 unfolding reply_none_of
 reply_none_leaves st a =
-    checked (Replied st a) (valid st) 4 (unchanged st a) _ (refused_replied st a 4 (omega arith))
+    checked (Replied st a) (valid st) Altered (unchanged st a) _ (refused_replied st a Altered (omega arith))
     (λ v. opened v st.phase refl)
   where
-    opened : valid st ≡ true → (p : Phase) → st.phase ≡ p → Replied st a (none_open st a p)
-    opened v Over o = refused_replied st a 4 (omega arith)
-    opened v (Open k) o =
-        checked (Replied st a) (eqb (length a) (area_length st.sizes)) 2 (unchanged st a) _
-        (refused_replied st a 2 (omega arith))
+    opened : valid st ≡ true → (p : Option Kind) → st.phase ≡ p → Replied st a (none_open st a p)
+    opened v None o = refused_replied st a Altered (omega arith)
+    opened v (Some k) o =
+        checked (Replied st a) (eqb (length a) (area_length st.sizes)) WrongLength (unchanged st a) _
+        (refused_replied st a WrongLength (omega arith))
         (λ e.
         kept_replied st a (bounds st v).sizes (answered_none k st (memory_of st a))
         (reply_none_kept st a v (eqb-true _ _ e) k o))
@@ -217,7 +219,7 @@ begun_limits z start max b = limits_from (begun_of z start max).state b none_hel
 abbrev Begun : AfterCall → Type 0
 Begun l = Accepted l → Cleared l.state l.area
 
-not_accepted : (a : List Float) (k : ℕ) → Begun (unchanged no_run a k)
+not_accepted : (a : List Float) (k : Refusal) → Begun (unchanged no_run a k)
 not_accepted a k = λ e. absurd (let z : ◌≡◌ {A = ℕ} 0 1 = cc in omega arith)
 
 pub begin_cleared : (z : Sizes) (start : List Float) (max : Scalar) (a : List Float) → Accepted (begin_of z start max a)
@@ -225,11 +227,11 @@ pub begin_cleared : (z : Sizes) (start : List Float) (max : Scalar) (a : List Fl
 unfolding begin_of
 begin_cleared z start max a =
     let full = eqb (length start) (2 * z.n) in
-    checked Begun (sizes_fit z) 1 (unchanged no_run a) _ (not_accepted a 1)
+    checked Begun (sizes_fit z) TooMany (unchanged no_run a) _ (not_accepted a TooMany)
     (λ p.
-    checked Begun (full && eqb (length a) (area_length z)) 2 (unchanged no_run a) _ (not_accepted a 2)
+    checked Begun (full && eqb (length a) (area_length z)) WrongLength (unchanged no_run a) _ (not_accepted a WrongLength)
     (λ q.
-    checked Begun (all_in_domain start z.n && step_fits max) 3 (unchanged no_run a) _ (not_accepted a 3)
+    checked Begun (all_in_domain start z.n && step_fits max) OutsideDomain (unchanged no_run a) _ (not_accepted a OutsideDomain)
     (λ r e.
     area_cleared (begun_of z start max).state (begun_memory start) (begun_limits z start max (size_bounds z p))
     (begun_lengths z start max (eqb-true _ _ (and_left full (eqb (length a) (area_length z)) q))))))
@@ -241,11 +243,11 @@ begin_unchanged :
     refused_by_check b.event ≡ true → b.area ≡ a
 unfolding begin_of
 begin_unchanged z start max a =
-    checked Same (sizes_fit z) 1 (unchanged no_run a) _ (λ e. refl)
+    checked Same (sizes_fit z) TooMany (unchanged no_run a) _ (λ e. refl)
     (λ p.
-    checked Same (eqb (length start) (2 * z.n) && eqb (length a) (area_length z)) 2 (unchanged no_run a) _ (λ e. refl)
+    checked Same (eqb (length start) (2 * z.n) && eqb (length a) (area_length z)) WrongLength (unchanged no_run a) _ (λ e. refl)
     (λ q.
-    checked Same (all_in_domain start z.n && step_fits max) 3 (unchanged no_run a) _ (λ e. refl)
+    checked Same (all_in_domain start z.n && step_fits max) OutsideDomain (unchanged no_run a) _ (λ e. refl)
     (λ r e. absurd (true≢false (sym e)))))
   where
     Same : AfterCall → Type 0

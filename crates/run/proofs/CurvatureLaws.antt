@@ -1,4 +1,5 @@
 -- The steps of the curvature's update, from what each call gives.
+use Rattle.std.specs.Prelude.{Err, Ok, Result}
 use Prim.Native.Nat.{ℕ, ◌*◌, ◌≤◌, ◌+◌}
 use mathlib.Core.Bool.{Bool, true, false}
 use mathlib.Core.List.{List}
@@ -18,8 +19,6 @@ use Rattle.linear.specs.Flat.{at, along, zeros, list_to}
 use Rattle.linear.specs.Replies.{replied}
 use Rattle.linear.specs.Results.{bind}
 use Rattle.linear.specs.Solved.{minus_solved_of}
-use Rattle.linear.specs.declared.results.Done.{Done}
-use Rattle.linear.specs.declared.results.Done.TheVariants as done
 use Rattle.linear.specs.declared.results.LinearError.{LinearError}
 use Rattle.linear.proofs.Agree.{dot_to-ext}
 use Rattle.linear.proofs.Lists.{length-list_to}
@@ -54,7 +53,8 @@ module _ (c : RowCounts) (xs v jc rhs out : List Float) (f : FewRows c) (hv : 2 
 
   -- jc' and rhs' are the fronts of the arrays that were written
   pub along_is :
-      (jc₀ rhs₀ : List Float) {jc' rhs' : List Float} {set : RowSet} (r : Done) (x : List Float) →
+      (jc₀ rhs₀ : List Float) {jc' rhs' : List Float} {set : RowSet} (r : Result (Unit {0}) LinearError)
+      (x : List Float) →
       length out ≡ 2 * c.n → length jc₀ ≡ 2 * (c.m * c.n) → length rhs₀ ≡ 2 * c.m →
       jc' ≡ jc → rhs' ≡ rhs → set ≡ constraint_set c →
       jc ≡ chosen_of jc₀ xs set.slopes (set.count * set.n) →
@@ -76,14 +76,16 @@ module _ (c : RowCounts) (xs v jc rhs out : List Float) (f : FewRows c) (hv : 2 
 
 -- a refusal handed on, whatever the slices hold
 pub handed_on :
-    {r : Done} {k : LinearError} (x y : List Float) {s : Res (List Float)} (f : List Float → Res (List Float)) →
-    r ≡ done.Refused k → done_of r x ≡ s → done_of r y ≡ bind s f
+    {r : Result (Unit {0}) LinearError} {k : LinearError} (x y : List Float) {s : Res (List Float)}
+    (f : List Float → Res (List Float)) →
+    r ≡ Err k → done_of r x ≡ s → done_of (Err k) y ≡ bind s f
 unfolding bind
 handed_on x y f h e = rw (← e, h)
 
 -- what follows a call that ended well; x' is the front of the array that it wrote
 pub went_on :
-    {r : Done} {x x' : List Float} {s y : Res (List Float)} (f : List Float → Res (List Float)) → r ≡ done.Finished →
+    {r : Result (Unit {0}) LinearError} {x x' : List Float} {s y : Res (List Float)}
+    (f : List Float → Res (List Float)) → r ≡ Ok tt →
     done_of r x ≡ s → x' ≡ x → y ≡ f x' → y ≡ bind s f
 unfolding bind
 went_on f h e k ey = rw (← e, h, ← k) ey
@@ -137,7 +139,8 @@ module _ (n : ℕ) (c : Rows) (b y s : List Float) {bs₀ bs : List Float} {p q 
   asked = rw (et, ed, ep, eq, bent_is n b s e₀ eb)
 
   pub updates :
-      {r : Res (List Float)} → t ≡ true → r ≡ bind (along_of c y) (λ z. corrected_by n b z bs s) → r ≡ updated_by n c b y s
+      {r : Res (List Float)} → t ≡ true → r ≡ bind (along_of c y) (λ z. corrected_by n b z bs s) →
+      r ≡ updated_by n c b y s
   updates h e = e ∙ (rw h at asked)
 
   pub leaves : t ≡ false → ok b ≡ updated_by n c b y s

@@ -1,5 +1,6 @@
 -- A search from a positive damping never uses up what `search_to` allows, and a new iteration's damping is positive
 -- again.
+use Rattle.std.specs.Prelude.{Some}
 use Prim.Native.Nat.{ℕ, zero, suc, ◌+◌, ◌≤◌}
 use mathlib.Core.Bool.{Bool, true, false}
 use mathlib.Core.Path.{◌≡◌, refl, sym, ◌∙◌}
@@ -39,8 +40,8 @@ module _ (S : Standing) (max : Scalar) where
     damped_same radius r = go (is_finite (quadrupled x.mu)) refl
       where
         go : (b : Bool) → is_finite (quadrupled x.mu) ≡ b →
-            pick b (on (grown_for x radius r)) (stops (grown_for x radius r) (stop.Damped r))
-            ≡ pick b (on' (grown_for x radius r)) (stops (grown_for x radius r) (stop.Damped r))
+            pick b (on (grown_for x radius r)) (stops (grown_for x radius r) (stop.Damped (Some r)))
+            ≡ pick b (on' (grown_for x radius r)) (stops (grown_for x radius r) (stop.Damped (Some r)))
         go true e = same (grown_for x radius r) (growth_more w e)
         go false e = refl
 

@@ -1,4 +1,5 @@
 -- One factor of the constraints' products for both parts along them that an update of the curvature asks for.
+use Rattle.std.specs.Prelude.{Err, Ok, Result}
 use Prim.Native.Nat.{ℕ, ◌+◌, ◌*◌, ◌≤◌}
 use mathlib.Core.Bool.{Bool}
 use mathlib.Core.List.{List}
@@ -18,8 +19,6 @@ use Rattle.linear.specs.Flat.{at, along, zeros, list_to}
 use Rattle.linear.specs.Replies.{replied}
 use Rattle.linear.specs.Results.{bind}
 use Rattle.linear.specs.Solved.{gram_factor_of, minus_factored_of}
-use Rattle.linear.specs.declared.results.Done.{Done}
-use Rattle.linear.specs.declared.results.Done.TheVariants as done
 use Rattle.linear.specs.declared.results.LinearError.{LinearError}
 use Rattle.linear.proofs.Lists.{length-list_to}
 use Rattle.linear.proofs.Replied.{done_is, replied_apart}
@@ -35,7 +34,8 @@ use Rattle.run.proofs.CurvatureLaws.{along_lists}
 use Rattle.run.proofs.VectorLaws.{fill_whole}
 
 -- the calls, with counts up to 24 and slices of the right lengths
-module _ (r : Done) (m n : ℕ) (hm : m ≤ 24) (hn : n ≤ 24) (jc : List Float) (lj : length jc ≡ 2 * (m * n)) where
+module _ (r : Result (Unit {0}) LinearError) (m n : ℕ) (hm : m ≤ 24) (hn : n ≤ 24) (jc : List Float)
+    (lj : length jc ≡ 2 * (m * n)) where
   factor_result : (g : List Float) (f x : Factor) {g' : List Float} →
       length g ≡ 2 * (m * m) → length f.l ≡ 2 * (m * m) → length f.left_out ≡ m →
       replied r (g', x) ≡ gram_factor_reply m n jc g f → done_of r x ≡ gram_factor_of m n jc
@@ -65,7 +65,8 @@ module _ (r : Done) (m n : ℕ) (hm : m ≤ 24) (hn : n ≤ 24) (jc : List Float
 module _ (c : RowCounts) (xs : List Float) (few : FewRows c) where
   -- a part along the constraints by the factor; rhs' is the front of the array that was written
   pub along_by : (v jc rhs out : List Float) (f : Factor) → 2 * c.n ≤ length v →
-      Factored (constraints_of c xs) jc f → (rhs₀ : List Float) {rhs' : List Float} (r : Done) (x : List Float) →
+      Factored (constraints_of c xs) jc f → (rhs₀ : List Float) {rhs' : List Float}
+      (r : Result (Unit {0}) LinearError) (x : List Float) →
       length out ≡ 2 * c.n → length rhs₀ ≡ 2 * c.m → rhs' ≡ rhs →
       rhs ≡ fill_to rhs₀ 0 (λ i. dot_to (along jc (i * c.n) 1) (at v) c.n) c.m →
       replied r x ≡ minus_factored_reply c.m c.n jc f rhs' (take (2 * c.n) v) out →
@@ -83,7 +84,8 @@ module _ (c : RowCounts) (xs : List Float) (few : FewRows c) where
       ∙ along_lists c xs v jc rhs out few hv F.slopes wr
 
   -- jc' and jc'' are the front of the array that was written, l' and left' those of the factor's
-  module _ (g : List Float) (f₀ f : Factor) (jc₀ : List Float) (r : Done) {g' jc jc' : List Float} {set : RowSet}
+  module _ (g : List Float) (f₀ f : Factor) (jc₀ : List Float) (r : Result (Unit {0}) LinearError)
+      {g' jc jc' : List Float} {set : RowSet}
       (lj : length jc₀ ≡ 2 * (c.m * c.n)) (lg : length g ≡ 2 * (c.m * c.m))
       (ll : length f₀.l ≡ 2 * (c.m * c.m)) (lf : length f₀.left_out ≡ c.m)
       (es : set ≡ constraint_set c) (ej : jc ≡ chosen_of jc₀ xs set.slopes (set.count * set.n))
@@ -99,15 +101,21 @@ module _ (c : RowCounts) (xs : List Float) (few : FewRows c) where
 
     pub factored : {jc'' l' : List Float} {left' : List Bool} →
         length f.l ≡ 2 * (c.m * c.m) → length f.left_out ≡ c.m →
-        r ≡ done.Finished → jc'' ≡ jc → l' ≡ f.l → left' ≡ f.left_out →
+        r ≡ Ok tt → jc'' ≡ jc → l' ≡ f.l → left' ≡ f.left_out →
         Factored (constraints_of c xs) jc'' (factor_of l' left')
     factored kl kf h ej'' el ef =
         rw (ej'', el, ef)
-        (record { slopes = written; factor = sym ended ∙ ap (λ (z : Done). done_of z f) h; entries = kl; marks = kf })
+        (record {
+          slopes = written;
+          factor = sym ended ∙ ap (λ (z : Result (Unit {0}) LinearError). done_of z f) h;
+          entries = kl;
+          marks = kf;
+        })
 
-    pub unfactored : (b step lambda x : List Float) (e' : Evaluation) {k : LinearError} → r ≡ done.Refused k →
+    pub unfactored : (b step lambda x : List Float) (e' : Evaluation) {k : LinearError} → r ≡ Err k →
         done_of r x ≡ update_curvature c.n b step (evaluation_of c xs) e' lambda
     unfolding update_curvature along_of bind
     unfactored b step lambda x e' {k} h =
-        let q : gram_factor_of c.m c.n jc ≡ refused (number_of k) = sym ended ∙ ap (λ (z : Done). done_of z f) h in
+        let q : gram_factor_of c.m c.n jc ≡ refused (number_of k) =
+        sym ended ∙ ap (λ (z : Result (Unit {0}) LinearError). done_of z f) h in
         rw (h, ← written, solved_refused c.m c.n jc _ _ _ q)

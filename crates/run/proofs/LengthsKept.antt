@@ -38,6 +38,7 @@ use Rattle.run.specs.Limits.{VARIABLES, CONSTRAINTS, CORRECTIONS, DAMPINGS}
 use Rattle.run.specs.Proposal as proposal
 use Rattle.run.specs.Proposal.{Standing, Proposal, no_drop, unresolved, no_change, ask, proposal_of}
 use Rattle.run.specs.Radius.{radius_after}
+use Rattle.run.specs.Refusal.{number_of, refusal_at}
 use Rattle.run.specs.Residuals.{sum_squared, violation_of, moving_of}
 use Rattle.run.specs.Rows.{row_numbers, row_counts}
 use Rattle.run.specs.Search.{Found, asks, stops, refuses, follow, search_to, search_of}
@@ -61,6 +62,15 @@ use Rattle.run.proofs.RefusalLaws.{Yields, gives, given, Long, TrialSized, Propo
 use Rattle.run.proofs.RefusalLaws.{violation_yields, proposal_yields, judge_yields, linear_yields, shift_yields}
 use Rattle.run.proofs.RefusalLaws.{shifted_yields, curvature_yields}
 use Rattle.run.proofs.VectorLaws.{length-fill_to}
+
+-- the refusal of an arithmetic number has that number
+pub arithmetic_number : (k : ℕ) → T (eqb k 5 || eqb k 6) → number_of (refusal_at k) ≡ k
+arithmetic_number k h = by (eqb k 5) (eqb k 6) refl refl h
+  where
+    by : (a b : Bool) → eqb k 5 ≡ a → eqb k 6 ≡ b → T (a || b) → number_of (refusal_at k) ≡ k
+    by true b p q t = rw (eqb-true k 5 p) refl
+    by false true p q t = rw (eqb-true k 6 q) refl
+    by false false p q t = elim t [ ]
 
 -- what a run of these sizes, with the question of that number open, is left as
 pub record Kept (z : Sizes) (question : ℕ) (o : AfterSlots) : Type 0 where
@@ -146,10 +156,13 @@ module _ (st : State) (w : Memory) (m : st.counts.iterations ≤ st.sizes.limit)
         few_held = none_held;
         lengths = alone;
         within = m;
-        past_checks = lt-leb k 4 (above (eqb k 5) (eqb k 6) refl refl h);
-        follows = (h, refl);
+        past_checks = rw numbered (lt-leb k 4 (above (eqb k 5) (eqb k 6) refl refl h));
+        follows = (rw numbered h, refl);
       }
     where
+      numbered : number_of (refusal_at k) ≡ k
+      numbered = arithmetic_number k h
+
       above : (a b : Bool) → eqb k 5 ≡ a → eqb k 6 ≡ b → T (a || b) → 4 < k
       above true b p q h = omega (arith, eqb-true k 5 p)
       above false true p q h = omega (arith, eqb-true k 6 q)

@@ -1,5 +1,7 @@
 -- Calls of linear with counts up to 24 and slices of the right lengths: the checks pass, so how a call ended, with what
 -- it wrote, is the result.
+use Rattle.std.specs.Prelude.{Result, Err}
+use Rattle.linear.specs.declared.results.LinearError.{LinearError}
 use Prim.Native.Nat.{ℕ, ◌*◌, ◌≤◌}
 use mathlib.Core.Bool.{Bool}
 use mathlib.Core.Path.{◌≡◌, ap}
@@ -8,7 +10,7 @@ use borrow.Author.Tests.{le-leb, eq-eqb}
 use lib.Ieee.{Float}
 use lib.ListN.{length}
 use Rattle.interval.specs.Result.{ok}
-use Rattle.linear.specs.declared.results.Done.{Done}
+use Rattle.interval.proofs.Results.{refused_ok}
 use Rattle.linear.specs.LinearResult.{done_of}
 use Rattle.linear.specs.Flat.{zeros}
 use Rattle.linear.specs.Replies.{Reply, replied, reply_of}
@@ -20,8 +22,7 @@ use Rattle.linear.specs.Choose.{sharp_of}
 use Rattle.linear.specs.Calls.{blank, sharp_reply, cholesky_reply, solve_reply, least_squares_reply, minus_solved_reply}
 use Rattle.linear.proofs.Replied.{done_is}
 
-module _ (r : Done) where
-  -- `sharp` never refuses
+module _ (r : Result (Unit {0}) LinearError) where
   pub sharp_written : (n : ℕ) (v out x : List Float) → n ≤ 24 → length v ≡ 2 * n → length out ≡ 2 * n
       → replied r x ≡ sharp_reply n v out → x ≡ sharp_of v n
   unfolding sharp_reply
@@ -29,6 +30,15 @@ module _ (r : Done) where
       let w : replied r x ≡ reply_of (zeros (2 * n)) (ok (sharp_of v n)) =
       rw (le-leb _ _ h, eq-eqb _ _ p, eq-eqb _ _ q) at e in
       ap (λ (y : Reply (List Float)). y.out) w
+
+  -- `sharp` never refuses
+  pub sharp_passes : (n : ℕ) (v out x : List Float) → n ≤ 24 → length v ≡ 2 * n → length out ≡ 2 * n
+      → replied r x ≡ sharp_reply n v out → {k : LinearError} → r ≡ Err k → ⊥
+  unfolding sharp_reply
+  sharp_passes n v out x h p q e k =
+      let w : replied r x ≡ reply_of (zeros (2 * n)) (ok (sharp_of v n)) =
+      rw (le-leb _ _ h, eq-eqb _ _ p, eq-eqb _ _ q) at e in
+      refused_ok (rw k at (ap (λ (y : Reply (List Float)). y.ended) w))
 
   pub cholesky_result : (n : ℕ) (a : List Float) (f x : Factor) → n ≤ 24 → length a ≡ 2 * (n * n)
       → length f.l ≡ 2 * (n * n) → length f.left_out ≡ n → replied r x ≡ cholesky_reply n a f

@@ -1,5 +1,6 @@
 -- What a call reads has its whole length: between two calls the lengths of the memory are those in use by the phase, so
 -- each slot's is all that it can have where the phase has it in use, and at most that in any phase.
+use Rattle.std.specs.Prelude.{Option, Some}
 use Prim.Native.Nat.{ℕ, ◌≤◌}
 use mathlib.Core.Bool.{Bool, true, false}
 use mathlib.Core.Path.{◌≡◌, ap, ◌∙◌}
@@ -9,13 +10,11 @@ use Rattle.interval.specs.Scalar.{pick}
 use Rattle.run.specs.Area.{Slots, Memory, each_slot, in_use, is_open, is_tried, is_corrected, numbers_in, used_in}
 use Rattle.run.specs.declared.state.Kind.{Kind}
 use Rattle.run.specs.declared.state.Kind.TheVariants as kind
-use Rattle.run.specs.declared.state.Phase.{Phase}
-use Rattle.run.specs.declared.state.Phase.TheVariants.{Open}
 use Rattle.run.specs.declared.state.State.{State}
 use Rattle.run.specs.program.Area.{AtMost, lengths_of, StandingWhole, TrialWhole, LandedWhole}
 
 -- of so many numbers those in use in a phase
-abbrev pub used_by : Phase → Slots ℕ → Slots ℕ
+abbrev pub used_by : Option Kind → Slots ℕ → Slots ℕ
 used_by p most = each_slot (λ (used : Bool) (count : ℕ). pick used count 0) (in_use p) most
 
 -- what an answer to a question of this kind reads, each of its whole length
@@ -40,10 +39,10 @@ Read kind.Correction used w = AllRead used w
 -- ---- in one phase
 
 module _ {used : Slots ℕ} {w : Memory} where
-  by_start : lengths_of w ≡ used_by (Open kind.Start) used → StartRead used w
+  by_start : lengths_of w ≡ used_by (Some kind.Start) used → StartRead used w
   by_start e = record { standing = ap (λ (x : Slots ℕ). x.standing) e; asked = ap (λ (x : Slots ℕ). x.asked) e }
 
-  by_trial : lengths_of w ≡ used_by (Open kind.Trial) used → TrialRead used w
+  by_trial : lengths_of w ≡ used_by (Some kind.Trial) used → TrialRead used w
   by_trial e =
       record {
         standing_whole = record {
@@ -59,7 +58,7 @@ module _ {used : Slots ℕ} {w : Memory} where
         };
       }
 
-  by_correction : lengths_of w ≡ used_by (Open kind.Correction) used → AllRead used w
+  by_correction : lengths_of w ≡ used_by (Some kind.Correction) used → AllRead used w
   by_correction e =
       record {
         standing_whole = record {
@@ -105,20 +104,20 @@ module _ (st : State) (w : Memory) (e : lengths_of w ≡ used_in st) where
         filter = at_most (is_tried p) (ap (λ (x : Slots ℕ). x.filter) e);
       }
 
-  in-phase : {p : Phase} → st.phase ≡ p → lengths_of w ≡ used_by p (numbers_in st)
-  in-phase o = e ∙ ap (λ (p : Phase). used_by p (numbers_in st)) o
+  in-phase : {p : Option Kind} → st.phase ≡ p → lengths_of w ≡ used_by p (numbers_in st)
+  in-phase o = e ∙ ap (λ (p : Option Kind). used_by p (numbers_in st)) o
 
   -- while a question is open
-  pub start_read : st.phase ≡ Open kind.Start → StartRead (numbers_in st) w
+  pub start_read : st.phase ≡ Some kind.Start → StartRead (numbers_in st) w
   start_read o = by_start (in-phase o)
 
-  pub trial_read : st.phase ≡ Open kind.Trial → TrialRead (numbers_in st) w
+  pub trial_read : st.phase ≡ Some kind.Trial → TrialRead (numbers_in st) w
   trial_read o = by_trial (in-phase o)
 
-  pub correction_read : st.phase ≡ Open kind.Correction → AllRead (numbers_in st) w
+  pub correction_read : st.phase ≡ Some kind.Correction → AllRead (numbers_in st) w
   correction_read o = by_correction (in-phase o)
 
-  pub whole_read : (k : Kind) → st.phase ≡ Open k → Read k (numbers_in st) w
+  pub whole_read : (k : Kind) → st.phase ≡ Some k → Read k (numbers_in st) w
   whole_read kind.Start o = start_read o
   whole_read kind.Trial o = trial_read o
   whole_read kind.Correction o = correction_read o

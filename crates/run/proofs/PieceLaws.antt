@@ -1,31 +1,26 @@
 -- Checks one after the other: what those that passed say, and what a call gives then.
-use Prim.Native.Nat.{ℕ, ◌+◌, ◌*◌, ◌<◌, ◌≤◌}
+use Rattle.std.specs.Prelude.{Ok, Result}
+use Rattle.linear.specs.declared.results.LinearError.{LinearError}
+use Prim.Native.Nat.{ℕ, ◌+◌, ◌*◌, ◌≤◌}
 use mathlib.Core.Bool.{Bool, true, false, ◌&&◌}
-use mathlib.Core.Logic.{⊎_elim, ◌≢◌}
 use mathlib.Core.Path.{◌≡◌, refl, sym, ◌∙◌}
-use mathlib.Core.List.{List, [], ◌∷◌}
-use native.Mathlib.Nat.{mul-le-mul, not-suc-le-zero, eq-or-lt_of_le}
+use mathlib.Core.List.{List}
+use native.Mathlib.Nat.{mul-le-mul}
 use native.Mathlib.Omega.{arith}
 use borrow.Author.Tests.{leb-true, eqb-true}
 use lib.Dec.{leb, eqb}
 use lib.Ieee.{Float}
-use lib.ListN.{length, get_or, set}
-use lib.Seq.{get_or-set_same, get_or-set_other, ext_get_or}
+use lib.ListN.{length}
 use Rattle.interval.specs.Result.{Res, ok, refused}
 use Rattle.interval.proofs.Results.{refused_ok}
 use Rattle.linear.specs.LinearResult.{done_of}
 use Rattle.linear.specs.Replies.{checked_value}
 use Rattle.linear.specs.Results.{bind}
-use Rattle.linear.specs.declared.results.Done.{Done}
-use Rattle.linear.specs.declared.results.Done.TheVariants as done
 use Rattle.run.specs.Rows.{row_numbers}
 use Rattle.run.specs.Checks.{sizes_fit}
-use Rattle.run.specs.Pieces.{sized_of, next_counts, both_sized, wants_of, step_replied, step_reply_of}
+use Rattle.run.specs.Pieces.{sized_of, next_counts, both_sized, wants_of}
 use Rattle.run.specs.program.Rows.{FewRows}
-use Rattle.run.specs.program.Step.{end_of}
 use Rattle.run.specs.declared.rows.RowCounts.{RowCounts}
-use Rattle.run.specs.declared.step.StepEnd.{StepEnd}
-use Rattle.run.specs.declared.step.StepEnd.TheVariants as s
 use Rattle.run.proofs.Booleans.{never}
 
 -- the scalars of an answer
@@ -113,7 +108,7 @@ fits_ok e =
     record { sized = sized_ok q.0; first = q.1; second = p.1 }
 
 -- the same of a check's answer x
-pub finished : {r : Done} → r ≡ done.Finished → done_of r (tt {0}) ≡ ok (tt {0})
+pub finished : {r : Result (Unit {0}) LinearError} → r ≡ (Ok _) → done_of r (tt {0}) ≡ ok (tt {0})
 finished e = rw e
 
 module _ {x : Res (Unit {0})} where
@@ -133,29 +128,3 @@ module _ {x : Res (Unit {0})} where
       {c : RowCounts} {count a wanted b wanted' : ℕ} →
       x ≡ ok tt → x ≡ wants_of (wants_of (sized_of c count) a wanted) b wanted' → Fitting c count a wanted b wanted'
   fits_passed h e = fits_ok (sym e ∙ h)
-
--- an end that is not the first variant: no step, so both slices are as cleared
-pub not_found :
-    (end : StepEnd) (delta lambda x y : List Float) → ((r : ℕ) → end ≢ s.Found r) →
-    step_replied end x y ≡ step_reply_of x y (end_of end delta lambda)
-not_found (s.Found r) delta lambda x y k = absurd (k r refl)
-not_found s.NotPositive delta lambda x y k = refl
-not_found (s.Refused e) delta lambda x y k = refl
-
--- a loop that copies marks
-abbrev pub Copied : List Bool → ℕ → List Bool → Type 0
-Copied from j to = (i : ℕ) → i < j → get_or to i false ≡ get_or from i false
-
-module _ (from to : List Bool) where
-  pub copied_none : Copied from 0 to
-  copied_none i h = absurd (not-suc-le-zero h)
-
-  pub copied_more : {j : ℕ} → j < length to → Copied from j to → Copied from (j + 1) (set to j (get_or from j false))
-  copied_more {j} l p i h =
-      ⊎_elim
-      (λ q. rw q (get_or-set_same to j (get_or from j false) false l))
-      (λ k. get_or-set_other to j i (get_or from j false) false (λ q. omega arith) ∙ p i k)
-      (eq-or-lt_of_le (omega arith))
-
-  pub copied_all : {j : ℕ} → length to ≡ length from → length to ≤ j → Copied from j to → to ≡ from
-  copied_all e l p = ext_get_or false to from e (λ i h. p i (omega arith))

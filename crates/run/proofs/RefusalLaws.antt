@@ -1,5 +1,6 @@
 -- What may be refused is refused with 5 or 6, down to the root and the division; and the lists that a step and a
 -- correction give are vectors, and an update of the curvature keeps its length.
+use Rattle.std.specs.Prelude.{Option}
 use Prim.Native.Nat.{ℕ, zero, suc, ◌+◌, ◌-◌, ◌*◌, min}
 use mathlib.Core.Bool.{Bool, true, false, not, ◌&&◌, ◌||◌}
 use mathlib.Core.Path.{◌≡◌, refl, subst, ◌∙◌}
@@ -45,7 +46,6 @@ use Rattle.run.specs.Corrected.{Shift, to, stay, shift_of, shift_from}
 use Rattle.run.specs.Area.{Memory}
 use Rattle.run.specs.Area.{landed_at}
 use Rattle.run.specs.Decide.{linear_of}
-use Rattle.run.specs.declared.state.Last.{Last}
 use Rattle.run.specs.declared.state.State.{State}
 use Rattle.run.proofs.PointLaws.{length_moved}
 use Rattle.run.proofs.VectorLaws.{length-fill_to}
@@ -374,7 +374,7 @@ proposal_yields S mu radius = yields_bind (step_yields S.n S.e S.b S.moving mu) 
 
 -- ---- what follows an answer
 
-pub judge_yields : (n : ℕ) (e e' : Evaluation) (theta : Scalar) (filter : List Float) (count : ℕ) (last : Last)
+pub judge_yields : (n : ℕ) (e e' : Evaluation) (theta : Scalar) (filter : List Float) (count : ℕ) (last : Option Scalar)
     (step : List Float) → Yields Any (judge_of n e e' theta filter count last step)
 unfolding judge_of
 judge_yields n e e' theta filter count last step =

@@ -1,5 +1,6 @@
 -- A reply from its parts: what the program leaves as the definition's record, and the bounds that an accepted reply may
 -- rely on.
+use Rattle.std.specs.Prelude.{Some}
 use mathlib.Core.Bool.{true}
 use mathlib.Core.List.{List}
 use mathlib.Core.Path.{◌≡◌, sym, ap, ◌∙◌}
@@ -11,15 +12,14 @@ use Rattle.run.specs.Checks.{valid, phase_fits}
 use Rattle.run.specs.Calls.{after_call, in_area}
 use Rattle.run.specs.declared.state.Kind.{Kind}
 use Rattle.run.specs.declared.state.Returned.{Returned}
-use Rattle.run.specs.declared.state.Phase.TheVariants.{Open}
 use Rattle.run.specs.declared.state.State.{State}
 use Rattle.run.proofs.CheckLaws.{bounds, open_mu}
 
 pub leaves_left : (o : AfterSlots) (r : Returned) (a : List Float) → Leaves o r a → after_call r a ≡ in_area o
 leaves_left o r a h = rw (h.state_is, h.event_is, h.held.is)
 
-module _ (st : State) (k : Kind) (v : valid st ≡ true) (p : st.phase ≡ Open k) where
-  pub reply_phase : phase_fits st (Open k) ≡ true
+module _ (st : State) (k : Kind) (v : valid st ≡ true) (p : st.phase ≡ Some k) where
+  pub reply_phase : phase_fits st (Some k) ≡ true
   reply_phase = ap (phase_fits st) (sym p) ∙ (bounds st v).phase
 
   pub reply_bounded : Bounded 1073741824 st

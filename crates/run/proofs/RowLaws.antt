@@ -2,16 +2,14 @@
 -- its variable, and the moving marks one by one.
 use Prim.Native.Nat.{ℕ, ◌+◌, ◌*◌, ◌/◌, ◌%◌, ◌<◌, ◌≤◌}
 use mathlib.Core.Bool.{Bool, true, false}
-use mathlib.Core.Logic.{⊎_elim}
-use mathlib.Core.Path.{◌≡◌, refl, ap, ◌∙◌}
+use mathlib.Core.Path.{◌≡◌, refl, ap}
 use mathlib.Core.List.{List, []}
-use native.Mathlib.Nat.{mul-le-mul, le_of_lt, not-suc-le-zero, eq-or-lt_of_le, div-add-mod'}
+use native.Mathlib.Nat.{mul-le-mul, div-add-mod'}
 use native.Mathlib.Omega.{arith}
 use borrow.Author.Tests.{ltb-true, ltb-false}
 use lib.Dec.{ltb}
 use lib.Ieee.{Float}
-use lib.ListN.{length, get_or, set, replicate, length-set, get_or-replicate}
-use lib.Seq.{get_or-set_same, get_or-set_other}
+use lib.ListN.{length, get_or}
 use Rattle.interval.specs.Scalar.{pick}
 use Rattle.linear.specs.Cholesky.{marks_to}
 use Rattle.linear.specs.Flat.{at}
@@ -24,6 +22,13 @@ use Rattle.run.specs.declared.rows.RowSet.{RowSet}
 -- products of counts
 pub few : {m n : ℕ} → m ≤ 12 → n ≤ 12 → m * n ≤ 144
 few h k = mul-le-mul h k
+
+-- the parts of the arrays that are used lie within them
+pub room : {m n : ℕ} → m ≤ 12 → n ≤ 12 → 2 * (m * n) ≤ 288
+room h k = omega (arith, few h k)
+
+pub short : {n : ℕ} → n ≤ 12 → 2 * n ≤ 24
+short h = omega (arith, h)
 
 pub few_rows : {m n : ℕ} → m ≤ 12 → n ≤ 12 → m * (n + 1) ≤ 156
 few_rows {m} {n} h k = mul-le-mul {n₁ = m} {m₁ = n + 1} {n₂ = 12} {m₂ = 13} h (omega arith)
@@ -64,10 +69,6 @@ first_small k {e} {f} h s =
     fewer true l = omega (arith, ltb-true k e.count l, s.few_rows)
     fewer false l = s.few_rows
 
--- the start of row i
-pub row_near : {i n : ℕ} → i < 65536 → n ≤ 12 → i * n ≤ 786432
-row_near hi hn = mul-le-mul (le_of_lt hi) hn
-
 -- a slope by its place among all
 pub slope_among : (e : Rows) (p : ℕ) → slope_at e (p / e.n) (p % e.n) ≡ at e.list (e.slopes + p)
 slope_among e p =
@@ -80,22 +81,6 @@ pub record Marked (g : ℕ → Bool) (j : ℕ) (xs : List Bool) : Type 0 where
   pub clear : (i : ℕ) → j ≤ i → i < 12 → get_or xs i false ≡ false
 
 module _ (g : ℕ → Bool) where
-  pub marked_none : Marked g 0 (replicate 12 false)
-  marked_none =
-      record { long = refl; so = λ i h. absurd (not-suc-le-zero h); clear = λ i l h. get_or-replicate 12 i false false h }
-
-  pub marked_more : {j : ℕ} {xs : List Bool} {v : Bool} → j < 12 → Marked g j xs → v ≡ g j
-      → Marked g (j + 1) (set xs j v)
-  marked_more {j} {xs} {v} l m e = record {
-    long = length-set xs j v ∙ m.long;
-    so = λ i h.
-        ⊎_elim
-        (λ q. rw q (get_or-set_same xs j v false (omega (arith, m.long)) ∙ e))
-        (λ k. get_or-set_other xs j i v false (λ q. omega arith) ∙ m.so i k)
-        (eq-or-lt_of_le (omega arith));
-    clear = λ i k h. get_or-set_other xs j i v false (λ q. omega arith) ∙ m.clear i (omega arith) h;
-  }
-
   pub marked_all : (n : ℕ) (xs : List Bool) → Marked g n xs → xs ≡ marks_to (λ j. pick (ltb j n) (g j) false) 12
   marked_all n xs m = is-marks_to (λ j. pick (ltb j n) (g j) false) 12 xs m.long (λ i h. picked i h (ltb i n) refl)
     where

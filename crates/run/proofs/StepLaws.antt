@@ -1,5 +1,6 @@
 -- The step, put together from its parts: along what is left free, with its multipliers, over the kept variables, and
 -- over all.
+use Rattle.std.specs.Prelude.{Err, None, Ok, Option, Result, Some}
 use Prim.Native.Nat.{ℕ, ◌+◌, ◌*◌, ◌-◌, ◌≤◌}
 use mathlib.Core.Bool.{Bool, true, false, ◌&&◌}
 use mathlib.Core.Path.{◌≡◌, refl, sym, ap, ap₂, ◌∙◌}
@@ -14,8 +15,6 @@ use Rattle.interval.specs.Scalar.{zero64, zero_s, pick, is_finite}
 use Rattle.linear.specs.Flat.{at, zeros}
 use Rattle.linear.specs.LinearResult.{number_of, done_of}
 use Rattle.linear.specs.Results.{bind}
-use Rattle.linear.specs.declared.results.Done.{Done}
-use Rattle.linear.specs.declared.results.Done.TheVariants as done
 use Rattle.linear.specs.declared.results.LinearError.{LinearError}
 use Rattle.linear.specs.Cholesky.{Factor, cholesky_of}
 use Rattle.run.specs.Vectors.{matrix, all_finite, spread_to}
@@ -24,20 +23,16 @@ use Rattle.run.specs.Problem.{Kept, kept_to, Problem, problem_of}
 use Rattle.run.specs.program.Problem.{kept_by, problem_in, damped_by, damped_from, gradient_in}
 use Rattle.run.specs.Basis.{Basis, basis_of, correction_of, multiplier_step, multipliers_of}
 use Rattle.run.specs.program.Basis.{basis_by, problem_by, ranked_of, bare, without_gram}
-use Rattle.run.specs.declared.results.CountResult.{CountResult}
-use Rattle.run.specs.declared.results.CountResult.TheVariants as count
-use Rattle.run.specs.declared.step.StepEnd.{StepEnd}
-use Rattle.run.specs.declared.step.StepEnd.TheVariants as end
 use Rattle.run.specs.declared.step.Prepared.{Prepared}
-use Rattle.run.specs.declared.step.Prepared.TheVariants as prepared
 use Rattle.run.specs.NullSpace.{Directions, directions_of}
 use Rattle.run.specs.program.NullSpace.{span_of, found_of}
 use Rattle.run.specs.Step.{Stepped, not_positive, stepped_by, along_z, free_step, kept_step, spread_step, step_of}
 use Rattle.run.specs.Reduced.{force_of, pull_of, reduced_of, against_of, Weights, weights, none, weights_of}
 use Rattle.run.specs.program.Reduced.{curved, spanned, solved_with, added_to, free_part}
-use Rattle.run.specs.program.Step.{with_multipliers, end_of, spread_end, basis_for, step_from_correction, step_from_basis}
-use Rattle.run.specs.program.Step.{tested_step, Few, ready_of, ready_step, step_from_factors, damped_step}
-use Rattle.run.specs.program.Step.{basis_with, directions_with, factors_in, prepared_step}
+use Rattle.run.specs.program.Step.{with_multipliers, end_of, spread_end, basis_for, step_from_correction}
+use Rattle.run.specs.program.Step.{step_from_basis}
+use Rattle.run.specs.program.Step.{tested_step, Few, ready_step, step_from_factors, damped_step}
+use Rattle.run.specs.program.Step.{factors_in, prepared_step}
 use Rattle.run.proofs.AreaLaws.{length_clear}
 use Rattle.run.proofs.BasisLaws.{basis_reads, take_replicate}
 use Rattle.run.proofs.NullSpaceLaws.{directions_few}
@@ -183,7 +178,7 @@ module _ (P : Problem) where
   each_based (ok b) = based_read b
   each_based (refused e) = refl
 
-  module _ (q coefficients dependent : List Float) (order : List ℕ) (x : CountResult)
+  module _ (q coefficients dependent : List Float) (order : List ℕ) (x : Result ℕ LinearError)
       (e
       : ranked_of x q [] coefficients dependent order
       ≡ without_gram (basis_of (problem_by P.k P.m (λ _. zero_s) P.wide P.jc))) where
@@ -196,19 +191,20 @@ module _ (P : Problem) where
         ∙ ap (λ z. bind z (λ b. step_from_basis P b)) (basis_reads P)
         ∙ sym kept_by_lem
 
-    pub kept_on : {r : ℕ} {y : Res Stepped} → x ≡ count.Value r
+    pub kept_on : {r : ℕ} {y : Res Stepped} → x ≡ Ok r
         → y ≡ step_from_basis plain (basis_by r q [] coefficients dependent order) → y ≡ kept_step P
     unfolding bind
     kept_on ex ey = kept_based (rw ex ey)
 
-    pub kept_refused : {o : LinearError} → x ≡ count.Refused o → refused (number_of o) ≡ kept_step P
+    pub kept_refused : {o : LinearError} → x ≡ Err o → refused (number_of o) ≡ kept_step P
     unfolding bind
     kept_refused ex = kept_based (rw ex)
 
 -- ---- what no damping changes
 
 -- a factors, as it is read
-framed_is : (x : Prepared) (P : Problem) (order : List ℕ) (factors q c delta z : List Float) → length q ≡ 288
+framed_is : (x : Result Prepared LinearError) (P : Problem) (order : List ℕ) (factors q c delta z : List Float)
+    → length q ≡ 288
     → length c ≡ 288 → length delta ≡ 24 → length z ≡ 288 → factors ≡ q ++ (c ++ (delta ++ z))
     → step_from_factors x P order factors ≡ ready_step x P q c order delta z
 framed_is x P order factors q c delta z lq lc ld lz e =
@@ -220,50 +216,41 @@ framed_is x P order factors q c delta z lq lc ld lz e =
     )
 
 -- the step from it, as the correction and the directions ended
-module _ (P : Problem) (b : Basis) (delta z : List Float) where
-  ready_is : (d : Done) (f : CountResult) → done_of d delta ≡ correction_of P b
-      → found_of f z ≡ span_of (directions_of P.k b.rank b.q)
-      → ready_step (ready_of d f b.rank) (curved P.k P.h P.g) b.q b.coefficients b.order delta z
-      ≡ step_from_basis P b
-  unfolding bind
-  ready_is done.Finished (count.Value free) ec ef = based_on P b ec (corrected-by P b delta ef)
-  ready_is done.Finished (count.Refused e) ec ef = based_on P b ec (corrected-by P b delta ef)
-  ready_is (done.Refused e) f ec ef = based_refused P b ec
+module _ (P : Problem) (b : Basis) (delta z : List Float) {d : Result (Unit {0}) LinearError}
+    (ec : done_of d delta ≡ correction_of P b) where
+  pub ready_uncorrected : {e : LinearError} → d ≡ Err e → refused (number_of e) ≡ step_from_basis P b
+  ready_uncorrected ed = based_refused P b (rw ed at ec)
 
-  pub ready_framed : {x : Prepared} (factors : List Float) (d : Done) (f : CountResult) → length b.q ≡ 288
-      → length b.coefficients ≡ 288 → length delta ≡ 24 → length z ≡ 288
-      → factors ≡ b.q ++ (b.coefficients ++ (delta ++ z))
-      → x ≡ ready_of d f b.rank → done_of d delta ≡ correction_of P b
-      → found_of f z ≡ span_of (directions_of P.k b.rank b.q)
-      → step_from_factors x (curved P.k P.h P.g) b.order factors ≡ step_from_basis P b
-  ready_framed {x} factors d f lq lc ld lz e ex ec ef =
-      framed_is x (curved P.k P.h P.g) b.order factors b.q b.coefficients delta z lq lc ld lz e
-      ∙ ap (λ (y : Prepared). ready_step y (curved P.k P.h P.g) b.q b.coefficients b.order delta z) ex
-      ∙ ready_is d f ec ef
+  module _ {f : Result ℕ LinearError} (ed : d ≡ Ok tt)
+      (ef : found_of f z ≡ span_of (directions_of P.k b.rank b.q)) where
+    pub ready_undirected : {e : LinearError} → f ≡ Err e → refused (number_of e) ≡ step_from_basis P b
+    unfolding bind
+    ready_undirected e = based_on P b (rw ed at ec) (corrected-by P b delta (rw e at ef))
+
+    ready_is : {free : ℕ} → f ≡ Ok free
+        → ready_step (Ok (record { independent = b.rank; free = free })) (curved P.k P.h P.g) b.q b.coefficients b.order
+        delta z ≡ step_from_basis P b
+    unfolding bind
+    ready_is e = based_on P b (rw ed at ec) (corrected-by P b delta (rw e at ef))
+
+    pub ready_framed : {free : ℕ} (factors : List Float) → f ≡ Ok free → length b.q ≡ 288
+        → length b.coefficients ≡ 288 → length delta ≡ 24 → length z ≡ 288
+        → factors ≡ b.q ++ (b.coefficients ++ (delta ++ z))
+        → step_from_factors (Ok (record { independent = b.rank; free = free })) (curved P.k P.h P.g) b.order factors
+        ≡ step_from_basis P b
+    ready_framed {free} factors e lq lc ld lz ef =
+        framed_is (Ok (record { independent = b.rank; free = free })) (curved P.k P.h P.g) b.order factors b.q
+        b.coefficients delta z lq lc ld lz ef
+        ∙ ready_is e
 
 -- at most twelve of each
-module _ (k r : ℕ) (q z : List Float) (hk : k ≤ 12) (hr : r ≤ 12) where
-  few_found : (d : Done) (f : CountResult) → found_of f z ≡ span_of (directions_of k r q) → Few (ready_of d f r)
-  few_found done.Finished (count.Value free) e =
-      record { independent = hr; free = omega (arith, directions_few k r q e, hk) }
-  few_found done.Finished (count.Refused o) e = record { independent = omega arith; free = omega arith }
-  few_found (done.Refused o) f e = record { independent = omega arith; free = omega arith }
+pub refused_few : {e : LinearError} → Few (Err e)
+refused_few = record { independent = omega arith; free = omega arith }
 
-  pub ready_few : {x : Prepared} (d : Done) (f : CountResult)
-      → x ≡ ready_of d f r → found_of f z ≡ span_of (directions_of k r q) → Few x
-  ready_few d f ex e = rw ex (few_found d f e)
-
--- the step from it, where the correction is copied, or the refusal
-module _ {x : Prepared} (P : Problem) (order : List ℕ) (factors : List Float) where
-  pub ready_on : {r count : ℕ} {kept : List Float} {y : Res Stepped} → x ≡ prepared.Ready r count →
-      kept ≡ take 24 (drop 576 factors) →
-      y ≡ free_step P (basis_with r order factors) kept (directions_with count factors) →
-      y ≡ step_from_factors x P order factors
-  ready_on ex ek ey = rw ex (rw ek at ey)
-
-  pub ready_refused : {e : LinearError} → x ≡ prepared.Refused e →
-      refused (number_of e) ≡ step_from_factors x P order factors
-  ready_refused ex = rw ex
+pub ready_few : (k r : ℕ) (q z : List Float) → k ≤ 12 → r ≤ 12 → {f : Result ℕ LinearError} {free : ℕ}
+    → f ≡ Ok free → found_of f z ≡ span_of (directions_of k r q) → Few (Ok (record { independent = r; free = free }))
+ready_few k r q z hk hr e ef =
+    record { independent = hr; free = omega (arith, directions_few k r q (rw e at ef), hk) }
 
 -- H is finite where its first k rows are: behind them it is clear
 rows_finite : (k : ℕ) (fixed : List Float) (mu : Scalar) → k ≤ 12 →
@@ -275,7 +262,7 @@ rows_finite k fixed mu h =
     (λ t a b. ap is_finite (at_rows_behind matrix _ k k t h a ∙ at_clear 288 t (omega (arith, b, m)))))
 
 -- where H is finite
-module _ (k : ℕ) (x : Prepared) (order : List ℕ) (fixed : List Float) (mu : Scalar)
+module _ (k : ℕ) (x : Result Prepared LinearError) (order : List ℕ) (fixed : List Float) (mu : Scalar)
     {h : List Float} {finite : Bool} (hk : k ≤ 12) (eh : h ≡ damped_from k fixed mu)
     (ef : finite ≡ all_finite h (12 * k)) where
   whole : finite ≡ all_finite (damped_from k fixed mu) 144
@@ -298,12 +285,12 @@ unfolding spread_end bind
 spread_tested k true x = refl
 spread_tested k false x = refl
 
-pub end_spread : (x : StepEnd) (k : Kept) (kept lambda : List Float) {delta : List Float} →
+pub end_spread : (x : Result (Option ℕ) LinearError) (k : Kept) (kept lambda : List Float) {delta : List Float} →
     delta ≡ spread_to k.index kept k.count → end_of x delta lambda ≡ spread_end k (end_of x kept lambda)
 unfolding spread_end bind
-end_spread (end.Found r) k kept lambda e = rw e
-end_spread end.NotPositive k kept lambda e = refl
-end_spread (end.Refused o) k kept lambda e = refl
+end_spread (Ok (Some r)) k kept lambda e = rw e
+end_spread (Ok None) k kept lambda e = refl
+end_spread (Err o) k kept lambda e = refl
 
 pub step_is : (n : ℕ) (e : Evaluation) (b : List Float) (moving : List Bool) (mu : Scalar) {k : Kept}
     {x y : Res Stepped} →
@@ -313,7 +300,8 @@ step_is n e b moving mu {k} ek ex ey =
     ey ∙ ap (spread_end k) ex
     ∙ spread_tested k (all_finite (problem_of n k e b mu).h 144) (kept_step (problem_of n k e b mu)) ∙ rw ek
 
-module _ (n : ℕ) (moving : List Bool) (x : Prepared) (order : List ℕ) (fixed : List Float) (mu : Scalar) {k : Kept}
+module _ (n : ℕ) (moving : List Bool) (x : Result Prepared LinearError) (order : List ℕ) (fixed : List Float)
+    (mu : Scalar) {k : Kept}
     (ek : k ≡ kept_to moving n) where
   pub prepared_by : {y z : Res Stepped} → y ≡ damped_step k.count x order fixed mu → z ≡ spread_end k y →
       z ≡ prepared_step n moving x order fixed mu
@@ -381,7 +369,7 @@ module _ (k : ℕ) (mu : Scalar) (fixed u f : List Float) (e : fixed ≡ u ++ f)
   factors_second = rw (e, drop_at u f 336 lu) (rw lf at (take-length f))
 
   -- what is prepared gives the step of the definition
-  pub prepared_is : (n : ℕ) (moving : List Bool) (x : Prepared) (order : List ℕ) {index : List ℕ} →
+  pub prepared_is : (n : ℕ) (moving : List Bool) (x : Result Prepared LinearError) (order : List ℕ) {index : List ℕ} →
       kept_by k index ≡ kept_to moving n →
       (v : Evaluation) (b : List Float) (m : ℕ) (c : ℕ → Scalar) (wide jc : List Float) →
       problem_in k m c wide jc (damped_from k u mu) (gradient_in u) ≡ problem_of n (kept_by k index) v b mu →

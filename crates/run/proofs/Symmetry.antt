@@ -2,7 +2,7 @@
 -- sum.
 use Prim.Native.Nat.{ℕ, ◌+◌, ◌*◌, ◌<◌}
 use mathlib.Core.Bool.{true, false, not}
-use mathlib.Core.Path.{◌≡◌, ap, ap₂}
+use mathlib.Core.Path.{◌≡◌, ap}
 use mathlib.Core.List.{List}
 use native.Mathlib.Omega.{arith}
 use borrow.Author.Tests.{ne_eqb}
@@ -17,7 +17,7 @@ use Rattle.run.specs.Vectors.{column, fill_to}
 use Rattle.run.proofs.Booleans.{never}
 use Rattle.run.proofs.VectorLaws.{at_fill_other}
 
--- ---- numbers, and scalars by their ends
+-- ---- numbers
 
 pub numbers : (x y : Float) → eq x y ≡ true → T (not (is_nan x)) × T (not (is_nan y))
 unfolding eq is_nan
@@ -28,12 +28,6 @@ numbers (inf s) (fin t n d) e = never e
 numbers (fin s m k) nan e = never e
 numbers (fin s m k) (inf t) e = never e
 numbers (fin s m k) (fin t n d) e = (tt, tt)
-
-abbrev ends : Float → Float → Scalar
-ends l h = record { lo = l; hi = h }
-
-pub same_ends : (x y : Scalar) → x.lo ≡ y.lo → x.hi ≡ y.hi → x ≡ y
-same_ends x y e f = ap₂ (λ (l h : Float). ends l h) e f
 
 -- ---- the entry across the diagonal
 

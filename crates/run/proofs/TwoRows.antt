@@ -51,15 +51,6 @@ without_two k z left t h es eu =
     ∙ without_turn k z left t (2 * h + 1) refl)
 
 -- two entries of a product
-pub two_put : (h z hz : List Float) (k t i : ℕ) {x y a b : Scalar} {u v : List Float} →
-    x ≡ dot_to (row h i) (row z t) k → y ≡ dot_to (along h (12 * i + 12) 1) (row z t) k →
-    a ≡ choose_of x → u ≡ put hz (12 * t + i) a → b ≡ choose_of y → v ≡ put u (12 * t + (i + 1)) b →
-    v ≡ put (put hz (12 * t + i) (choose_of (dot_to (row h i) (row z t) k))) (12 * t + (i + 1))
-    (choose_of (dot_to (row h (i + 1)) (row z t) k))
-two_put h z hz k t i ex ey ea eu eb ev =
-    let n : 12 * i + 12 ≡ 12 * (i + 1) = omega arith in
-    rw (ev, eb, ey, eu, ea, ex, n)
-
 pub fill_two : (xs : List Float) (base : ℕ) (f : ℕ → Scalar) (h : ℕ) {s u : List Float} →
     s ≡ fill_to xs base f (2 * h) → u ≡ put (put s (base + 2 * h) (f (2 * h))) (base + (2 * h + 1)) (f (2 * h + 1)) →
     u ≡ fill_to xs base f (2 * (h + 1))
@@ -133,7 +124,8 @@ module _ (k : ℕ) (w : List Float) (t : ℕ) where
   -- entry i of row p of `left` without its part along row t of w
   abbrev off : List Float → ℕ → ℕ → Scalar
   off left p i =
-      choose_of (sub_of (at left (12 * p + i)) (mul_of (choose_of (dot_to (row left p) (row w t) k)) (at w (12 * t + i))))
+      choose_of (sub_of (at left (12 * p + i))
+      (mul_of (choose_of (dot_to (row left p) (row w t) k)) (at w (12 * t + i))))
 
   off_is : (left : List Float) (p : ℕ) → part_off k w t left p ≡ fill_to left (12 * p) (off left p) k
   unfolding minus_scaled

@@ -1,5 +1,6 @@
 -- What the writers of an area leave: each run of numbers over a slot takes the place of the slot's numbers, since it is
 -- at least as long, and slots that are not written are as they were.
+use Rattle.std.specs.Prelude.{Some}
 use Prim.Native.Nat.{ℕ, ◌+◌, ◌*◌, ◌<◌, ◌≤◌}
 use mathlib.Core.List.{List, [], ◌∷◌}
 use mathlib.Core.Path.{◌≡◌, refl, sym, ap, subst, ◌∙◌}
@@ -17,7 +18,6 @@ use Rattle.run.specs.Filter.{pair_numbers, filter_with}
 use Rattle.run.specs.Limits.{ITERATIONS}
 use Rattle.run.specs.Vectors.{moved_of}
 use Rattle.run.specs.declared.state.Kind.TheVariants as kind
-use Rattle.run.specs.declared.state.Phase.TheVariants.{Open}
 use Rattle.run.specs.declared.state.Sizes.{Sizes}
 use Rattle.run.specs.declared.state.State.{State}
 use Rattle.run.specs.program.Area.{lengths_of, StandingWhole, TrialWhole, LandedWhole, Holds, Uses, Working}
@@ -77,7 +77,7 @@ two_slots x asked rows = record {
 }
 
 module _ (st : State) (l : Limits st) (w : Memory) (rows : List Float) where
-  only_points : st.phase ≡ Open kind.Start → lengths_of w ≡ used_in st → w ≡ two_slots w.standing w.asked []
+  only_points : st.phase ≡ Some kind.Start → lengths_of w ≡ used_in st → w ≡ two_slots w.standing w.asked []
   only_points o e =
       all_same (record {
         standing = refl;
@@ -92,7 +92,7 @@ module _ (st : State) (l : Limits st) (w : Memory) (rows : List Float) where
       })
 
   pub started_holds :
-      {a b₁ b₂ : List Float} → st.phase ≡ Open kind.Start → length rows ≤ rows_len →
+      {a b₁ b₂ : List Float} → st.phase ≡ Some kind.Start → length rows ≤ rows_len →
       Uses st.sizes (used_in st) w a →
       b₁ ≡ written a (places_of st.sizes).asked (zeros (2 * st.sizes.n)) →
       b₂ ≡ written b₁ (places_of st.sizes).standing_rows rows → Holds st.sizes (with_start st w rows) b₂

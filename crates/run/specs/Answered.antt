@@ -6,7 +6,6 @@ use Rattle.run.specs.Corrected.{land_trial, land_correction}
 use Rattle.run.specs.Decide.{turn_down, judge}
 use Rattle.run.specs.Endings.{AfterSlots, or_refuse, finish}
 use Rattle.run.specs.Iterate.{iterate}
-use Rattle.run.specs.Proposal.{Trial}
 use Rattle.run.specs.Residuals.{violation_of, moving_of}
 use Rattle.run.specs.State.{starting}
 use Rattle.run.specs.declared.state.Kind.{Kind}

@@ -1,5 +1,7 @@
 -- The work area (PROTOCOL, Area): 8,000 numbers in slots. A slot's used places are from its start; all else is +0
 -- after a call. How many numbers each slot has and in which order they stand is said here, once.
+use Rattle.std.specs.Prelude.{None, Option, Some}
+use Rattle.run.specs.declared.state.Kind.{Kind}
 use Rattle.std.specs.Prelude.{ℕ, ◌+◌, ◌-◌, ◌*◌, zero, suc, Bool, true, false, List, ◌++◌, [], ◌∷◌, ◌≡◌, Float, length, take, drop, get_or}
 use Rattle.interval.specs.Scalar.{pick}
 use Rattle.linear.specs.Flat.{zeros}
@@ -8,8 +10,6 @@ use Rattle.run.specs.Limits.{AREA}
 use Rattle.run.specs.Rows.{row_numbers, Evaluation, evaluation_of, row_counts}
 use Rattle.run.specs.declared.rows.RowCounts.{RowCounts}
 use Rattle.run.specs.declared.state.Kind.TheVariants as kind
-use Rattle.run.specs.declared.state.Phase.{Phase}
-use Rattle.run.specs.declared.state.Phase.TheVariants.{Open, Over}
 use Rattle.run.specs.declared.state.Sizes.{Sizes}
 use Rattle.run.specs.declared.state.State.{State}
 
@@ -119,9 +119,9 @@ abbrev pub spare_at : Sizes → ℕ
 spare_at z = start_in z 9
 
 -- where the point begins that a caller reads: the asked one, or with no question open the standing one
-abbrev pub point_at : Sizes → Phase → ℕ
-point_at z (Open k) = (places_of z).asked
-point_at z Over = (places_of z).standing
+abbrev pub point_at : Sizes → Option Kind → ℕ
+point_at z (Some k) = (places_of z).asked
+point_at z None = (places_of z).standing
 
 -- an area with room for a run of these sizes
 abbrev pub HasRoom : Sizes → List Float → Type 0
@@ -159,23 +159,23 @@ numbers_in st = used_numbers st.sizes.n (standing_counts st) (landed_counts st) 
 
 -- which slots are in use: the asked point while a question is open; standing rows, curvature and filter, step and
 -- multipliers while a trial or correction is; the landed point and rows while a correction is
-abbrev pub is_open : Phase → Bool
-is_open (Open k) = true
-is_open Over = false
+abbrev pub is_open : Option Kind → Bool
+is_open (Some k) = true
+is_open None = false
 
-abbrev pub is_tried : Phase → Bool
-is_tried (Open kind.Start) = false
-is_tried (Open kind.Trial) = true
-is_tried (Open kind.Correction) = true
-is_tried Over = false
+abbrev pub is_tried : Option Kind → Bool
+is_tried (Some kind.Start) = false
+is_tried (Some kind.Trial) = true
+is_tried (Some kind.Correction) = true
+is_tried None = false
 
-abbrev pub is_corrected : Phase → Bool
-is_corrected (Open kind.Start) = false
-is_corrected (Open kind.Trial) = false
-is_corrected (Open kind.Correction) = true
-is_corrected Over = false
+abbrev pub is_corrected : Option Kind → Bool
+is_corrected (Some kind.Start) = false
+is_corrected (Some kind.Trial) = false
+is_corrected (Some kind.Correction) = true
+is_corrected None = false
 
-abbrev pub in_use : Phase → Slots Bool
+abbrev pub in_use : Option Kind → Slots Bool
 in_use p = record {
   standing = true;
   landed = is_corrected p;

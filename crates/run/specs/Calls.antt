@@ -1,5 +1,9 @@
 -- The calls of a run, whole: begin, reply with rows, reply none, and point. The checks go in the order of PROTOCOL,
 -- Refusals.
+use Rattle.run.specs.declared.refusal.Refusal.{Refusal}
+use Rattle.run.specs.declared.refusal.Refusal.TheVariants.{Altered, OutsideDomain, TooMany, WrongLength}
+use Rattle.std.specs.Prelude.{None, Option, Some}
+use Rattle.run.specs.declared.state.Kind.{Kind}
 use Rattle.std.specs.Prelude.{ℕ, ◌*◌, ◌+◌, Bool, false, true, ◌&&◌, ◌||◌, List, [], ◌≡◌, T, leb, eqb, Float, length}
 use Rattle.interval.specs.Scalar.{pick}
 use Rattle.interval.specs.declared.Scalar.{Scalar}
@@ -9,13 +13,12 @@ use Rattle.run.specs.Area.{numbers_in, part_of}
 use Rattle.run.specs.Checks.{sizes_fit, constraints_fit, all_in_domain, step_fits, valid}
 use Rattle.run.specs.Damping.{first_mu}
 use Rattle.run.specs.Endings.{AfterSlots}
+use Rattle.run.specs.Refusal.{number_of}
 use Rattle.run.specs.Rows.{row_numbers, row_counts}
 use Rattle.run.specs.State.{state_with, no_run}
 use Rattle.run.specs.declared.state.Event.{Event}
 use Rattle.run.specs.declared.state.Event.TheVariants as event
 use Rattle.run.specs.declared.state.Kind.TheVariants as kind
-use Rattle.run.specs.declared.state.Phase.{Phase}
-use Rattle.run.specs.declared.state.Phase.TheVariants.{Open, Over}
 use Rattle.run.specs.declared.state.Returned.{Returned}
 use Rattle.run.specs.declared.state.Sizes.{Sizes}
 use Rattle.run.specs.declared.state.State.{State}
@@ -32,8 +35,8 @@ abbrev pub after_call : Returned → List Float → AfterCall
 after_call r a = record { state = r.state; event = r.event; area = a }
 
 -- refused with all as it was
-abbrev pub unchanged : State → List Float → ℕ → AfterCall
-unchanged st a k = record { state = st; event = event.Refused k; area = a }
+abbrev pub unchanged : State → List Float → Refusal → AfterCall
+unchanged st a r = record { state = st; event = event.Refused r; area = a }
 
 abbrev pub in_area : AfterSlots → AfterCall
 in_area o = record { state = o.state; event = o.event; area = area_of o.state.sizes o.memory }
@@ -42,28 +45,28 @@ in_area o = record { state = o.state; event = o.event; area = area_of o.state.si
 abbrev pub refused_by_check : Event → Bool
 refused_by_check (event.Question k t s) = false
 refused_by_check (event.Finish s i t n) = false
-refused_by_check (event.Refused k) = leb k 4
+refused_by_check (event.Refused r) = leb (number_of r) 4
 
 -- An accepted reply to the question of that number asks the next one, or the run is over: it finishes, or is refused by
 -- 5 or 6.
 abbrev pub Follows : ℕ → State → Event → Type 0
 Follows question st (event.Question k t s) = (k ≡ question + 1) × (st.counts.question ≡ k)
-Follows question st (event.Finish s i t n) = st.phase ≡ Over
-Follows question st (event.Refused k) = T (eqb k 5 || eqb k 6) × (st.phase ≡ Over)
+Follows question st (event.Finish s i t n) = st.phase ≡ None
+Follows question st (event.Refused r) = T (eqb (number_of r) 5 || eqb (number_of r) 6) × (st.phase ≡ None)
 
--- a check of the number k, and what follows
-abbrev pub checks : Bool → ℕ → (ℕ → AfterCall) → AfterCall → AfterCall
-checks true k back next = next
-checks false k back next = back k
+-- a check that refuses so, and what follows
+abbrev pub checks : Bool → Refusal → (Refusal → AfterCall) → AfterCall → AfterCall
+checks true r back next = next
+checks false r back next = back r
 
 unfoldable pub begin_of : Sizes → List Float → Scalar → List Float → AfterCall
 begin_of z start max a =
     let back = unchanged no_run a in
-    checks (sizes_fit z) 1 back
-    (checks (eqb (length start) (2 * z.n) && eqb (length a) (area_length z)) 2 back
-    (checks (all_in_domain start z.n && step_fits max) 3 back
+    checks (sizes_fit z) TooMany back
+    (checks (eqb (length start) (2 * z.n) && eqb (length a) (area_length z)) WrongLength back
+    (checks (all_in_domain start z.n && step_fits max) OutsideDomain back
     (record {
-      state = state_with z first_mu max (Open kind.Start);
+      state = state_with z first_mu max (Some kind.Start);
       event = event.Question 0 kind.Start 0;
       area = area_of z (begun_memory start);
     })))
@@ -72,7 +75,7 @@ begin_of z start max a =
 abbrev pub begun_of : Sizes → List Float → Scalar → AfterCall
 begun_of z start max =
     record {
-      state = state_with z first_mu max (Open kind.Start);
+      state = state_with z first_mu max (Some kind.Start);
       event = event.Question 0 kind.Start 0;
       area = area_of z (begun_memory start);
     }
@@ -84,25 +87,25 @@ Accepted b = b.event ≡ event.Question 0 kind.Start 0
 -- ---- the replies
 
 -- rows with m constraint rows among them
-abbrev pub reply_open : State → List Float → ℕ → List Float → Phase → AfterCall
-reply_open st a m rows Over = unchanged st a 4
-reply_open st a m rows (Open k) =
+abbrev pub reply_open : State → List Float → ℕ → List Float → Option Kind → AfterCall
+reply_open st a m rows None = unchanged st a Altered
+reply_open st a m rows (Some k) =
     let c = row_counts st.sizes m in
-    checks (constraints_fit m) 1 (unchanged st a)
-    (checks (eqb (length a) (area_length st.sizes) && eqb (length rows) (row_numbers c)) 2 (unchanged st a)
-    (checks (all_in_domain rows ((c.m + c.s) * (c.n + 1))) 3 (unchanged st a)
+    checks (constraints_fit m) TooMany (unchanged st a)
+    (checks (eqb (length a) (area_length st.sizes) && eqb (length rows) (row_numbers c)) WrongLength (unchanged st a)
+    (checks (all_in_domain rows ((c.m + c.s) * (c.n + 1))) OutsideDomain (unchanged st a)
     (in_area (answered k st (memory_of st a) m rows))))
 
 unfoldable pub reply_of : State → List Float → ℕ → List Float → AfterCall
-reply_of st a m rows = checks (valid st) 4 (unchanged st a) (reply_open st a m rows st.phase)
+reply_of st a m rows = checks (valid st) Altered (unchanged st a) (reply_open st a m rows st.phase)
 
-abbrev pub none_open : State → List Float → Phase → AfterCall
-none_open st a Over = unchanged st a 4
-none_open st a (Open k) =
-    checks (eqb (length a) (area_length st.sizes)) 2 (unchanged st a) (in_area (answered_none k st (memory_of st a)))
+abbrev pub none_open : State → List Float → Option Kind → AfterCall
+none_open st a None = unchanged st a Altered
+none_open st a (Some k) =
+    checks (eqb (length a) (area_length st.sizes)) WrongLength (unchanged st a) (in_area (answered_none k st (memory_of st a)))
 
 unfoldable pub reply_none_of : State → List Float → AfterCall
-reply_none_of st a = checks (valid st) 4 (unchanged st a) (none_open st a st.phase)
+reply_none_of st a = checks (valid st) Altered (unchanged st a) (none_open st a st.phase)
 
 -- ---- the point: the asked one, or with no question open the standing one
 

@@ -1,5 +1,6 @@
 -- The checks of a call (PROTOCOL, Refusals): what is within the limits, and number 4, a run that no call leaves.
-use Rattle.std.specs.Prelude.{ℕ, ◌+◌, ◌*◌, Bool, ◌&&◌, true, List, leb, ltb, Float}
+use Rattle.run.specs.declared.state.Kind.{Kind}
+use Rattle.std.specs.Prelude.{ℕ, ◌+◌, ◌*◌, Bool, ◌&&◌, true, List, leb, ltb, Float, None, Option, Some}
 use Rattle.std.specs.Float.Ieee.{neg, le}
 use Rattle.interval.specs.Scalar.{zero_s, definitely_greater}
 use Rattle.interval.specs.Scaling.{is_positive}
@@ -10,8 +11,6 @@ use Rattle.run.specs.Limits.{MOST}
 use Rattle.run.specs.Vectors.{all_to}
 use Rattle.run.specs.declared.state.Contents.{Contents}
 use Rattle.run.specs.declared.state.Kind.TheVariants as kind
-use Rattle.run.specs.declared.state.Phase.{Phase}
-use Rattle.run.specs.declared.state.Phase.TheVariants.{Open, Over}
 use Rattle.run.specs.declared.state.Sizes.{Sizes}
 use Rattle.run.specs.declared.state.State.{State}
 
@@ -53,11 +52,11 @@ counts_fit st =
     && leb st.counts.corrections CORRECTIONS))
 
 -- with a trial or correction open, iterations are below the limit; with a question open, mu is finite with 0 < lo ≤ hi
-abbrev pub phase_fits : State → Phase → Bool
-phase_fits st (Open kind.Start) = is_positive st.search.mu
-phase_fits st (Open kind.Trial) = ltb st.counts.iterations st.sizes.limit && is_positive st.search.mu
-phase_fits st (Open kind.Correction) = ltb st.counts.iterations st.sizes.limit && is_positive st.search.mu
-phase_fits st Over = true
+abbrev pub phase_fits : State → Option Kind → Bool
+phase_fits st (Some kind.Start) = is_positive st.search.mu
+phase_fits st (Some kind.Trial) = ltb st.counts.iterations st.sizes.limit && is_positive st.search.mu
+phase_fits st (Some kind.Correction) = ltb st.counts.iterations st.sizes.limit && is_positive st.search.mu
+phase_fits st None = true
 
 unfoldable pub valid : State → Bool
 valid st =

@@ -5,7 +5,6 @@ use Rattle.interval.specs.Scalar.{from_ratio, pick, is_finite, zero_s, sharpen, 
 use Rattle.interval.specs.Scaling.{quadrupled}
 use Rattle.interval.specs.declared.Scalar.{Scalar}
 use Rattle.run.specs.Vectors.{or_zero}
-use Rattle.run.specs.declared.damping.Damped.{Damped}
 use Rattle.run.specs.declared.state.Search.{Search}
 use Rattle.run.specs.declared.state.Stop.{Stop}
 use Rattle.run.specs.declared.state.Stop.TheVariants as stop

@@ -1,7 +1,7 @@
 -- What a judgement decides (PROTOCOL, An iteration): the run stops, takes the step, tries again without the curvature
 -- learned, or
 -- turns the step down.
-use Rattle.std.specs.Prelude.{not, ◌&&◌, Bool, false, true, ◌||◌}
+use Rattle.std.specs.Prelude.{not, ◌&&◌, Bool, false, true, ◌||◌, None, Option, Some}
 use Rattle.interval.specs.Result.{Res, ok, refused}
 use Rattle.interval.specs.Scalar.{degenerate, div_of, sharpen, pick, sub_of, mul_of, definitely_greater, zero_s}
 use Rattle.interval.specs.Scaling.{four64, three64}
@@ -16,8 +16,6 @@ use Rattle.run.specs.Judgement.{Judged, judge_of}
 use Rattle.run.specs.Radius.{radius_after}
 use Rattle.run.specs.Residuals.{violation_of, sum_squared}
 use Rattle.run.specs.State.{searching, rejected_for, with_radius, retried, standing_on}
-use Rattle.run.specs.declared.state.Last.{Last}
-use Rattle.run.specs.declared.state.Last.TheVariants as last
 use Rattle.run.specs.declared.state.Rejection.{Rejection}
 use Rattle.run.specs.declared.state.Rejection.TheVariants as why
 use Rattle.run.specs.declared.state.State.{State}
@@ -75,9 +73,9 @@ take st w theta length =
 
 -- ---- the judgement of the landed point
 
-abbrev pub was_taken : Last → Bool
-was_taken last.NoneYet = false
-was_taken (last.Taken l) = true
+abbrev pub was_taken : Option Scalar → Bool
+was_taken None = false
+was_taken (Some l) = true
 
 unfoldable pub decide : State → Memory → Scalar → Judged → AfterSlots
 decide st w theta j =

@@ -2,6 +2,7 @@
 -- calls. It speaks of what the calls
 -- answer, of the points they asked and of the rows they were given; lengths and damping are those that demand 2's
 -- definition (specs/Calls.antt) has for begin's numbers and the replies.
+use Rattle.std.specs.Prelude.{None, Option, Some}
 use Rattle.std.specs.Prelude.{ℕ, ◌+◌, ◌*◌, ◌≤◌, ◌<◌, Bool, false, ◌||◌, cond, true, not, ◌&&◌, List, [], ◌∷◌, ◌⊎◌, ◌≢◌, ◌≡◌, T, eqb, Float, ℤ, length}
 use Rattle.std.specs.Float.{binary64}
 use Rattle.std.specs.Float.Ieee.{fits}
@@ -18,11 +19,10 @@ use Rattle.run.specs.Damping.{first_mu}
 use Rattle.run.specs.Judgement.{sum_change, indefinite, contracts}
 use Rattle.run.specs.Limits.{CONSTRAINTS, turn_downs}
 use Rattle.run.specs.Residuals.{violation_of}
+use Rattle.run.specs.Refusal.{number_of}
 use Rattle.run.specs.Rows.{row_numbers, Rows, value_at, constraints_of, sum_of, row_counts}
 use Rattle.run.specs.declared.state.Event.{Event}
 use Rattle.run.specs.declared.state.Event.TheVariants.{Question, Finish, Refused}
-use Rattle.run.specs.declared.state.Last.{Last}
-use Rattle.run.specs.declared.state.Last.TheVariants as last
 use Rattle.run.specs.declared.state.Sizes.{Sizes}
 use Rattle.run.specs.declared.state.State.{State}
 use Rattle.run.specs.declared.state.Stop.{Stop}
@@ -79,7 +79,7 @@ call_result r (none (other a)) = call_result_by (reply_none_of r.state a) r.area
 abbrev pub is_arithmetic : Event → Bool
 is_arithmetic (Question k t s) = false
 is_arithmetic (Finish e i t s) = false
-is_arithmetic (Refused k) = eqb k 5 || eqb k 6
+is_arithmetic (Refused r) = eqb (number_of r) 5 || eqb (number_of r) 6
 
 -- the standing number that an answer names, or else the last one named
 abbrev pub standing_by : Event → ℕ → ℕ
@@ -239,9 +239,9 @@ abbrev pub Undecided : Sizes → AnsweredRows → AnsweredRows → Type 0
 Undecided z = BothWith (UndecidedRows z)
 
 -- twice the length of the last step is definitely less than the length of the one before
-abbrev pub halves : Last → Last → Bool
-halves before (last.Taken length) = contracts before length
-halves before last.NoneYet = false
+abbrev pub halves : Option Scalar → Option Scalar → Bool
+halves before (Some length) = contracts before length
+halves before None = false
 
 -- r and r' are the run before and after the call that changed standing
 pub record Halving (z : Sizes) (h h' : History) (r r' : Run) : Type 0 where

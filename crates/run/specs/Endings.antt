@@ -3,6 +3,7 @@
 use Rattle.std.specs.Prelude.{ℕ, ◌+◌}
 use Rattle.interval.specs.Result.{Res, ok, refused}
 use Rattle.run.specs.Area.{Memory, only_standing}
+use Rattle.run.specs.Refusal.{refusal_at}
 use Rattle.run.specs.State.{over, asking}
 use Rattle.run.specs.declared.state.Event.{Event}
 use Rattle.run.specs.declared.state.Event.TheVariants as event
@@ -26,7 +27,7 @@ finish st w s = record {
 
 -- refusal k
 abbrev pub refuse : State → Memory → ℕ → AfterSlots
-refuse st w k = record { state = over st; memory = only_standing w; event = event.Refused k }
+refuse st w k = record { state = over st; memory = only_standing w; event = event.Refused (refusal_at k) }
 
 -- the next question, over an area that has its point
 abbrev pub question : State → Memory → Kind → ℕ → AfterSlots

@@ -5,7 +5,7 @@ use Rattle.interval.specs.Scalar.{pick}
 use Rattle.interval.specs.declared.Scalar.{Scalar}
 use Rattle.run.specs.Area.{Memory, standing_at, curvature_of, with_trial}
 use Rattle.run.specs.Endings.{AfterSlots, finish, refuse, question, or_refuse}
-use Rattle.run.specs.Proposal.{Standing, Trial}
+use Rattle.run.specs.Proposal.{Standing}
 use Rattle.run.specs.Residuals.{sum_squared, violation_of}
 use Rattle.run.specs.Search.{Found, asks, stops, refuses, search_of}
 use Rattle.run.specs.State.{searching, trying}

@@ -1,5 +1,5 @@
 -- `judge`: how a step fares where it landed (PROTOCOL, An iteration).
-use Rattle.std.specs.Prelude.{ℕ, Bool, not, ◌&&◌, false, ◌||◌, List, Float}
+use Rattle.std.specs.Prelude.{ℕ, Bool, not, ◌&&◌, false, ◌||◌, List, Float, None, Option, Some}
 use Rattle.interval.specs.Result.{Res, ok}
 use Rattle.interval.specs.Scalar.{add_of, sub_of, zero_s, definitely_greater, definitely_less, two64, degenerate, mul_of}
 use Rattle.interval.specs.declared.Scalar.{Scalar}
@@ -11,8 +11,6 @@ use Rattle.run.specs.Filter.{beats_to}
 use Rattle.run.specs.Residuals.{sum_squared, violation_of}
 use Rattle.run.specs.Rows.{Rows, value_at, Evaluation}
 pub use Rattle.run.specs.declared.judgement.Judged.{Judged}
-use Rattle.run.specs.declared.state.Last.{Last}
-use Rattle.run.specs.declared.state.Last.TheVariants.{NoneYet, Taken}
 
 -- the sum change Σ (r - r') (r + r')
 unfoldable pub sum_change : Rows → Rows → Scalar
@@ -26,12 +24,12 @@ abbrev pub indefinite : Scalar → Bool
 indefinite v = not (definitely_greater v zero_s) && not (definitely_less v zero_s)
 
 -- a step was taken before, and twice this length is definitely less than its length
-abbrev pub contracts : Last → Scalar → Bool
-contracts NoneYet length = false
-contracts (Taken last) length = definitely_less (mul_of (degenerate two64) length) last
+abbrev pub contracts : Option Scalar → Scalar → Bool
+contracts None length = false
+contracts (Some last) length = definitely_less (mul_of (degenerate two64) length) last
 
 -- from the sum change, the fall in violation, whether every pair is beaten, the length and the last one
-abbrev pub judged_by : Scalar → Scalar → Bool → Scalar → Last → Judged
+abbrev pub judged_by : Scalar → Scalar → Bool → Scalar → Option Scalar → Judged
 judged_by change fall beats length last = record {
   length = length;
   lower = (rises change || rises fall) && beats;
@@ -40,7 +38,7 @@ judged_by change fall beats length last = record {
 }
 
 -- the step from the rows e with violation theta to the rows e', against the first pairs of the filter
-unfoldable pub judge_of : ℕ → Evaluation → Evaluation → Scalar → List Float → ℕ → Last → List Float → Res Judged
+unfoldable pub judge_of : ℕ → Evaluation → Evaluation → Scalar → List Float → ℕ → Option Scalar → List Float → Res Judged
 unfolding bind
 judge_of n e e' theta filter count last step =
     bind (norm_of (at step) n)

@@ -7,6 +7,7 @@ pub mod Damping
 pub mod Filter
 pub mod NullSpace
 pub mod Radius
+pub mod Refusal
 pub mod Residuals
 pub mod Curvature
 pub mod Judgement

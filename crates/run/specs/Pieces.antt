@@ -1,6 +1,7 @@
 -- The pieces of a run as calls of their own: counts and lengths are checked (refusals 1 and 2, with nothing written),
 -- then the piece is worked out. Where the scalars refuse, what is written is +0.
-use Rattle.std.specs.Prelude.{ℕ, ◌*◌, Bool, List, leb, eqb, Float, length}
+use Rattle.linear.specs.declared.results.LinearError.{LinearError}
+use Rattle.std.specs.Prelude.{ℕ, ◌*◌, Bool, List, leb, eqb, Float, length, Err, None, Ok, Option, Result, Some}
 use Rattle.interval.specs.Result.{Res, ok, refused}
 use Rattle.interval.specs.Scalar.{pick}
 use Rattle.interval.specs.declared.Scalar.{Scalar}
@@ -21,9 +22,6 @@ use Rattle.run.specs.Step.{Stepped, found, not_positive, step_of}
 use Rattle.run.specs.Vectors.{vector, fill_to}
 use Rattle.run.specs.program.Proposal.{model_of}
 use Rattle.run.specs.declared.rows.RowCounts.{RowCounts}
-use Rattle.run.specs.declared.state.Last.{Last}
-use Rattle.run.specs.declared.step.StepEnd.{StepEnd}
-use Rattle.run.specs.declared.step.StepEnd.TheVariants as s
 
 -- ---- the checks
 
@@ -96,7 +94,7 @@ moving_reply c rows marks =
 
 -- at most as many pairs of the filter as a run has iterations
 unfoldable pub judge_reply :
-    RowCounts → List Float → ℕ → List Float → Scalar → List Float → ℕ → Last → List Float → Res Judged
+    RowCounts → List Float → ℕ → List Float → Scalar → List Float → ℕ → Option Scalar → List Float → Res Judged
 judge_reply c rows m next theta filter count last step =
     checked_value (leb count ITERATIONS) 1
     (then (wants_of (wants_of (both_sized c rows m next) (length filter) filter_len) (length step) point_len)
@@ -147,12 +145,12 @@ pub record StepReply : Type 0 where
   pub delta : List Float
   pub lambda : List Float
 
-abbrev pub ending_of : StepEnd → Res Ending
-ending_of (s.Found r) = ok (independent r)
-ending_of s.NotPositive = ok none
-ending_of (s.Refused k) = refused (number_of k)
+abbrev pub ending_of : Result (Option ℕ) LinearError → Res Ending
+ending_of (Ok (Some r)) = ok (independent r)
+ending_of (Ok None) = ok none
+ending_of (Err k) = refused (number_of k)
 
-abbrev pub step_replied : StepEnd → List Float → List Float → StepReply
+abbrev pub step_replied : Result (Option ℕ) LinearError → List Float → List Float → StepReply
 step_replied r delta lambda = record { ended = ending_of r; delta = delta; lambda = lambda }
 
 -- the step, or clear slices where there is none

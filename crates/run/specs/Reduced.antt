@@ -12,7 +12,6 @@ use Rattle.linear.specs.Substitution.{solve_of}
 use Rattle.run.specs.NullSpace.{Directions}
 use Rattle.run.specs.Problem.{Problem}
 use Rattle.run.specs.Vectors.{row, vector, fill_to, matrix, fill_rows, any_to}
-use Rattle.run.specs.declared.step.Prepared.TheVariants as p
 
 -- row i of H times v, chosen
 abbrev pub h_times_at : Problem → (ℕ → Scalar) → ℕ → Scalar

@@ -8,7 +8,6 @@ use Rattle.run.specs.Limits.{DAMPINGS}
 use Rattle.run.specs.Proposal.{Trial, Proposal, not_positive, no_drop, unresolved, no_change, ask, Standing}
 use Rattle.run.specs.Proposal.{proposal_of}
 use Rattle.run.specs.State.{rejected_for, with_radius}
-use Rattle.run.specs.declared.damping.Damped.{Damped}
 use Rattle.run.specs.declared.state.Rejection.TheVariants as why
 use Rattle.run.specs.declared.state.Search.{Search}
 use Rattle.run.specs.declared.state.Stop.{Stop}

@@ -1,16 +1,12 @@
 -- The state of a run as it begins, and changed in one part. It keeps how many constraint rows the standing and the
 -- landed answer have, 0 where their slots are not in use.
-use Rattle.std.specs.Prelude.{◌+◌, ℕ, true, false, Bool, List, replicate}
+use Rattle.std.specs.Prelude.{◌+◌, ℕ, true, false, Bool, List, replicate, None, Option, Some}
 use Rattle.interval.specs.Scalar.{zero_s}
 use Rattle.interval.specs.declared.Scalar.{Scalar}
 use Rattle.run.specs.Proposal.{Trial}
 use Rattle.run.specs.declared.state.Contents.{Contents}
 use Rattle.run.specs.declared.state.Kind.{Kind}
-use Rattle.run.specs.declared.state.Last.TheVariants as last
-use Rattle.run.specs.declared.state.Phase.{Phase}
-use Rattle.run.specs.declared.state.Phase.TheVariants.{Over, Open}
 use Rattle.run.specs.declared.state.Rejection.{Rejection}
-use Rattle.run.specs.declared.state.Rejection.TheVariants as why
 use Rattle.run.specs.declared.state.Search.{Search}
 use Rattle.run.specs.declared.state.Sizes.{Sizes}
 use Rattle.run.specs.declared.state.State.{State}
@@ -23,7 +19,7 @@ rejected_for x r =
       turned_down = x.turned_down;
       first = x.first;
       plain = x.plain;
-      rejected = r;
+      rejected = Some r;
     }
 
 abbrev pub with_radius : Search → Scalar → Search
@@ -58,7 +54,7 @@ anew x mu radius =
       turned_down = x.turned_down;
       first = true;
       plain = false;
-      rejected = why.NoneYet;
+      rejected = None;
     }
 
 -- ---- the state, changed in one part
@@ -77,7 +73,7 @@ searching st x =
       moving = st.moving;
     }
 
-abbrev pub in_phase : State → Phase → State
+abbrev pub in_phase : State → Option Kind → State
 in_phase st phase =
     record {
       sizes = st.sizes;
@@ -106,7 +102,7 @@ over st =
       trial = st.trial;
       max_step = st.max_step;
       last = st.last;
-      phase = Over;
+      phase = None;
       moving = st.moving;
     }
 
@@ -142,7 +138,7 @@ asking st k corrections = record {
   trial = st.trial;
   max_step = st.max_step;
   last = st.last;
-  phase = Open k;
+  phase = Some k;
   moving = st.moving;
 }
 
@@ -197,24 +193,24 @@ standing_on st length mu radius = record {
   search = anew st.search mu radius;
   trial = st.trial;
   max_step = st.max_step;
-  last = last.Taken length;
+  last = Some length;
   phase = st.phase;
   moving = st.moving;
 }
 
-abbrev pub state_with : Sizes → Scalar → Scalar → Phase → State
+abbrev pub state_with : Sizes → Scalar → Scalar → Option Kind → State
 state_with z mu max p = record {
   sizes = z;
   counts = record { iterations = 0; question = 0; standing = 0; landed = 0; corrections = 0 };
   contents = holding 0 0;
-  search = record { mu = mu; radius = max; turned_down = 0; first = true; plain = false; rejected = why.NoneYet };
+  search = record { mu = mu; radius = max; turned_down = 0; first = true; plain = false; rejected = None };
   trial = record { predicted = zero_s; tried = zero_s };
   max_step = max;
-  last = last.NoneYet;
+  last = None;
   phase = p;
   moving = replicate 12 false;
 }
 
 -- beside a refused begin: no run, so any reply to it gets 4
 abbrev pub no_run : State
-no_run = state_with (record { n = 0; s = 0; limit = 0 }) zero_s zero_s Over
+no_run = state_with (record { n = 0; s = 0; limit = 0 }) zero_s zero_s None

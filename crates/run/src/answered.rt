@@ -1,11 +1,10 @@
 // What follows an accepted answer, by the kind of its question. A point that cannot be evaluated is no error: at the
 // start there is nothing to go on from, a trial went too far and is turned down, and a correction is left out, so that
 // the trial is judged as it landed.
-ghost use Rattle.std.specs.Prelude.{◌≤◌, true, false, ◌≡◌, length};
+ghost use Rattle.std.specs.Prelude.{◌≤◌, true, false, ◌≡◌, length, Some};
 ghost use Rattle.interval.specs.Scalar.{pick};
 ghost use Rattle.run.specs.Limits.{CONSTRAINTS, CORRECTIONS};
 ghost use Rattle.run.specs.declared.state.Kind.TheVariants as kinds;
-ghost use Rattle.run.specs.declared.state.Phase.TheVariants.{Open};
 ghost use Rattle.run.specs.Answered.{started, from_standing, answered, answered_none};
 ghost use Rattle.run.specs.Area.{Memory, used_in, numbers_in, HasRoom};
 ghost use Rattle.run.specs.Checks.{phase_fits};
@@ -23,7 +22,7 @@ use crate::residuals::standing_violation;
 use crate::rows::row_counts;
 use crate::state::{Kind, Rejection, Returned, State, Stop, with_start};
 use crate::{area, residuals};
-use linear::LinearResult;
+use linear::LinearError;
 
 // A start's rows: which variables they depend on is fixed for the whole run, and the first iteration follows. A
 // variable that no residual definitely depends on would make the curvature singular, so it keeps its place.
@@ -32,7 +31,7 @@ fn started(st: State, area: &mut [f64], m: usize, rows: &[f64]) -> Returned
         × (m ≤ CONSTRAINTS)
         × (length rows.now ≡ row_numbers (row_counts st.sizes m))
         × Bounded 1073741824 st
-        × (st.phase ≡ Open kinds.Start) }
+        × (st.phase ≡ Some kinds.Start) }
     ensures { (w : Memory) → Uses st.sizes (used_in st) w area.old →
         Leaves (started st w m rows.now) result area.new }
 {
@@ -52,15 +51,14 @@ fn land(st: State, area: &mut [f64], m: usize, rows: &[f64], trial: bool) -> Ret
         (land_correction st w m rows.now theta))) result area.new }
 {
     match standing_violation(st, area) {
-        LinearResult::Value(theta) => {
+        Ok(theta) => {
             if trial {
-                return land_trial(st, area, m, rows, theta);
+                land_trial(st, area, m, rows, theta)
+            } else {
+                land_correction(st, area, m, rows, theta)
             }
-            return land_correction(st, area, m, rows, theta);
         }
-        LinearResult::Refused(e) => {
-            return refuse(st, area, e);
-        }
+        Err(e) => refuse(st, area, e),
     }
 }
 
@@ -69,40 +67,30 @@ pub fn answered(kind: Kind, st: State, area: &mut [f64], m: usize, rows: &[f64])
     requires { HasRoom st.sizes area.old × ((m ≤ CONSTRAINTS) ×
         ((length rows.now ≡ row_numbers (row_counts st.sizes m)) ×
         (Bounded 1073741824 st × ((st.counts.corrections ≤ CORRECTIONS) ×
-        ((phase_fits st (Open kind) ≡ true) × (st.phase ≡ Open kind)))))) }
+        ((phase_fits st (Some kind) ≡ true) × (st.phase ≡ Some kind)))))) }
     ensures { (w : Memory) → Uses st.sizes (used_in st) w area.old →
         Leaves (answered kind st w m rows.now) result area.new }
 {
     match kind {
-        Kind::Start => {
-            return started(st, area, m, rows);
-        }
-        Kind::Trial => {
-            return land(st, area, m, rows, true);
-        }
-        Kind::Correction => {
-            return land(st, area, m, rows, false);
-        }
+        Kind::Start => started(st, area, m, rows),
+        Kind::Trial => land(st, area, m, rows, true),
+        Kind::Correction => land(st, area, m, rows, false),
     }
 }
 
 // What follows an accepted answer with none.
 pub fn answered_none(kind: Kind, st: State, area: &mut [f64]) -> Returned
     requires { HasRoom st.sizes area.old × (Bounded 1073741824 st ×
-        ((phase_fits st (Open kind) ≡ true) × (st.phase ≡ Open kind))) }
+        ((phase_fits st (Some kind) ≡ true) × (st.phase ≡ Some kind))) }
     ensures { (w : Memory) → Uses st.sizes (used_in st) w area.old →
         Leaves (answered_none kind st w) result area.new }
 {
     match kind {
-        Kind::Start => {
-            return finish(st, area, Stop::Infeasible);
-        }
+        Kind::Start => finish(st, area, Stop::Infeasible),
         Kind::Trial => {
             let standing = standing_violation(st, area);
-            return turn_down(st, area, Rejection::Infeasible, standing);
+            turn_down(st, area, Rejection::Infeasible, standing)
         }
-        Kind::Correction => {
-            return correction_none(st, area);
-        }
+        Kind::Correction => correction_none(st, area),
     }
 }

@@ -1,10 +1,9 @@
 // The slots of the work area: their places, and what a call writes into them. All that a run knows beyond its state is
 // here, in memory that the caller lends, so a run needs no allocation and a call leaves nothing behind that a reader
 // could take for a number in use: behind the numbers in use all is +0. Where a slot stands is known here alone.
-ghost use Rattle.std.specs.Prelude.{◌+◌, ◌≤◌, ℕ, ◌<◌, ◌*◌, ◌++◌, ◌≡◌, length, take, drop, get_or};
+ghost use Rattle.std.specs.Prelude.{◌+◌, ◌≤◌, ℕ, ◌<◌, ◌*◌, ◌++◌, ◌≡◌, length, take, drop, get_or, Some};
 ghost use Rattle.linear.specs.Flat.{zeros};
 ghost use Rattle.run.specs.declared.state.Kind.TheVariants as kinds;
-ghost use Rattle.run.specs.declared.state.Phase.TheVariants.{Open};
 ghost use Rattle.run.specs.Limits.{VARIABLES, CONSTRAINTS, ITERATIONS};
 ghost use Rattle.run.specs.Area.{slot_sizes, places_of, area_length, in_order, numbers_in, used_in, HasRoom, part_of};
 ghost use Rattle.run.specs.Area.{pairs_in, point_at, rows_len};
@@ -14,7 +13,7 @@ ghost use Rattle.run.specs.Filter.{filter_with};
 ghost use Rattle.run.specs.Rows.{row_numbers};
 ghost use Rattle.run.specs.Vectors.{moved_of};
 ghost use Rattle.run.specs.program.Area.{numbers_of, written, cleared_to, Limits, Uses, Holds, Working};
-ghost use Rattle.run.specs.program.Area.{StandingWhole, TrialWhole, LandedWhole, standing_alone, Apart};
+ghost use Rattle.run.specs.program.Area.{StandingWhole, TrialWhole, LandedWhole, standing_alone};
 ghost use Rattle.run.specs.program.Proposal.{standing_part, rows_of, curvature_for};
 ghost use Rattle.run.specs.program.Rows.{FewRows};
 ghost use Rattle.run.specs.program.Step.{StepLengths};
@@ -22,7 +21,7 @@ ghost use Rattle.run.specs.program.Step.{StepLengths};
 use crate::filter::pair_numbers;
 use crate::limits::AREA;
 use crate::rows::{RowCounts, landed_counts, standing_counts};
-use crate::state::{Kind, Phase, Sizes, State};
+use crate::state::{Kind, Sizes, State};
 use crate::vectors::moved;
 use interval::Scalar;
 use linear::clear;
@@ -135,10 +134,9 @@ pub fn point_place(st: State) -> usize
     ensures { result ≡ point_at st.sizes st.phase }
 {
     let at = places(st.sizes);
-    let phase = st.phase;
-    match phase {
-        Phase::Open(_) => at.asked,
-        Phase::Over => at.standing,
+    match st.phase {
+        Some(_) => at.asked,
+        None => at.standing,
     }
 }
 
@@ -149,9 +147,8 @@ pub fn write(area: &mut [f64], base: usize, src: &[f64])
     requires { base + length src.now ≤ length area.old }
     ensures { area.new ≡ written area.old base src.now }
 {
-    for i in 0..src.len() {
-        area[base + i] = src[i];
-    }
+    let end = base + src.len();
+    area[base..end].copy_from_slice(src);
 }
 
 // Writes +0 to `count` places from base on.
@@ -159,18 +156,15 @@ fn clear_from(area: &mut [f64], base: usize, count: usize)
     requires { base + count ≤ length area.old }
     ensures { area.new ≡ written area.old base (zeros count) }
 {
-    let e = base + count;
-    clear(&mut area[base..e]);
+    clear(&mut area[base..base + count]);
 }
 
-// Copies so many numbers to a place apart from them.
+// Copies so many numbers to another place.
 fn copy(area: &mut [f64], from: usize, to: usize, count: usize)
-    requires { Apart from to count × (from + count ≤ length area.old) × (to + count ≤ length area.old) }
+    requires { (from + count ≤ length area.old) × (to + count ≤ length area.old) }
     ensures { area.new ≡ written area.old to (take count (drop from area.old)) }
 {
-    for i in 0..count {
-        area[to + i] = area[from + i];
-    }
+    area.copy_within(from..from + count, to);
 }
 
 // Clears in each slot the numbers between two places.
@@ -188,7 +182,7 @@ fn clear_slots(area: &mut [f64], sizes: &[usize], from: &[usize], to: &[usize])
     for k in 0..sizes.len() {
         let first = from[k];
         clear_from(area, base + first, to[k] - first);
-        base = base + sizes[k];
+        base += sizes[k];
     }
 }
 
@@ -251,31 +245,20 @@ fn used_in(st: State) -> SlotNumbers
     requires { Limits st }
     ensures { numbers_of result ≡ used_in st }
 {
-    let phase = st.phase;
     let all = numbers_in(st);
     let alone = standing_alone(all);
-    match phase {
-        Phase::Open(kind) => match kind {
-            Kind::Start => {
-                return SlotNumbers {
-                    asked: all.asked,
-                    ..alone
-                };
-            }
-            Kind::Trial => {
-                return SlotNumbers {
-                    landed: 0,
-                    landed_rows: 0,
-                    ..all
-                };
-            }
-            Kind::Correction => {
-                return all;
-            }
+    match st.phase {
+        Some(Kind::Start) => SlotNumbers {
+            asked: all.asked,
+            ..alone
         },
-        Phase::Over => {
-            return alone;
-        }
+        Some(Kind::Trial) => SlotNumbers {
+            landed: 0,
+            landed_rows: 0,
+            ..all
+        },
+        Some(Kind::Correction) => all,
+        None => alone,
     }
 }
 
@@ -394,7 +377,7 @@ pub fn keep_standing(area: &mut [f64], st: State)
 // A start's answer. Before it only the two points are in use, so all else is +0 already.
 pub fn write_start(area: &mut [f64], st: State, rows: &[f64])
     requires { HasRoom st.sizes area.old × Limits st ×
-        (length rows.now ≤ rows_len) × (st.phase ≡ Open kinds.Start) }
+        (length rows.now ≤ rows_len) × (st.phase ≡ Some kinds.Start) }
     ensures { (w : Memory) → Uses st.sizes (used_in st) w area.old →
         Holds st.sizes (with_start st w rows.now) area.new }
 {

@@ -12,7 +12,6 @@ ghost use Rattle.linear.specs.Choose.{choose_of};
 ghost use Rattle.linear.specs.Dot.{dot_to, minus_to};
 ghost use Rattle.linear.specs.Flat.{list_to, at, put};
 ghost use Rattle.linear.specs.Results.{fold_r, bind};
-ghost use Rattle.linear.specs.Substitution.{store_r};
 ghost use Rattle.run.specs.Limits.{VARIABLES, CONSTRAINTS};
 ghost use Rattle.run.specs.Basis.{packed, coefficients_in, parts_out, gram_step, gram_row, extended, Basis};
 ghost use Rattle.run.specs.Basis.{row_step, basis_of, coefficient_at, order_at, correction_of, multiplier_step};
@@ -22,13 +21,12 @@ ghost use Rattle.run.specs.Vectors.{entry, row, column, fill_to};
 ghost use Rattle.run.specs.program.Basis.{taken_by, basis_by, ranked_of, problem_by, row_problem, measured_by};
 ghost use Rattle.run.specs.program.Basis.{without_gram, NextRow, FreshBasis, ForCorrection};
 
-use crate::results::CountResult;
 use crate::rows::{RowSet, value_of};
 use crate::vectors::{combine, norm_of, spread, unit};
-use interval::{Scalar, ScalarResult};
+use interval::{GeopError, Scalar};
 use linear::{
-    Done, LinearError, LinearResult, at, choose, clear, in_column, in_row, minus_dot, minus_scaled,
-    put, row_dot, two_minus,
+    LinearError, at, choose, clear, in_column, in_row, minus_dot, minus_scaled, put, row_dot,
+    store, two_minus,
 };
 
 // Counts that go together: of the constraints' first m rows, over k variables, r are independent.
@@ -41,19 +39,6 @@ pub struct Shape {
 
 // How many scalars Q has: where the coefficients stand behind it, they begin there.
 const Q_LEN: usize = 144;
-
-// Stores a value, or hands its refusal on.
-fn store(xs: &mut [f64], i: usize, q: ScalarResult) -> Done
-    ensures { done_of result xs.new ≡ store_r xs.old i (scalar.result_of q) }
-{
-    match q {
-        ScalarResult::Value(v) => {
-            put(xs, i, v);
-            Done::Finished
-        }
-        ScalarResult::Refused(e) => Done::Refused(LinearError::Arithmetic(e)),
-    }
-}
 
 // ---- a row's coefficients in the basis
 
@@ -80,7 +65,13 @@ fn projections(k: usize, r: usize, i: usize, wide: &[f64], q: &[f64], b: &mut [f
 }
 
 // The coefficients of the row behind the first m, at the start of a.
-fn coefficients(passed: Shape, wide: &[f64], q: &[f64], gram: &[f64], a: &mut [f64]) -> Done
+fn coefficients(
+    passed: Shape,
+    wide: &[f64],
+    q: &[f64],
+    gram: &[f64],
+    a: &mut [f64],
+) -> Result<(), LinearError>
     requires { NextRow passed × (length a.old ≡ 24) }
     ensures { done_of result (take (2 * passed.r) a.new)
         ≡ coefficients_in (row_problem passed.k wide.now [])
@@ -148,7 +139,7 @@ fn parts_out(k: usize, r: usize, q: &[f64], v: &mut [f64], coefficients: &mut [f
 }
 
 // Entry j of the Gram factor's row r, below its diagonal.
-fn gram_entry(k: usize, r: usize, q: &[f64], gram: &mut [f64], j: usize) -> Done
+fn gram_entry(k: usize, r: usize, q: &[f64], gram: &mut [f64], j: usize) -> Result<(), LinearError>
     requires { (r ≤ CONSTRAINTS) × (j < r) }
     ensures { done_of result gram.new ≡ gram_step k r q.now gram.old j }
 {
@@ -159,36 +150,25 @@ fn gram_entry(k: usize, r: usize, q: &[f64], gram: &mut [f64], j: usize) -> Done
 }
 
 // The entries of the Gram factor's row r, below its diagonal.
-fn gram_entries(k: usize, r: usize, q: &[f64], gram: &mut [f64]) -> Done
+fn gram_entries(k: usize, r: usize, q: &[f64], gram: &mut [f64]) -> Result<(), LinearError>
     requires { r ≤ CONSTRAINTS }
     ensures { done_of result gram.new ≡ fold_r (gram_step k r q.now) gram.old r }
 {
     for j in 0..r {
-        match gram_entry(k, r, q, gram, j) {
-            Done::Finished => {}
-            Done::Refused(e) => {
-                return Done::Refused(e);
-            }
-        }
+        gram_entry(k, r, q, gram, j)?;
     }
-    Done::Finished
+    Ok(())
 }
 
 // Row r of the Gram factor, of the newest vector.
-fn gram_row(k: usize, r: usize, q: &[f64], gram: &mut [f64]) -> Done
+fn gram_row(k: usize, r: usize, q: &[f64], gram: &mut [f64]) -> Result<(), LinearError>
     requires { r ≤ CONSTRAINTS }
     ensures { done_of result gram.new ≡ gram_row k r q.now gram.old }
 {
-    match gram_entries(k, r, q, gram) {
-        Done::Finished => {
-            let z = row_dot(q, 12 * r, q, 12 * r, k);
-            let s = minus_dot(gram, in_row(12 * r), gram, in_row(12 * r), z, r);
-            return store(gram, 12 * r + r, s.sqrt());
-        }
-        Done::Refused(e) => {
-            return Done::Refused(e);
-        }
-    }
+    gram_entries(k, r, q, gram)?;
+    let z = row_dot(q, 12 * r, q, 12 * r, k);
+    let s = minus_dot(gram, in_row(12 * r), gram, in_row(12 * r), z, r);
+    store(gram, 12 * r + r, s.sqrt())
 }
 
 // Row i of `jc`, from the start of v on.
@@ -203,22 +183,6 @@ fn row_of(k: usize, i: usize, jc: &[f64], v: &mut [f64])
 
 // ---- one row after the other
 
-// The rank, or the refusal of the newest vector's row of the Gram factor.
-fn ranked(d: Done, r: usize) -> CountResult
-    ensures { (q gram coefficients dependent : List Float) (order : List ℕ)
-        → ranked_of result q gram coefficients dependent order
-        ≡ done_of d (basis_by r q gram coefficients dependent order) }
-{
-    match d {
-        Done::Finished => {
-            return CountResult::Value(r);
-        }
-        Done::Refused(e) => {
-            return CountResult::Refused(e);
-        }
-    }
-}
-
 // The row of `jc` behind the first m is independent of those in the basis and is its newest vector. The caller writes
 // the order.
 fn add_row(
@@ -227,7 +191,7 @@ fn add_row(
     q: &mut [f64],
     gram: &mut [f64],
     coefficients: &mut [f64],
-) -> CountResult
+) -> Result<usize, LinearError>
     requires { NextRow passed }
     ensures { (w : List Float) (o : List ℕ)
         → ranked_of result q.new gram.new coefficients.new w
@@ -240,17 +204,11 @@ fn add_row(
     let mut v = [0.0; 24];
     row_of(k, passed.m, jc, &mut v);
     parts_out(k, r, q, &mut v, coefficients);
-    match norm_of(&v, k) {
-        LinearResult::Value(l) => {
-            let length = l.sharpen();
-            unit(&v, 0, length, k, q, 12 * r);
-            put(coefficients, 12 * r + r, length);
-            return ranked(gram_row(k, r, q, gram), r + 1);
-        }
-        LinearResult::Refused(e) => {
-            return CountResult::Refused(e);
-        }
-    }
+    let length = norm_of(&v, k)?.sharpen();
+    unit(&v, 0, length, k, q, 12 * r);
+    put(coefficients, 12 * r + r, length);
+    gram_row(k, r, q, gram)?;
+    Ok(r + 1)
 }
 
 // r scalars of a, each chosen, from t0 on in `to`.
@@ -264,7 +222,13 @@ fn chosen_at(r: usize, a: &[f64], to: &mut [f64], t0: usize)
 }
 
 // The length of what is left of the row behind the first m, with its coefficients in a.
-fn measure(passed: Shape, wide: &[f64], q: &[f64], gram: &[f64], a: &mut [f64]) -> LinearResult
+fn measure(
+    passed: Shape,
+    wide: &[f64],
+    q: &[f64],
+    gram: &[f64],
+    a: &mut [f64],
+) -> Result<Scalar, LinearError>
     requires { NextRow passed × (length a.old ≡ 24) }
     ensures { (f : List Float → value.Scalar → scalar.Res Basis)
         → bind (result_of result) (f (take (2 * passed.r) a.new))
@@ -272,15 +236,9 @@ fn measure(passed: Shape, wide: &[f64], q: &[f64], gram: &[f64], a: &mut [f64]) 
         (basis_by passed.r q.now gram.now [] [] []) passed.m f }
 {
     let mut out = [0.0; 24];
-    match coefficients(passed, wide, q, gram, a) {
-        Done::Finished => {
-            outside(passed.k, passed.r, passed.m, wide, q, a, &mut out);
-            return norm_of(&out, passed.k);
-        }
-        Done::Refused(e) => {
-            return LinearResult::Refused(e);
-        }
-    }
+    coefficients(passed, wide, q, gram, a)?;
+    outside(passed.k, passed.r, passed.m, wide, q, a, &mut out);
+    norm_of(&out, passed.k)
 }
 
 // Takes the row behind the first m, row m, into the basis, or its coefficients among those of the dependent rows, which
@@ -294,7 +252,7 @@ fn next_row(
     coefficients: &mut [f64],
     dependent: &mut [f64],
     order: &mut [usize],
-) -> CountResult
+) -> Result<usize, LinearError>
     requires { NextRow passed × (length order.old ≡ 24) }
     ensures { ranked_of result q.new gram.new coefficients.new dependent.new
         order.new
@@ -305,21 +263,15 @@ fn next_row(
     let i = passed.m;
     let r = passed.r;
     let mut a = [0.0; 24];
-    match measure(passed, wide, q, gram, &mut a) {
-        LinearResult::Value(l) => {
-            if l.definitely_greater(Scalar::ZERO) {
-                order[r] = i;
-                return add_row(passed, jc, q, gram, coefficients);
-            }
-            let d = i - r;
-            order[12 + d] = i;
-            chosen_at(r, &a, dependent, 12 * d);
-            return CountResult::Value(r);
-        }
-        LinearResult::Refused(e) => {
-            return CountResult::Refused(e);
-        }
+    let length = measure(passed, wide, q, gram, &mut a)?;
+    if length.definitely_greater(Scalar::ZERO) {
+        order[r] = i;
+        return add_row(passed, jc, q, gram, coefficients);
     }
+    let d = i - r;
+    order[12 + d] = i;
+    chosen_at(r, &a, dependent, 12 * d);
+    Ok(r)
 }
 
 // The basis of m rows, from clear slices. The Gram factor only serves the rows that follow, so no caller sees it.
@@ -332,7 +284,7 @@ pub fn basis(
     coefficients: &mut [f64],
     dependent: &mut [f64],
     order: &mut [usize],
-) -> CountResult
+) -> Result<usize, LinearError>
     requires { FreshBasis k m q.old coefficients.old dependent.old order.old }
     ensures { ranked_of result q.new [] coefficients.new dependent.new
         order.new
@@ -341,7 +293,7 @@ pub fn basis(
     let mut gram = [0.0; 288];
     let mut r = 0;
     for i in 0..m {
-        match next_row(
+        r = next_row(
             Shape { k, m: i, r },
             wide,
             jc,
@@ -350,16 +302,9 @@ pub fn basis(
             coefficients,
             dependent,
             order,
-        ) {
-            CountResult::Value(s) => {
-                r = s;
-            }
-            CountResult::Refused(e) => {
-                return CountResult::Refused(e);
-            }
-        }
+        )?;
     }
-    CountResult::Value(r)
+    Ok(r)
 }
 
 // ---- the least-squares correction of every row
@@ -427,7 +372,7 @@ pub fn correction(
     xs: &[f64],
     e: RowSet,
     delta: &mut [f64],
-) -> Done
+) -> Result<(), LinearError>
     requires { ForCorrection shape (length order.now) (length delta.old) }
     ensures { done_of result delta.new
         ≡ correction_of (problem_by shape.k shape.m (value_at (rows_in xs.now e)) [] [])
@@ -446,31 +391,33 @@ pub fn correction(
     let mut weights = [0.0; 24];
     coefficient_rows(m, r, coefficients, dependent, &mut rows[..s]);
     sides(m, r, order, xs, e, &mut rhs[..u]);
-    let end = linear::least_squares(m, r, &rows[..s], &rhs[..u], &mut y[..w]);
-    linear::sharp(r, &y[..w], &mut weights[..w]);
+    linear::least_squares(m, r, &rows[..s], &rhs[..u], &mut y[..w])?;
+    linear::sharp(r, &y[..w], &mut weights[..w])?;
     clear(delta);
     combine(k, &weights[..w], q, delta, r);
-    end
+    Ok(())
 }
 
 // ---- the multipliers
 
 // Stores a value, chosen, or hands its refusal on.
-fn store_chosen(xs: &mut [f64], i: usize, q: ScalarResult) -> Done
+fn store_chosen(xs: &mut [f64], i: usize, q: Result<Scalar, GeopError>) -> Result<(), LinearError>
     ensures { done_of result xs.new
         ≡ bind (scalar.result_of q) (λ v. scalar.ok (put xs.old i (choose_of v))) }
 {
-    match q {
-        ScalarResult::Value(v) => {
-            put(xs, i, choose(v));
-            Done::Finished
-        }
-        ScalarResult::Refused(e) => Done::Refused(LinearError::Arithmetic(e)),
-    }
+    put(xs, i, choose(q?));
+    Ok(())
 }
 
 // The multiplier of vector r - 1 - u, from those behind it; the coefficients stand behind Q.
-fn multiplier(k: usize, r: usize, q: &[f64], pull: &[f64], by_row: &mut [f64], u: usize) -> Done
+fn multiplier(
+    k: usize,
+    r: usize,
+    q: &[f64],
+    pull: &[f64],
+    by_row: &mut [f64],
+    u: usize,
+) -> Result<(), LinearError>
     requires { (r ≤ CONSTRAINTS) × (u < r) }
     ensures { done_of result by_row.new
         ≡ multiplier_step k (basis_by r q.now [] (drop 288 q.now) [] []) pull.now
@@ -484,21 +431,22 @@ fn multiplier(k: usize, r: usize, q: &[f64], pull: &[f64], by_row: &mut [f64], u
 }
 
 // The multipliers by vector, from the last to the first.
-fn multipliers_by_row(k: usize, r: usize, q: &[f64], pull: &[f64], by_row: &mut [f64]) -> Done
+fn multipliers_by_row(
+    k: usize,
+    r: usize,
+    q: &[f64],
+    pull: &[f64],
+    by_row: &mut [f64],
+) -> Result<(), LinearError>
     requires { r ≤ CONSTRAINTS }
     ensures { done_of result by_row.new
         ≡ fold_r (multiplier_step k (basis_by r q.now [] (drop 288 q.now) [] []) pull.now)
         by_row.old r }
 {
     for u in 0..r {
-        match multiplier(k, r, q, pull, by_row, u) {
-            Done::Finished => {}
-            Done::Refused(e) => {
-                return Done::Refused(e);
-            }
-        }
+        multiplier(k, r, q, pull, by_row, u)?;
     }
-    Done::Finished
+    Ok(())
 }
 
 // The constraints' multipliers, against a pull; the coefficients stand behind Q. Where they are refused, what lambda
@@ -510,14 +458,14 @@ pub fn multipliers(
     order: &[usize],
     pull: &[f64],
     lambda: &mut [f64],
-) -> Done
+) -> Result<(), LinearError>
     requires { (r ≤ CONSTRAINTS) × ((length order.now ≡ 24) × (length lambda.old ≡ 24)) }
     ensures { done_of result lambda.new
         ≡ multipliers_of k (basis_by r q.now [] (drop 288 q.now) [] order.now)
         pull.now }
 {
     let mut by_row = [0.0; 24];
-    let end = multipliers_by_row(k, r, q, pull, &mut by_row);
+    multipliers_by_row(k, r, q, pull, &mut by_row)?;
     spread(order, &by_row, r, lambda);
-    end
+    Ok(())
 }

@@ -5,13 +5,14 @@ ghost use Rattle.run.specs.program.Calls.{not_begun};
 
 use crate::answered::{answered, answered_none};
 use crate::area::{area_length, clear_unused, part, point_place, write_begun};
-use crate::checks::{Checked, refusal};
+use crate::checks::check_begin;
 use crate::damping::first_damping;
-use crate::state::{Event, Kind, Phase, Returned, Sizes, State};
+use crate::refusal::Refusal;
+use crate::state::{Event, Kind, Returned, Sizes, State};
 use crate::{checks, state};
 use interval::Scalar;
 
-// The asked point, or the standing one where no question is open. It is empty for a run that number 4 refuses as
+// The asked point, or the standing one where no question is open. It is empty for a run that is refused as
 // altered, and for an area of the wrong length.
 pub fn point(st: State, area: &[f64]) -> &[f64]
     ensures { result.now ≡ point_of st area.now }
@@ -25,19 +26,19 @@ pub fn point(st: State, area: &[f64]) -> &[f64]
     part(area, point_place(st), 2 * st.sizes.n)
 }
 
-// Beside a refusal: no run, so any reply to it gets 4.
-fn not_begun(number: usize) -> Returned
-    ensures { result ≡ not_begun number }
+// Beside a refusal: no run, so any reply to it is refused as altered.
+fn not_begun(refusal: Refusal) -> Returned
+    ensures { result ≡ not_begun refusal }
 {
     let z = Sizes {
         n: 0,
         s: 0,
         limit: 0,
     };
-    let state = state::state_with(z, Scalar::ZERO, Scalar::ZERO, Phase::Over);
+    let state = state::state_with(z, Scalar::ZERO, Scalar::ZERO, None);
     Returned {
         state,
-        event: Event::Refused(number),
+        event: Event::Refused(refusal),
     }
 }
 
@@ -56,13 +57,12 @@ pub fn begin(
         area.old }
 {
     let z = Sizes { n, s, limit };
-    let number = refusal(z, start, max_step, area.len());
-    if number != 0 {
-        return not_begun(number);
+    if let Err(refusal) = check_begin(z, start, max_step, area.len()) {
+        return not_begun(refusal);
     }
     write_begun(area, z, start);
     let mu = first_damping();
-    let state = state::state_with(z, mu, max_step, Phase::Open(Kind::Start));
+    let state = state::state_with(z, mu, max_step, Some(Kind::Start));
     Returned {
         state,
         event: Event::Question(0, Kind::Start, 0),
@@ -74,11 +74,11 @@ pub fn reply(st: State, area: &mut [f64], m: usize, rows: &[f64]) -> Returned
     ensures { after_call result area.new ≡ reply_of st area.old m rows.now }
 {
     let asked = match checks::check_rows(st, area.len(), m, rows) {
-        Checked::Accept(kind) => kind,
-        Checked::Refuse(number) => {
+        Ok(kind) => kind,
+        Err(refusal) => {
             return Returned {
                 state: st,
-                event: Event::Refused(number),
+                event: Event::Refused(refusal),
             };
         }
     };
@@ -91,11 +91,11 @@ pub fn reply_none(st: State, area: &mut [f64]) -> Returned
     ensures { after_call result area.new ≡ reply_none_of st area.old }
 {
     let asked = match checks::check(st, area.len()) {
-        Checked::Accept(kind) => kind,
-        Checked::Refuse(number) => {
+        Ok(kind) => kind,
+        Err(refusal) => {
             return Returned {
                 state: st,
-                event: Event::Refused(number),
+                event: Event::Refused(refusal),
             };
         }
     };

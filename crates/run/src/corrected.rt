@@ -26,21 +26,12 @@ use crate::decide::judge_landed;
 use crate::endings::{ask, refuse};
 use crate::limits::CORRECTIONS;
 use crate::residuals::{chosen_values, landed_violation, standing_violation};
-use crate::results::TruthResult;
 use crate::rows::{RowCounts, constraints, landed_counts, row_counts, slope_of};
 use crate::state::{Kind, Returned, State, with_landed};
 use crate::vectors::{all_finite, choose_if, moved, same};
 use crate::{area, residuals};
 use interval::Scalar;
-use linear::{Done, LinearError, LinearResult, at, clear, minus_solved, put};
-
-// Where a shift takes the landed point: to another, which is written, or nowhere.
-#[derive(Clone, Copy)]
-pub enum Shifted {
-    To,
-    Stay,
-    Refused(LinearError),
-}
+use linear::{LinearError, at, clear, minus_solved, put};
 
 // The slopes of the constraints by the variables that move, chosen, and zero by the others.
 fn moving_slopes(c: RowCounts, xs: &[f64], moving: &[bool], jc: &mut [f64])
@@ -71,7 +62,7 @@ fn sharpened(n: usize, from: &[f64], to: &mut [f64])
 }
 
 // The shortest move that meets the linearized constraints, among the variables that move.
-pub fn shift(c: RowCounts, xs: &[f64], moving: &[bool], d: &mut [f64]) -> Done
+pub fn shift(c: RowCounts, xs: &[f64], moving: &[bool], d: &mut [f64]) -> Result<(), LinearError>
     requires { MarkedCounts c (length moving.now) × (length d.old ≡ point_len) }
     ensures { done_of result d.new ≡ shift_of moving.now (constraints_of c xs.now) }
 {
@@ -86,40 +77,32 @@ pub fn shift(c: RowCounts, xs: &[f64], moving: &[bool], d: &mut [f64]) -> Done
     let mut out = [0.0; 24];
     moving_slopes(c, xs, moving, &mut jc[..q]);
     chosen_values(xs, constraints(c), &mut values[..k]);
-    let end = minus_solved(m, n, &jc[..q], &values[..k], &zero[..w], &mut out[..w]);
+    minus_solved(m, n, &jc[..q], &values[..k], &zero[..w], &mut out[..w])?;
     sharpened(n, &out[..w], d);
-    end
+    Ok(())
 }
 
-// Where the shift takes the landed point, with its rows xs: `next` has the point where it is another.
+// Whether the shift takes the landed point, with its rows xs, to another, which is then in `next`.
 pub fn shift_from(
     c: RowCounts,
     xs: &[f64],
     moving: &[bool],
     landed: &[f64],
     next: &mut [f64],
-) -> Shifted
+) -> Result<bool, LinearError>
     requires { MarkedCounts c (length moving.now) × (length next.old ≡ point_len) }
     ensures { shifted_of result next.new
         ≡ shift_from moving.now (constraints_of c xs.now) landed.now }
 {
     let n = c.n;
     let mut d = [0.0; 24];
-    match shift(c, xs, moving, &mut d) {
-        Done::Refused(e) => {
-            return Shifted::Refused(e);
-        }
-        Done::Finished => {}
-    }
+    shift(c, xs, moving, &mut d)?;
     let by: &[f64] = &d;
     if !all_finite(by, 12) {
-        return Shifted::Stay;
+        return Ok(false);
     }
     moved(n, landed, by, next);
-    if same(n, next, landed) {
-        return Shifted::Stay;
-    }
-    Shifted::To
+    Ok(!same(n, next, landed))
 }
 
 // The step with a shift added, sharp.
@@ -134,7 +117,12 @@ pub fn shifted_step(n: usize, step: &mut [f64], d: &[f64])
 }
 
 // The landed point is shifted back onto the constraints, and that point asked, or it is judged.
-fn correct(st: State, area: &mut [f64], theta: Scalar, landed: LinearResult) -> Returned
+fn correct(
+    st: State,
+    area: &mut [f64],
+    theta: Scalar,
+    landed: Result<Scalar, LinearError>,
+) -> Returned
     requires { HasRoom st.sizes area.old × Underway st }
     ensures { (w : Memory) → ViolationsKnown st theta (result_of landed) w area.old →
         Leaves (correct st w theta) result area.new }
@@ -149,16 +137,13 @@ fn correct(st: State, area: &mut [f64], theta: Scalar, landed: LinearResult) -> 
         &mut next,
     );
     match shifted {
-        Shifted::To => {}
-        Shifted::Stay => {
-            return judge_landed(st, area, theta, landed);
+        Ok(true) => {
+            area::write_asked(area, st.sizes, &next);
+            ask(st, Kind::Correction, st.counts.corrections)
         }
-        Shifted::Refused(e) => {
-            return refuse(st, area, e);
-        }
+        Ok(false) => judge_landed(st, area, theta, landed),
+        Err(e) => refuse(st, area, e),
     }
-    area::write_asked(area, st.sizes, &next);
-    ask(st, Kind::Correction, st.counts.corrections)
 }
 
 // A correction is asked for where it is due, or the landed point is judged.
@@ -166,7 +151,7 @@ fn correct_or_judge(
     st: State,
     area: &mut [f64],
     theta: Scalar,
-    landed: LinearResult,
+    landed: Result<Scalar, LinearError>,
     corrects: bool,
 ) -> Returned
     requires { HasRoom st.sizes area.old × Underway st }
@@ -187,7 +172,7 @@ fn keep(
     m: usize,
     rows: &[f64],
     theta: Scalar,
-    landed: LinearResult,
+    landed: Result<Scalar, LinearError>,
 ) -> Returned
     requires { RowsToLand st area.old m (length rows.now) × (st.counts.corrections ≤ CORRECTIONS) }
     ensures { (w : Memory) → StandingKnown st (ok theta) w area.old →
@@ -199,11 +184,8 @@ fn keep(
     let mut d = [0.0; 24];
     let c = landed_counts(st);
     let shift = shift(c, area::landed_rows(area, st.sizes, c), &moving, &mut d);
-    match shift {
-        Done::Finished => {}
-        Done::Refused(e) => {
-            return refuse(st, area, e);
-        }
+    if let Err(e) = shift {
+        return refuse(st, area, e);
     }
     let at = area::places(st.sizes).step;
     let n = st.sizes.n;
@@ -215,22 +197,13 @@ fn keep(
 }
 
 // Whether a correction's rows, by their violation, are nearer the constraints than the landed ones.
-fn is_nearer(new: LinearResult, old: LinearResult) -> TruthResult
+fn is_nearer(
+    new: Result<Scalar, LinearError>,
+    old: Result<Scalar, LinearError>,
+) -> Result<bool, LinearError>
     ensures { truth_of result ≡ nearer_of (result_of new) (result_of old) }
 {
-    match new {
-        LinearResult::Value(now) => match old {
-            LinearResult::Value(before) => {
-                return TruthResult::Value(now.definitely_less(before));
-            }
-            LinearResult::Refused(e) => {
-                return TruthResult::Refused(e);
-            }
-        },
-        LinearResult::Refused(e) => {
-            return TruthResult::Refused(e);
-        }
-    }
+    Ok(new?.definitely_less(old?))
 }
 
 // A correction's rows, from a standing point with violation theta: kept where they are nearer than the landed ones.
@@ -249,15 +222,9 @@ pub fn land_correction(
     let new = residuals::violation(rows, row_counts(st.sizes, m));
     let old = landed_violation(st, area);
     match is_nearer(new, old) {
-        TruthResult::Value(kept) => {
-            if kept {
-                return keep(st, area, m, rows, theta, new);
-            }
-            return judge_landed(st, area, theta, old);
-        }
-        TruthResult::Refused(e) => {
-            return refuse(st, area, e);
-        }
+        Ok(true) => keep(st, area, m, rows, theta, new),
+        Ok(false) => judge_landed(st, area, theta, old),
+        Err(e) => refuse(st, area, e),
     }
 }
 
@@ -271,12 +238,8 @@ pub fn land_trial(st: State, area: &mut [f64], m: usize, rows: &[f64], theta: Sc
     let t = with_landed(st, m, 0);
     let landed = residuals::violation(rows, row_counts(st.sizes, m));
     match landed {
-        LinearResult::Value(new) => {
-            return correct_or_judge(t, area, theta, landed, new.definitely_greater(theta));
-        }
-        LinearResult::Refused(e) => {
-            return refuse(t, area, e);
-        }
+        Ok(new) => correct_or_judge(t, area, theta, landed, new.definitely_greater(theta)),
+        Err(e) => refuse(t, area, e),
     }
 }
 
@@ -288,12 +251,10 @@ pub fn correction_none(st: State, area: &mut [f64]) -> Returned
         Leaves (answered_none kinds.Correction st w) result area.new }
 {
     match standing_violation(st, area) {
-        LinearResult::Value(theta) => {
+        Ok(theta) => {
             let landed = landed_violation(st, area);
-            return judge_landed(st, area, theta, landed);
+            judge_landed(st, area, theta, landed)
         }
-        LinearResult::Refused(e) => {
-            return refuse(st, area, e);
-        }
+        Err(e) => refuse(st, area, e),
     }
 }

@@ -23,10 +23,8 @@ ghost use Rattle.run.specs.program.Rows.{FewRows};
 use crate::residuals::{chosen_slopes, chosen_values, transposed_at};
 use crate::rows::{RowCounts, constraints, first_rows, sum};
 use crate::vectors::quotient;
-use interval::{Scalar, ScalarResult};
-use linear::{
-    Done, LinearError, at, choose, gram_factor, minus_factored, minus_solved, put, row_dot,
-};
+use interval::{GeopError, Scalar};
+use linear::{LinearError, at, choose, gram_factor, minus_factored, minus_solved, put, row_dot};
 
 // Whether an entry bends the model: not sharp, or definitely not zero.
 fn bends(v: Scalar) -> bool
@@ -69,7 +67,12 @@ pub fn products(n: usize, k: usize, rows: &[f64], v: &[f64], out: &mut [f64])
 }
 
 // The part of v along the constraints, that is, square to their slopes.
-pub fn along_constraints(c: RowCounts, xs: &[f64], v: &[f64], out: &mut [f64]) -> Done
+pub fn along_constraints(
+    c: RowCounts,
+    xs: &[f64],
+    v: &[f64],
+    out: &mut [f64],
+) -> Result<(), LinearError>
     requires { AlongLengths c (length v.now) (length out.old) }
     ensures { done_of result out.new ≡ along_of (constraints_of c xs.now) v.now }
 {
@@ -95,7 +98,7 @@ fn along_factored(
     left_out: &[bool],
     v: &[f64],
     out: &mut [f64],
-) -> Done
+) -> Result<(), LinearError>
     requires { AlongLengths c (length v.now) (length out.old) }
     ensures { (xs : List Float) →
         Factored (constraints_of c xs) slopes.now (factor_of l.now left_out.now) →
@@ -161,24 +164,24 @@ fn lagrangian_change(
 }
 
 // Adds to the p-th scalar, chosen, or hands a refusal on.
-fn add_chosen(b: &mut [f64], p: usize, q: ScalarResult) -> Done
+fn add_chosen(b: &mut [f64], p: usize, q: Result<Scalar, GeopError>) -> Result<(), LinearError>
     ensures { done_of result b.new
         ≡ store_r b.old p (chosen_sum (at b.old p) (scalar.result_of q)) }
 {
-    match q {
-        ScalarResult::Value(v) => {
-            let a = at(b, p);
-            put(b, p, choose(a.add(v)));
-            return Done::Finished;
-        }
-        ScalarResult::Refused(e) => {
-            return Done::Refused(LinearError::Arithmetic(e));
-        }
-    }
+    let v = q?;
+    let a = at(b, p);
+    put(b, p, choose(a.add(v)));
+    Ok(())
 }
 
 // Entry p of b + v vᵀ / vs, by the inverse of vs.
-fn rank_one_at(n: usize, b: &mut [f64], v: &[f64], inverse: ScalarResult, p: usize) -> Done
+fn rank_one_at(
+    n: usize,
+    b: &mut [f64],
+    v: &[f64],
+    inverse: Result<Scalar, GeopError>,
+    p: usize,
+) -> Result<(), LinearError>
     requires { 0 < n }
     ensures { (vs : Scalar) → scalar.result_of inverse ≡ inverse_of vs →
         done_of result b.new ≡ rank_one_step n v.now vs b.old p }
@@ -189,21 +192,16 @@ fn rank_one_at(n: usize, b: &mut [f64], v: &[f64], inverse: ScalarResult, p: usi
 }
 
 // b + v vᵀ / vs, each entry chosen.
-pub fn rank_one(n: usize, b: &mut [f64], v: &[f64], vs: Scalar) -> Done
+pub fn rank_one(n: usize, b: &mut [f64], v: &[f64], vs: Scalar) -> Result<(), LinearError>
     requires { n ≤ VARIABLES }
     ensures { done_of result b.new ≡ rank_one_of n b.old v.now vs }
 {
     let q = n * n;
     let inverse = vs.inverse();
     for p in 0..q {
-        match rank_one_at(n, b, v, inverse, p) {
-            Done::Finished => {}
-            Done::Refused(e) => {
-                return Done::Refused(e);
-            }
-        }
+        rank_one_at(n, b, v, inverse, p)?;
     }
-    Done::Finished
+    Ok(())
 }
 
 // The first n of y less those of bs, chosen, into a clear vector.
@@ -219,7 +217,13 @@ fn less_chosen(n: usize, y: &[f64], bs: &[f64], v: &mut [f64])
 }
 
 // The update, with y along the constraints.
-pub fn corrected_by(n: usize, b: &mut [f64], y: &[f64], bs: &[f64], s: &[f64]) -> Done
+pub fn corrected_by(
+    n: usize,
+    b: &mut [f64],
+    y: &[f64],
+    bs: &[f64],
+    s: &[f64],
+) -> Result<(), LinearError>
     requires { n ≤ VARIABLES }
     ensures { done_of result b.new
         ≡ corrected_by n b.old y.now bs.now s.now }
@@ -231,7 +235,7 @@ pub fn corrected_by(n: usize, b: &mut [f64], y: &[f64], bs: &[f64], s: &[f64]) -
     if vs.definitely_not_equal(Scalar::ZERO) {
         return rank_one(n, b, less, vs);
     }
-    Done::Finished
+    Ok(())
 }
 
 // The update, from y and the step s along the constraints. There is none where the curvature may explain y already, and
@@ -244,7 +248,7 @@ fn updated(
     b: &mut [f64],
     y: &[f64],
     s: &[f64],
-) -> Done
+) -> Result<(), LinearError>
     requires { FewRows c × (length y.now ≡ point_len) }
     ensures { (xs : List Float) →
         Factored (constraints_of c xs) slopes.now (factor_of l.now left_out.now) →
@@ -259,12 +263,9 @@ fn updated(
     let bent: &[f64] = &bs;
     let d = dot_of(y, s, n).sub(dot_of(bent, s, n));
     if !d.definitely_not_equal(Scalar::ZERO) {
-        return Done::Finished;
+        return Ok(());
     }
-    let end = along_factored(c, slopes, l, left_out, y, &mut y_along[..w]);
-    let Done::Finished = end else {
-        return end;
-    };
+    along_factored(c, slopes, l, left_out, y, &mut y_along[..w])?;
     corrected_by(n, b, &y_along[..w], bent, s)
 }
 
@@ -277,7 +278,7 @@ fn update_factored(
     b: &mut [f64],
     y: &[f64],
     step: &[f64],
-) -> Done
+) -> Result<(), LinearError>
     requires { UpdateLengths c (length y.now) (length step.now) }
     ensures { (xs : List Float) →
         Factored (constraints_of c xs) slopes.now (factor_of l.now left_out.now) →
@@ -286,10 +287,7 @@ fn update_factored(
 {
     let w = 2 * c.n;
     let mut s_along = [0.0; 24];
-    let end = along_factored(c, slopes, l, left_out, step, &mut s_along[..w]);
-    let Done::Finished = end else {
-        return end;
-    };
+    along_factored(c, slopes, l, left_out, step, &mut s_along[..w])?;
     updated(c, slopes, l, left_out, b, y, &s_along[..w])
 }
 
@@ -303,7 +301,7 @@ pub fn update_curvature(
     next: &[f64],
     lambda: &[f64],
     b: &mut [f64],
-) -> Done
+) -> Result<(), LinearError>
     requires { FewRows c × FewRows d × (2 * c.n ≤ length step.now) }
     ensures { done_of result b.new
         ≡ update_curvature c.n b.old step.now (evaluation_of c xs.now)
@@ -320,9 +318,6 @@ pub fn update_curvature(
     let mut left_out = [false; 12];
     lagrangian_change(c, xs, d, next, lambda, &mut y);
     chosen_slopes(xs, constraints(c), &mut jc[..q]);
-    let end = gram_factor(m, n, &jc[..q], &mut g[..e], &mut l[..e], &mut left_out[..m]);
-    let Done::Finished = end else {
-        return end;
-    };
+    gram_factor(m, n, &jc[..q], &mut g[..e], &mut l[..e], &mut left_out[..m])?;
     update_factored(c, &jc[..q], &l[..e], &left_out[..m], b, &y, step)
 }

@@ -38,12 +38,12 @@ pub fn damp(x: Search, radius: Scalar, why: Rejection) -> Damped
         turned_down: x.turned_down + 1,
         first: false,
         plain: x.plain,
-        rejected: why,
+        rejected: Some(why),
     };
     if mu.is_finite() {
         return Damped::On(y);
     }
-    Damped::Stop(y, Stop::Damped(why))
+    Damped::Stop(y, Stop::Damped(Some(why)))
 }
 
 // A third of the damping, sharp, where that is positive: below the least positive float it would be none.

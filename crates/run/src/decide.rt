@@ -24,16 +24,13 @@ use crate::curvature::{learned, update_curvature};
 use crate::damping::{Damped, damp, shrunk};
 use crate::endings::{finish, refuse};
 use crate::iterate::{iterate, search};
-use crate::judgement::{Baseline, Judged, Judgement, judge};
+use crate::judgement::{Baseline, Judged, judge};
 use crate::radius::radius_after;
-use crate::results::TruthResult;
 use crate::rows::{landed_counts, standing_counts};
-use crate::state::{
-    Last, Rejection, Returned, Sizes, State, Stop, reject, standing_on, with_search,
-};
+use crate::state::{Rejection, Returned, Sizes, State, Stop, reject, standing_on, with_search};
 use crate::{area, residuals};
-use interval::{Scalar, ScalarResult};
-use linear::{Done, LinearError, LinearResult};
+use interval::Scalar;
+use linear::LinearError;
 
 // The search goes on with that radius and more damping, while that is finite.
 fn grow(
@@ -41,36 +38,35 @@ fn grow(
     area: &mut [f64],
     radius: Scalar,
     why: Rejection,
-    standing: LinearResult,
+    standing: Result<Scalar, LinearError>,
 ) -> Returned
     requires { HasRoom st.sizes area.old × Bounded 1073741824 st }
     ensures { (w : Memory) → StandingKnown st (result_of standing) w area.old →
         Leaves (run.grow (searching st (with_radius (rejected_for st.search why) radius)) w) result area.new }
 {
     match damp(st.search, radius, why) {
-        Damped::On(y) => {
-            return search(with_search(st, y), area, standing);
-        }
-        Damped::Stop(y, stop) => {
-            return finish(with_search(st, y), area, stop);
-        }
+        Damped::On(y) => search(with_search(st, y), area, standing),
+        Damped::Stop(y, stop) => finish(with_search(st, y), area, stop),
     }
 }
 
 // A step is turned down: the model was trusted too far, so a quarter of the length tried is the radius, with more
 // damping.
-pub fn turn_down(st: State, area: &mut [f64], why: Rejection, standing: LinearResult) -> Returned
+pub fn turn_down(
+    st: State,
+    area: &mut [f64],
+    why: Rejection,
+    standing: Result<Scalar, LinearError>,
+) -> Returned
     requires { HasRoom st.sizes area.old × Bounded 1073741824 st }
     ensures { (w : Memory) → StandingKnown st (result_of standing) w area.old →
         Leaves (run.turn_down st w why) result area.new }
 {
     match st.trial.tried.div(Scalar::degenerate(4.0)) {
-        ScalarResult::Value(q) => {
-            return grow(st, area, q.sharpen(), why, standing);
-        }
-        ScalarResult::Refused(e) => {
+        Ok(q) => grow(st, area, q.sharpen(), why, standing),
+        Err(e) => {
             let x = reject(st.search, why);
-            return refuse(with_search(st, x), area, LinearError::Arithmetic(e));
+            refuse(with_search(st, x), area, LinearError::from(e))
         }
     }
 }
@@ -80,16 +76,13 @@ fn may_retry(plain: bool, z: Sizes, area: &[f64]) -> bool
     requires { (z.n ≤ VARIABLES) × HasRoom z area.now }
     ensures { result ≡ (not plain && learned_of z.n (curvature_for z false area.now)) }
 {
-    if plain {
-        return false;
-    }
-    learned(z.n, area::curvature_for(false, area, z))
+    !plain && learned(z.n, area::curvature_for(false, area, z))
 }
 
 // A step that is not lower is tried again without the curvature learned, once in an iteration, or turned down.
 // Curvature learned from earlier steps may no longer hold here, as on the far side of a singular point, and without it
 // the step is one of descent; so this comes before more damping.
-pub fn not_lower(st: State, area: &mut [f64], standing: LinearResult) -> Returned
+pub fn not_lower(st: State, area: &mut [f64], standing: Result<Scalar, LinearError>) -> Returned
     requires { HasRoom st.sizes area.old × Bounded 1073741824 st }
     ensures { (w : Memory) → StandingKnown st (result_of standing) w area.old →
         Leaves (run.not_lower st w) result area.new }
@@ -115,26 +108,23 @@ fn held(old: Scalar, predicted: Scalar, new: Scalar) -> bool
 
 // Whether they did, by the violation of the landed point. It is asked only where there was a violation to lower, and
 // then the radius may grow beyond the longest step that a caller allows at once.
-fn linear_of(st: State, theta: Scalar, landed: LinearResult) -> TruthResult
+fn linear_of(
+    st: State,
+    theta: Scalar,
+    landed: Result<Scalar, LinearError>,
+) -> Result<bool, LinearError>
     ensures { (w : Memory) → result_of landed ≡ violation_of (landed_at st w).constraints →
         truth_of result ≡ linear_of st w theta }
 {
     if theta.definitely_greater(Scalar::ZERO) {
-        match landed {
-            LinearResult::Value(new) => {
-                return TruthResult::Value(held(theta, st.trial.predicted, new));
-            }
-            LinearResult::Refused(e) => {
-                return TruthResult::Refused(e);
-            }
-        }
+        return Ok(held(theta, st.trial.predicted, landed?));
     }
-    TruthResult::Value(false)
+    Ok(false)
 }
 
 // The curvature after the step into b, which holds as many numbers as it has: from that before the step, or from none
 // in plain.
-fn learn(st: State, area: &[f64], b: &mut [f64]) -> Done
+fn learn(st: State, area: &[f64], b: &mut [f64]) -> Result<(), LinearError>
     requires { HasRoom st.sizes area.now × FewRows (standing_counts st) × FewRows (landed_counts st) ×
         (length b.old ≡ (numbers_in st).curvature) }
     ensures { (w : Memory) → ReadAll st w area.now →
@@ -162,7 +152,7 @@ fn take_with(
     st: State,
     area: &mut [f64],
     theta: Scalar,
-    landed: LinearResult,
+    landed: Result<Scalar, LinearError>,
     span: Scalar,
     mu: Scalar,
     radius: Scalar,
@@ -174,11 +164,8 @@ fn take_with(
     let mut entries = [0.0; CURVATURE_LEN];
     let n = st.sizes.n;
     let count = 2 * (n * n);
-    match learn(st, area, &mut entries[..count]) {
-        Done::Finished => {}
-        Done::Refused(e) => {
-            return refuse(st, area, e);
-        }
+    if let Err(e) = learn(st, area, &mut entries[..count]) {
+        return refuse(st, area, e);
     }
     let c = standing_counts(st);
     let f = residuals::sum_squared(area::standing_rows(area, st.sizes, c), c);
@@ -191,7 +178,7 @@ pub fn take(
     st: State,
     area: &mut [f64],
     theta: Scalar,
-    landed: LinearResult,
+    landed: Result<Scalar, LinearError>,
     span: Scalar,
 ) -> Returned
     requires { HasRoom st.sizes area.old × Underway st }
@@ -199,47 +186,24 @@ pub fn take(
         Leaves (take st w theta span) result area.new }
 {
     match linear_of(st, theta, landed) {
-        TruthResult::Value(linear) => match st.search.mu.div(Scalar::degenerate(3.0)) {
-            ScalarResult::Value(third) => {
+        Ok(linear) => match st.search.mu.div(Scalar::degenerate(3.0)) {
+            Ok(third) => {
                 let mu = shrunk(st.search.mu, third);
                 let radius = radius_after(span, st.search.radius, st.max_step, linear);
-                return take_with(st, area, theta, landed, span, mu, radius);
+                take_with(st, area, theta, landed, span, mu, radius)
             }
-            ScalarResult::Refused(e) => {
-                return refuse(st, area, LinearError::Arithmetic(e));
-            }
+            Err(e) => refuse(st, area, LinearError::from(e)),
         },
-        TruthResult::Refused(e) => {
-            return refuse(st, area, e);
-        }
-    }
-}
-
-// Whether a step was taken before.
-fn was_taken(last: Last) -> bool
-    ensures { result ≡ was_taken last }
-{
-    match last {
-        Last::NoneYet => false,
-        Last::Taken(_) => true,
+        Err(e) => refuse(st, area, e),
     }
 }
 
 // Whether a first proposal is undecided after a step taken, and does not contract. Then rounding alone would decide
 // what follows, and the run stops rather than take rounding for progress.
-fn is_stuck(first: bool, last: Last, j: Judged) -> bool
+fn is_stuck(first: bool, last: Option<Scalar>, j: Judged) -> bool
     ensures { result ≡ (first && j.undecided && was_taken last && not j.contracting) }
 {
-    if !first {
-        return false;
-    }
-    if !j.undecided {
-        return false;
-    }
-    if !was_taken(last) {
-        return false;
-    }
-    !j.contracting
+    first && j.undecided && last.is_some() && !j.contracting
 }
 
 // Whether the step is lower, or a first proposal that is undecided and contracts: steps that halve come to an end, so
@@ -247,20 +211,17 @@ fn is_stuck(first: bool, last: Last, j: Judged) -> bool
 fn is_better(first: bool, j: Judged) -> bool
     ensures { result ≡ (j.lower || (first && j.undecided && j.contracting)) }
 {
-    if j.lower {
-        return true;
-    }
-    if !first {
-        return false;
-    }
-    if !j.undecided {
-        return false;
-    }
-    j.contracting
+    j.lower || first && j.undecided && j.contracting
 }
 
 // What follows a judgement, from a standing point with violation theta to the landed one.
-fn decide(st: State, area: &mut [f64], theta: Scalar, landed: LinearResult, j: Judged) -> Returned
+fn decide(
+    st: State,
+    area: &mut [f64],
+    theta: Scalar,
+    landed: Result<Scalar, LinearError>,
+    j: Judged,
+) -> Returned
     requires { HasRoom st.sizes area.old × Underway st }
     ensures { (w : Memory) → ViolationsKnown st theta (result_of landed) w area.old →
         Leaves (decide st w theta j) result area.new }
@@ -272,11 +233,16 @@ fn decide(st: State, area: &mut [f64], theta: Scalar, landed: LinearResult, j: J
     if is_better(st.search.first, j) {
         return take(st, area, theta, landed, j.length);
     }
-    not_lower(st, area, LinearResult::Value(theta))
+    not_lower(st, area, Ok(theta))
 }
 
 // The judgement of the landed point, from a standing point with violation theta.
-fn judge_in(st: State, area: &[f64], theta: Scalar, landed: LinearResult) -> Judgement
+fn judge_in(
+    st: State,
+    area: &[f64],
+    theta: Scalar,
+    landed: Result<Scalar, LinearError>,
+) -> Result<Judged, LinearError>
     requires { HasRoom st.sizes area.now × Underway st }
     ensures { (w : Memory) → ViolationsKnown st theta (result_of landed) w area.now →
         judgement_of result ≡ judge_of st.sizes.n (standing_at st w) (landed_at st w) theta w.filter
@@ -301,17 +267,18 @@ fn judge_in(st: State, area: &[f64], theta: Scalar, landed: LinearResult) -> Jud
 }
 
 // The landed point is judged, from a standing point with violation theta.
-pub fn judge_landed(st: State, area: &mut [f64], theta: Scalar, landed: LinearResult) -> Returned
+pub fn judge_landed(
+    st: State,
+    area: &mut [f64],
+    theta: Scalar,
+    landed: Result<Scalar, LinearError>,
+) -> Returned
     requires { HasRoom st.sizes area.old × Underway st }
     ensures { (w : Memory) → ViolationsKnown st theta (result_of landed) w area.old →
         Leaves (judge st w theta) result area.new }
 {
     match judge_in(st, area, theta, landed) {
-        Judgement::Of(j) => {
-            return decide(st, area, theta, landed, j);
-        }
-        Judgement::Refused(e) => {
-            return refuse(st, area, e);
-        }
+        Ok(j) => decide(st, area, theta, landed, j),
+        Err(e) => refuse(st, area, e),
     }
 }

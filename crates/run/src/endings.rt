@@ -8,23 +8,9 @@ ghost use Rattle.run.specs.program.Area.{Limits, Working, Holds};
 ghost use Rattle.run.specs.program.Endings.{Leaves};
 
 use crate::area::keep_standing;
+use crate::refusal::Refusal;
 use crate::state::{Event, Kind, Returned, State, Stop, with_none_open, with_question};
-use interval::GeopError;
 use linear::LinearError;
-
-// The number of a refusal (PROTOCOL, Refusals).
-fn number_of(e: LinearError) -> usize
-    ensures { result ≡ number_of e }
-{
-    match e {
-        LinearError::TooMany => 1,
-        LinearError::WrongLength => 2,
-        LinearError::Arithmetic(g) => match g {
-            GeopError::SqrtOfNegative => 5,
-            GeopError::DivisorContainsZero => 6,
-        },
-    }
-}
 
 // The run is over with its counts; the area keeps the standing point alone.
 pub fn finish(st: State, area: &mut [f64], stop: Stop) -> Returned
@@ -44,7 +30,7 @@ pub fn finish(st: State, area: &mut [f64], stop: Stop) -> Returned
     }
 }
 
-// The run is over with the number of a refusal; the area keeps the standing point alone.
+// The run is over with a refusal; the area keeps the standing point alone.
 pub fn refuse(st: State, area: &mut [f64], e: LinearError) -> Returned
     requires { HasRoom st.sizes area.old × Limits st }
     ensures { (w : Memory) → Working st w area.old →
@@ -53,7 +39,7 @@ pub fn refuse(st: State, area: &mut [f64], e: LinearError) -> Returned
     keep_standing(area, st);
     Returned {
         state: with_none_open(st),
-        event: Event::Refused(number_of(e)),
+        event: Event::Refused(Refusal::from(e)),
     }
 }
 

@@ -17,10 +17,7 @@ fn beats_pair(filter: &[f64], f: Scalar, theta: Scalar, i: usize) -> bool
     ensures { result ≡ definitely_less f (filter_sum filter.now i)
         || definitely_less theta (filter_violation filter.now i) }
 {
-    if f.definitely_less(at(filter, 2 * i)) {
-        return true;
-    }
-    theta.definitely_less(at(filter, 2 * i + 1))
+    f.definitely_less(at(filter, 2 * i)) || theta.definitely_less(at(filter, 2 * i + 1))
 }
 
 // Whether f or theta is definitely less than in each of the filter's first pairs.
@@ -47,13 +44,7 @@ pub struct Pair {
 fn still_beats(so_far: bool, p: Pair, f: Scalar, theta: Scalar) -> bool
     ensures { result ≡ so_far && beats_pair p f theta }
 {
-    if !so_far {
-        return false;
-    }
-    if f.definitely_less(p.f) {
-        return true;
-    }
-    theta.definitely_less(p.violation)
+    so_far && (f.definitely_less(p.f) || theta.definitely_less(p.violation))
 }
 
 // Whether f or theta is definitely less than in each pair.
@@ -61,10 +52,8 @@ fn beats_pairs(pairs: &[Pair], f: Scalar, theta: Scalar) -> bool
     ensures { result ≡ beats_pairs pairs.now f theta }
 {
     let mut so_far = true;
-    let mut i = 0;
-    while i < pairs.len() {
-        so_far = still_beats(so_far, pairs[i], f, theta);
-        i = i + 1;
+    for pair in pairs {
+        so_far = still_beats(so_far, *pair, f, theta);
     }
     so_far
 }

@@ -20,7 +20,7 @@ use crate::rows::standing_counts;
 use crate::search::{Found, seek};
 use crate::state::{Kind, Returned, State, Stop, with_search, with_trial_of};
 use interval::Scalar;
-use linear::LinearResult;
+use linear::LinearError;
 
 // The event that follows where a search was left, with the step and its multipliers.
 fn left_at(st: State, area: &mut [f64], found: Found, delta: &[f64], lambda: &[f64]) -> Returned
@@ -32,14 +32,10 @@ fn left_at(st: State, area: &mut [f64], found: Found, delta: &[f64], lambda: &[f
     match found {
         Found::Ask(x, t) => {
             area::write_trial(area, st, delta, lambda);
-            return ask(with_trial_of(st, x, t), Kind::Trial, 0);
+            ask(with_trial_of(st, x, t), Kind::Trial, 0)
         }
-        Found::Stop(x, stop) => {
-            return finish(with_search(st, x), area, stop);
-        }
-        Found::Refused(x, e) => {
-            return refuse(with_search(st, x), area, e);
-        }
+        Found::Stop(x, stop) => finish(with_search(st, x), area, stop),
+        Found::Refused(x, e) => refuse(with_search(st, x), area, e),
     }
 }
 
@@ -67,7 +63,7 @@ fn search_origin(st: State, area: &[f64], theta: Scalar) -> Origin
 fn seek_standing(
     st: State,
     area: &[f64],
-    standing: LinearResult,
+    standing: Result<Scalar, LinearError>,
     delta: &mut [f64],
     lambda: &mut [f64],
 ) -> Found
@@ -78,17 +74,13 @@ fn seek_standing(
 {
     let from = st.search;
     match standing {
-        LinearResult::Value(theta) => {
-            return seek(search_origin(st, area, theta), area, from, delta, lambda);
-        }
-        LinearResult::Refused(e) => {
-            return Found::Refused(from, e);
-        }
+        Ok(theta) => seek(search_origin(st, area, theta), area, from, delta, lambda),
+        Err(e) => Found::Refused(from, e),
     }
 }
 
 // The search for a proposal from the standing point with its violation, until a question, the finish or a refusal.
-pub fn search(st: State, area: &mut [f64], standing: LinearResult) -> Returned
+pub fn search(st: State, area: &mut [f64], standing: Result<Scalar, LinearError>) -> Returned
     requires { HasRoom st.sizes area.old × Bounded 2147483648 st }
     ensures { (w : Memory) → StandingKnown st (result_of standing) w area.old →
         Leaves (run.search st w) result area.new }
@@ -100,7 +92,7 @@ pub fn search(st: State, area: &mut [f64], standing: LinearResult) -> Returned
 }
 
 // A new iteration, or the finish where the limit is reached.
-pub fn iterate(st: State, area: &mut [f64], standing: LinearResult) -> Returned
+pub fn iterate(st: State, area: &mut [f64], standing: Result<Scalar, LinearError>) -> Returned
     requires { HasRoom st.sizes area.old × Bounded 2147483648 st }
     ensures { (w : Memory) → StandingKnown st (result_of standing) w area.old →
         Leaves (run.iterate st w) result area.new }

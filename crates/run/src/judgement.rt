@@ -12,11 +12,10 @@ ghost use Rattle.run.specs.program.Rows.{Small};
 
 use crate::filter::beats_as_pairs;
 use crate::rows::{RowCounts, RowSet, value_of};
-use crate::state::Last;
 use crate::vectors::norm_of;
 use crate::{residuals, rows};
 use interval::Scalar;
-use linear::{LinearError, LinearResult};
+use linear::LinearError;
 
 // How a step fares: its length; whether it is lower than where it began and than every point that stood before; whether
 // rounding hides both changes; and whether it is less than half as long as the last step taken.
@@ -26,13 +25,6 @@ pub struct Judged {
     pub lower: bool,
     pub undecided: bool,
     pub contracting: bool,
-}
-
-// A judgement, or the refusal met on the way.
-#[derive(Clone, Copy)]
-pub enum Judgement {
-    Of(Judged),
-    Refused(LinearError),
 }
 
 // By how much the sum of squares falls from the rows e of xs to the rows f of ys, Σ (r - r') (r + r'). Where the sum
@@ -63,10 +55,7 @@ fn is_indefinite(v: Scalar) -> bool
 fn is_lower(change: Scalar, fall: Scalar, beaten: bool) -> bool
     ensures { result ≡ (rises change || rises fall) && beaten }
 {
-    if change.definitely_greater(Scalar::ZERO) {
-        return beaten;
-    }
-    fall.definitely_greater(Scalar::ZERO) && beaten
+    (change.definitely_greater(Scalar::ZERO) || fall.definitely_greater(Scalar::ZERO)) && beaten
 }
 
 // Whether neither change can be told from its rounding.
@@ -78,12 +67,12 @@ fn is_undecided(change: Scalar, fall: Scalar) -> bool
 
 // Whether a step was taken before, and twice this length is definitely less than its length. Where rounding hides both
 // changes this still tells progress: steps that halve add up to a bounded way, while those that shrink by less may not.
-fn contracts(last: Last, length: Scalar) -> bool
+fn contracts(last: Option<Scalar>, length: Scalar) -> bool
     ensures { result ≡ contracts last length }
 {
     match last {
-        Last::NoneYet => false,
-        Last::Taken(before) => Scalar::TWO.mul(length).definitely_less(before),
+        Some(before) => Scalar::TWO.mul(length).definitely_less(before),
+        None => false,
     }
 }
 
@@ -93,7 +82,7 @@ fn contracts(last: Last, length: Scalar) -> bool
 pub struct Baseline {
     pub theta: Scalar,
     pub pairs: usize,
-    pub last: Last,
+    pub last: Option<Scalar>,
 }
 
 // The judgement of a step of that length, from the sum's change, and f and the violation where the step landed. A step
@@ -129,30 +118,20 @@ pub fn judge(
     xs: &[f64],
     d: RowCounts,
     next: &[f64],
-    landed: LinearResult,
+    landed: Result<Scalar, LinearError>,
     base: Baseline,
     filter: &[f64],
     step: &[f64],
-) -> Judgement
+) -> Result<Judged, LinearError>
     requires { Judging c d base (length step.now) }
     ensures { result_of landed ≡ violation_of (constraints_of d next.now) →
         judgement_of result
         ≡ judge_of c.n (evaluation_of c xs.now) (evaluation_of d next.now) base.theta
         filter.now base.pairs base.last step.now }
 {
-    match norm_of(step, c.n) {
-        LinearResult::Refused(e) => {
-            return Judgement::Refused(e);
-        }
-        LinearResult::Value(length) => match landed {
-            LinearResult::Refused(e) => {
-                return Judgement::Refused(e);
-            }
-            LinearResult::Value(theta) => {
-                let change = sum_change(xs, rows::sum(c), next, rows::sum(d));
-                let f = residuals::sum_squared(next, d);
-                return Judgement::Of(judged_by(change, f, theta, base, filter, length));
-            }
-        },
-    }
+    let length = norm_of(step, c.n)?;
+    let theta = landed?;
+    let change = sum_change(xs, rows::sum(c), next, rows::sum(d));
+    let f = residuals::sum_squared(next, d);
+    Ok(judged_by(change, f, theta, base, filter, length))
 }

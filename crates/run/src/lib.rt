@@ -21,8 +21,8 @@ mod problem;
 mod proposal;
 mod radius;
 mod reduced;
+mod refusal;
 mod residuals;
-mod results;
 mod rows;
 mod search;
 mod state;
@@ -32,16 +32,14 @@ mod vectors;
 pub use area::{area_length, point_place};
 pub use calls::{begin, point, reply, reply_none};
 pub use checks::valid;
-pub use judgement::{Judged, Judgement};
+pub use judgement::Judged;
 pub use limits::AREA;
 pub use pieces::{
     along, cut, expects, judge, learned, moving, predicted, shift, squared, step_at, transposed,
     update_curvature,
 };
-pub use results::TruthResult;
+pub use refusal::Refusal;
 pub use rows::RowCounts;
 pub use state::{
-    Contents, Counts, Event, Kind, Last, Phase, Rejection, Returned, Search, Sizes, State, Stop,
-    Trial,
+    Contents, Counts, Event, Kind, Rejection, Returned, Search, Sizes, State, Stop, Trial,
 };
-pub use step::StepEnd;

@@ -9,9 +9,8 @@ ghost use Rattle.run.specs.NullSpace.{directions_of};
 ghost use Rattle.run.specs.Vectors.{matrix};
 ghost use Rattle.run.specs.program.NullSpace.{longest_in, directions_in, span_of, next_of, found_of};
 
-use crate::results::CountResult;
 use crate::vectors::unit;
-use interval::{Scalar, ScalarResult};
+use interval::Scalar;
 use linear::{LinearError, choose, minus_scaled, put, row_dot, two_rows};
 
 // Which remainder, and its square.
@@ -19,14 +18,6 @@ use linear::{LinearError, choose, minus_scaled, put, row_dot, two_rows};
 pub struct Remainder {
     pub place: usize,
     pub square: Scalar,
-}
-
-// How the search for one more direction ended.
-#[derive(Clone, Copy)]
-pub enum Next {
-    Taken,
-    Enough,
-    Refused(LinearError),
 }
 
 // Row p of `left` without its part along row t of w.
@@ -138,60 +129,43 @@ fn longest(k: usize, left: &[f64]) -> Remainder
     best
 }
 
-// The longest remainder as one more direction, of at most `most`.
-fn take_longest(k: usize, count: usize, most: usize, z: &mut [f64], left: &mut [f64]) -> Next
+// The longest remainder as one more direction, of at most `most`; whether it was long enough to be one.
+fn take_longest(
+    k: usize,
+    count: usize,
+    most: usize,
+    z: &mut [f64],
+    left: &mut [f64],
+) -> Result<bool, LinearError>
     requires { (k ≤ VARIABLES) × ((count < most) × (most ≤ 12)) }
     ensures { next_of k (most - (count + 1)) result count z.new left.new
         ≡ span_of (directions_to k (most - count) (directions_in count z.old left.old)) }
 {
     let best = longest(k, left);
-    match best.square.sqrt() {
-        ScalarResult::Value(l) => {
-            let length = l.sharpen();
-            if length.definitely_greater(Scalar::ZERO) {
-                unit(left, 12 * best.place, length, k, z, 12 * count);
-                if count + 1 == most {
-                    return Next::Taken;
-                }
-                without(k, z, count, left);
-                return Next::Taken;
-            }
-            return Next::Enough;
-        }
-        ScalarResult::Refused(e) => {
-            return Next::Refused(LinearError::Arithmetic(e));
-        }
+    let length = best.square.sqrt()?.sharpen();
+    if !length.definitely_greater(Scalar::ZERO) {
+        return Ok(false);
     }
-}
-
-// k - r, none where r > k.
-fn less(k: usize, r: usize) -> usize
-    ensures { result ≡ k - r }
-{
-    if r < k {
-        return k - r;
+    unit(left, 12 * best.place, length, k, z, 12 * count);
+    if count + 1 < most {
+        without(k, z, count, left);
     }
-    0
+    Ok(true)
 }
 
 // Z, from the first r rows of Q over k variables, into a clear matrix.
-pub fn free_directions(k: usize, r: usize, q: &[f64], z: &mut [f64]) -> CountResult
+pub fn free_directions(k: usize, r: usize, q: &[f64], z: &mut [f64]) -> Result<usize, LinearError>
     requires { (k ≤ VARIABLES) × ((r ≤ CONSTRAINTS) × (z.old ≡ matrix)) }
     ensures { found_of result z.new ≡ span_of (directions_of k r q.now) }
 {
     let mut left = [0.0; 288];
-    let most = less(k, r);
+    let most = k.saturating_sub(r);
     remainders(k, r, q, &mut left);
     for count in 0..most {
-        match take_longest(k, count, most, z, &mut left) {
-            Next::Taken => {}
-            Next::Enough => {
-                return CountResult::Value(count);
-            }
-            Next::Refused(e) => {
-                return CountResult::Refused(e);
-            }
+        let is_longer = take_longest(k, count, most, z, &mut left)?;
+        if !is_longer {
+            return Ok(count);
         }
     }
-    CountResult::Value(most)
+    Ok(most)
 }

@@ -14,20 +14,18 @@ ghost use Rattle.run.specs.program.Judgement.{judgement_of};
 
 use crate::area::{CURVATURE_LEN, FILTER_LEN, POINT_LEN};
 use crate::checks::sizes_fit;
-use crate::judgement::{Baseline, Judgement};
+use crate::judgement::{Baseline, Judged};
 use crate::limits::{CONSTRAINTS, ITERATIONS, VARIABLES};
 use crate::proposal::StandingPoint;
 use crate::radius::cut_within;
-use crate::results::TruthResult;
 use crate::rows::RowCounts;
-use crate::state::{Last, Sizes};
-use crate::step::StepEnd;
+use crate::state::Sizes;
 use crate::{corrected, curvature, judgement, proposal, residuals, rows, step};
 use interval::Scalar;
-use linear::{Done, LinearError, LinearResult, clear, put};
+use linear::{LinearError, clear, put};
 
 // Whether the counts fit, and so many numbers are those of their rows.
-fn sized(c: RowCounts, count: usize) -> Done
+fn sized(c: RowCounts, count: usize) -> Result<(), LinearError>
     ensures { done_of result tt ≡ sized_of c count }
 {
     let sizes = Sizes {
@@ -36,48 +34,48 @@ fn sized(c: RowCounts, count: usize) -> Done
         limit: 0,
     };
     if !sizes_fit(sizes) {
-        return Done::Refused(LinearError::TooMany);
+        return Err(LinearError::TooMany);
     }
     if c.m > CONSTRAINTS {
-        return Done::Refused(LinearError::TooMany);
+        return Err(LinearError::TooMany);
     }
     if count != 2 * ((c.m + c.s) * (c.n + 1)) {
-        return Done::Refused(LinearError::WrongLength);
+        return Err(LinearError::WrongLength);
     }
-    Done::Finished
+    Ok(())
 }
 
 // Whether the counts of both answers fit, and each has the numbers of its rows; the second has an m of its own.
-fn both_sized(c: RowCounts, xs: &[f64], m: usize, next: &[f64]) -> Done
+fn both_sized(c: RowCounts, xs: &[f64], m: usize, next: &[f64]) -> Result<(), LinearError>
     ensures { done_of result tt ≡ both_sized c xs.now m next.now }
 {
     if m > CONSTRAINTS {
-        return Done::Refused(LinearError::TooMany);
+        return Err(LinearError::TooMany);
     }
-    let first = sized(c, xs.len());
-    let Done::Finished = first else {
-        return first;
-    };
+    sized(c, xs.len())?;
     sized(RowCounts { m, ..c }, next.len())
 }
 
 // What was checked before, then that a count is the one wanted.
-fn wants(before: Done, count: usize, wanted: usize) -> Done
+fn wants(before: Result<(), LinearError>, count: usize, wanted: usize) -> Result<(), LinearError>
     ensures { done_of result tt ≡ wants_of (done_of before tt) count wanted }
 {
-    match before {
-        Done::Finished => {
-            if count != wanted {
-                return Done::Refused(LinearError::WrongLength);
-            }
-            Done::Finished
-        }
-        Done::Refused(e) => Done::Refused(e),
+    before?;
+    if count != wanted {
+        return Err(LinearError::WrongLength);
     }
+    Ok(())
 }
 
 // The counts and the rows, then two further counts.
-fn fits(c: RowCounts, xs: &[f64], a: usize, wanted_a: usize, b: usize, wanted_b: usize) -> Done
+fn fits(
+    c: RowCounts,
+    xs: &[f64],
+    a: usize,
+    wanted_a: usize,
+    b: usize,
+    wanted_b: usize,
+) -> Result<(), LinearError>
     ensures { done_of result tt ≡ fits_two c xs.now a wanted_a b wanted_b }
 {
     wants(wants(sized(c, xs.len()), a, wanted_a), b, wanted_b)
@@ -94,61 +92,42 @@ fn variables_read(n: usize, d: usize) -> usize
 }
 
 // |values + slopes delta|² of the sum's rows, over the first d variables: d is n, or 0 for the sum of squares.
-pub fn squared(c: RowCounts, xs: &[f64], delta: &[f64], d: usize) -> LinearResult
+pub fn squared(c: RowCounts, xs: &[f64], delta: &[f64], d: usize) -> Result<Scalar, LinearError>
     ensures { result_of result ≡ squared_reply c xs.now delta.now d }
 {
-    match fits(c, xs, delta.len(), POINT_LEN, d, variables_read(c.n, d)) {
-        Done::Refused(e) => {
-            return LinearResult::Refused(e);
-        }
-        Done::Finished => {}
-    }
-    LinearResult::Value(residuals::squared(xs, rows::sum(c), delta, d))
+    fits(c, xs, delta.len(), POINT_LEN, d, variables_read(c.n, d))?;
+    Ok(residuals::squared(xs, rows::sum(c), delta, d))
 }
 
 // The violation that a step leads to, to first order.
-pub fn predicted(c: RowCounts, xs: &[f64], delta: &[f64]) -> LinearResult
+pub fn predicted(c: RowCounts, xs: &[f64], delta: &[f64]) -> Result<Scalar, LinearError>
     ensures { result_of result ≡ predicted_reply c xs.now delta.now }
 {
-    match wants(sized(c, xs.len()), delta.len(), POINT_LEN) {
-        Done::Refused(e) => {
-            return LinearResult::Refused(e);
-        }
-        Done::Finished => {}
-    }
+    wants(sized(c, xs.len()), delta.len(), POINT_LEN)?;
     residuals::predicted(xs, c, delta)
 }
 
 // The slopes of the sum's rows by each variable, times their weights: 48 numbers in w, 24 in out.
-pub fn transposed(c: RowCounts, xs: &[f64], w: &[f64], out: &mut [f64]) -> Done
+pub fn transposed(c: RowCounts, xs: &[f64], w: &[f64], out: &mut [f64]) -> Result<(), LinearError>
     ensures { replied result out.new
         ≡ transposed_reply c xs.now w.now out.old }
 {
-    let fit = fits(c, xs, w.len(), 48, out.len(), POINT_LEN);
-    let Done::Finished = fit else {
-        return fit;
-    };
+    fits(c, xs, w.len(), 48, out.len(), POINT_LEN)?;
     let n = c.n;
     clear(out);
     for j in 0..n {
         put(out, j, residuals::transposed_at(xs, rows::sum(c), w, j));
     }
-    fit
+    Ok(())
 }
 
 // Marks of the variables that some residual definitely depends on: 12 marks.
-pub fn moving(c: RowCounts, xs: &[f64], marks: &mut [bool]) -> Done
+pub fn moving(c: RowCounts, xs: &[f64], marks: &mut [bool]) -> Result<(), LinearError>
     ensures { replied result marks.new ≡ moving_reply c xs.now marks.old }
 {
-    let fit = wants(sized(c, xs.len()), marks.len(), VARIABLES);
-    let Done::Finished = fit else {
-        return fit;
-    };
-    let found = residuals::moving(xs, c);
-    for j in 0..VARIABLES {
-        marks[j] = found[j];
-    }
-    fit
+    wants(sized(c, xs.len()), marks.len(), VARIABLES)?;
+    marks.copy_from_slice(&residuals::moving(xs, c));
+    Ok(())
 }
 
 // How a step fares, from the rows xs with violation theta to the rows `next`, which have an m of their own, against the
@@ -161,23 +140,18 @@ pub fn judge(
     theta: Scalar,
     filter: &[f64],
     count: usize,
-    last: Last,
+    last: Option<Scalar>,
     step: &[f64],
-) -> Judgement
+) -> Result<Judged, LinearError>
     ensures { judgement_of result
         ≡ judge_reply c xs.now m next.now theta filter.now count last
         step.now }
 {
     if count > ITERATIONS {
-        return Judgement::Refused(LinearError::TooMany);
+        return Err(LinearError::TooMany);
     }
     let fit = wants(both_sized(c, xs, m, next), filter.len(), FILTER_LEN);
-    match wants(fit, step.len(), POINT_LEN) {
-        Done::Refused(e) => {
-            return Judgement::Refused(e);
-        }
-        Done::Finished => {}
-    }
+    wants(fit, step.len(), POINT_LEN)?;
     let d = RowCounts { m, ..c };
     let landed = residuals::violation(next, d);
     let base = Baseline {
@@ -196,16 +170,11 @@ pub fn expects(
     f: Scalar,
     theta: Scalar,
     delta: &[f64],
-) -> TruthResult
+) -> Result<bool, LinearError>
     ensures { truth_of result
         ≡ expects_reply c xs.now b.now f theta delta.now }
 {
-    match fits(c, xs, b.len(), CURVATURE_LEN, delta.len(), POINT_LEN) {
-        Done::Refused(e) => {
-            return TruthResult::Refused(e);
-        }
-        Done::Finished => {}
-    }
+    fits(c, xs, b.len(), CURVATURE_LEN, delta.len(), POINT_LEN)?;
     let from = StandingPoint {
         counts: c,
         f,
@@ -215,54 +184,47 @@ pub fn expects(
 }
 
 // Clears what was written of a piece that was refused.
-fn cleared(d: Done, x: &mut [f64]) -> Done
+fn cleared(d: Result<(), LinearError>, x: &mut [f64]) -> Result<(), LinearError>
     ensures { replied result x.new
         ≡ reply_of (zeros (length x.old)) (done_of d x.old) }
 {
-    let Done::Refused(_) = d else {
-        return d;
-    };
-    clear(x);
+    if d.is_err() {
+        clear(x);
+    }
     d
 }
 
 // A step cut to the radius where it is definitely longer: 24 numbers in delta.
-pub fn cut(n: usize, radius: Scalar, delta: &mut [f64]) -> Done
+pub fn cut(n: usize, radius: Scalar, delta: &mut [f64]) -> Result<(), LinearError>
     ensures { replied result delta.new ≡ cut_reply n radius delta.old }
 {
     if n > VARIABLES {
-        return Done::Refused(LinearError::TooMany);
+        return Err(LinearError::TooMany);
     }
     if delta.len() != POINT_LEN {
-        return Done::Refused(LinearError::WrongLength);
+        return Err(LinearError::WrongLength);
     }
     cleared(cut_within(n, radius, delta), delta)
 }
 
 // The part of v along the constraints, 24 numbers in v, 2 n in out.
-pub fn along(c: RowCounts, xs: &[f64], v: &[f64], out: &mut [f64]) -> Done
+pub fn along(c: RowCounts, xs: &[f64], v: &[f64], out: &mut [f64]) -> Result<(), LinearError>
     ensures { replied result out.new
         ≡ along_reply c xs.now v.now out.old }
 {
-    let fit = wants(sized(c, xs.len()), v.len(), POINT_LEN);
-    let Done::Finished = fit else {
-        return fit;
-    };
+    wants(sized(c, xs.len()), v.len(), POINT_LEN)?;
     if out.len() != 2 * c.n {
-        return Done::Refused(LinearError::WrongLength);
+        return Err(LinearError::WrongLength);
     }
     cleared(curvature::along_constraints(c, xs, v, out), out)
 }
 
 // The shortest move that meets the linearized constraints, among the variables that move: 12 marks, 24 numbers in d.
-pub fn shift(c: RowCounts, xs: &[f64], moving: &[bool], d: &mut [f64]) -> Done
+pub fn shift(c: RowCounts, xs: &[f64], moving: &[bool], d: &mut [f64]) -> Result<(), LinearError>
     ensures { replied result d.new
         ≡ shift_reply c xs.now moving.now d.old }
 {
-    let fit = fits(c, xs, moving.len(), VARIABLES, d.len(), POINT_LEN);
-    let Done::Finished = fit else {
-        return fit;
-    };
+    fits(c, xs, moving.len(), VARIABLES, d.len(), POINT_LEN)?;
     cleared(corrected::shift(c, xs, moving, d), d)
 }
 
@@ -276,16 +238,13 @@ pub fn update_curvature(
     m: usize,
     next: &[f64],
     lambda: &[f64],
-) -> Done
+) -> Result<(), LinearError>
     ensures { replied result b.new
         ≡ update_reply c b.old step.now xs.now m next.now
         lambda.now }
 {
     let rows = wants(both_sized(c, xs, m, next), b.len(), CURVATURE_LEN);
-    let fit = wants(wants(rows, step.len(), POINT_LEN), lambda.len(), POINT_LEN);
-    let Done::Finished = fit else {
-        return fit;
-    };
+    wants(wants(rows, step.len(), POINT_LEN), lambda.len(), POINT_LEN)?;
     let d = RowCounts { m, ..c };
     cleared(
         curvature::update_curvature(c, step, xs, d, next, lambda, b),
@@ -303,36 +262,30 @@ pub fn step_at(
     mu: Scalar,
     delta: &mut [f64],
     lambda: &mut [f64],
-) -> StepEnd
+) -> Result<Option<usize>, LinearError>
     ensures { step_replied result delta.new lambda.new
         ≡ step_reply c xs.now b.now moving.now mu delta.old
         lambda.old }
 {
     let rows = fits(c, xs, b.len(), CURVATURE_LEN, moving.len(), VARIABLES);
-    match wants(wants(rows, delta.len(), POINT_LEN), lambda.len(), POINT_LEN) {
-        Done::Refused(e) => {
-            return StepEnd::Refused(e);
-        }
-        Done::Finished => {}
-    }
+    wants(wants(rows, delta.len(), POINT_LEN), lambda.len(), POINT_LEN)?;
     let end = step::step(c, xs, b, moving, mu, delta, lambda);
-    if let StepEnd::Found(_) = end {
-        return end;
+    if end.ok().flatten().is_none() {
+        clear(delta);
+        clear(lambda);
     }
-    clear(delta);
-    clear(lambda);
     end
 }
 
 // Whether any of the curvature's first n rows of n was learned: 288 numbers.
-pub fn learned(n: usize, b: &[f64]) -> TruthResult
+pub fn learned(n: usize, b: &[f64]) -> Result<bool, LinearError>
     ensures { truth_of result ≡ learned_reply n b.now }
 {
     if n > VARIABLES {
-        return TruthResult::Refused(LinearError::TooMany);
+        return Err(LinearError::TooMany);
     }
     if b.len() != CURVATURE_LEN {
-        return TruthResult::Refused(LinearError::WrongLength);
+        return Err(LinearError::WrongLength);
     }
-    TruthResult::Value(curvature::learned(n, b))
+    Ok(curvature::learned(n, b))
 }

@@ -134,30 +134,21 @@ fn undamped_at(jr: &[f64], s: usize, b: Scalar, i: usize, j: usize) -> Scalar
 fn is_same(x: f64, y: f64) -> bool
     ensures { result ≡ true → x ≡ y }
 {
-    if x == y {
-        return f64::to_bits(x) == f64::to_bits(y);
-    }
-    false
+    x == y && x.to_bits() == y.to_bits()
 }
 
 // Whether two scalars have the same bits at both ends.
 fn are_same(x: Scalar, y: Scalar) -> bool
     ensures { result ≡ true → x ≡ y }
 {
-    if is_same(x.lo, y.lo) {
-        return is_same(x.hi, y.hi);
-    }
-    false
+    is_same(x.lo, y.lo) && is_same(x.hi, y.hi)
 }
 
 // Whether (i, j) is below the diagonal, and B's entries b there and `across` it are the same.
 fn is_mirrored(b: Scalar, across: Scalar, i: usize, j: usize) -> bool
     ensures { result ≡ true → (j < i) × (b ≡ across) }
 {
-    if j < i {
-        return are_same(b, across);
-    }
-    false
+    j < i && are_same(b, across)
 }
 
 // Entry (i, j) of J_rᵀ J_r + B, from B's entry b: the entry across the diagonal, which h has, where B's entry there is

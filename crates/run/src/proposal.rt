@@ -22,13 +22,12 @@ use crate::area;
 use crate::curvature::products;
 use crate::radius::cut;
 use crate::residuals::{predicted, squared};
-use crate::results::TruthResult;
 use crate::rows::{RowCounts, sum};
 use crate::state::{Search, Sizes, Trial};
-use crate::step::{Prepared, StepEnd, damped_step};
+use crate::step::{Prepared, damped_step};
 use crate::vectors::{choose_if, moved, norm_of, same};
-use interval::{Scalar, ScalarResult};
-use linear::{LinearError, LinearResult, at, in_row, plus_dot, put};
+use interval::Scalar;
+use linear::{LinearError, at, in_row, plus_dot, put};
 
 // The numbers of a standing point: how many variables and rows there are, the sum f and the violation theta.
 #[derive(Clone, Copy)]
@@ -57,7 +56,6 @@ pub enum Proposal {
     Unresolved,
     NoChange,
     Ask(Trial),
-    Refused(LinearError),
 }
 
 // The curvature along a step, deltaᵀ B delta.
@@ -71,17 +69,19 @@ fn curvature_along(n: usize, b: &[f64], delta: &[f64]) -> Scalar
 }
 
 // Whether the violation falls, from what it is to what is predicted.
-fn falls(theta: Scalar, predicted: LinearResult) -> TruthResult
+fn falls(theta: Scalar, predicted: Result<Scalar, LinearError>) -> Result<bool, LinearError>
     ensures { truth_of result ≡ bind (result_of predicted) (λ v. ok (definitely_greater (sub_of theta v) zero_s)) }
 {
-    match predicted {
-        LinearResult::Value(v) => TruthResult::Value(theta.sub(v).definitely_greater(Scalar::ZERO)),
-        LinearResult::Refused(e) => TruthResult::Refused(e),
-    }
+    Ok(theta.sub(predicted?).definitely_greater(Scalar::ZERO))
 }
 
 // Whether the model expects the step to lower the sum or, asked only then, the violation.
-pub fn expects(point: StandingPoint, rows: &[f64], b: &[f64], delta: &[f64]) -> TruthResult
+pub fn expects(
+    point: StandingPoint,
+    rows: &[f64],
+    b: &[f64],
+    delta: &[f64],
+) -> Result<bool, LinearError>
     requires { FewRows point.counts }
     ensures { truth_of result
         ≡ expects_of (model_for point rows.now b.now) delta.now }
@@ -90,13 +90,13 @@ pub fn expects(point: StandingPoint, rows: &[f64], b: &[f64], delta: &[f64]) -> 
     let left = squared(rows, sum(c), delta, c.n);
     let drop = point.f.sub(left).sub(curvature_along(c.n, b, delta));
     if drop.definitely_greater(Scalar::ZERO) {
-        return TruthResult::Value(true);
+        return Ok(true);
     }
     falls(point.theta, predicted(rows, c, delta))
 }
 
 // The trial, once the step's length is known or refused.
-fn asked(predicted: Scalar, length: LinearResult) -> Proposal
+fn asked(predicted: Scalar, length: Result<Scalar, LinearError>) -> Result<Proposal, LinearError>
     ensures { (delta lambda next : List Float) →
         proposal_result result delta lambda next
         ≡ bind (result_of length) (λ tried. ok (ask (record {
@@ -107,14 +107,12 @@ fn asked(predicted: Scalar, length: LinearResult) -> Proposal
           tried = tried;
         }))) }
 {
-    match length {
-        LinearResult::Value(tried) => Proposal::Ask(Trial { predicted, tried }),
-        LinearResult::Refused(e) => Proposal::Refused(e),
-    }
+    let tried = length?;
+    Ok(Proposal::Ask(Trial { predicted, tried }))
 }
 
 // The trial of a step whose choices are made: none where the point would be the same.
-fn tried(c: RowCounts, rows: &[f64], x: &[f64], delta: &[f64]) -> Proposal
+fn tried(c: RowCounts, rows: &[f64], x: &[f64], delta: &[f64]) -> Result<Proposal, LinearError>
     requires { FewRows c × (length delta.now ≡ 24) }
     ensures { (lambda : List Float) →
         proposal_result result delta.now lambda (moved_of c.n x.now delta.now)
@@ -124,21 +122,15 @@ fn tried(c: RowCounts, rows: &[f64], x: &[f64], delta: &[f64]) -> Proposal
     let n = c.n;
     let mut next = [0.0; 24];
     moved(n, x, delta, &mut next);
-    match predicted(rows, c, delta) {
-        LinearResult::Value(p) => {
-            if same(n, &next, x) {
-                return Proposal::NoChange;
-            }
-            return asked(p, norm_of(delta, n));
-        }
-        LinearResult::Refused(e) => {
-            return Proposal::Refused(e);
-        }
+    let predicted = predicted(rows, c, delta)?;
+    if same(n, &next, x) {
+        return Ok(Proposal::NoChange);
     }
+    asked(predicted, norm_of(delta, n))
 }
 
 // The trial of a step, after each of its entries is chosen in its place.
-fn trial(c: RowCounts, rows: &[f64], x: &[f64], delta: &mut [f64]) -> Proposal
+fn trial(c: RowCounts, rows: &[f64], x: &[f64], delta: &mut [f64]) -> Result<Proposal, LinearError>
     requires { FewRows c × (length delta.old ≡ 24) }
     ensures { (lambda : List Float) →
         proposal_result result delta.new lambda (moved_of c.n x.now delta.new)
@@ -161,7 +153,7 @@ fn shortened(
     b: &[f64],
     shrink: Scalar,
     delta: &mut [f64],
-) -> Proposal
+) -> Result<Proposal, LinearError>
     requires { FewRows point.counts × (length delta.old ≡ 24) }
     ensures { (lambda : List Float) →
         proposal_result result delta.new lambda (moved_of point.counts.n x.now delta.new)
@@ -170,17 +162,11 @@ fn shortened(
 {
     let c = point.counts;
     cut(c.n, delta, shrink);
-    match expects(point, rows, b, delta) {
-        TruthResult::Value(drop) => {
-            if drop {
-                return trial(c, rows, x, delta);
-            }
-            return Proposal::Unresolved;
-        }
-        TruthResult::Refused(e) => {
-            return Proposal::Refused(e);
-        }
+    let drop = expects(point, rows, b, delta)?;
+    if drop {
+        return trial(c, rows, x, delta);
     }
+    Ok(Proposal::Unresolved)
 }
 
 // The trial of a step, cut where it is definitely longer than the radius: further off the model is not to be trusted.
@@ -191,7 +177,7 @@ fn within(
     b: &[f64],
     radius: Scalar,
     delta: &mut [f64],
-) -> Proposal
+) -> Result<Proposal, LinearError>
     requires { FewRows point.counts × (length delta.old ≡ 24) }
     ensures { (lambda : List Float) →
         proposal_result result delta.new lambda (moved_of point.counts.n x.now delta.new)
@@ -199,24 +185,12 @@ fn within(
         lambda }
 {
     let c = point.counts;
-    match norm_of(delta, c.n) {
-        LinearResult::Value(length) => {
-            if !length.definitely_greater(radius) {
-                return trial(c, rows, x, delta);
-            }
-            match radius.div(length) {
-                ScalarResult::Value(shrink) => {
-                    return shortened(point, rows, x, b, shrink, delta);
-                }
-                ScalarResult::Refused(e) => {
-                    return Proposal::Refused(LinearError::Arithmetic(e));
-                }
-            }
-        }
-        LinearResult::Refused(e) => {
-            return Proposal::Refused(e);
-        }
+    let length = norm_of(delta, c.n)?;
+    if !length.definitely_greater(radius) {
+        return trial(c, rows, x, delta);
     }
+    let shrink = radius.div(length)?;
+    shortened(point, rows, x, b, shrink, delta)
 }
 
 // What a search's damping proposes, from what was prepared, within its radius; where it asks, delta and lambda hold the
@@ -224,13 +198,13 @@ fn within(
 pub fn propose(
     origin: Origin,
     area: &[f64],
-    prepared: Prepared,
+    prepared: Result<Prepared, LinearError>,
     order: &[usize],
     fixed: &[f64],
     state: Search,
     delta: &mut [f64],
     lambda: &mut [f64],
-) -> Proposal
+) -> Result<Proposal, LinearError>
     requires few_rows { FewRows origin.point.counts × HasRoom origin.sizes area.now ×
         (origin.sizes.n ≤ VARIABLES) × StepLengths delta.old lambda.old }
     requires prepared_at { PreparedAt origin area.now prepared order.now fixed.now }
@@ -240,7 +214,7 @@ pub fn propose(
 {
     let point = origin.point;
     let moving = origin.moving;
-    match damped_step(
+    let step = damped_step(
         point.counts.n,
         &moving,
         prepared,
@@ -249,29 +223,17 @@ pub fn propose(
         state.mu,
         delta,
         lambda,
-    ) {
-        StepEnd::Found(r) => {
-            let sizes = origin.sizes;
-            let rows = area::standing_rows(area, sizes, point.counts);
-            let b = area::curvature_for(origin.plain, area, sizes);
-            match expects(point, rows, b, delta) {
-                TruthResult::Value(drop) => {
-                    if drop {
-                        let x = area::standing_point(area, sizes);
-                        return within(point, rows, x, b, state.radius, delta);
-                    }
-                    return Proposal::NoDrop(r);
-                }
-                TruthResult::Refused(e) => {
-                    return Proposal::Refused(e);
-                }
-            }
-        }
-        StepEnd::NotPositive => {
-            return Proposal::NotPositive;
-        }
-        StepEnd::Refused(e) => {
-            return Proposal::Refused(e);
-        }
+    )?;
+    let Some(independent) = step else {
+        return Ok(Proposal::NotPositive);
+    };
+    let sizes = origin.sizes;
+    let rows = area::standing_rows(area, sizes, point.counts);
+    let b = area::curvature_for(origin.plain, area, sizes);
+    let drop = expects(point, rows, b, delta)?;
+    if drop {
+        let x = area::standing_point(area, sizes);
+        return within(point, rows, x, b, state.radius, delta);
     }
+    Ok(Proposal::NoDrop(independent))
 }

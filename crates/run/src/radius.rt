@@ -7,8 +7,8 @@ ghost use Rattle.run.specs.Limits.{VARIABLES};
 ghost use Rattle.run.specs.Radius.{cut_of, cut_within, radius_after};
 
 use crate::vectors::norm_of;
-use interval::{Scalar, ScalarResult};
-use linear::{Done, LinearError, LinearResult, at, choose, put};
+use interval::Scalar;
+use linear::{LinearError, at, choose, put};
 
 // A step times shrink, chosen.
 pub fn cut(n: usize, delta: &mut [f64], shrink: Scalar)
@@ -21,29 +21,16 @@ pub fn cut(n: usize, delta: &mut [f64], shrink: Scalar)
 }
 
 // A step, cut to the radius where it is definitely longer.
-pub fn cut_within(n: usize, radius: Scalar, delta: &mut [f64]) -> Done
+pub fn cut_within(n: usize, radius: Scalar, delta: &mut [f64]) -> Result<(), LinearError>
     requires { (n ≤ VARIABLES) × (length delta.old ≡ point_len) }
     ensures { done_of result delta.new ≡ cut_within n radius delta.old }
 {
-    match norm_of(delta, n) {
-        LinearResult::Refused(e) => {
-            return Done::Refused(e);
-        }
-        LinearResult::Value(length) => {
-            if !length.definitely_greater(radius) {
-                return Done::Finished;
-            }
-            match radius.div(length) {
-                ScalarResult::Refused(e) => {
-                    return Done::Refused(LinearError::Arithmetic(e));
-                }
-                ScalarResult::Value(shrink) => {
-                    cut(n, delta, shrink);
-                    return Done::Finished;
-                }
-            }
-        }
+    let length = norm_of(delta, n)?;
+    if length.definitely_greater(radius) {
+        let shrink = radius.div(length)?;
+        cut(n, delta, shrink);
     }
+    Ok(())
 }
 
 // The radius after a step of that length: the next may be twice as long. Beyond the longest step that the caller allows

@@ -1,27 +1,19 @@
 // The system reduced to the free directions, and the step along them: what it adds to the correction changes no
 // constraint to first order, and the damped curvature need be positive along them alone. Vectors have 12 scalars,
 // matrices rows of 12.
-ghost use Rattle.std.specs.Prelude.{◌<◌, ◌≤◌, ◌+◌, ◌*◌, ◌/◌, ◌%◌, false, ◌≡◌, length, get_or};
+ghost use Rattle.std.specs.Prelude.{◌<◌, ◌≤◌, ◌+◌, ◌*◌, ◌/◌, ◌%◌, ◌≡◌, length};
 ghost use Rattle.interval.specs.Scalar.{add_of, neg_of};
 ghost use Rattle.linear.specs.Choose.{choose_of};
 ghost use Rattle.linear.specs.Dot.{dot_to};
 ghost use Rattle.linear.specs.Flat.{along, at, put, list_to};
 ghost use Rattle.run.specs.Limits.{VARIABLES};
 ghost use Rattle.run.specs.Reduced.{h_times_at, force_of, pull_of, reduced_of, against_of};
-ghost use Rattle.run.specs.Vectors.{row, vector, fill_to, matrix, fill_rows, any_to};
+ghost use Rattle.run.specs.Vectors.{row, vector, fill_to, matrix, fill_rows};
 ghost use Rattle.run.specs.program.Reduced.{curved, lower_at, weights_result, solved_with, spanned, free_part};
 
 use crate::vectors::combine;
 use interval::Scalar;
-use linear::{Done, LinearError, at, choose, put, row_dot, two_rows};
-
-// How the search for weights along Z ended.
-#[derive(Clone, Copy)]
-pub enum WeightsEnd {
-    Found,
-    NotPositive,
-    Refused(LinearError),
-}
+use linear::{LinearError, at, choose, put, row_dot, two_rows};
 
 // Row i of H times the vector that starts at v0 in v, chosen.
 fn h_times_at(k: usize, h: &[f64], v: &[f64], v0: usize, i: usize) -> Scalar
@@ -135,20 +127,9 @@ fn against(k: usize, count: usize, z: &[f64], force: &[f64], out: &mut [f64])
     }
 }
 
-// Whether any mark is set.
-fn any(marks: &[bool]) -> bool
-    ensures { result ≡ any_to (λ i. get_or marks.now i false) (length marks.now) }
-{
-    for i in 0..marks.len() {
-        if marks[i] {
-            return true;
-        }
-    }
-    false
-}
-
-// The weights for a reduced matrix, where no pivot of its factor is left out, in place of the right-hand side.
-fn weights_for(t: usize, a: &[f64], w: &mut [f64]) -> WeightsEnd
+// The weights for a reduced matrix, in place of the right-hand side; whether there are any: none where a pivot of its
+// factor is left out.
+fn weights_for(t: usize, a: &[f64], w: &mut [f64]) -> Result<bool, LinearError>
     requires { (t ≤ 12) × ((length a.now ≡ 2 * (t * t)) × (length w.old ≡ 2 * t)) }
     ensures { weights_result result w.new ≡ solved_with t a.now w.old }
 {
@@ -157,28 +138,25 @@ fn weights_for(t: usize, a: &[f64], w: &mut [f64]) -> WeightsEnd
     let mut x = [0.0; 24];
     let mut l = [0.0; 288];
     let mut left_out = [false; 12];
-    match linear::cholesky(t, a, &mut l[..e], &mut left_out[..t]) {
-        Done::Refused(e) => {
-            return WeightsEnd::Refused(e);
-        }
-        Done::Finished => {}
-    }
+    linear::cholesky(t, a, &mut l[..e], &mut left_out[..t])?;
     let marks = &left_out[..t];
-    if any(marks) {
-        return WeightsEnd::NotPositive;
+    if marks.contains(&true) {
+        return Ok(false);
     }
-    match linear::solve_cholesky(t, &l[..e], marks, w, &mut x[..q]) {
-        Done::Refused(e) => {
-            return WeightsEnd::Refused(e);
-        }
-        Done::Finished => {}
-    }
-    linear::sharp(t, &x[..q], w);
-    WeightsEnd::Found
+    linear::solve_cholesky(t, &l[..e], marks, w, &mut x[..q])?;
+    linear::sharp(t, &x[..q], w)?;
+    Ok(true)
 }
 
-// The weights along Z against a force.
-fn weigh(k: usize, count: usize, h: &[f64], z: &[f64], force: &[f64], w: &mut [f64]) -> WeightsEnd
+// The weights along Z against a force; whether there are any.
+fn weigh(
+    k: usize,
+    count: usize,
+    h: &[f64],
+    z: &[f64],
+    force: &[f64],
+    w: &mut [f64],
+) -> Result<bool, LinearError>
     requires { (k ≤ VARIABLES) × ((count ≤ 12) × (length w.old ≡ 2 * count)) }
     ensures { weights_result result w.new
         ≡ solved_with count (reduced_of (curved k h.now vector) (spanned count z.now))
@@ -193,8 +171,8 @@ fn weigh(k: usize, count: usize, h: &[f64], z: &[f64], force: &[f64], w: &mut [f
     weights_for(count, &a[..e], w)
 }
 
-// delta with the step along Z that is least for the model there; none where the damped curvature is not positive along
-// Z.
+// delta with the step along Z that is least for the model there; whether there is one: none where the damped curvature
+// is not positive along Z.
 pub fn free_part(
     k: usize,
     count: usize,
@@ -202,7 +180,7 @@ pub fn free_part(
     g: &[f64],
     z: &[f64],
     delta: &mut [f64],
-) -> WeightsEnd
+) -> Result<bool, LinearError>
     requires { (k ≤ VARIABLES) × (count ≤ 12) }
     ensures { weights_result result delta.new
         ≡ free_part (curved k h.now g.now) delta.old
@@ -212,10 +190,10 @@ pub fn free_part(
     let mut f = [0.0; 24];
     let mut w = [0.0; 24];
     force(k, h, g, delta, &mut f);
-    let end = weigh(k, count, h, z, &f, &mut w[..q]);
-    let WeightsEnd::Found = end else {
-        return end;
-    };
+    let is_positive = weigh(k, count, h, z, &f, &mut w[..q])?;
+    if !is_positive {
+        return Ok(false);
+    }
     combine(k, &w[..q], z, delta, count);
-    end
+    Ok(true)
 }

@@ -20,7 +20,7 @@ use crate::rows::{
 use crate::state::State;
 use crate::vectors::norm_of;
 use interval::Scalar;
-use linear::{LinearResult, choose, in_column, in_row, plus_dot, put, row_dot};
+use linear::{LinearError, choose, in_column, in_row, plus_dot, put, row_dot};
 
 // value + slopes delta, of row i, over the first d variables.
 pub fn linearized_at(xs: &[f64], e: RowSet, delta: &[f64], d: usize, i: usize) -> Scalar
@@ -94,7 +94,7 @@ pub fn chosen_slopes(xs: &[f64], e: RowSet, out: &mut [f64])
 }
 
 // The violation of a point, from its rows.
-pub fn violation(xs: &[f64], c: RowCounts) -> LinearResult
+pub fn violation(xs: &[f64], c: RowCounts) -> Result<Scalar, LinearError>
     requires { c.m ≤ CONSTRAINTS }
     ensures { result_of result ≡ violation_of (constraints_of c xs.now) }
 {
@@ -116,7 +116,7 @@ fn linearized(xs: &[f64], e: RowSet, delta: &[f64], d: usize, out: &mut [f64])
 }
 
 // The violation that a step leads to, to first order.
-pub fn predicted(xs: &[f64], c: RowCounts, delta: &[f64]) -> LinearResult
+pub fn predicted(xs: &[f64], c: RowCounts, delta: &[f64]) -> Result<Scalar, LinearError>
     requires { FewRows c }
     ensures { result_of result ≡ predicted_of (constraints_of c xs.now) delta.now }
 {
@@ -145,10 +145,7 @@ fn moves(xs: &[f64], c: RowCounts, j: usize) -> bool
     ensures { result
         ≡ depends_on (sum_of c xs.now) j || depends_on (constraints_of c xs.now) j }
 {
-    if depends_on(xs, sum(c), j) {
-        return true;
-    }
-    depends_on(xs, constraints(c), j)
+    depends_on(xs, sum(c), j) || depends_on(xs, constraints(c), j)
 }
 
 // Marks of the variables that some residual definitely depends on.
@@ -165,7 +162,7 @@ pub fn moving(xs: &[f64], c: RowCounts) -> [bool; 12]
 }
 
 // The violation of the standing point, from its rows in the area.
-pub fn standing_violation(st: State, area: &[f64]) -> LinearResult
+pub fn standing_violation(st: State, area: &[f64]) -> Result<Scalar, LinearError>
     requires { HasRoom st.sizes area.now × FewRows (standing_counts st) }
     ensures { (w : Memory) → Holds st.sizes w area.now →
         length w.standing_rows ≡ (numbers_in st).standing_rows →
@@ -176,7 +173,7 @@ pub fn standing_violation(st: State, area: &[f64]) -> LinearResult
 }
 
 // The violation of the landed point, from its rows in the area.
-pub fn landed_violation(st: State, area: &[f64]) -> LinearResult
+pub fn landed_violation(st: State, area: &[f64]) -> Result<Scalar, LinearError>
     requires { HasRoom st.sizes area.now × FewRows (landed_counts st) }
     ensures { (w : Memory) → Holds st.sizes w area.now →
         length w.landed_rows ≡ (numbers_in st).landed_rows →

@@ -119,31 +119,27 @@ fn slopes_from<'a>(rows: &'a [f64], slopes: usize) -> &'a [f64]
     &rows[rows.len()..]
 }
 
-// ---- the view, made and taken apart
+// ---- the view, taken apart
 
-fn viewed<'a>(rows: &'a [f64], set: RowSet) -> RowView<'a>
-    ensures { (result.rows ≡ rows.entry) × (result.set ≡ set) }
-{
-    RowView { rows, set }
-}
+impl<'a> RowView<'a> {
+    fn value(self, i: usize) -> Scalar
+        ensures { result ≡ value_at (rows_in self.entry.rows.now self.entry.set) i }
+    {
+        value_at(self.rows, self.set.values, i)
+    }
 
-fn value<'a>(v: RowView<'a>, i: usize) -> Scalar
-    ensures { result ≡ value_at (rows_in v.entry.rows.now v.entry.set) i }
-{
-    value_at(v.rows, v.set.values, i)
-}
+    fn slope(self, i: usize, j: usize) -> Scalar
+        requires { Small self.set × (i < 65536) }
+        ensures { result ≡ slope_at (rows_in self.entry.rows.now self.entry.set) i j }
+    {
+        slope_at(self.rows, self.set.slopes, self.set.n, i, j)
+    }
 
-fn slope<'a>(v: RowView<'a>, i: usize, j: usize) -> Scalar
-    requires { Small v.set × (i < 65536) }
-    ensures { result ≡ slope_at (rows_in v.entry.rows.now v.entry.set) i j }
-{
-    slope_at(v.rows, v.set.slopes, v.set.n, i, j)
-}
-
-fn slopes<'a>(v: RowView<'a>) -> &'a [f64]
-    ensures { result.now ≡ drop (2 * v.entry.set.slopes) v.entry.rows.now }
-{
-    slopes_from(v.rows, v.set.slopes)
+    fn slopes(self) -> &'a [f64]
+        ensures { result.now ≡ drop (2 * self.entry.set.slopes) self.entry.rows.now }
+    {
+        slopes_from(self.rows, self.set.slopes)
+    }
 }
 
 // ---- with plain parameters
@@ -152,7 +148,7 @@ fn slopes<'a>(v: RowView<'a>) -> &'a [f64]
 pub fn value_of(xs: &[f64], e: RowSet, i: usize) -> Scalar
     ensures { result ≡ value_at (rows_in xs.now e) i }
 {
-    value(viewed(xs, e), i)
+    RowView { rows: xs, set: e }.value(i)
 }
 
 // The slope of row i by variable j.
@@ -160,7 +156,7 @@ pub fn slope_of(xs: &[f64], e: RowSet, i: usize, j: usize) -> Scalar
     requires { Small e × (i < 65536) }
     ensures { result ≡ slope_at (rows_in xs.now e) i j }
 {
-    slope(viewed(xs, e), i, j)
+    RowView { rows: xs, set: e }.slope(i, j)
 }
 
 // The slopes and what stands behind them, for sums over many: row i from i n on, those by variable j from j on by steps
@@ -168,5 +164,5 @@ pub fn slope_of(xs: &[f64], e: RowSet, i: usize, j: usize) -> Scalar
 pub fn slopes_of(xs: &[f64], e: RowSet) -> &[f64]
     ensures { result.now ≡ drop (2 * e.slopes) xs.now }
 {
-    slopes(viewed(xs, e))
+    RowView { rows: xs, set: e }.slopes()
 }

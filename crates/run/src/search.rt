@@ -44,8 +44,7 @@ fn flat(x: Search, independent: usize, m: usize) -> Stop
     if x.first {
         return Stop::Flat(independent, m);
     }
-    let why = x.rejected;
-    Stop::Damped(why)
+    Stop::Damped(x.rejected)
 }
 
 // A proposal is rejected, with that radius from now on: the loop continues with more damping, or ends.
@@ -54,42 +53,25 @@ fn damp_or_leave(x: Search, radius: Scalar, why: Rejection) -> Turn
     ensures { result ≡ turn_of (damped goes_on stops_at (rejected_for (with_radius x radius) why)) }
 {
     match damp(x, radius, why) {
-        Damped::On(y) => {
-            return Turn::On(y);
-        }
-        Damped::Stop(y, s) => {
-            return Turn::Leave(Found::Stop(y, s));
-        }
+        Damped::On(y) => Turn::On(y),
+        Damped::Stop(y, s) => Turn::Leave(Found::Stop(y, s)),
     }
 }
 
 // What a proposal makes of the search: a trial or a stop ends it, and a rejected step asks for more damping. Where a
 // step was rejected since its cut told nothing, the radius is the longest step again.
-fn follow(p: Proposal, x: Search, m: usize, max: Scalar) -> Turn
+fn follow(p: Result<Proposal, LinearError>, x: Search, m: usize, max: Scalar) -> Turn
     requires { x.turned_down < 2 ^ 32 }
     ensures { (on : Search → defined.Found) (delta lambda next : List Float) →
         turn_result result on delta lambda next ≡ follow on m max x (proposal_result p delta lambda next) }
 {
     match p {
-        Proposal::Ask(t) => {
-            return Turn::Leave(Found::Ask(x, t));
-        }
-        Proposal::NoChange => {
-            let why = x.rejected;
-            return Turn::Leave(Found::Stop(x, Stop::NoChange(why)));
-        }
-        Proposal::NoDrop(r) => {
-            return Turn::Leave(Found::Stop(x, flat(x, r, m)));
-        }
-        Proposal::Refused(e) => {
-            return Turn::Leave(Found::Refused(x, e));
-        }
-        Proposal::Unresolved => {
-            return damp_or_leave(x, max, Rejection::Unresolved);
-        }
-        Proposal::NotPositive => {
-            return damp_or_leave(x, x.radius, Rejection::NotPositive);
-        }
+        Ok(Proposal::Ask(t)) => Turn::Leave(Found::Ask(x, t)),
+        Ok(Proposal::NoChange) => Turn::Leave(Found::Stop(x, Stop::NoChange(x.rejected))),
+        Ok(Proposal::NoDrop(r)) => Turn::Leave(Found::Stop(x, flat(x, r, m))),
+        Ok(Proposal::Unresolved) => damp_or_leave(x, max, Rejection::Unresolved),
+        Ok(Proposal::NotPositive) => damp_or_leave(x, x.radius, Rejection::NotPositive),
+        Err(e) => Turn::Leave(Found::Refused(x, e)),
     }
 }
 
@@ -97,7 +79,7 @@ fn follow(p: Proposal, x: Search, m: usize, max: Scalar) -> Turn
 fn seek_from(
     origin: Origin,
     area: &[f64],
-    prepared: Prepared,
+    prepared: Result<Prepared, LinearError>,
     order: &[usize],
     fixed: &[f64],
     from: Search,
@@ -113,18 +95,17 @@ fn seek_from(
         ≡ search_of (standing_in origin area.now) origin.max_step from }
 {
     let mut state = from;
-    let found = loop {
+    loop {
         let p = propose(origin, area, prepared, order, fixed, state, delta, lambda);
         match follow(p, state, origin.point.counts.m, origin.max_step) {
-            Turn::Leave(left) => {
-                break left;
+            Turn::Leave(found) => {
+                return found;
             }
             Turn::On(y) => {
                 state = y;
             }
         }
-    };
-    found
+    }
 }
 
 // The search from a standing point, over the area that holds its rows and the curvature learned.

@@ -1,8 +1,9 @@
 // What a run carries from call to call, by value, what a call returns, and the state changed in one part.
 ghost use Rattle.std.specs.Prelude.{◌<◌, ◌^◌, List, ◌≡◌, Float};
 ghost use Rattle.run.specs.State.{searching, starting, asking, landing, trying, standing_on, anew, rejected_for};
-ghost use Rattle.run.specs.State.{state_with, in_phase, over};
+ghost use Rattle.run.specs.State.{state_with, over};
 
+use crate::refusal::Refusal;
 use interval::Scalar;
 
 // What a question asks the rows of: the start, a trial, or a trial moved back onto the constraints.
@@ -13,48 +14,33 @@ pub enum Kind {
     Correction,
 }
 
-// Whether a question is open. A run that is over answers no reply.
-#[derive(Clone, Copy)]
-pub enum Phase {
-    Open(Kind),
-    Over,
-}
-
 // Why a step was turned down.
 #[derive(Clone, Copy)]
 pub enum Rejection {
-    NoneYet,
     NotPositive,
     Infeasible,
     Unresolved,
     NotLower,
 }
 
-// The length of the last step taken.
-#[derive(Clone, Copy)]
-pub enum Last {
-    NoneYet,
-    Taken(Scalar),
-}
-
 // Why a run finished. Damped and NoChange name the last rejection, so that a caller can tell a minimum from a wall.
 #[derive(Clone, Copy)]
 pub enum Stop {
     Infeasible,
-    NoChange(Rejection),
+    NoChange(Option<Rejection>),
     Undecided,
     Flat(usize, usize),
-    Damped(Rejection),
+    Damped(Option<Rejection>),
     Budget,
 }
 
 // What a call returns: a question with its number, kind and the standing number; the finish with its stop, iterations,
-// turn-downs and the standing number; or a refusal by its number.
+// turn-downs and the standing number; or a refusal.
 #[derive(Clone, Copy)]
 pub enum Event {
     Question(usize, Kind, usize),
     Finish(Stop, usize, usize, usize),
-    Refused(usize),
+    Refused(Refusal),
 }
 
 // Variables, sum rows, and the most iterations.
@@ -93,7 +79,7 @@ pub struct Search {
     pub turned_down: usize,
     pub first: bool,
     pub plain: bool,
-    pub rejected: Rejection,
+    pub rejected: Option<Rejection>,
 }
 
 // Of an open trial: the violation predicted where it leads, and its length as tried.
@@ -103,7 +89,8 @@ pub struct Trial {
     pub tried: Scalar,
 }
 
-// A run between two calls, without the numbers of the area.
+// A run between two calls, without the numbers of the area. `last` is the length of the last step
+// taken, and `phase` the kind of the open question: a run that is over has none, and answers no reply.
 #[derive(Clone, Copy)]
 pub struct State {
     pub sizes: Sizes,
@@ -112,8 +99,8 @@ pub struct State {
     pub search: Search,
     pub trial: Trial,
     pub max_step: Scalar,
-    pub last: Last,
-    pub phase: Phase,
+    pub last: Option<Scalar>,
+    pub phase: Option<Kind>,
     pub moving: [bool; 12],
 }
 
@@ -127,15 +114,7 @@ pub struct Returned {
 pub fn with_search(st: State, search: Search) -> State
     ensures { result ≡ searching st search }
 {
-    let mut t = st;
-    t.search = search;
-    t
-}
-
-pub fn with_phase(st: State, phase: Phase) -> State
-    ensures { result ≡ in_phase st phase }
-{
-    State { phase, ..st }
+    State { search, ..st }
 }
 
 // No question is open: of the slots only that of the standing point is in use.
@@ -147,7 +126,7 @@ pub fn with_none_open(st: State) -> State
             standing_m: 0,
             landed_m: 0,
         },
-        phase: Phase::Over,
+        phase: None,
         ..st
     }
 }
@@ -171,22 +150,33 @@ pub fn with_question(st: State, kind: Kind, corrections: usize) -> State
     requires { st.counts.question < 2 ^ 32 }
     ensures { result ≡ asking st kind corrections }
 {
-    let mut t = st;
-    let question = st.counts.question + 1;
-    t.counts.question = question;
-    t.counts.corrections = corrections;
-    with_phase(t, Phase::Open(kind))
+    State {
+        counts: Counts {
+            question: st.counts.question + 1,
+            corrections,
+            ..st.counts
+        },
+        phase: Some(kind),
+        ..st
+    }
 }
 
 // The open question's point landed, with m constraint rows and after so many corrections.
 pub fn with_landed(st: State, m: usize, corrections: usize) -> State
     ensures { result ≡ landing st m corrections }
 {
-    let mut t = st;
-    t.counts.landed = st.counts.question;
-    t.counts.corrections = corrections;
-    t.contents.landed_m = m;
-    t
+    State {
+        counts: Counts {
+            landed: st.counts.question,
+            corrections,
+            ..st.counts
+        },
+        contents: Contents {
+            landed_m: m,
+            ..st.contents
+        },
+        ..st
+    }
 }
 
 // A search left with a trial, whose step, multipliers and point stand elsewhere: nothing has landed.
@@ -199,11 +189,15 @@ pub fn with_trial_of(st: State, search: Search, trial: Trial) -> State
       tried = trial.tried;
     }) }
 {
-    let mut t = st;
-    t.contents.landed_m = 0;
-    t.search = search;
-    t.trial = trial;
-    t
+    State {
+        contents: Contents {
+            landed_m: 0,
+            ..st.contents
+        },
+        search,
+        trial,
+        ..st
+    }
 }
 
 // The landed point stands.
@@ -224,7 +218,7 @@ pub fn standing_on(st: State, length: Scalar, mu: Scalar, radius: Scalar) -> Sta
             landed_m: held,
         },
         search: renew(st.search, mu, radius),
-        last: Last::Taken(length),
+        last: Some(length),
         ..st
     }
 }
@@ -239,7 +233,7 @@ pub fn renew(x: Search, mu: Scalar, radius: Scalar) -> Search
         turned_down: x.turned_down,
         first: true,
         plain: false,
-        rejected: Rejection::NoneYet,
+        rejected: None,
     }
 }
 
@@ -247,11 +241,14 @@ pub fn renew(x: Search, mu: Scalar, radius: Scalar) -> Search
 pub fn reject(x: Search, why: Rejection) -> Search
     ensures { result ≡ rejected_for x why }
 {
-    Search { rejected: why, ..x }
+    Search {
+        rejected: Some(why),
+        ..x
+    }
 }
 
 // A run before its first answer.
-pub fn state_with(z: Sizes, mu: Scalar, max: Scalar, phase: Phase) -> State
+pub fn state_with(z: Sizes, mu: Scalar, max: Scalar, phase: Option<Kind>) -> State
     ensures { result ≡ state_with z mu max phase }
 {
     let moving = [false; 12];
@@ -272,7 +269,7 @@ pub fn state_with(z: Sizes, mu: Scalar, max: Scalar, phase: Phase) -> State
         turned_down: 0,
         first: true,
         plain: false,
-        rejected: Rejection::NoneYet,
+        rejected: None,
     };
     let trial = Trial {
         predicted: Scalar::ZERO,
@@ -285,7 +282,7 @@ pub fn state_with(z: Sizes, mu: Scalar, max: Scalar, phase: Phase) -> State
         search,
         trial,
         max_step: max,
-        last: Last::NoneYet,
+        last: None,
         phase,
         moving,
     }

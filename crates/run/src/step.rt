@@ -13,7 +13,7 @@ ghost use Rattle.run.specs.program.Basis.{basis_by, ForPreparing};
 ghost use Rattle.run.specs.program.Problem.{problem_in};
 ghost use Rattle.run.specs.program.Reduced.{curved};
 ghost use Rattle.run.specs.program.Rows.{FewRows};
-ghost use Rattle.run.specs.program.Step.{end_of, with_multipliers, ready_of, step_from_basis, Few, step_from_factors};
+ghost use Rattle.run.specs.program.Step.{end_of, step_from_basis, Few, step_from_factors};
 ghost use Rattle.run.specs.program.Step.{DimensionsFit, basis_with, directions_with, damped_step, prepared_step};
 ghost use Rattle.run.specs.program.Step.{FactorLengths, StepLengths, fixed_len, PreparedSizes, PreparedFor};
 
@@ -21,26 +21,17 @@ use crate::area::write;
 use crate::basis::{Shape, basis, correction, multipliers};
 use crate::null_space::free_directions;
 use crate::problem::{damped, keep, problem};
-use crate::reduced::{WeightsEnd, free_part, pull};
-use crate::results::CountResult;
+use crate::reduced::{free_part, pull};
 use crate::rows::{RowCounts, RowSet, constraints};
 use crate::vectors::{all_finite, spread};
 use interval::Scalar;
-use linear::{Done, LinearError};
+use linear::LinearError;
 
-// A step with its number of independent rows, no step where H is not positive along the free directions, or a refusal.
+// What no damping changes, beside the factors: how many rows are independent and how many directions are free.
 #[derive(Clone, Copy)]
-pub enum StepEnd {
-    Found(usize),
-    NotPositive,
-    Refused(LinearError),
-}
-
-// What no damping changes: `Ready` says how many rows are independent and how many directions are free.
-#[derive(Clone, Copy)]
-pub enum Prepared {
-    Ready(usize, usize),
-    Refused(LinearError),
+pub struct Prepared {
+    pub independent: usize,
+    pub free: usize,
 }
 
 // How many variables are kept, how many rows are independent, and how many directions are free.
@@ -74,25 +65,11 @@ pub fn finite_pull(k: usize, h: &[f64], g: &[f64], kept: &[f64], out: &mut [f64]
         (result ≡ (all_finite kept.now 12 && all_finite out.new 12)) }
 {
     pull(k, h, g, kept, out);
-    if all_finite(kept, 12) {
-        return all_finite(out, 12);
-    }
-    false
+    all_finite(kept, 12) && all_finite(out, 12)
 }
 
-// The step's result, given that of its multipliers.
-pub fn multiplied(d: Done, r: usize) -> StepEnd
-    ensures { (delta lambda : List Float) →
-        end_of result delta lambda ≡ with_multipliers delta r (done_of d lambda) }
-{
-    match d {
-        Done::Finished => StepEnd::Found(r),
-        Done::Refused(e) => StepEnd::Refused(e),
-    }
-}
-
-// The step along the free directions, from the correction delta on, with its multipliers, where it and what pulls
-// against it are finite.
+// The step along the free directions, from the correction delta on, with its multipliers: the number of its independent
+// rows, where it and what pulls against it are finite.
 fn free_step(
     d: Dimensions,
     h: &[f64],
@@ -101,7 +78,7 @@ fn free_step(
     factors: &[f64],
     delta: &mut [f64],
     lambda: &mut [f64],
-) -> StepEnd
+) -> Result<Option<usize>, LinearError>
     requires { DimensionsFit d × FactorLengths order.now factors.now × (length lambda.old ≡ 24) }
     ensures { end_of result delta.new lambda.new
         ≡ free_step (curved d.kept h.now g.now)
@@ -109,52 +86,25 @@ fn free_step(
         (directions_with d.free factors.now) }
 {
     let mut p = [0.0; 24];
-    match free_part(
+    let is_positive = free_part(
         d.kept,
         d.free,
         h,
         g,
         &factors[DIRECTIONS_AT..FACTORS_LEN],
         delta,
-    ) {
-        WeightsEnd::Found => {
-            if finite_pull(d.kept, h, g, delta, &mut p) {
-                return multiplied(
-                    multipliers(d.kept, d.independent, factors, order, &p, lambda),
-                    d.independent,
-                );
-            }
-            return StepEnd::NotPositive;
-        }
-        WeightsEnd::NotPositive => {
-            return StepEnd::NotPositive;
-        }
-        WeightsEnd::Refused(e) => {
-            return StepEnd::Refused(e);
-        }
+    )?;
+    if !is_positive {
+        return Ok(None);
     }
+    if !finite_pull(d.kept, h, g, delta, &mut p) {
+        return Ok(None);
+    }
+    multipliers(d.kept, d.independent, factors, order, &p, lambda)?;
+    Ok(Some(d.independent))
 }
 
 // ---- what no damping changes
-
-// What was prepared with r independent rows, or the first refusal.
-fn ready(end: Done, found: CountResult, r: usize) -> Prepared
-    ensures { result ≡ ready_of end found r }
-{
-    match end {
-        Done::Finished => match found {
-            CountResult::Value(count) => {
-                return Prepared::Ready(r, count);
-            }
-            CountResult::Refused(e) => {
-                return Prepared::Refused(e);
-            }
-        },
-        Done::Refused(e) => {
-            return Prepared::Refused(e);
-        }
-    }
-}
 
 // A factors, clear at first, from the basis on: Q, the coefficients, the correction and the free directions, one behind
 // the other.
@@ -167,7 +117,7 @@ fn prepare_free(
     xs: &[f64],
     c: RowSet,
     factors: &mut [f64],
-) -> Prepared
+) -> Result<Prepared, LinearError>
     requires { ForPreparing shape (length q.now) (length coefficients.now) (length order.now) factors.old }
     ensures { ((h g : List Float)
         → step_from_factors result (curved shape.k h g) order.now factors.new
@@ -178,7 +128,7 @@ fn prepare_free(
 {
     write(factors, 0, q);
     write(factors, COEFFICIENTS_AT, coefficients);
-    let end = correction(
+    correction(
         shape,
         q,
         coefficients,
@@ -187,14 +137,17 @@ fn prepare_free(
         xs,
         c,
         &mut factors[CORRECTION_AT..DIRECTIONS_AT],
-    );
-    let found = free_directions(
+    )?;
+    let free = free_directions(
         shape.k,
         shape.r,
         q,
         &mut factors[DIRECTIONS_AT..FACTORS_LEN],
-    );
-    ready(end, found, shape.r)
+    )?;
+    Ok(Prepared {
+        independent: shape.r,
+        free,
+    })
 }
 
 // The basis, and what follows from it, for the constraint values in xs.
@@ -207,7 +160,7 @@ fn prepare_kept(
     c: RowSet,
     order: &mut [usize],
     factors: &mut [f64],
-) -> Prepared
+) -> Result<Prepared, LinearError>
     requires { (k ≤ VARIABLES) × ((m ≤ CONSTRAINTS) × ((order.old ≡ replicate 24 0) × (factors.old ≡ zeros 888))) }
     ensures { ((h g : List Float)
         → step_from_factors result (curved k h g) order.new factors.new
@@ -217,7 +170,7 @@ fn prepare_kept(
     let mut q = [0.0; 288];
     let mut coefficients = [0.0; 288];
     let mut dependent = [0.0; 288];
-    match basis(
+    let r = basis(
         k,
         m,
         wide,
@@ -226,15 +179,9 @@ fn prepare_kept(
         &mut coefficients,
         &mut dependent,
         order,
-    ) {
-        CountResult::Value(r) => {
-            let shape = Shape { k, m, r };
-            return prepare_free(shape, &q, &coefficients, &dependent, order, xs, c, factors);
-        }
-        CountResult::Refused(e) => {
-            return Prepared::Refused(e);
-        }
-    }
+    )?;
+    let shape = Shape { k, m, r };
+    prepare_free(shape, &q, &coefficients, &dependent, order, xs, c, factors)
 }
 
 // What no damping changes of the step from an answer's rows and the curvature b, over the variables that move, into
@@ -246,7 +193,7 @@ pub fn prepare(
     moving: &[bool],
     order: &mut [usize],
     fixed: &mut [f64],
-) -> Prepared
+) -> Result<Prepared, LinearError>
     requires { FewRows c × (length moving.now ≡ 12) × (order.old ≡ replicate 24 0) ×
         (fixed.old ≡ zeros fixed_len) }
     ensures { PreparedFor c.n (evaluation_of c rows.now) b.now moving.now
@@ -283,46 +230,40 @@ pub fn prepare(
 // The step from what was prepared, for an H that is finite.
 fn prepared_step(
     k: usize,
-    prepared: Prepared,
+    prepared: Result<Prepared, LinearError>,
     order: &[usize],
     h: &[f64],
     g: &[f64],
     factors: &[f64],
     kept: &mut [f64],
     lambda: &mut [f64],
-) -> StepEnd
+) -> Result<Option<usize>, LinearError>
     requires { (k ≤ VARIABLES) × Few prepared × FactorLengths order.now factors.now ×
         StepLengths kept.old lambda.old }
     ensures { end_of result kept.new lambda.new
         ≡ step_from_factors prepared (curved k h.now g.now) order.now
         factors.now }
 {
-    match prepared {
-        Prepared::Ready(r, count) => {
-            write(kept, 0, &factors[CORRECTION_AT..DIRECTIONS_AT]);
-            let d = Dimensions {
-                kept: k,
-                independent: r,
-                free: count,
-            };
-            return free_step(d, h, g, order, factors, kept, lambda);
-        }
-        Prepared::Refused(e) => {
-            return StepEnd::Refused(e);
-        }
-    }
+    let Prepared { independent, free } = prepared?;
+    write(kept, 0, &factors[CORRECTION_AT..DIRECTIONS_AT]);
+    let d = Dimensions {
+        kept: k,
+        independent,
+        free,
+    };
+    free_step(d, h, g, order, factors, kept, lambda)
 }
 
 // The step over the k kept variables, with the damping mu; none where H is not finite.
 fn kept_step(
     k: usize,
-    prepared: Prepared,
+    prepared: Result<Prepared, LinearError>,
     order: &[usize],
     fixed: &[f64],
     mu: Scalar,
     kept: &mut [f64],
     lambda: &mut [f64],
-) -> StepEnd
+) -> Result<Option<usize>, LinearError>
     requires { (k ≤ VARIABLES) × PreparedSizes prepared order.now fixed.now ×
         StepLengths kept.old lambda.old }
     ensures { end_of result kept.new lambda.new
@@ -342,7 +283,7 @@ fn kept_step(
             lambda,
         );
     }
-    StepEnd::NotPositive
+    Ok(None)
 }
 
 // ---- over all variables
@@ -352,13 +293,13 @@ fn kept_step(
 pub fn damped_step(
     n: usize,
     moving: &[bool],
-    prepared: Prepared,
+    prepared: Result<Prepared, LinearError>,
     order: &[usize],
     fixed: &[f64],
     mu: Scalar,
     delta: &mut [f64],
     lambda: &mut [f64],
-) -> StepEnd
+) -> Result<Option<usize>, LinearError>
     requires { (n ≤ VARIABLES) × (length moving.now ≡ 12) × PreparedSizes prepared order.now fixed.now ×
         StepLengths delta.old lambda.old }
     ensures { end_of result delta.new lambda.new
@@ -382,7 +323,7 @@ pub fn step(
     mu: Scalar,
     delta: &mut [f64],
     lambda: &mut [f64],
-) -> StepEnd
+) -> Result<Option<usize>, LinearError>
     requires { FewRows c × (length moving.now ≡ 12) × StepLengths delta.old lambda.old }
     ensures { end_of result delta.new lambda.new
         ≡ step_of c.n (evaluation_of c rows.now) b.now moving.now mu }

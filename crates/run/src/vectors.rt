@@ -10,8 +10,8 @@ ghost use Rattle.linear.specs.Norm.{norm_of};
 ghost use Rattle.run.specs.Vectors.{all_finite, chosen_of, or_zero, fill_to, unit_at, combined_to, spread_to, moved_of};
 ghost use Rattle.run.specs.Vectors.{same_of};
 
-use interval::{Scalar, ScalarResult};
-use linear::{LinearResult, at, choose, clear, minus_scaled, norm, put};
+use interval::{GeopError, Scalar};
+use linear::{LinearError, at, choose, clear, minus_scaled, norm, put};
 
 // Whether the first k scalars are finite.
 pub fn all_finite(xs: &[f64], k: usize) -> bool
@@ -26,7 +26,7 @@ pub fn all_finite(xs: &[f64], k: usize) -> bool
 }
 
 // The length of the first k scalars.
-pub fn norm_of(xs: &[f64], k: usize) -> LinearResult
+pub fn norm_of(xs: &[f64], k: usize) -> Result<Scalar, LinearError>
     requires { (k ≤ 24) × (2 * k ≤ length xs.now) }
     ensures { result_of result ≡ norm_of (at xs.now) k }
 {
@@ -55,27 +55,17 @@ pub fn choose_if(in_use: bool, v: Scalar) -> Scalar
 }
 
 // The value, or zero where a division is refused.
-pub fn or_zero(q: ScalarResult) -> Scalar
+pub fn or_zero(q: Result<Scalar, GeopError>) -> Scalar
     ensures { result ≡ or_zero (scalar.result_of q) }
 {
-    match q {
-        ScalarResult::Value(v) => v,
-        ScalarResult::Refused(_) => Scalar::ZERO,
-    }
+    q.unwrap_or(Scalar::ZERO)
 }
 
 // x over what `inverse` is of: one inverse serves many quotients.
-pub fn quotient(x: Scalar, inverse: ScalarResult) -> ScalarResult
+pub fn quotient(x: Scalar, inverse: Result<Scalar, GeopError>) -> Result<Scalar, GeopError>
     ensures { (y : Scalar) → scalar.result_of inverse ≡ inverse_of y → scalar.result_of result ≡ div_of x y }
 {
-    match inverse {
-        ScalarResult::Value(i) => {
-            return ScalarResult::Value(x.mul(i));
-        }
-        ScalarResult::Refused(e) => {
-            return ScalarResult::Refused(e);
-        }
-    }
+    Ok(x.mul(inverse?))
 }
 
 // k scalars of v from v0 on over a length, chosen, zero where that is refused, from t0 on in `to`.

@@ -1,13 +1,11 @@
 -- What crosses to C for a piece that answers neither a scalar nor a slice alone: number 0 and the answer, or the
 -- refusal's number and an answer of zeros.
-use Rattle.std.specs.Prelude.{ℕ, Bool, true, false, List, Float}
+use Rattle.std.specs.Prelude.{ℕ, Bool, true, false, List, Float, None, Option, Some}
 use Rattle.interval.specs.declared.Scalar.{Scalar}
 use Rattle.interval.specs.Result.{Res, ok, refused}
 use Rattle.interval.specs.Scalar.{zero_s, pick}
 use Rattle.run.specs.declared.judgement.Judged.{Judged}
 use Rattle.run.specs.declared.rows.RowCounts.{RowCounts}
-use Rattle.run.specs.declared.state.Last.{Last}
-use Rattle.run.specs.declared.state.Last.TheVariants.{NoneYet, Taken}
 use Rattle.run.specs.Pieces.{Ending, independent, none, StepReply}
 use Rattle.run_c.specs.declared.Stepped.{Stepped}
 use Rattle.run_c.specs.declared.Decision.{Decision}
@@ -27,8 +25,8 @@ judged_of (ok j) =
 judged_of (refused k) = record { number = k; length = zero_s; lower = false; undecided = false; contracting = false }
 
 -- the last step's length, if one was taken
-abbrev pub last_of : Bool → Scalar → Last
-last_of taken length = pick taken (Taken length) NoneYet
+abbrev pub last_of : Bool → Scalar → Option Scalar
+last_of taken length = pick taken (Some length) None
 
 -- a step with its number of independent rows, or none, and what the slices for it and for its multipliers hold then
 abbrev pub stepped_of : Res Ending → Stepped

@@ -14,7 +14,8 @@ ghost use Rattle.run_c.specs.Replies.{counts_of, decision_of, judged_of, last_of
 ghost use Rattle.run_c.specs.Replies.{step_written_of};
 
 use interval::Scalar;
-use run::{Judgement, Last, RowCounts, StepEnd, TruthResult};
+use linear::LinearError;
+use run::{Judged, RowCounts};
 use yadzvego::lists::{number_of, number_of_done, scalar_result_of};
 use yadzvego::scalars::ScalarResult;
 
@@ -46,21 +47,21 @@ pub struct Stepped {
     pub independent: usize,
 }
 
-fn stepped_of(e: StepEnd) -> Stepped
+fn stepped_of(e: Result<Option<usize>, LinearError>) -> Stepped
     ensures { result ≡ stepped_of (ending_of e) }
 {
     match e {
-        StepEnd::Found(r) => Stepped {
+        Ok(Some(r)) => Stepped {
             number: 0,
             found: true,
             independent: r,
         },
-        StepEnd::NotPositive => Stepped {
+        Ok(None) => Stepped {
             number: 0,
             found: false,
             independent: 0,
         },
-        StepEnd::Refused(e) => Stepped {
+        Err(e) => Stepped {
             number: number_of(e),
             found: false,
             independent: 0,
@@ -68,23 +69,23 @@ fn stepped_of(e: StepEnd) -> Stepped
     }
 }
 
-fn decision_of(t: TruthResult) -> Decision
+fn decision_of(t: Result<bool, LinearError>) -> Decision
     ensures { result ≡ decision_of (truth_of t) }
 {
     match t {
-        TruthResult::Value(holds) => Decision { number: 0, holds },
-        TruthResult::Refused(e) => Decision {
+        Ok(holds) => Decision { number: 0, holds },
+        Err(e) => Decision {
             number: number_of(e),
             holds: false,
         },
     }
 }
 
-fn judged_of(j: Judgement) -> JudgedStep
+fn judged_of(j: Result<Judged, LinearError>) -> JudgedStep
     ensures { result ≡ judged_of (judgement_of j) }
 {
     match j {
-        Judgement::Of(x) => {
+        Ok(x) => {
             let length = x.length;
             JudgedStep {
                 number: 0,
@@ -94,7 +95,7 @@ fn judged_of(j: Judgement) -> JudgedStep
                 contracting: x.contracting,
             }
         }
-        Judgement::Refused(e) => JudgedStep {
+        Err(e) => JudgedStep {
             number: number_of(e),
             length: Scalar::ZERO,
             lower: false,
@@ -104,13 +105,10 @@ fn judged_of(j: Judgement) -> JudgedStep
     }
 }
 
-fn last_of(taken: bool, length: Scalar) -> Last
+fn last_of(taken: bool, length: Scalar) -> Option<Scalar>
     ensures { result ≡ last_of taken length }
 {
-    if taken {
-        return Last::Taken(length);
-    }
-    Last::NoneYet
+    taken.then_some(length)
 }
 
 #[unsafe(no_mangle)]

@@ -6,8 +6,8 @@
 mod answer;
 mod replay;
 
-use replay::{Counts, nothing_yet, replay};
-use replay_text::tally::print_tally;
+use replay::Replay;
+use replay_text::error::{ListError, is_malformed};
 use replay_text::tokens::next_token;
 use std::io;
 use std::io::{BufRead, Input};
@@ -15,39 +15,24 @@ use std::io::{BufRead, Input};
 // More runs are not read: their number shows it.
 const MOST_RUNS: u64 = 1000000;
 
-// Runs until the list ends, or is not well formed.
+// Runs until the list ends.
 fn replay_list(
     rt: &impl Print,
     list: &mut impl BufRead,
-    start: &mut [f64],
-    rows: &mut [f64],
-    area: &mut [f64],
-) -> io::Result<Counts> {
-    let mut k = nothing_yet();
+    runs: &mut Replay,
+) -> Result<(), ListError> {
     for _ in 0..MOST_RUNS {
-        let first = next_token(list)?;
-        if first.length == 0 {
+        let Some(first) = next_token(list)? else {
             break;
-        }
-        k = replay(rt, list, k, first, start, rows, area)?;
-        let calls = k.calls;
-        if !calls.well_formed {
-            break;
-        }
+        };
+        runs.replay(rt, list, first)?;
     }
-    Ok(k)
-}
-
-// There is room for a start of 30 variables, and for rows that are too many.
-fn replay_sized(rt: &impl Print, list: &mut impl BufRead) -> io::Result<Counts> {
-    let mut start = [0.0; 60];
-    let mut rows = [0.0; 1000];
-    let mut area = [0.0; 8000];
-    replay_list(rt, list, &mut start, &mut rows, &mut area)
+    Ok(())
 }
 
 fn main(rt: HostRuntime) -> io::Result<()> {
-    let k = replay_sized(&rt, &mut rt.reader())?;
-    print!(rt; "{} runs, ", k.runs)?;
-    print_tally(&rt, k.calls, " calls, ")
+    let mut runs = Replay::new();
+    let malformed = is_malformed(replay_list(&rt, &mut rt.reader(), &mut runs))?;
+    print!(rt; "{} runs, ", runs.runs)?;
+    runs.calls.print(&rt, " calls, ", malformed)
 }

@@ -1,4 +1,5 @@
 -- What is printed of a sheet has no zero byte, so in a slot it is what stands before the first one.
+use Rattle.run.specs.Refusal.{number_of}
 use Prim.Native.Nat.{ℕ, zero, suc, ◌+◌, ◌-◌, ◌*◌, ◌/◌, ◌%◌, ◌≤◌}
 use mathlib.Core.Bool.{Bool, true, false, cond}
 use mathlib.Core.List.{List, [], ◌∷◌, ◌++◌, append_assoc, append-nil}
@@ -8,6 +9,7 @@ use borrow.Author.Tests.{ne_eqb}
 use lib.Dec.{ltb}
 use lib.Ieee.{Float, binary64, to_bits}
 use lib.ListN.{length, replicate}
+use Rattle.std.specs.Prelude.{Result, Ok, Err, IsOk, ⊤}
 use Rattle.float_bits.specs.Word.{digit_of, digits_to}
 use Rattle.interval.specs.Result.{Res, ok, refused}
 use Rattle.interval.specs.Scalar.{pick, sharpen}
@@ -25,8 +27,10 @@ use Rattle.sheet.specs.Numbers.{COMMA, line_feed}
 use Rattle.sheet.specs.Printing.{stop_key, iterations_key, turned_key, error_key, name_of, middle_of}
 use Rattle.sheet.specs.Printing.{point_line, point_lines, error_of, finish_of, SLOT, padded}
 use Rattle.sheet.specs.Settling.{point_at, settled_of, printed_of, printed_sheet, print_of}
-use Rattle.sheet.specs.Settling.{AfterText, after_text, settle_text_of}
+use Rattle.sheet.specs.Settling.{AfterText, after_text, number_in, settle_text_of}
 use Rattle.sheet.specs.Sheet.{Sheet, at_key, read_of}
+use Rattle.sheet.specs.declared.fault.Fault.{Fault}
+use Rattle.sheet.specs.declared.fault.Fault.TheVariants.{WrongLength, Malformed, OutOfRange, NoPoint}
 use Rattle.settle.specs.Printed.{before_zero}
 
 -- no zero stands in a text: the search for one goes on behind it
@@ -146,7 +150,7 @@ run b = by b.event refl
     by : (e : Event) → e ≡ b.event → Passes (printed_of b)
     by (Question k t s) q = rw (sym q) (error 0)
     by (Finish e i t s) q = rw (sym q) (finish e i t (point_of b.state b.area))
-    by (Refused k) q = rw (sym q) (error k)
+    by (Refused r) q = rw (sym q) (error (number_of r))
 
 sheet : (r : Res Sheet) → Passes (printed_sheet r)
 sheet (ok s) = let start = point_at s.coordinates in run (settled_of s start start)
@@ -177,3 +181,19 @@ unfolding settle_text_of
 settled_slot t area slot ea es e =
     let q : settle_text_of t area slot ≡ after_text 0 (zeros AREA) (padded (print_of t)) = rw (ea, es) refl in
     ap (λ (a : AfterText). a.slot) (e ∙ q)
+
+-- nor is it refused
+pub settled_ok : (t : List ℕ) (area : List Float) (slot : List ℕ) (r : Result ⊤ Fault) {area' : List Float}
+    {slot' : List ℕ} → length area ≡ AREA → length slot ≡ SLOT
+    → after_text (number_in r) area' slot' ≡ settle_text_of t area slot → IsOk r
+unfolding settle_text_of
+settled_ok t area slot r ea es e =
+    let q : settle_text_of t area slot ≡ after_text 0 (zeros AREA) (padded (print_of t)) = rw (ea, es) refl in
+    by r (ap (λ (a : AfterText). a.number) (e ∙ q))
+  where
+    by : (r : Result ⊤ Fault) → number_in r ≡ 0 → IsOk r
+    by (Ok u) z = refl
+    by (Err WrongLength) z = absurd (omega (arith, z))
+    by (Err Malformed) z = absurd (omega (arith, z))
+    by (Err OutOfRange) z = absurd (omega (arith, z))
+    by (Err NoPoint) z = absurd (omega (arith, z))

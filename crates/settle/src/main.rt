@@ -20,12 +20,7 @@ fn printed(slot: &[u8]) -> usize
     ensures prefix_len { IsPrefixLen result slot.now }
     ensures slot_value { take result slot.now ≡ before_zero slot.now }
 {
-    for i in 0..slot.len() {
-        if slot[i] == END {
-            return i;
-        }
-    }
-    slot.len()
+    slot.iter().position(|&b| b == END).unwrap_or(slot.len())
 }
 
 // How many bytes of the slot are to be printed: just what a text prints.
@@ -34,7 +29,7 @@ fn settled(text: &[u8], area: &mut [f64], slot: &mut [u8]) -> usize
     ensures prefix_len { IsPrefixLen result slot.new }
     ensures slot_after { take result slot.new ≡ print_of text.now }
 {
-    sheet::settle_text(text, area, slot);
+    sheet::settle_text(text, area, slot).unwrap();
     printed(slot)
 }
 

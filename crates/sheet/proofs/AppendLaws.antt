@@ -1,13 +1,12 @@
 -- A text written behind another in lent bytes: it stands between what was written and the zeros that are left. Texts
 -- that are written one behind the other are written as one.
-use Prim.Native.Nat.{ℕ, zero, suc, ◌+◌, ◌-◌, ◌<◌, ◌≤◌}
+use Prim.Native.Nat.{ℕ, zero, suc, ◌+◌, ◌-◌}
 use mathlib.Core.List.{List, [], ◌++◌, append_assoc, append-nil}
 use mathlib.Core.Path.{◌≡◌, refl, sym, ap, ◌∙◌}
-use native.Mathlib.Numerals.{add-one}
 use native.Mathlib.Omega.{arith}
-use lib.ListN.{length, get_or, set, take, drop, replicate, length-append, length-set}
-use lib.Seq.{take-length, take_at, drop-append-add, paste, paste-zero, paste-suc}
-use Rattle.linear.proofs.Lists.{fill_more, fill_all}
+use borrow.Rule.Slice.PartMut.{put_mid}
+use lib.ListN.{length, take, drop, replicate, length-append}
+use lib.Seq.{take-length, take_at, drop-append-add, drop-drop, paste}
 use Rattle.sheet.specs.Lines.{padded_to}
 use Rattle.sheet.specs.program.Lines.{Printed, Appends}
 
@@ -61,54 +60,10 @@ pub appends_all : {size : ℕ} {out after t : List ℕ} {end : ℕ} → Printed 
     (end ≡ length t) × (after ≡ padded_to size t)
 appends_all p x = let q = x.printed p in (q.ends, q.is)
 
--- ---- loops over bytes
-
--- the first i bytes of a text are written from a place on
-pub record Appending (before : List ℕ) (place : ℕ) (text : List ℕ) (i : ℕ) (out : List ℕ) : Type 0 where
-  pub few : i ≤ length text
-  pub long : length out ≡ length before
-  pub is : out ≡ paste before place text i
-
-pub appending_none : (before : List ℕ) (place : ℕ) (text : List ℕ) → Appending before place text 0 before
-appending_none before place text = record { few = omega arith; long = refl; is = paste-zero before place text }
-
-pub appending_more : {before text out : List ℕ} {place i : ℕ} → Appending before place text i out → i < length text
-    → place + i < length before → Appending before place text (i + 1) (set out (place + i) (get_or text i 0))
-appending_more {before} {text} {out} {place} {i} w h l = record {
-  few = omega arith;
-  long = length-set out (place + i) (get_or text i 0) ∙ w.long;
-  is = rw (w.is, add-one) (paste-suc before place text i 0 l h);
-}
-
-pub appending_all : {start text out : List ℕ} {place i : ℕ} → Appending start place text i out → length text ≤ i
-    → Appends start place text out (place + length text)
-appending_all {start} {text} {out} {place} {i} w h =
-    let u = w.few in
-    let e : i ≡ length text = omega arith in
-    let q = w.is ∙ ap (paste start place text) e in
+-- a text that was copied to its place
+pub put_appends : (out : List ℕ) (place : ℕ) (text : List ℕ) {copied : List ℕ} {k : ℕ} → copied ≡ text → k ≡ length text
+    → Appends out place text (put_mid place k out copied) (place + length text)
+put_appends out place text {copied} {k} e f =
+    let q : put_mid place k out copied ≡ paste out place text (length text) =
+    rw (e, f, take-length text, drop-drop (length text) place out) (sym (append_assoc (take place out) text _)) in
     record { printed = λ {size} {before} p. rw q (printed_more size before text p) }
-
--- the first i bytes are cleared
-pub record Clearing (before : List ℕ) (i : ℕ) (out : List ℕ) : Type 0 where
-  pub few : i ≤ length before
-  pub long : length out ≡ length before
-  pub is : out ≡ zeros i ++ drop i before
-
-pub clearing_none : (before : List ℕ) → Clearing before 0 before
-clearing_none before = record { few = omega arith; long = refl; is = refl }
-
-pub clearing_more : {before out : List ℕ} {i : ℕ} → Clearing before i out → i < length before
-    → Clearing before (i + 1) (set out i 0)
-clearing_more {before} {out} {i} w h = record {
-  few = omega arith;
-  long = length-set out i 0 ∙ w.long;
-  is = rw w.is (fill_more i 0 before h);
-}
-
-pub clearing_all : {before out : List ℕ} {i : ℕ} → Clearing before i out → length before ≤ i →
-    Printed (length before) [] out 0
-clearing_all {before} {out} {i} w h =
-    let u = w.few in
-    let e : i ≡ length before = omega arith in
-    let n : length before ≡ length before - 0 = omega arith in
-    record { is = w.is ∙ ap (λ (k : ℕ). zeros k ++ drop k before) e ∙ fill_all 0 before ∙ ap zeros n; ends = refl }

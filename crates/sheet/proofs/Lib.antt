@@ -12,7 +12,6 @@ pub mod SheetLaws
 pub mod RowLaws
 pub mod SettlingLaws
 pub mod RangeLaws
-pub mod FoundLaws
 pub mod RunLaws
 pub mod ExampleLaws
 pub mod ReadBackLaws

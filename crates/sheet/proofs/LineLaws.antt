@@ -1,11 +1,11 @@
 -- Lines as the code reads them: each of their tests is the same of a number and of its cap.
 use Prim.Native.Nat.{ℕ, ◌<◌, ◌≤◌}
-use mathlib.Core.Bool.{Bool, false, ◌&&◌, not}
+use mathlib.Core.Bool.{Bool, true, false, ◌&&◌, not}
 use mathlib.Core.List.{List}
 use mathlib.Core.Path.{◌≡◌, refl, ap, ◌∙◌}
 use native.Mathlib.Omega.{arith}
 use borrow.Author.Tests.{lt-leb, le-ltb}
-use lib.Dec.{leb, ltb, eqb}
+use lib.Dec.{leb, eqb}
 use lib.IntN.{ℤ}
 use Rattle.interval.specs.Result.{Res, ok, refused}
 use Rattle.linear.specs.Replies.{checked_value}
@@ -16,7 +16,9 @@ use Rattle.sheet.specs.Rule.{span}
 use Rattle.sheet.specs.Sheet.{most_points, most_length, out_of_range, no_point, at_key, span_key, is_near}
 use Rattle.sheet.specs.Sheet.{is_present, are_two, natural_of, point_of, span_of, aligned_of}
 use Rattle.sheet.specs.program.Numbers.{capped_number, capped_one, capped_two, capped_three}
+use Rattle.sheet.specs.program.Sheet.{aligned_by}
 use Rattle.sheet.specs.declared.numbers.Number.{Number}
+use Rattle.sheet.specs.declared.sheet.Kind.{Kind}
 use Rattle.sheet.specs.declared.sheet.Rule.{Rule}
 use Rattle.sheet.proofs.NumberLaws.{far}
 use Rattle.sheet.proofs.Tests.{last_fails}
@@ -149,6 +151,39 @@ module _ (points : ℕ) (few : points ≤ most_points) where
       (λ y h. fails no_point _ (second_absent (capped_number v) y h))
       w)
       (two_of fields))
+
+  -- as a rule of a kind
+  abbrev pub checked_kind : Kind → Part (Number × Number) → Res (Part Rule)
+  checked_kind kind p =
+      checked_value (are_two points p.value.0 p.value.1) no_point
+      (ok
+      (part (record { kind = kind; first = p.value.0.size; second = p.value.1.size; length = 0 }) p.rest))
+
+  checked_by : (kind : Kind) (b : Bool) (p : Part (ℕ × ℕ)) →
+      bind (checked_value b no_point (ok p)) (aligned_by kind) ≡ checked_value b no_point (aligned_by kind p)
+  unfolding bind
+  checked_by kind true p = refl
+  checked_by kind false p = refl
+
+  kind_by : (kind : Kind) (x : Res (Part (Number × Number))) →
+      bind (bind x checked_two) (aligned_by kind) ≡ bind x (checked_kind kind)
+  unfolding bind
+  kind_by kind (ok p) = checked_by kind (are_two points p.value.0 p.value.1) _
+  kind_by kind (refused k) = refl
+
+  field_by : (kind : Kind) (x : Res (List ℕ)) →
+      bind (bind x (λ fields. bind (capped_two (two_of fields)) checked_two)) (aligned_by kind)
+      ≡ bind x (λ fields. bind (capped_two (two_of fields)) (checked_kind kind))
+  unfolding bind
+  field_by kind (ok fields) = kind_by kind (capped_two (two_of fields))
+  field_by kind (refused k) = refl
+
+  pub aligned_kind :
+      (key text : List ℕ) (kind : Kind) → bind (aligned_of key points text) (aligned_by kind)
+      ≡ bind (behind_key key text) (λ fields. bind (capped_two (two_of fields)) (checked_kind kind))
+  aligned_kind key text kind =
+      ap (λ (x : Res (Part (ℕ × ℕ))). bind x (aligned_by kind)) (aligned_capped key text)
+      ∙ field_by kind (behind_key key text)
 
   abbrev pub checked_span : Part (Number × Number × Number) → Res (Part Rule)
   checked_span p =

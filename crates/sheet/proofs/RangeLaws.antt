@@ -20,18 +20,19 @@ use Rattle.sheet.specs.Text.{Part, part, head, behind_key}
 use Rattle.sheet.specs.Numbers.{whole_of, is_natural, is_between, two_of, three_of}
 use Rattle.sheet.specs.Ranges.{RuleInRange, InRange}
 use Rattle.sheet.specs.Rows.{rule_at}
-use Rattle.sheet.specs.Rule.{PLUMB, span, level}
+use Rattle.sheet.specs.Rule.{span, level}
 use Rattle.sheet.specs.Sheet.{Sheet, most_bytes, most_points, most_iterations, most_rules, most_length}
 use Rattle.sheet.specs.Sheet.{at_key, span_key, level_key, plumb_key, points_key, limit_key, reach_key, rules_key}
 use Rattle.sheet.specs.Sheet.{is_near, is_present, are_two, natural_of, point_of, points_from, point_count, span_of}
 use Rattle.sheet.specs.Sheet.{aligned_of, level_of, plumb_of, rule_of, rules_from, all_points_of, all_rules_of}
 use Rattle.sheet.specs.Sheet.{behind_points_of, sheet_of, read_of}
 use Rattle.sheet.specs.declared.numbers.Number.{Number}
+use Rattle.sheet.specs.declared.sheet.Kind.TheVariants.{Span, Level, Plumb}
 use Rattle.sheet.specs.declared.sheet.Rule.{Rule}
-use Rattle.sheet.specs.declared.reader.SheetRead.{SheetRead}
+use Rattle.sheet.specs.declared.sheet.Sheet as declared
 use Rattle.sheet.specs.program.Rows as rows
 use Rattle.sheet.specs.program.Settling.{Settles}
-use Rattle.sheet.specs.program.Sheet.{list_in, sheet_by, whole_sheet_in}
+use Rattle.sheet.specs.program.Sheet.{list_in, sheet_by}
 use Rattle.sheet.proofs.SheetLaws.{checked_ok, same, between_range, natural_range}
 
 -- ---- lists of which each element has a property
@@ -125,22 +126,26 @@ module _ (points : ℕ) where
     second = t.1;
     distinct = t.2;
     length = h.1;
-    kind = omega arith;
     some_length = λ e. h.0;
     no_length = λ n. absurd (n refl);
   }
 
+  level_apart : Level ≡ Span → ⊥
+  level_apart e = cc
+
+  plumb_apart : Plumb ≡ Span → ⊥
+  plumb_apart e = cc
+
   -- a rule without a length
-  aligned_in_range : (r : Rule) → Two points r.first r.second → r.length ≡ 0 → 1 ≤ r.kind → r.kind ≤ PLUMB
-      → RuleInRange points r
-  aligned_in_range r t l a b = record {
+  aligned_in_range : (r : Rule) → Two points r.first r.second → r.length ≡ 0 → (r.kind ≡ Span → ⊥) →
+      RuleInRange points r
+  aligned_in_range r t l n = record {
     first = t.0;
     second = t.1;
     distinct = t.2;
     length = omega (arith, l);
-    kind = b;
-    some_length = λ e. absurd (omega (arith, a, e));
-    no_length = λ n. l;
+    some_length = λ e. absurd (n e);
+    no_length = λ m. l;
   }
 
   span_range : (text : List ℕ) {p : Part Rule} → span_of points text ≡ ok p → RuleInRange points p.value
@@ -172,14 +177,14 @@ module _ (points : ℕ) where
   level_range text e =
       let q = bind_value (aligned_of level_key points text) _ e in
       at_value (RuleInRange points) q.2
-      (aligned_in_range _ (aligned_range level_key text q.1) refl (omega arith) (omega arith))
+      (aligned_in_range _ (aligned_range level_key text q.1) refl level_apart)
 
   plumb_range : (text : List ℕ) {p : Part Rule} → plumb_of points text ≡ ok p → RuleInRange points p.value
   unfolding plumb_of
   plumb_range text e =
       let q = bind_value (aligned_of plumb_key points text) _ e in
       at_value (RuleInRange points) q.2
-      (aligned_in_range _ (aligned_range plumb_key text q.1) refl (omega arith) (omega arith))
+      (aligned_in_range _ (aligned_range plumb_key text q.1) refl plumb_apart)
 
   rule_range : (text : List ℕ) {p : Part Rule} → rule_of points text ≡ ok p → RuleInRange points p.value
   unfolding rule_of
@@ -269,14 +274,13 @@ near_in points r f p = record {
 }
 
 -- a sheet that was read can be settled
-pub read_settles : (text : List ℕ) (r : SheetRead) → whole_sheet_in r ≡ read_of text →
-    r.sheet.points.count ≤ most_points → r.sheet.rules.count ≤ most_rules →
-    length r.sheet.points.coordinates ≡ 12 → length r.sheet.rules.list ≡ 12 → r.read ≡ true →
-    Settles r.sheet
-read_settles text r e few_points few_rules lc lr t =
-    let ps = r.sheet.points in
-    let rs = r.sheet.rules in
-    let a = read_in_range text (sheet_by r.sheet) (sym (rw t at e)) in
+pub read_settles : (text : List ℕ) (s : declared.Sheet) → ok (sheet_by s) ≡ read_of text →
+    s.points.count ≤ most_points → s.rules.count ≤ most_rules →
+    length s.points.coordinates ≡ 12 → length s.rules.list ≡ 12 → Settles s
+read_settles text s e few_points few_rules lc lr =
+    let ps = s.points in
+    let rs = s.rules in
+    let a = read_in_range text (sheet_by s) (sym e) in
     let c = length-take-le (2 * ps.count) ps.coordinates (omega arith) in
     let n = length-take-le rs.count rs.list (omega arith) in
     record {

@@ -24,6 +24,8 @@ use Rattle.sheet.specs.Sheet.{rules_from, all_points_of, all_rules_of, behind_po
 use Rattle.sheet.specs.Spelling.{count_text, point_text, point_texts, pair_text, rule_text, rule_texts, spelling_of}
 use Rattle.sheet.specs.Text.{part, head, behind, behind_key}
 use Rattle.sheet.specs.declared.numbers.Number.{Number}
+use Rattle.sheet.specs.declared.sheet.Kind.{Kind}
+use Rattle.sheet.specs.declared.sheet.Kind.TheVariants.{Span, Level, Plumb}
 use Rattle.sheet.specs.declared.sheet.Rule.{Rule}
 use Rattle.sheet.proofs.NumberLaws.{by_size, digit, after_minus, no_sign}
 use Rattle.sheet.proofs.RangeLaws.{All, Near, RulesInRange}
@@ -213,19 +215,18 @@ module _ (points : ℕ) (few : points ≤ most_points) where
         ne_eqb i j h.distinct,
       )
 
-  -- a rule by its kind, of which there are three
-  abbrev rule_by : ℕ → ℕ → ℕ → ℕ → Rule
+  -- a rule by its kind
+  abbrev rule_by : ℕ → ℕ → ℕ → Kind → Rule
   rule_by i j d kind = record { kind = kind; first = i; second = j; length = d }
 
-  kind_back : (i j d kind : ℕ) (rest : List ℕ) → RuleInRange points (rule_by i j d kind) →
+  kind_back : (i j d : ℕ) (kind : Kind) (rest : List ℕ) → RuleInRange points (rule_by i j d kind) →
       rule_of points (rule_text (rule_by i j d kind) ++ rest) ≡ ok (part (rule_by i j d kind) rest)
   unfolding rule_of rule_text level_of plumb_of
-  kind_back i j d zero rest h = span_back i j d rest h
-  kind_back i j d (suc zero) rest h =
-      rw (h.no_length (λ e. omega (arith, e))) (bind_ok _ (aligned_back level_key (rule_by i j d 1) rest h))
-  kind_back i j d (suc (suc zero)) rest h =
-      rw (h.no_length (λ e. omega (arith, e))) (bind_ok _ (aligned_back plumb_key (rule_by i j d 2) rest h))
-  kind_back i j d (suc (suc (suc kind))) rest h = absurd (omega (arith, h.kind))
+  kind_back i j d Span rest h = span_back i j d rest h
+  kind_back i j d Level rest h =
+      rw (h.no_length (λ e. cc)) (bind_ok _ (aligned_back level_key (rule_by i j d Level) rest h))
+  kind_back i j d Plumb rest h =
+      rw (h.no_length (λ e. cc)) (bind_ok _ (aligned_back plumb_key (rule_by i j d Plumb) rest h))
 
   rule_back : (r : Rule) (rest : List ℕ) → RuleInRange points r → rule_of points (rule_text r ++ rest) ≡ ok (part r rest)
   rule_back r rest h = kind_back r.first r.second r.length r.kind rest h

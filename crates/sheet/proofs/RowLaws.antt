@@ -5,7 +5,6 @@ use mathlib.Core.Path.{◌≡◌, refl, sym, ap, ◌∙◌}
 use mathlib.Core.List.{List, [], ◌∷◌, ◌++◌, append_assoc, append-nil}
 use native.Mathlib.Nat.{mul-add, add-mul, mul-one, div-lt_iff_lt-mul, not-suc-le-zero, le_of_suc-le-suc}
 use native.Mathlib.Omega.{arith}
-use borrow.Author.Tests.{eq-eqb, ne_eqb}
 use lib.Dec.{eqb}
 use lib.Ieee.{Float, nan}
 use lib.IntN.{pos}
@@ -16,9 +15,10 @@ use Rattle.interval.specs.declared.Scalar.{Scalar}
 use Rattle.linear.specs.Flat.{at, fill_to, list_to}
 use Rattle.linear.proofs.Lists.{length-list_to, put_seam}
 use Rattle.linear.proofs.Reflections.{rows_positive}
+use Rattle.sheet.specs.declared.sheet.Kind.TheVariants.{Span, Level, Plumb}
 use Rattle.sheet.specs.declared.sheet.Rule.{Rule}
 use Rattle.sheet.specs.declared.sheet.Rules.{Rules}
-use Rattle.sheet.specs.Rule.{SPAN, LEVEL, level}
+use Rattle.sheet.specs.Rule.{level}
 use Rattle.sheet.specs.Rows.{difference_of, square_of, value_of, slope_by, one_s, two_s, slope_of, rule_at, rows_of}
 use Rattle.sheet.specs.program.Rows.{Near, FewNear}
 use Rattle.sheet.specs.program.Sheet.{list_in}
@@ -29,13 +29,13 @@ pub sub_is : {a b u v s : Scalar} → a ≡ u → b ≡ v → s ≡ sub_of a b �
 sub_is ea eb e = rw (e, ea, eb)
 
 module _ (x : List Float) (r : Rule) where
-  module _ (k : r.kind ≡ SPAN) where
+  module _ (k : r.kind ≡ Span) where
     pub value_span : {a a² b b² s l l² v : Scalar} →
         a ≡ difference_of x (2 * r.first) (2 * r.second) → a² ≡ square_of a →
         b ≡ difference_of x (2 * r.first + 1) (2 * r.second + 1) → b² ≡ square_of b → s ≡ add_of a² b² →
         l ≡ from_i64 (pos r.length) → l² ≡ square_of l → v ≡ sub_of s l² → v ≡ value_of x r
     unfolding value_of
-    value_span ea ea² eb eb² es el el² e = rw (eq-eqb _ _ k, e, es, ea², eb², el², ea, eb, el)
+    value_span ea ea² eb eb² es el el² e = rw (k, e, es, ea², eb², el², ea, eb, el)
 
     pub slope_span : (v : ℕ) {s t : Scalar} →
         s ≡ slope_by (2 * r.first + 1) (2 * r.second + 1)
@@ -43,28 +43,27 @@ module _ (x : List Float) (r : Rule) where
         t ≡ slope_by (2 * r.first) (2 * r.second) (mul_of two_s (difference_of x (2 * r.first) (2 * r.second))) v s →
         t ≡ slope_of x r v
     unfolding slope_of
-    slope_span v es e = rw (eq-eqb _ _ k, e, es)
+    slope_span v es e = rw (k, e, es)
 
-  module _ (n : r.kind ≡ SPAN → ⊥) where
-    pub value_level : {v : Scalar} → r.kind ≡ LEVEL → v ≡ difference_of x (2 * r.first + 1) (2 * r.second + 1) →
-        v ≡ value_of x r
+  module _ (k : r.kind ≡ Level) where
+    pub value_level : {v : Scalar} → v ≡ difference_of x (2 * r.first + 1) (2 * r.second + 1) → v ≡ value_of x r
     unfolding value_of
-    value_level k e = rw (ne_eqb _ _ n, eq-eqb _ _ k) e
+    value_level e = rw k e
 
-    pub slope_level : (v : ℕ) {s : Scalar} → r.kind ≡ LEVEL →
-        s ≡ slope_by (2 * r.first + 1) (2 * r.second + 1) one_s v zero_s → s ≡ slope_of x r v
+    pub slope_level : (v : ℕ) {s : Scalar} → s ≡ slope_by (2 * r.first + 1) (2 * r.second + 1) one_s v zero_s →
+        s ≡ slope_of x r v
     unfolding slope_of
-    slope_level v k e = rw (ne_eqb _ _ n, eq-eqb _ _ k) e
+    slope_level v e = rw k e
 
-    module _ (m : r.kind ≡ LEVEL → ⊥) where
-      pub value_plumb : {v : Scalar} → v ≡ difference_of x (2 * r.first) (2 * r.second) → v ≡ value_of x r
-      unfolding value_of
-      value_plumb e = rw (ne_eqb _ _ n, ne_eqb _ _ m) e
+  module _ (k : r.kind ≡ Plumb) where
+    pub value_plumb : {v : Scalar} → v ≡ difference_of x (2 * r.first) (2 * r.second) → v ≡ value_of x r
+    unfolding value_of
+    value_plumb e = rw k e
 
-      pub slope_plumb : (v : ℕ) {s : Scalar} → s ≡ slope_by (2 * r.first) (2 * r.second) one_s v zero_s →
-          s ≡ slope_of x r v
-      unfolding slope_of
-      slope_plumb v e = rw (ne_eqb _ _ n, ne_eqb _ _ m) e
+    pub slope_plumb : (v : ℕ) {s : Scalar} → s ≡ slope_by (2 * r.first) (2 * r.second) one_s v zero_s →
+        s ≡ slope_of x r v
+    unfolding slope_of
+    slope_plumb v e = rw k e
 
 pub slope_apart_is : (x : List Float) (i j v : ℕ) (other : Scalar) {d s t : Scalar} → d ≡ difference_of x i j →
     s ≡ mul_of two_s d → t ≡ slope_by i j s v other → t ≡ slope_by i j (mul_of two_s (difference_of x i j)) v other

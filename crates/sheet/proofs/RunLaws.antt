@@ -2,6 +2,9 @@
 -- domain's 2^400 exceeds by far. Each reply to an open question then passes: the invariant of run's demand 3 keeps
 -- number 4 away, a sheet's rows have their length, and what is outside the domain is answered with none. A reply that
 -- asks raises the question's number, which is within 5,500 times the limit, so none is left after that many and one.
+use Rattle.run.specs.declared.refusal.Refusal.{Refusal}
+use Rattle.run.specs.declared.refusal.Refusal.TheVariants.{Altered, OutsideDomain, TooMany, WrongLength}
+use Rattle.std.specs.Prelude.{Option, Some}
 use Prim.Native.Nat.{ℕ, zero, suc, ◌+◌, ◌*◌, ◌/◌, ◌%◌, ◌^◌, ◌<◌, ◌≤◌}
 use mathlib.Core.Bool.{Bool, true, false, true≢false, not, ◌&&◌, ◌||◌}
 use mathlib.Core.List.{List, [], ◌∷◌, ◌++◌}
@@ -55,8 +58,6 @@ use Rattle.run.specs.declared.state.Event.{Event}
 use Rattle.run.specs.declared.state.Event.TheVariants.{Question, Finish, Refused}
 use Rattle.run.specs.declared.state.Kind.{Kind}
 use Rattle.run.specs.declared.state.Kind.TheVariants as kind
-use Rattle.run.specs.declared.state.Phase.{Phase}
-use Rattle.run.specs.declared.state.Phase.TheVariants.{Open}
 use Rattle.run.specs.declared.state.Rejection.{Rejection}
 use Rattle.run.specs.declared.state.Rejection.TheVariants as why
 use Rattle.run.specs.declared.state.Sizes.{Sizes}
@@ -69,7 +70,9 @@ use Rattle.run.proofs.demand3.ExactSums.{exact_laws}
 use Rattle.run.proofs.demand3.Invariant.{Inv}
 use Rattle.sheet.specs.Ranges.{InRange}
 use Rattle.sheet.specs.Rows.{difference_of, value_of, slope_by, one_s, two_s, slope_of, rule_at, rows_of}
-use Rattle.sheet.specs.Rule.{SPAN, LEVEL}
+use Rattle.sheet.specs.Rule.{by_kind}
+use Rattle.sheet.specs.declared.sheet.Kind as rule
+use Rattle.sheet.specs.declared.sheet.Kind.TheVariants.{Span, Level, Plumb}
 use Rattle.sheet.specs.Runs.{RunsEnd, begin_at, settled_at}
 use Rattle.sheet.specs.Settling.{is_outside, answer_of, answers_to, point_at, sizes_of, most_replies}
 use Rattle.sheet.specs.Sheet.{Sheet, most_length}
@@ -211,10 +214,10 @@ begin_accepted s r a l = ap (λ (b : AfterCall). b.event) (begin_is s r a l)
 
 -- ---- a question that is asked is open
 
-abbrev Opened : Phase → Type 0
-Opened p = (k : Kind) × (p ≡ Open k)
+abbrev Opened : Option Kind → Type 0
+Opened p = (k : Kind) × (p ≡ Some k)
 
-abbrev Asks : Event → Phase → Type 0
+abbrev Asks : Event → Option Kind → Type 0
 Asks e p = is_question e ≡ true → Opened p
 
 abbrev AsksOpen : AfterSlots → Type 0
@@ -369,23 +372,27 @@ one_fits : Fits one_s
 unfolding fits
 one_fits = (tt, tt)
 
+kind_fits : (k : rule.Kind) (x y z : Scalar) → Fits x → Fits y → Fits z → Fits (by_kind k x y z)
+kind_fits Span x y z p q r = p
+kind_fits Level x y z p q r = q
+kind_fits Plumb x y z p q r = r
+
 value_fits : (x : List Float) (r : Rule) → Fits (value_of x r)
 unfolding value_of
 value_fits x r =
-    pick_fits (eqb r.kind SPAN) _ _ (outward_fits _ _)
-    (pick_fits (eqb r.kind LEVEL) _ _ (outward_fits _ _) (outward_fits _ _))
+    kind_fits r.kind _ _ _ (outward_fits _ _) (outward_fits _ _) (outward_fits _ _)
 
 slope_fits : (x : List Float) (r : Rule) (v : ℕ) → Fits (slope_of x r v)
 unfolding slope_of
 slope_fits x r v =
     let xi = 2 * r.first in
     let xj = 2 * r.second in
-    pick_fits (eqb r.kind SPAN) _ _
+    kind_fits r.kind _ _ _
     (slope_by_fits xi xj (mul_of two_s (difference_of x xi xj)) v _ (outward_fits _ _)
     (slope_by_fits (xi + 1) (xj + 1) (mul_of two_s (difference_of x (xi + 1) (xj + 1))) v zero_s (outward_fits _ _)
     zero_fits))
-    (pick_fits (eqb r.kind LEVEL) _ _ (slope_by_fits (xi + 1) (xj + 1) one_s v zero_s one_fits zero_fits)
-    (slope_by_fits xi xj one_s v zero_s one_fits zero_fits))
+    (slope_by_fits (xi + 1) (xj + 1) one_s v zero_s one_fits zero_fits)
+    (slope_by_fits xi xj one_s v zero_s one_fits zero_fits)
 
 floats_append : (xs ys : List Float) → Floats xs → Floats ys → Floats (xs ++ ys)
 floats_append [] ys p q = q
@@ -440,7 +447,7 @@ record Turn (z : Sizes) (b l : AfterCall) : Type 0 where
   pub goes : is_question l.event ≡ true → Going z l
   pub next : is_question l.event ≡ true → l.state.counts.question ≡ b.state.counts.question + 1
 
-passes : (P : AfterCall → Type 0) (b : Bool) (k : ℕ) (back : ℕ → AfterCall) (next : AfterCall) → b ≡ true → P next
+passes : (P : AfterCall → Type 0) (b : Bool) (k : Refusal) (back : Refusal → AfterCall) (next : AfterCall) → b ≡ true → P next
     → P (checks b k back next)
 passes P true k back next e p = p
 passes P false k back next e p = unasked e
@@ -488,9 +495,9 @@ module _ (z : Sizes) (b : AfterCall) (g : Going z b) where
           let a = b.area in
           let k = g.opened.0 in
           unfold reply_none_of in
-          passes Past (valid s) 4 (unchanged s a) _ is_valid
-          (subst (λ (p : Phase). Past (none_open s a p)) (sym g.opened.1)
-          (passes Past (eqb (length a) (area_length s.sizes)) 2 (unchanged s a) _ (eq-eqb _ _ g.whole)
+          passes Past (valid s) Altered (unchanged s a) _ is_valid
+          (subst (λ (p : Option Kind). Past (none_open s a p)) (sym g.opened.1)
+          (passes Past (eqb (length a) (area_length s.sizes)) WrongLength (unchanged s a) _ (eq-eqb _ _ g.whole)
           ((reply_none_kept s a is_valid g.whole k g.opened.1).past_checks, none_asks s (memory_of s a) k)))
 
   rows_turn : (m : ℕ) → constraints_fit m ≡ true → (xs : List Float) → Floats xs
@@ -517,12 +524,12 @@ module _ (z : Sizes) (b : AfterCall) (g : Going z b) where
           let a = b.area in
           let k = g.opened.0 in
           unfold reply_of in
-          passes Past (valid s) 4 (unchanged s a) _ is_valid
-          (subst (λ (p : Phase). Past (reply_open s a m xs p)) (sym g.opened.1)
-          (passes Past (constraints_fit m) 1 (unchanged s a) _ few
+          passes Past (valid s) Altered (unchanged s a) _ is_valid
+          (subst (λ (p : Option Kind). Past (reply_open s a m xs p)) (sym g.opened.1)
+          (passes Past (constraints_fit m) TooMany (unchanged s a) _ few
           (passes Past (eqb (length a) (area_length s.sizes) && eqb (length xs) (row_numbers (row_counts s.sizes m)))
-          2 (unchanged s a) _ (rw (eq-eqb _ _ g.whole, eq-eqb _ _ own) refl)
-          (checked Past (all_in_domain xs ((m + s.sizes.s) * (s.sizes.n + 1))) 3 (unchanged s a) _
+          WrongLength (unchanged s a) _ (rw (eq-eqb _ _ g.whole, eq-eqb _ _ own) refl)
+          (checked Past (all_in_domain xs ((m + s.sizes.s) * (s.sizes.n + 1))) OutsideDomain (unchanged s a) _
           (λ e. absurd (true≢false e))
           (λ d e. (
             (reply_kept s a is_valid g.whole m (leb-true _ _ few) xs own k g.opened.1).past_checks,

@@ -1,5 +1,8 @@
 -- A run of a sheet: what a reply to a question is, what the loop leaves, and that what is printed does not depend on
 -- the area that is lent.
+use Rattle.run.specs.Refusal.{number_of}
+use Rattle.run.specs.declared.refusal.Refusal.{Refusal}
+use Rattle.run.specs.declared.refusal.Refusal.TheVariants.{OutsideDomain, TooMany, WrongLength}
 use Prim.Native.Nat.{ℕ, zero, suc, ◌+◌, ◌-◌, ◌*◌, ◌<◌, ◌≤◌}
 use mathlib.Core.Bool.{Bool, true, false, ◌&&◌}
 use mathlib.Core.List.{List, [], ◌∷◌, ◌++◌}
@@ -34,6 +37,7 @@ use Rattle.run.specs.declared.state.Sizes.{Sizes}
 use Rattle.run.specs.declared.state.State.{State}
 use Rattle.run.proofs.CheckLaws.{bounds}
 use Rattle.run.proofs.Cleared.{reply_leaves}
+use Rattle.std.specs.Prelude.{Result}
 use Rattle.sheet.specs.Printing.{SLOT, padded}
 use Rattle.sheet.specs.Rows.{rows_of}
 use Rattle.sheet.specs.Settling.{is_outside, answer_of, answers_to, printed_event, printed_of, point_at, sizes_of}
@@ -42,7 +46,7 @@ use Rattle.sheet.specs.Sheet.{Sheet, read_of}
 use Rattle.sheet.specs.program.Settling.{Settles, InRange, reply_to}
 use Rattle.sheet.specs.program.Sheet.{coordinates_in, sheet_by, whole_sheet_in}
 use Rattle.sheet.specs.declared.sheet.Sheet as declared
-use Rattle.sheet.specs.declared.reader.SheetRead.{SheetRead}
+use Rattle.sheet.specs.declared.fault.Fault.{Fault}
 use Rattle.sheet.specs.declared.sheet.Points.{Points}
 
 -- ---- one reply
@@ -50,7 +54,7 @@ use Rattle.sheet.specs.declared.sheet.Points.{Points}
 outside_refused : (e : Event) → is_outside e ≡ true → refused_by_check e ≡ true
 outside_refused (Question k t s) h = cc
 outside_refused (Finish e i t s) h = cc
-outside_refused (Refused k) h = rw (eqb-true k 3 h) refl
+outside_refused (Refused r) h = rw (eqb-true (number_of r) 3 h) refl
 
 module _ (s : Sheet) (aims : List Float) (st : State) (a rows : List Float) {m : ℕ} {l : AfterCall}
     (r : rows ≡ rows_of (length s.coordinates) s.rules (point_of st a) aims) (each : m ≡ length s.rules)
@@ -127,7 +131,7 @@ module _ (z : Sizes) (start : List Float) (max : Scalar) where
   -- a begin over another area of the same length
   begin_any : (a a' : List Float) → length a ≡ length a'
       → (begin_of z start max a ≡ begin_of z start max a')
-      ⊎ ((k : ℕ) × (begin_of z start max a ≡ unchanged no_run a k) × (begin_of z start max a' ≡ unchanged no_run a' k))
+      ⊎ ((k : Refusal) × (begin_of z start max a ≡ unchanged no_run a k) × (begin_of z start max a' ≡ unchanged no_run a' k))
   unfolding begin_of
   begin_any a a' l =
       rw l (by (sizes_fit z)
@@ -137,15 +141,15 @@ module _ (z : Sizes) (start : List Float) (max : Scalar) where
       of : Bool → Bool → Bool → List Float → AfterCall
       of p q r x =
           let back = unchanged no_run x in
-          checks p 1 back (checks q 2 back (checks r 3 back (begun_of z start max)))
+          checks p TooMany back (checks q WrongLength back (checks r OutsideDomain back (begun_of z start max)))
 
       by : (p q r : Bool)
           → (of p q r a ≡ of p q r a')
-          ⊎ ((k : ℕ) × (of p q r a ≡ unchanged no_run a k) × (of p q r a' ≡ unchanged no_run a' k))
+          ⊎ ((k : Refusal) × (of p q r a ≡ unchanged no_run a k) × (of p q r a' ≡ unchanged no_run a' k))
       by true true true = inl refl
-      by true true false = inr (3, refl, refl)
-      by true false r = inr (2, refl, refl)
-      by false q r = inr (1, refl, refl)
+      by true true false = inr (OutsideDomain, refl, refl)
+      by true false r = inr (WrongLength, refl, refl)
+      by false q r = inr (TooMany, refl, refl)
 
   pub printed_any : (n : ℕ) (s : Sheet) (aims a a' : List Float) → length a ≡ length a'
       → printed_of (answers_to n s aims (begin_of z start max a)) ≡ printed_of (answers_to n s aims (begin_of z start max a'))
@@ -253,8 +257,8 @@ module _ (text : List ℕ) (area : List Float) (slot : List ℕ) where
       by true = rw (ne_eqb (length slot) SLOT h) refl
       by false = refl
 
-  pub text_settled : (found : SheetRead) (area₁ : List Float) {area₂ : List Float} {slot₁ : List ℕ} → length area ≡ AREA
-      → length slot ≡ SLOT → whole_sheet_in found ≡ read_of text → slot₁ ≡ padded (printed_sheet (whole_sheet_in found))
+  pub text_settled : (found : Result declared.Sheet Fault) (area₁ : List Float) {area₂ : List Float} {slot₁ : List ℕ}
+      → length area ≡ AREA → length slot ≡ SLOT → whole_sheet_in found ≡ read_of text → slot₁ ≡ padded (printed_sheet (whole_sheet_in found))
       → area₂ ≡ zeros (length area₁) → length area₁ ≡ length area
       → after_text 0 area₂ slot₁ ≡ settle_text_of text area slot
   unfolding settle_text_of

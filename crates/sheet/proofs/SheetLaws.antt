@@ -6,25 +6,21 @@ use mathlib.Core.List.{List}
 use native.Mathlib.Omega.{arith}
 use borrow.Author.Tests.{le-leb, lt-leb, eq-eqb, ne_eqb, leb-true}
 use lib.Dec.{leb}
-use lib.IntN.{ℤ}
 use lib.ListN.{length, drop, length-drop}
 use lib.Seq.{length-take-le}
 use Rattle.interval.specs.Result.{Res, ok, refused}
-use Rattle.interval.specs.Scalar.{pick}
 use Rattle.linear.specs.Replies.{checked_value}
 use Rattle.run.proofs.Booleans.{and_left, and_right}
 use Rattle.linear.proofs.Folds.{bind_ok, bind_refused, bind_value}
 use Rattle.sheet.specs.Text.{Part, part, MALFORMED, behind_key}
 use Rattle.sheet.specs.Numbers.{is_natural, is_between, one_of}
 use Rattle.sheet.specs.Sheet as definition
-use Rattle.sheet.specs.Sheet.{point_count, most_bytes, most_points, most_iterations, most_length}
-use Rattle.sheet.specs.Sheet.{limit_key, reach_key, natural_of}
-use Rattle.sheet.specs.Sheet.{all_points_of, all_rules_of, behind_points_of, sheet_of, read_of}
-use Rattle.sheet.specs.program.Sheet.{coordinates_in, sheet_in, whole_sheet_in}
+use Rattle.sheet.specs.Sheet.{point_count, most_bytes, most_points}
+use Rattle.sheet.specs.Sheet.{natural_of}
+use Rattle.sheet.specs.Sheet.{all_points_of, behind_points_of, sheet_of, read_of}
+use Rattle.sheet.specs.program.Sheet.{coordinates_in}
 use Rattle.sheet.specs.declared.numbers.Number.{Number}
 use Rattle.sheet.specs.declared.sheet.Points.{Points}
-use Rattle.sheet.specs.declared.sheet.Rule.{Rule}
-use Rattle.sheet.specs.declared.reader.SheetRead.{SheetRead}
 
 -- ---- a number that is read is in its range
 
@@ -58,21 +54,6 @@ pub natural_most : (key : List ℕ) (least most : ℕ) (text : List ℕ) {v : �
     natural_of key least most text ≡ ok (part v rest) → v ≤ most
 natural_most key least most text e = (natural_range key least most text e).1
 
--- ---- the lines behind the points
-
-pub behind_points_is : (points : ℕ) (coordinates : List ℤ) (text : List ℕ) {limit reach : ℕ} {rest rest₂ : List ℕ} →
-    natural_of limit_key 0 most_iterations text ≡ ok (part limit rest) →
-    natural_of reach_key 1 most_length rest ≡ ok (part reach rest₂) →
-    (read : Bool) (rules : List Rule) (rest₃ : List ℕ) (k : ℕ) →
-    pick read (ok (part rules rest₃)) (refused k) ≡ all_rules_of points rest₂ →
-    pick read (ok (part (record { coordinates = coordinates; limit = limit; reach = reach; rules = rules }) rest₃))
-    (refused k) ≡ behind_points_of points coordinates text
-unfolding behind_points_of
-behind_points_is points coordinates text el er true rules rest₃ k e =
-    sym (bind_ok _ el ∙ bind_ok _ er ∙ bind_ok _ (sym e))
-behind_points_is points coordinates text el er false rules rest₃ k e =
-    sym (bind_ok _ el ∙ bind_ok _ er ∙ bind_refused _ (sym e))
-
 -- ---- the sheet
 
 -- as many points as the array has in use
@@ -95,20 +76,21 @@ module _ (text : List ℕ) where
   unfolding read_of
   read_long h = rw (lt-leb (length text) most_bytes h)
 
-  module _ (few : length text ≤ most_bytes) (r : SheetRead) (e : sheet_in text r ≡ sheet_of text) where
-    -- something follows the sheet
-    pub read_surplus : r.read ≡ true → r.place < length text → refused MALFORMED ≡ read_of text
-    unfolding read_of
-    read_surplus t h =
-        let n : length (drop r.place text) ≡ 0 → ⊥ = λ q. omega (arith, length-drop r.place text) in
-        rw (le-leb _ _ few) (sym (bind_ok _ (sym (rw t at e)) ∙ rw (ne_eqb _ _ n)))
+  module _ (few : length text ≤ most_bytes) where
+    module _ {s : definition.Sheet} {place : ℕ} (e : ok (part s (drop place text)) ≡ sheet_of text) where
+      -- something follows the sheet
+      pub read_surplus : place < length text → refused MALFORMED ≡ read_of text
+      unfolding read_of
+      read_surplus h =
+          let n : length (drop place text) ≡ 0 → ⊥ = λ q. omega (arith, length-drop place text) in
+          rw (le-leb _ _ few) (sym (bind_ok _ (sym e) ∙ rw (ne_eqb _ _ n)))
 
-    pub read_whole : r.read ≡ true → length text ≤ r.place → whole_sheet_in r ≡ read_of text
-    unfolding read_of
-    read_whole t h =
-        let l : length (drop r.place text) ≡ 0 = length-drop r.place text ∙ omega arith in
-        rw (le-leb _ _ few, t) (sym (bind_ok _ (sym (rw t at e)) ∙ rw (eq-eqb _ _ l)))
+      pub read_whole : length text ≤ place → ok s ≡ read_of text
+      unfolding read_of
+      read_whole h =
+          let l : length (drop place text) ≡ 0 = length-drop place text ∙ omega arith in
+          rw (le-leb _ _ few) (sym (bind_ok _ (sym e) ∙ rw (eq-eqb _ _ l)))
 
-    pub read_fault : r.read ≡ false → whole_sheet_in r ≡ read_of text
+    pub read_fault : {k : ℕ} → refused k ≡ sheet_of text → refused k ≡ read_of text
     unfolding read_of
-    read_fault t = rw (le-leb _ _ few, t) (sym (bind_refused _ (sym (rw t at e))))
+    read_fault e = rw (le-leb _ _ few) (sym (bind_refused _ (sym e)))

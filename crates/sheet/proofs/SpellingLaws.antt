@@ -19,7 +19,9 @@ use Rattle.sheet.specs.Lines.{padded_to}
 use Rattle.sheet.specs.Numbers.{COMMA}
 use Rattle.sheet.specs.OneSpelling.{OneSpelling, Writes, bytes_of}
 use Rattle.sheet.specs.Ranges.{InRange}
-use Rattle.sheet.specs.Rule.{SPAN, LEVEL}
+use Rattle.sheet.specs.Rule.{by_kind}
+use Rattle.sheet.specs.declared.sheet.Kind.{Kind}
+use Rattle.sheet.specs.declared.sheet.Kind.TheVariants.{Span, Level, Plumb}
 use Rattle.sheet.specs.Sheet.{Sheet, most_bytes, point_count, sheet_of, read_of}
 use Rattle.sheet.specs.Sheet.{at_key, limit_key, points_key, reach_key, rules_key, span_key, level_key, plumb_key}
 use Rattle.sheet.specs.Spelling.{count_text, point_text, point_texts, pair_text, rule_text, rule_texts}
@@ -65,9 +67,11 @@ points_few (x ∷ []) = omega arith
 points_few (x ∷ y ∷ xs) =
     omega (arith, length-append (point_text x y) (point_texts xs), point_few x y, points_few xs)
 
-picked_few : {n : ℕ} (b : Bool) (x y : List ℕ) → length x ≤ n → length y ≤ n → length (pick b x y) ≤ n
-picked_few true x y h g = h
-picked_few false x y h g = g
+kind_few : {n : ℕ} (k : Kind) (x y z : List ℕ) → length x ≤ n → length y ≤ n → length z ≤ n →
+    length (by_kind k x y z) ≤ n
+kind_few Span x y z h g f = h
+kind_few Level x y z h g f = g
+kind_few Plumb x y z h g f = f
 
 pair_few : (r : Rule) → length (pair_text r) ≤ 41
 pair_few r =
@@ -83,7 +87,7 @@ unfolding rule_text
 rule_few r =
     let pair = pair_text r in
     let n = pair_few r in
-    picked_few (eqb r.kind SPAN) _ _
+    kind_few r.kind _ _ _
     (omega (
       arith,
       line_length span_key (pair ++ (COMMA ∷ decimal_of r.length)),
@@ -91,8 +95,7 @@ rule_few r =
       n,
       digits_few DIGITS r.length,
     ))
-    (picked_few (eqb r.kind LEVEL) _ _ (omega (arith, line_length level_key pair, n))
-    (omega (arith, line_length plumb_key pair, n)))
+    (omega (arith, line_length level_key pair, n)) (omega (arith, line_length plumb_key pair, n))
 
 rules_few : (rules : List Rule) → length (rule_texts rules) ≤ 68 * length rules
 unfolding rule_texts

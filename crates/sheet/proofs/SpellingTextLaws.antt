@@ -8,7 +8,9 @@ use native.Mathlib.Omega.{arith}
 use borrow.Author.Tests.{eq-eqb}
 use lib.IntN.{ℤ}
 use lib.ListN.{length, get_or, take}
+use Rattle.std.specs.Prelude.{Result, Ok, Err}
 use Rattle.interval.specs.Result.{Res, ok, refused}
+use Rattle.sheet.specs.Fault.{fault_number}
 use Rattle.sheet.specs.Lines.{padded_to}
 use Rattle.sheet.specs.Printing.{error_of}
 use Rattle.sheet.specs.Sheet.{Sheet, most_bytes, points_key, limit_key, reach_key, rules_key, point_count, read_of}
@@ -18,10 +20,9 @@ use Rattle.sheet.specs.Spelling.{printed_spelling, print_spelling_of}
 use Rattle.sheet.specs.program.Lines.{Appends}
 use Rattle.sheet.specs.program.Settling.{Settles}
 use Rattle.sheet.specs.program.Sheet.{coordinates_in, list_in, sheet_by}
+use Rattle.sheet.specs.declared.fault.Fault.{Fault}
 use Rattle.sheet.specs.declared.sheet.Rule.{Rule}
 use Rattle.sheet.specs.declared.sheet.Sheet as declared
-use Rattle.sheet.specs.declared.spelling.Spelled.{Spelled}
-use Rattle.sheet.specs.declared.spelling.Spelled.TheVariants.{Written, Refused}
 use Rattle.sheet.proofs.AppendLaws.{then, appends_none, appends_as}
 
 -- ---- one line more
@@ -103,14 +104,14 @@ same_returned : {x y : Res ℕ} {out after : List ℕ} → after_spelling x out 
 same_returned e = ap (λ (a : AfterSpelling). a.returned) e
 
 -- a call that spelled into bytes of the right length
-module _ (text out : List ℕ) (long : length out ≡ most_bytes) (r : Spelled) {after : List ℕ}
+module _ (text out : List ℕ) (long : length out ≡ most_bytes) (r : Result ℕ Fault) {after : List ℕ}
     (e : after_spelling (returned_in r) after ≡ spell_text_of text out) where
   spelled : after_spelling (returned_in r) after ≡ spelled_sheet out (read_of text)
   unfolding spell_text_of
   spelled = rw (eq-eqb _ _ long) at e
 
   -- what was spelled is what is printed
-  pub spelling_printed : {n : ℕ} → r ≡ Written n → after_spelling (ok n) after ≡ print_spelling_of text out
+  pub spelling_printed : {n : ℕ} → r ≡ Ok n → after_spelling (ok n) after ≡ print_spelling_of text out
   unfolding print_spelling_of
   spelling_printed {n} f = rw (eq-eqb _ _ long) (by (read_of text) (rw f at spelled))
     where
@@ -120,13 +121,14 @@ module _ (text out : List ℕ) (long : length out ≡ most_bytes) (r : Spelled) 
       by (refused k) h = cc (same_returned h)
 
   -- what was refused has an error, which is printed into the same bytes
-  pub error_printed : {k m : ℕ} {last : List ℕ} → r ≡ Refused k → length after ≡ length out →
-      (m ≡ length (error_of k)) × (last ≡ padded_to (length after) (error_of k)) →
+  pub error_printed : {f : Fault} {k m : ℕ} {last : List ℕ} → r ≡ Err f → k ≡ fault_number f →
+      length after ≡ length out → (m ≡ length (error_of k)) × (last ≡ padded_to (length after) (error_of k)) →
       after_spelling (ok m) last ≡ print_spelling_of text out
   unfolding print_spelling_of
-  error_printed {k} f l p =
+  error_printed {f} {k} g n l p =
       let q = ap (λ (n : ℕ). padded_to n (error_of k)) (l ∙ long) in
-      rw (eq-eqb _ _ long) (written_as (error_of k) (p.0, p.1 ∙ q) ∙ by (read_of text) (rw f at spelled))
+      rw (eq-eqb _ _ long)
+      (written_as (error_of k) (p.0, p.1 ∙ q) ∙ by (read_of text) (rw (g, sym n) at spelled))
     where
       by : (x : Res Sheet) → after_spelling (refused k) after ≡ spelled_sheet out x →
           written_text (error_of k) ≡ written_text (printed_spelling x)

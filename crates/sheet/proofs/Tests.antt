@@ -2,8 +2,10 @@
 use mathlib.Core.Bool.{Bool, true, false, ◌&&◌}
 use mathlib.Core.Path.{◌≡◌, refl, sym, ap, ◌∙◌}
 use Prim.Native.Nat.{ℕ}
+use Rattle.std.specs.Prelude.{Result, Err}
 use Rattle.interval.specs.Result.{Res, refused}
 use Rattle.linear.specs.Replies.{checked_value}
+use Rattle.sheet.specs.declared.fault.Fault.{Fault}
 
 module _ {a p : Bool} (b : Bool) (e : p ≡ a) where
   pub both : p ≡ true → b ≡ (a && b)
@@ -28,3 +30,8 @@ module _ {A : Type 0} {b t : Bool} (k : ℕ) (x : Res A) (e : t ≡ b) where
 -- a call's answer r, which is v, stands for x
 pub told : {A B : Type 0} (in-text : A → B) {r v : A} {x : B} → in-text r ≡ x → r ≡ v → x ≡ in-text v
 told in-text e g = sym e ∙ ap in-text g
+
+-- `?` gives the fault of the call on: what is said of the call's fault is said of the result r
+module _ {T A : Type 0} {r : Result T Fault} {f : Fault} {x : Res A} (in-text : Result T Fault → Res A) where
+  pub passed_on : r ≡ Err f → in-text (Err f) ≡ x → in-text r ≡ x
+  passed_on e g = ap in-text e ∙ g

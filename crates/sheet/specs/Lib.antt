@@ -2,6 +2,7 @@ pub mod Text
 pub mod Numbers
 pub mod Rule
 pub mod Sheet
+pub mod Fault
 pub mod Rows
 pub mod Ranges
 pub mod Decimal

@@ -1,6 +1,6 @@
 -- The numbers of a sheet (request (i)): an optional sign and digits, leading zeros allowed, of any length, so the sizes
 -- here have no bound. One, two or three of them, apart by commas, end a line.
-use Rattle.std.specs.Prelude.{ℕ, ◌+◌, ◌-◌, ◌*◌, Bool, true, false, ◌&&◌, ◌||◌, not, List, [], ◌∷◌, eqb, leb, ltb, ℤ, pos, neg_ℤ, drop}
+use Rattle.std.specs.Prelude.{ℕ, ◌+◌, ◌-◌, ◌*◌, Bool, true, false, ◌&&◌, ◌||◌, not, List, [], ◌∷◌, eqb, leb, ℤ, pos, neg_ℤ, drop}
 use Rattle.interval.specs.Result.{Res, ok}
 use Rattle.interval.specs.Scalar.{pick}
 use Rattle.linear.specs.Replies.{checked_value}

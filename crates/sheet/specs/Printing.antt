@@ -7,8 +7,6 @@ use Rattle.float_bits.specs.Word.{word_of}
 use Rattle.interval.specs.Scalar.{sharpen}
 use Rattle.interval.specs.declared.Scalar.{Scalar}
 use Rattle.linear.specs.Flat.{at}
-use Rattle.run.specs.declared.state.Event.{Event}
-use Rattle.run.specs.declared.state.Event.TheVariants as event
 use Rattle.run.specs.declared.state.Stop.{Stop}
 use Rattle.run.specs.declared.state.Stop.TheVariants as stop
 use Rattle.sheet.specs.Decimal.{decimal_of}

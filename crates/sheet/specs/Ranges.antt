@@ -4,8 +4,8 @@
 use Rattle.std.specs.Prelude.{ℕ, ◌*◌, ◌<◌, ◌≤◌, ◌≢◌, ◌≡◌, pos, nat_abs}
 use Rattle.std.proofs.Math.ListN as list
 use Rattle.sheet.specs.Rows.{rule_at}
-use Rattle.sheet.specs.Rule.{SPAN, PLUMB}
 use Rattle.sheet.specs.Sheet.{Sheet, most_points, most_iterations, most_rules, most_length}
+use Rattle.sheet.specs.declared.sheet.Kind.TheVariants.{Span}
 use Rattle.sheet.specs.declared.sheet.Rule.{Rule}
 
 pub record RuleInRange (points : ℕ) (r : Rule) : Type 0 where
@@ -13,9 +13,8 @@ pub record RuleInRange (points : ℕ) (r : Rule) : Type 0 where
   pub second : r.second < points
   pub distinct : r.first ≢ r.second
   pub length : r.length ≤ most_length
-  pub kind : r.kind ≤ PLUMB
-  pub some_length : r.kind ≡ SPAN → 1 ≤ r.length
-  pub no_length : r.kind ≢ SPAN → r.length ≡ 0
+  pub some_length : r.kind ≡ Span → 1 ≤ r.length
+  pub no_length : r.kind ≢ Span → r.length ≡ 0
 
 pub record InRange (s : Sheet) : Type 0 where
   pub points : ℕ

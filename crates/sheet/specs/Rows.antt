@@ -6,7 +6,7 @@ use Rattle.interval.specs.Scalar.{degenerate, zero_s, one64, two64, add_of, sub_
 use Rattle.interval.specs.declared.Scalar.{Scalar}
 use Rattle.linear.specs.Flat.{at, list_to}
 use Rattle.sheet.specs.declared.sheet.Rule.{Rule}
-use Rattle.sheet.specs.Rule.{SPAN, LEVEL, level}
+use Rattle.sheet.specs.Rule.{by_kind, level}
 
 -- how far two variables are apart
 abbrev pub difference_of : List Float → ℕ → ℕ → Scalar
@@ -20,10 +20,10 @@ unfoldable pub value_of : List Float → Rule → Scalar
 value_of x r =
     let xi = 2 * r.first in
     let xj = 2 * r.second in
-    pick (eqb r.kind SPAN)
+    by_kind r.kind
     (sub_of (add_of (square_of (difference_of x xi xj)) (square_of (difference_of x (xi + 1) (xj + 1))))
     (square_of (from_i64 (pos r.length))))
-    (pick (eqb r.kind LEVEL) (difference_of x (xi + 1) (xj + 1)) (difference_of x xi xj))
+    (difference_of x (xi + 1) (xj + 1)) (difference_of x xi xj)
 
 -- the slope by variable v, where that by variable i is s, that by j its negation, and the others are given
 abbrev pub slope_by : ℕ → ℕ → Scalar → ℕ → Scalar → Scalar
@@ -39,10 +39,10 @@ unfoldable pub slope_of : List Float → Rule → ℕ → Scalar
 slope_of x r v =
     let xi = 2 * r.first in
     let xj = 2 * r.second in
-    pick (eqb r.kind SPAN)
+    by_kind r.kind
     (slope_by xi xj (mul_of two_s (difference_of x xi xj)) v
     (slope_by (xi + 1) (xj + 1) (mul_of two_s (difference_of x (xi + 1) (xj + 1))) v zero_s))
-    (pick (eqb r.kind LEVEL) (slope_by (xi + 1) (xj + 1) one_s v zero_s) (slope_by xi xj one_s v zero_s))
+    (slope_by (xi + 1) (xj + 1) one_s v zero_s) (slope_by xi xj one_s v zero_s)
 
 -- the k-th rule
 abbrev pub rule_at : List Rule → ℕ → Rule

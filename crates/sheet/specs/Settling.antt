@@ -1,20 +1,23 @@
 -- How a sheet is settled (request (i)): a run from its coordinates, whose questions are answered with the sheet's rows
 -- at the asked point, or with none where these are outside the domain, until no question is open. What is printed
 -- depends on the text alone.
-use Rattle.std.specs.Prelude.{ℕ, zero, suc, Bool, true, false, ◌&&◌, List, eqb, Float, ℤ, pos, length, get_or}
+use Rattle.std.specs.Prelude.{ℕ, zero, suc, Bool, false, ◌&&◌, List, eqb, Float, ℤ, pos, length, get_or, Result, Ok, Err, ⊤}
 use Rattle.interval.specs.Result.{Res, ok, refused}
 use Rattle.interval.specs.Scalar.{from_i64, pick}
 use Rattle.linear.specs.Flat.{list_to, zeros}
 use Rattle.run.specs.Calls.{AfterCall, begin_of, reply_of, reply_none_of, point_of}
 use Rattle.run.specs.Limits.{AREA}
 use Rattle.run.specs.Questions.{is_question}
+use Rattle.run.specs.Refusal.{number_of}
 use Rattle.run.specs.declared.state.Event.{Event}
 use Rattle.run.specs.declared.state.Event.TheVariants.{Question, Finish, Refused}
 use Rattle.run.specs.declared.state.Sizes.{Sizes}
+use Rattle.sheet.specs.Fault.{fault_number}
 use Rattle.sheet.specs.Printing.{error_of, finish_of, SLOT, padded}
 use Rattle.sheet.specs.Rows.{rows_of}
 use Rattle.sheet.specs.Sheet.{Sheet, read_of}
 use Rattle.sheet.specs.Text.{wrong_length}
+use Rattle.sheet.specs.declared.fault.Fault.{Fault}
 
 -- two variables and two sum rows for each point
 abbrev pub sizes_of : Sheet → Sizes
@@ -28,7 +31,7 @@ point_at coordinates = list_to (λ i. from_i64 (get_or coordinates i (pos 0))) (
 abbrev pub is_outside : Event → Bool
 is_outside (Question k t s) = false
 is_outside (Finish e i t s) = false
-is_outside (Refused k) = eqb k 3
+is_outside (Refused r) = eqb (number_of r) 3
 
 -- the reply to the open question of a run that aims at a point, with a constraint for each rule
 unfoldable pub answer_of : Sheet → List Float → AfterCall → AfterCall
@@ -57,7 +60,7 @@ settled_of s start aims =
 abbrev pub printed_event : Event → List Float → List ℕ
 printed_event (Question k t s) p = error_of 0
 printed_event (Finish e i t s) p = finish_of e i t p
-printed_event (Refused k) p = error_of k
+printed_event (Refused r) p = error_of (number_of r)
 
 abbrev pub printed_of : AfterCall → List ℕ
 printed_of b = printed_event b.event (point_of b.state b.area)
@@ -79,6 +82,11 @@ pub record AfterText : Type 0 where
 
 abbrev pub after_text : ℕ → List Float → List ℕ → AfterText
 after_text number area slot = record { number = number; area = area; slot = slot }
+
+-- what a call returns: 0, or the number of the refusal
+abbrev pub number_in : Result ⊤ Fault → ℕ
+number_in (Ok u) = 0
+number_in (Err e) = fault_number e
 
 -- An area or a slot of another length is refused by 2, with nothing written. Else the slot has what is printed of the
 -- text, then zeros, and the area is +0.

@@ -1,19 +1,19 @@
 -- The one spelling of a sheet (request (ii)): its lines, with every number without plus sign, leading zeros or minus
 -- zero; and the call that writes it.
-use Rattle.std.specs.Prelude.{ℕ, List, [], ◌∷◌, ◌++◌, eqb, ℤ, length}
+use Rattle.std.specs.Prelude.{ℕ, List, [], ◌∷◌, ◌++◌, eqb, ℤ, length, Result, Ok, Err}
 use Rattle.interval.specs.Result.{Res, ok, refused}
 use Rattle.interval.specs.Scalar.{pick}
 use Rattle.sheet.specs.Decimal.{decimal_of, whole_text}
+use Rattle.sheet.specs.Fault.{fault_number}
 use Rattle.sheet.specs.Lines.{line_of, padded_to}
 use Rattle.sheet.specs.Numbers.{COMMA}
 use Rattle.sheet.specs.Printing.{error_of}
-use Rattle.sheet.specs.Rule.{SPAN, LEVEL}
+use Rattle.sheet.specs.Rule.{by_kind}
 use Rattle.sheet.specs.Sheet.{Sheet, point_count, most_bytes, read_of}
 use Rattle.sheet.specs.Sheet.{points_key, at_key, limit_key, reach_key, rules_key, span_key, level_key, plumb_key}
 use Rattle.sheet.specs.Text.{wrong_length}
+use Rattle.sheet.specs.declared.fault.Fault.{Fault}
 use Rattle.sheet.specs.declared.sheet.Rule.{Rule}
-use Rattle.sheet.specs.declared.spelling.Spelled.{Spelled}
-use Rattle.sheet.specs.declared.spelling.Spelled.TheVariants.{Written, Refused}
 
 -- ---- lines
 
@@ -37,8 +37,8 @@ pair_text r = decimal_of r.first ++ (COMMA ∷ decimal_of r.second)
 -- span=I,J,D, level=I,J or plumb=I,J
 unfoldable pub rule_text : Rule → List ℕ
 rule_text r =
-    pick (eqb r.kind SPAN) (line_of span_key (pair_text r ++ (COMMA ∷ decimal_of r.length)))
-    (pick (eqb r.kind LEVEL) (line_of level_key (pair_text r)) (line_of plumb_key (pair_text r)))
+    by_kind r.kind (line_of span_key (pair_text r ++ (COMMA ∷ decimal_of r.length)))
+    (line_of level_key (pair_text r)) (line_of plumb_key (pair_text r))
 
 unfoldable pub rule_texts : List Rule → List ℕ
 rule_texts [] = []
@@ -81,9 +81,9 @@ spell_text_of text out =
     pick (eqb (length out) most_bytes) (spelled_sheet out (read_of text)) (refused_text wrong_length out)
 
 -- what a call returns
-abbrev pub returned_in : Spelled → Res ℕ
-returned_in (Written n) = ok n
-returned_in (Refused k) = refused k
+abbrev pub returned_in : Result ℕ Fault → Res ℕ
+returned_in (Ok n) = ok n
+returned_in (Err e) = refused (fault_number e)
 
 -- ---- what the program prints
 

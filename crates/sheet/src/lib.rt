@@ -2,6 +2,7 @@
 // way, with no io.
 #![tactic(auto)]
 
+mod fault;
 mod lines;
 mod numbers;
 mod printing;
@@ -12,5 +13,6 @@ mod sheet;
 mod spelling;
 mod text;
 
+pub use fault::Fault;
 pub use settling::settle_text;
-pub use spelling::{Spelled, print_spelling, spell_text};
+pub use spelling::{print_spelling, spell_text};

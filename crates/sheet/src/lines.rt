@@ -31,9 +31,7 @@ fn decimal(v: usize) -> Digits
 pub fn clear_bytes(out: &mut [u8])
     ensures { Printed (length out.old) [] out.new 0 }
 {
-    for i in 0..out.len() {
-        out[i] = 0;
-    }
+    out.fill(0);
 }
 
 // Writes a text behind what is written, and returns the place behind it.
@@ -42,10 +40,9 @@ pub fn append(out: &mut [u8], place: usize, text: &[u8]) -> usize
     ensures { (result ≡ place + length text.now) ×
         Appends out.old place text.now out.new result }
 {
-    for i in 0..text.len() {
-        out[place + i] = text[i];
-    }
-    place + text.len()
+    let end = place + text.len();
+    out[place..end].copy_from_slice(text);
+    end
 }
 
 // A number without leading zeros.

@@ -1,18 +1,18 @@
 // The reader of a sheet: its lines in their order, and the first fault in the first line that has one.
-ghost use Rattle.std.specs.Prelude.{◌≤◌, false, ◌≡◌, [], drop};
+ghost use Rattle.std.specs.Prelude.{◌≤◌, ◌≡◌, [], drop, IfOk};
+ghost use Rattle.linear.specs.Results.{bind};
 ghost use Rattle.sheet.specs.Rule.{level};
 ghost use Rattle.sheet.specs.Sheet.{most_points, most_rules, most_length, natural_of, is_near, point_of, points_from};
-ghost use Rattle.sheet.specs.Sheet.{is_present, are_two, span_of, aligned_of, level_of, plumb_of, rule_of, rules_from};
+ghost use Rattle.sheet.specs.Sheet.{is_present, are_two, span_of, aligned_of, rule_of, rules_from};
 ghost use Rattle.sheet.specs.Sheet.{all_points_of, all_rules_of, behind_points_of, sheet_of, read_of};
-ghost use Rattle.sheet.specs.program.Sheet.{count_in, point_in, points_in, aligned_in, rule_in, rules_in};
-ghost use Rattle.sheet.specs.program.Sheet.{coordinates_in, sheet_in, whole_sheet_in};
+ghost use Rattle.sheet.specs.program.Settling.{Settles};
+ghost use Rattle.sheet.specs.program.Sheet.{points_in, aligned_by, rules_in, coordinates_in, sheet_in, whole_sheet_in};
+ghost use Rattle.sheet.specs.program.Text.{read_in};
 
-use crate::numbers::{
-    Number, OneField, ThreeFields, TwoFields, is_between, is_natural, one_field, three_fields,
-    two_fields, whole,
-};
-use crate::sheet::{LEVEL, PLUMB, Points, Rule, Rules, SPAN, Sheet};
-use crate::text::{MALFORMED, Place, behind_key, byte_at};
+use crate::fault::Fault;
+use crate::numbers::{Number, is_between, is_natural, one_field, three_fields, two_fields, whole};
+use crate::sheet::{Kind, Points, Rule, Rules, Sheet};
+use crate::text::{Read, behind_key, byte_at};
 
 pub const MOST_BYTES: usize = 4096;
 
@@ -25,85 +25,18 @@ pub const MOST_RULES: usize = 12;
 // Of a coordinate's size, a reach and a length.
 pub const MOST_LENGTH: usize = 10000000;
 
-// A number outside its range.
-const OUT_OF_RANGE: usize = 8;
-
-// A rule with equal points or one not present.
-const NO_POINT: usize = 9;
-
-// A number and the place behind its line, or the number of a fault.
-#[derive(Clone, Copy)]
-pub enum Counted {
-    Read(usize, usize),
-    Fault(usize),
-}
-
-// A point, the two points of a rule, and a rule, each with the place behind its line.
-#[derive(Clone, Copy)]
-pub enum PointRead {
-    Read(i64, i64, usize),
-    Fault(usize),
-}
-
-#[derive(Clone, Copy)]
-pub enum TwoPoints {
-    Read(usize, usize, usize),
-    Fault(usize),
-}
-
-#[derive(Clone, Copy)]
-pub enum RuleRead {
-    Read(Rule, usize),
-    Fault(usize),
-}
-
-// Points, rules and a sheet, each with the place behind its lines, where they were read; else the number of the fault.
-#[derive(Clone, Copy)]
-pub struct PointsRead {
-    pub read: bool,
-    pub fault: usize,
-    pub points: Points,
-    pub place: usize,
-}
-
-#[derive(Clone, Copy)]
-pub struct RulesRead {
-    pub read: bool,
-    pub fault: usize,
-    pub rules: Rules,
-    pub place: usize,
-}
-
-#[derive(Clone, Copy)]
-pub struct SheetRead {
-    pub read: bool,
-    pub fault: usize,
-    pub sheet: Sheet,
-    pub place: usize,
-}
-
 // A key and a number from least to most.
-fn natural(text: &[u8], at: usize, key: &[u8], least: usize, most: usize) -> Counted
+fn natural(text: &[u8], at: usize, key: &[u8], least: usize, most: usize) -> Read<usize>
     requires { most ≤ most_length }
-    ensures { count_in text.now result
+    ensures { read_in text.now result
         ≡ natural_of key.now least most (drop at text.now) }
 {
-    match behind_key(text, at, key) {
-        Place::At(fields) => match one_field(text, fields) {
-            OneField::Read(x, next) => {
-                if is_between(least, most, x) {
-                    return Counted::Read(x.size, next);
-                }
-                return Counted::Fault(OUT_OF_RANGE);
-            }
-            OneField::Malformed => {
-                return Counted::Fault(MALFORMED);
-            }
-        },
-        Place::Fault(k) => {
-            return Counted::Fault(k);
-        }
+    let fields = behind_key(text, at, key)?;
+    let (x, next) = one_field(text, fields)?;
+    if is_between(least, most, x) {
+        return Ok((x.size, next));
     }
+    Err(Fault::OutOfRange)
 }
 
 fn is_near(x: Number) -> bool
@@ -113,58 +46,32 @@ fn is_near(x: Number) -> bool
 }
 
 // A point, at=X,Y.
-fn point(text: &[u8], at: usize) -> PointRead
-    ensures { point_in text.now result ≡ point_of (drop at text.now) }
+fn point(text: &[u8], at: usize) -> Read<(i64, i64)>
+    ensures { read_in text.now result ≡ point_of (drop at text.now) }
 {
-    match behind_key(text, at, b"at=") {
-        Place::At(fields) => match two_fields(text, fields) {
-            TwoFields::Read(x, y, next) => {
-                if is_near(x) && is_near(y) {
-                    return PointRead::Read(whole(x), whole(y), next);
-                }
-                return PointRead::Fault(OUT_OF_RANGE);
-            }
-            TwoFields::Malformed => {
-                return PointRead::Fault(MALFORMED);
-            }
-        },
-        Place::Fault(k) => {
-            return PointRead::Fault(k);
-        }
+    let fields = behind_key(text, at, b"at=")?;
+    let ((x, y), next) = two_fields(text, fields)?;
+    if is_near(x) && is_near(y) {
+        return Ok(((whole(x), whole(y)), next));
     }
+    Err(Fault::OutOfRange)
 }
 
 // So many points.
-fn points(text: &[u8], at: usize, count: usize) -> PointsRead
+fn points(text: &[u8], at: usize, count: usize) -> Read<Points>
     requires { count ≤ most_points }
     ensures { (points_in text.now result ≡ points_from count [] (drop at text.now)) ×
-        (result.points.count ≤ most_points) }
+        IfOk result (λ r. r.0.count ≤ most_points) }
 {
     let mut coordinates = [0; 12];
     let mut place = at;
     for i in 0..count {
-        match point(text, place) {
-            PointRead::Read(x, y, next) => {
-                coordinates[2 * i] = x;
-                coordinates[2 * i + 1] = y;
-                place = next;
-            }
-            PointRead::Fault(fault) => {
-                return PointsRead {
-                    read: false,
-                    fault,
-                    points: Points { count, coordinates },
-                    place,
-                };
-            }
-        }
+        let ((x, y), next) = point(text, place)?;
+        coordinates[2 * i] = x;
+        coordinates[2 * i + 1] = y;
+        place = next;
     }
-    PointsRead {
-        read: true,
-        fault: 0,
-        points: Points { count, coordinates },
-        place,
-    }
+    Ok((Points { count, coordinates }, place))
 }
 
 // ---- rules
@@ -183,121 +90,67 @@ fn are_two(points: usize, i: Number, j: Number) -> bool
 }
 
 // span=I,J,D
-fn span(text: &[u8], at: usize, points: usize) -> RuleRead
+fn span(text: &[u8], at: usize, points: usize) -> Read<Rule>
     requires { points ≤ most_points }
-    ensures { rule_in text.now result ≡ span_of points (drop at text.now) }
+    ensures { read_in text.now result ≡ span_of points (drop at text.now) }
 {
-    match behind_key(text, at, b"span=") {
-        Place::At(fields) => match three_fields(text, fields) {
-            ThreeFields::Read(i, j, d, next) => {
-                if !is_between(1, MOST_LENGTH, d) {
-                    return RuleRead::Fault(OUT_OF_RANGE);
-                }
-                if are_two(points, i, j) {
-                    let rule = Rule {
-                        kind: SPAN,
-                        first: i.size,
-                        second: j.size,
-                        length: d.size,
-                    };
-                    return RuleRead::Read(rule, next);
-                }
-                return RuleRead::Fault(NO_POINT);
-            }
-            ThreeFields::Malformed => {
-                return RuleRead::Fault(MALFORMED);
-            }
-        },
-        Place::Fault(k) => {
-            return RuleRead::Fault(k);
-        }
+    let fields = behind_key(text, at, b"span=")?;
+    let ((i, j, d), next) = three_fields(text, fields)?;
+    if !is_between(1, MOST_LENGTH, d) {
+        return Err(Fault::OutOfRange);
     }
+    if are_two(points, i, j) {
+        let rule = Rule {
+            kind: Kind::Span,
+            first: i.size,
+            second: j.size,
+            length: d.size,
+        };
+        return Ok((rule, next));
+    }
+    Err(Fault::NoPoint)
 }
 
-// A key and I,J.
-fn aligned(text: &[u8], at: usize, key: &[u8], points: usize) -> TwoPoints
+// A key and I,J: a rule of the kind, without a length.
+fn aligned(text: &[u8], at: usize, key: &[u8], kind: Kind, points: usize) -> Read<Rule>
     requires { points ≤ most_points }
-    ensures { aligned_in text.now result
-        ≡ aligned_of key.now points (drop at text.now) }
+    ensures { read_in text.now result
+        ≡ bind (aligned_of key.now points (drop at text.now)) (aligned_by kind) }
 {
-    match behind_key(text, at, key) {
-        Place::At(fields) => match two_fields(text, fields) {
-            TwoFields::Read(i, j, next) => {
-                if are_two(points, i, j) {
-                    return TwoPoints::Read(i.size, j.size, next);
-                }
-                return TwoPoints::Fault(NO_POINT);
-            }
-            TwoFields::Malformed => {
-                return TwoPoints::Fault(MALFORMED);
-            }
-        },
-        Place::Fault(k) => {
-            return TwoPoints::Fault(k);
-        }
+    let fields = behind_key(text, at, key)?;
+    let ((i, j), next) = two_fields(text, fields)?;
+    if are_two(points, i, j) {
+        let rule = Rule {
+            kind,
+            first: i.size,
+            second: j.size,
+            length: 0,
+        };
+        return Ok((rule, next));
     }
-}
-
-fn level(text: &[u8], at: usize, points: usize) -> RuleRead
-    requires { points ≤ most_points }
-    ensures { rule_in text.now result ≡ level_of points (drop at text.now) }
-{
-    match aligned(text, at, b"level=", points) {
-        TwoPoints::Read(first, second, next) => {
-            let rule = Rule {
-                kind: LEVEL,
-                first,
-                second,
-                length: 0,
-            };
-            return RuleRead::Read(rule, next);
-        }
-        TwoPoints::Fault(k) => {
-            return RuleRead::Fault(k);
-        }
-    }
-}
-
-fn plumb(text: &[u8], at: usize, points: usize) -> RuleRead
-    requires { points ≤ most_points }
-    ensures { rule_in text.now result ≡ plumb_of points (drop at text.now) }
-{
-    match aligned(text, at, b"plumb=", points) {
-        TwoPoints::Read(first, second, next) => {
-            let rule = Rule {
-                kind: PLUMB,
-                first,
-                second,
-                length: 0,
-            };
-            return RuleRead::Read(rule, next);
-        }
-        TwoPoints::Fault(k) => {
-            return RuleRead::Fault(k);
-        }
-    }
+    Err(Fault::NoPoint)
 }
 
 // By its first letter, which tells the keys apart.
-fn rule(text: &[u8], at: usize, points: usize) -> RuleRead
+fn rule(text: &[u8], at: usize, points: usize) -> Read<Rule>
     requires { points ≤ most_points }
-    ensures { rule_in text.now result ≡ rule_of points (drop at text.now) }
+    ensures { read_in text.now result ≡ rule_of points (drop at text.now) }
 {
     let first = byte_at(text, at);
     if first == b's' {
         return span(text, at, points);
     }
     if first == b'l' {
-        return level(text, at, points);
+        return aligned(text, at, b"level=", Kind::Level, points);
     }
-    plumb(text, at, points)
+    aligned(text, at, b"plumb=", Kind::Plumb, points)
 }
 
 fn no_rule() -> Rule
     ensures { result ≡ level 0 0 }
 {
     Rule {
-        kind: LEVEL,
+        kind: Kind::Level,
         first: 0,
         second: 0,
         length: 0,
@@ -305,174 +158,80 @@ fn no_rule() -> Rule
 }
 
 // So many rules.
-fn rules(text: &[u8], at: usize, points: usize, count: usize) -> RulesRead
+fn rules(text: &[u8], at: usize, points: usize, count: usize) -> Read<Rules>
     requires { (points ≤ most_points) × (count ≤ most_rules) }
     ensures { (rules_in text.now result ≡ rules_from points count [] (drop at text.now)) ×
-        (result.rules.count ≤ most_rules) }
+        IfOk result (λ r. r.0.count ≤ most_rules) }
 {
     let mut list = [no_rule(); 12];
     let mut place = at;
     for i in 0..count {
-        match rule(text, place, points) {
-            RuleRead::Read(x, next) => {
-                list[i] = x;
-                place = next;
-            }
-            RuleRead::Fault(fault) => {
-                return RulesRead {
-                    read: false,
-                    fault,
-                    rules: Rules { count, list },
-                    place,
-                };
-            }
-        }
+        let (x, next) = rule(text, place, points)?;
+        list[i] = x;
+        place = next;
     }
-    RulesRead {
-        read: true,
-        fault: 0,
-        rules: Rules { count, list },
-        place,
-    }
+    Ok((Rules { count, list }, place))
 }
 
 // ---- the sheet
 
-fn no_points(fault: usize) -> PointsRead
-    ensures { (result.read ≡ false) × (result.fault ≡ fault) × (result.points.count ≤ most_points) }
-{
-    PointsRead {
-        read: false,
-        fault,
-        points: Points {
-            count: 0,
-            coordinates: [0; 12],
-        },
-        place: 0,
-    }
-}
-
-fn no_rules(fault: usize) -> RulesRead
-    ensures { (result.read ≡ false) × (result.fault ≡ fault) × (result.rules.count ≤ most_rules) }
-{
-    RulesRead {
-        read: false,
-        fault,
-        rules: Rules {
-            count: 0,
-            list: [no_rule(); 12],
-        },
-        place: 0,
-    }
-}
-
-fn no_sheet(points: Points, fault: usize) -> SheetRead
-    requires { points.count ≤ most_points }
-    ensures { (result.read ≡ false) × (result.fault ≡ fault) ×
-        (result.sheet.points.count ≤ most_points) × (result.sheet.rules.count ≤ most_rules) }
-{
-    let rules = no_rules(fault).rules;
-    SheetRead {
-        read: false,
-        fault,
-        sheet: Sheet {
-            points,
-            limit: 0,
-            reach: 0,
-            rules,
-        },
-        place: 0,
-    }
-}
-
 // points=N and the points.
-fn all_points(text: &[u8]) -> PointsRead
+fn all_points(text: &[u8]) -> Read<Points>
     ensures { (points_in text.now result ≡ all_points_of text.now) ×
-        (result.points.count ≤ most_points) }
+        IfOk result (λ r. r.0.count ≤ most_points) }
 {
-    match natural(text, 0, b"points=", 1, MOST_POINTS) {
-        Counted::Read(count, at) => {
-            return points(text, at, count);
-        }
-        Counted::Fault(k) => {
-            return no_points(k);
-        }
-    }
+    let (count, at) = natural(text, 0, b"points=", 1, MOST_POINTS)?;
+    points(text, at, count)
 }
 
 // rules=M and the rules.
-fn all_rules(text: &[u8], at: usize, points: usize) -> RulesRead
+fn all_rules(text: &[u8], at: usize, points: usize) -> Read<Rules>
     requires { points ≤ most_points }
     ensures { (rules_in text.now result ≡ all_rules_of points (drop at text.now)) ×
-        (result.rules.count ≤ most_rules) }
+        IfOk result (λ r. r.0.count ≤ most_rules) }
 {
-    match natural(text, at, b"rules=", 0, MOST_RULES) {
-        Counted::Read(count, first) => {
-            return rules(text, first, points, count);
-        }
-        Counted::Fault(k) => {
-            return no_rules(k);
-        }
-    }
+    let (count, first) = natural(text, at, b"rules=", 0, MOST_RULES)?;
+    rules(text, first, points, count)
 }
 
 // The lines behind the points: limit=K, reach=R, and the rules.
-fn behind_points(text: &[u8], at: usize, points: Points) -> SheetRead
+fn behind_points(text: &[u8], at: usize, points: Points) -> Read<Sheet>
     requires { points.count ≤ most_points }
     ensures { (sheet_in text.now result
         ≡ behind_points_of points.count (coordinates_in points) (drop at text.now)) ×
-        (result.sheet.points.count ≤ most_points) × (result.sheet.rules.count ≤ most_rules) }
+        IfOk result (λ r. (r.0.points.count ≤ most_points) × (r.0.rules.count ≤ most_rules)) }
 {
-    match natural(text, at, b"limit=", 0, MOST_ITERATIONS) {
-        Counted::Read(limit, second) => match natural(text, second, b"reach=", 1, MOST_LENGTH) {
-            Counted::Read(reach, third) => {
-                let last = all_rules(text, third, points.count);
-                let rules = last.rules;
-                return SheetRead {
-                    read: last.read,
-                    fault: last.fault,
-                    sheet: Sheet {
-                        points,
-                        limit,
-                        reach,
-                        rules,
-                    },
-                    place: last.place,
-                };
-            }
-            Counted::Fault(k) => {
-                return no_sheet(points, k);
-            }
-        },
-        Counted::Fault(k) => {
-            return no_sheet(points, k);
-        }
-    }
+    let (limit, second) = natural(text, at, b"limit=", 0, MOST_ITERATIONS)?;
+    let (reach, third) = natural(text, second, b"reach=", 1, MOST_LENGTH)?;
+    let (rules, rest) = all_rules(text, third, points.count)?;
+    let sheet = Sheet {
+        points,
+        limit,
+        reach,
+        rules,
+    };
+    Ok((sheet, rest))
 }
 
 // The sheet in front of a text, and the place behind it.
-pub fn read_sheet(text: &[u8]) -> SheetRead
+pub fn read_sheet(text: &[u8]) -> Read<Sheet>
     ensures { (sheet_in text.now result ≡ sheet_of text.now) ×
-        (result.sheet.points.count ≤ most_points) × (result.sheet.rules.count ≤ most_rules) }
+        IfOk result (λ r. (r.0.points.count ≤ most_points) × (r.0.rules.count ≤ most_rules)) }
 {
-    let first = all_points(text);
-    if first.read {
-        return behind_points(text, first.place, first.points);
-    }
-    no_sheet(first.points, first.fault)
+    let (points, at) = all_points(text)?;
+    behind_points(text, at, points)
 }
 
 // The sheet that a text is: nothing follows it.
-pub fn read(text: &[u8]) -> SheetRead
-    ensures { (whole_sheet_in result ≡ read_of text.now) ×
-        (result.sheet.points.count ≤ most_points) × (result.sheet.rules.count ≤ most_rules) }
+pub fn read(text: &[u8]) -> Result<Sheet, Fault>
+    ensures { (whole_sheet_in result ≡ read_of text.now) × IfOk result Settles }
 {
     if text.len() > MOST_BYTES {
-        return no_sheet(no_points(MALFORMED).points, MALFORMED);
+        return Err(Fault::Malformed);
     }
-    let sheet = read_sheet(text);
-    if sheet.read && sheet.place < text.len() {
-        return no_sheet(sheet.sheet.points, MALFORMED);
+    let (sheet, place) = read_sheet(text)?;
+    if place < text.len() {
+        return Err(Fault::Malformed);
     }
-    sheet
+    Ok(sheet)
 }

@@ -8,7 +8,7 @@ ghost use Rattle.sheet.specs.Sheet.{most_rules};
 ghost use Rattle.sheet.specs.program.Rows.{Near, FewNear};
 ghost use Rattle.sheet.specs.program.Sheet.{list_in};
 
-use crate::sheet::{LEVEL, Rule, Rules, SPAN};
+use crate::sheet::{Kind, Rule, Rules};
 use interval::Scalar;
 use linear::{at, put};
 
@@ -31,15 +31,15 @@ fn value(x: &[f64], rule: Rule) -> Scalar
 {
     let xi = 2 * rule.first;
     let xj = 2 * rule.second;
-    if rule.kind == SPAN {
-        let dx = square(difference(x, xi, xj));
-        let dy = square(difference(x, xi + 1, xj + 1));
-        return dx.add(dy).sub(square(Scalar::from_i64(rule.length as i64)));
+    match rule.kind {
+        Kind::Span => {
+            let dx = square(difference(x, xi, xj));
+            let dy = square(difference(x, xi + 1, xj + 1));
+            dx.add(dy).sub(square(Scalar::from_i64(rule.length as i64)))
+        }
+        Kind::Level => difference(x, xi + 1, xj + 1),
+        Kind::Plumb => difference(x, xi, xj),
     }
-    if rule.kind == LEVEL {
-        return difference(x, xi + 1, xj + 1);
-    }
-    difference(x, xi, xj)
 }
 
 // The slope by variable v, where that by variable i is s, that by j its negation, and the others are given.
@@ -68,14 +68,14 @@ fn slope(x: &[f64], rule: Rule, v: usize) -> Scalar
 {
     let xi = 2 * rule.first;
     let xj = 2 * rule.second;
-    if rule.kind == SPAN {
-        let by_y = slope_apart(x, xi + 1, xj + 1, v, Scalar::ZERO);
-        return slope_apart(x, xi, xj, v, by_y);
+    match rule.kind {
+        Kind::Span => {
+            let by_y = slope_apart(x, xi + 1, xj + 1, v, Scalar::ZERO);
+            slope_apart(x, xi, xj, v, by_y)
+        }
+        Kind::Level => slope_by(xi + 1, xj + 1, Scalar::ONE, v, Scalar::ZERO),
+        Kind::Plumb => slope_by(xi, xj, Scalar::ONE, v, Scalar::ZERO),
     }
-    if rule.kind == LEVEL {
-        return slope_by(xi + 1, xj + 1, Scalar::ONE, v, Scalar::ZERO);
-    }
-    slope_by(xi, xj, Scalar::ONE, v, Scalar::ZERO)
 }
 
 // The values of the rules, from the start of `rows` on.

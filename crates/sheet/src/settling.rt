@@ -1,5 +1,5 @@
 // A sheet settled: a run from its coordinates, each question answered with the sheet's rows at the asked point.
-ghost use Rattle.std.specs.Prelude.{◌+◌, ◌*◌, ◌≤◌, true, ◌≡◌, pos, length};
+ghost use Rattle.std.specs.Prelude.{◌+◌, ◌*◌, ◌≤◌, ◌≡◌, pos, length, IfOk};
 ghost use Rattle.interval.specs.Result.{ok};
 ghost use Rattle.interval.specs.Scalar.{from_i64};
 ghost use Rattle.run.specs.Calls.{after_call, begin_of};
@@ -7,19 +7,19 @@ ghost use Rattle.run.specs.Limits.{AREA};
 ghost use Rattle.run.specs.Questions.{is_question};
 ghost use Rattle.sheet.specs.Printing.{SLOT, padded};
 ghost use Rattle.sheet.specs.Settling.{is_outside, answers_to, most_replies, point_at, sizes_of, printed_of};
-ghost use Rattle.sheet.specs.Settling.{printed_sheet, after_text, settle_text_of};
+ghost use Rattle.sheet.specs.Settling.{printed_sheet, after_text, number_in, settle_text_of};
 ghost use Rattle.sheet.specs.Sheet.{most_points};
 ghost use Rattle.sheet.specs.program.Sheet.{coordinates_in, sheet_by, whole_sheet_in};
 ghost use Rattle.sheet.specs.program.Settling.{InRange, Settles, reply_to};
 
+use crate::fault::Fault;
 use crate::printing::{SLOT, print_error, print_finish};
-use crate::reader::{SheetRead, read};
+use crate::reader::read;
 use crate::rows::rows_at;
 use crate::sheet::{Points, Sheet};
-use crate::text::WRONG_LENGTH;
 use interval::Scalar;
 use linear::{clear, put};
-use run::{AREA, Event, Returned, State};
+use run::{AREA, Event, Refusal, Returned, State};
 
 // No run has more: 5,500 for each of 200 iterations, and the start.
 const MOST_REPLIES: usize = 1100001;
@@ -27,22 +27,14 @@ const MOST_REPLIES: usize = 1100001;
 fn is_question(e: Event) -> bool
     ensures { result ≡ is_question e }
 {
-    match e {
-        Event::Question(_, _, _) => true,
-        Event::Finish(_, _, _, _) => false,
-        Event::Refused(_) => false,
-    }
+    matches!(e, Event::Question(_, _, _))
 }
 
 // Refused for an end outside the domain.
 fn is_outside(e: Event) -> bool
     ensures { result ≡ is_outside e }
 {
-    match e {
-        Event::Question(_, _, _) => false,
-        Event::Finish(_, _, _, _) => false,
-        Event::Refused(number) => number == 3,
-    }
+    matches!(e, Event::Refused(Refusal::OutsideDomain))
 }
 
 // The coordinates as a point.
@@ -130,8 +122,8 @@ fn print_returned(out: Returned, area: &[f64], slot: &mut [u8])
         Event::Finish(stop, iterations, turned, _) => {
             print_finish(slot, stop, iterations, turned, run::point(st, area));
         }
-        Event::Refused(number) => {
-            print_error(slot, number);
+        Event::Refused(refusal) => {
+            print_error(slot, usize::from(refusal));
         }
     }
 }
@@ -169,31 +161,31 @@ fn settle_sheet(sheet: Sheet, area: &mut [f64], slot: &mut [u8])
 }
 
 // Prints what was found of a text: its sheet, settled, or the number of its fault.
-fn print_found(found: SheetRead, area: &mut [f64], slot: &mut [u8])
-    requires { (found.read ≡ true → Settles found.sheet) × (length slot.old ≡ SLOT) ×
-        (length area.old ≡ AREA) }
+fn print_found(found: Result<Sheet, Fault>, area: &mut [f64], slot: &mut [u8])
+    requires { IfOk found Settles × (length slot.old ≡ SLOT) × (length area.old ≡ AREA) }
     ensures { slot.new ≡ padded (printed_sheet (whole_sheet_in found)) }
 {
-    let sheet = found.sheet;
-    if found.read {
-        return settle_sheet(sheet, area, slot);
+    match found {
+        Ok(sheet) => settle_sheet(sheet, area, slot),
+        Err(fault) => {
+            print_error(slot, fault.number());
+        }
     }
-    print_error(slot, found.fault);
 }
 
-// Reads a text, settles it and prints into the slot what the program prints, then zeros. The area is +0 afterwards.
-// Returns 0; or 2, with nothing written, for an area or a slot of another length.
-pub fn settle_text(text: &[u8], area: &mut [f64], slot: &mut [u8]) -> usize
-    ensures { after_text result area.new slot.new
+// Reads a text, settles it and prints into the slot what the program prints, then zeros. The area is +0 afterwards. An
+// area or a slot of another length is refused, with nothing written.
+pub fn settle_text(text: &[u8], area: &mut [f64], slot: &mut [u8]) -> Result<(), Fault>
+    ensures { after_text (number_in result) area.new slot.new
         ≡ settle_text_of text.now area.old slot.old }
 {
     if area.len() != AREA {
-        return WRONG_LENGTH;
+        return Err(Fault::WrongLength);
     }
     if slot.len() != SLOT {
-        return WRONG_LENGTH;
+        return Err(Fault::WrongLength);
     }
     print_found(read(text), area, slot);
     clear(area);
-    0
+    Ok(())
 }

@@ -1,16 +1,17 @@
 // What a sheet says.
 
 // What a rule asks of two points: a distance, the same height, or to stand one above the other.
-pub const SPAN: u8 = 0;
-
-pub const LEVEL: u8 = 1;
-
-pub const PLUMB: u8 = 2;
+#[derive(Clone, Copy, Debug, PartialEq, Eq)]
+pub enum Kind {
+    Span,
+    Level,
+    Plumb,
+}
 
 // The length of a span; 0 for the others.
 #[derive(Clone, Copy)]
 pub struct Rule {
-    pub kind: u8,
+    pub kind: Kind,
     pub first: usize,
     pub second: usize,
     pub length: usize,

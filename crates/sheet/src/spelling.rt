@@ -1,25 +1,18 @@
 // The one spelling of a sheet: numbers without plus signs, leading zeros or minus zero, in bytes that the caller lends.
-ghost use Rattle.std.specs.Prelude.{◌+◌, ◌*◌, ◌≤◌, true, ◌≡◌, length};
+ghost use Rattle.std.specs.Prelude.{◌+◌, ◌*◌, ◌≤◌, ◌≡◌, length};
 ghost use Rattle.sheet.specs.Lines.{line_of, padded_to};
 ghost use Rattle.sheet.specs.Sheet.{most_bytes, most_points, most_rules};
 ghost use Rattle.sheet.specs.Spelling.{point_text, point_texts, pair_text, rule_text, rule_texts, spelling_of};
-ghost use Rattle.sheet.specs.Spelling.{after_spelling, returned_in, spelled_sheet, spell_text_of, print_spelling_of};
+ghost use Rattle.sheet.specs.Spelling.{after_spelling, returned_in, spell_text_of, print_spelling_of};
 ghost use Rattle.sheet.specs.program.Lines.{Appends};
 ghost use Rattle.sheet.specs.program.Settling.{Settles};
-ghost use Rattle.sheet.specs.program.Sheet.{coordinates_in, list_in, sheet_by, whole_sheet_in};
+ghost use Rattle.sheet.specs.program.Sheet.{coordinates_in, list_in, sheet_by};
 
+use crate::fault::Fault;
 use crate::lines::{append, clear_bytes, number, number_line, whole_number};
 use crate::printing::print_error;
-use crate::reader::{MOST_BYTES, SheetRead, read};
-use crate::sheet::{LEVEL, Points, Rule, Rules, SPAN, Sheet};
-use crate::text::WRONG_LENGTH;
-
-// How many bytes were written, or the number of the refusal.
-#[derive(Clone, Copy)]
-pub enum Spelled {
-    Written(usize),
-    Refused(usize),
-}
+use crate::reader::{MOST_BYTES, read};
+use crate::sheet::{Kind, Points, Rule, Rules, Sheet};
 
 // at=X,Y
 fn point_text(out: &mut [u8], place: usize, x: i64, y: i64) -> usize
@@ -78,17 +71,17 @@ fn rule_text(out: &mut [u8], place: usize, rule: Rule) -> usize
     requires { place + 68 ≤ length out.old }
     ensures { (result ≤ place + 68) × Appends out.old place (rule_text rule) out.new result }
 {
-    if rule.kind == SPAN {
-        let first = append(out, place, b"span=");
-        let second = pair(out, first, rule);
-        let third = append(out, second, b",");
-        let fourth = number(out, third, rule.length);
-        return append(out, fourth, b"\n");
+    match rule.kind {
+        Kind::Span => {
+            let first = append(out, place, b"span=");
+            let second = pair(out, first, rule);
+            let third = append(out, second, b",");
+            let fourth = number(out, third, rule.length);
+            append(out, fourth, b"\n")
+        }
+        Kind::Level => aligned_text(out, place, b"level=", rule),
+        Kind::Plumb => aligned_text(out, place, b"plumb=", rule),
     }
-    if rule.kind == LEVEL {
-        return aligned_text(out, place, b"level=", rule);
-    }
-    aligned_text(out, place, b"plumb=", rule)
 }
 
 // A line for each rule.
@@ -99,8 +92,7 @@ fn rule_texts(out: &mut [u8], place: usize, rules: Rules) -> usize
         Appends out.old place (rule_texts (list_in rules)) out.new result }
 {
     let mut end = place;
-    for i in 0..rules.count {
-        let rule = rules.list[i];
+    for &rule in &rules.list[..rules.count] {
         end = rule_text(out, end, rule);
     }
     end
@@ -123,46 +115,30 @@ fn write_sheet(out: &mut [u8], sheet: Sheet) -> usize
     rule_texts(out, fifth, rules)
 }
 
-// Writes what was found of a text: its sheet; of a fault nothing.
-fn write_found(out: &mut [u8], found: SheetRead) -> Spelled
-    requires { (found.read ≡ true → Settles found.sheet) × (length out.old ≡ most_bytes) }
-    ensures { after_spelling (returned_in result) out.new
-        ≡ spelled_sheet out.old (whole_sheet_in found) }
-{
-    let sheet = found.sheet;
-    if found.read {
-        return Spelled::Written(write_sheet(out, sheet));
-    }
-    Spelled::Refused(found.fault)
-}
-
 // Writes the one spelling of a sheet's text into 4,096 bytes, the rest 0, and returns how many bytes it has. Bytes of
-// another length are refused by 2; then a text that is no sheet by the number of its error. A refusal writes nothing.
-pub fn spell_text(text: &[u8], out: &mut [u8]) -> Spelled
+// another length are refused first, then a text that is no sheet. A refusal writes nothing.
+pub fn spell_text(text: &[u8], out: &mut [u8]) -> Result<usize, Fault>
     ensures { after_spelling (returned_in result) out.new
         ≡ spell_text_of text.now out.old }
 {
     if out.len() != MOST_BYTES {
-        return Spelled::Refused(WRONG_LENGTH);
+        return Err(Fault::WrongLength);
     }
-    write_found(out, read(text))
+    let sheet = read(text)?;
+    Ok(write_sheet(out, sheet))
 }
 
 // Writes what the program prints of a text: its one spelling, or the line of its error, and zeros behind it. Bytes of
-// another length are refused by 2, with nothing written.
-pub fn print_spelling(text: &[u8], out: &mut [u8]) -> Spelled
+// another length are refused, with nothing written.
+pub fn print_spelling(text: &[u8], out: &mut [u8]) -> Result<usize, Fault>
     ensures { after_spelling (returned_in result) out.new
         ≡ print_spelling_of text.now out.old }
 {
     if out.len() != MOST_BYTES {
-        return Spelled::Refused(WRONG_LENGTH);
+        return Err(Fault::WrongLength);
     }
     match spell_text(text, out) {
-        Spelled::Written(length) => {
-            return Spelled::Written(length);
-        }
-        Spelled::Refused(number) => {
-            return Spelled::Written(print_error(out, number));
-        }
+        Ok(length) => Ok(length),
+        Err(fault) => Ok(print_error(out, fault.number())),
     }
 }

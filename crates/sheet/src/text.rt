@@ -3,18 +3,10 @@ ghost use Rattle.std.specs.Prelude.{◌≡◌, drop};
 ghost use Rattle.sheet.specs.Text.{head, behind, behind_key};
 ghost use Rattle.sheet.specs.program.Text.{rest_at};
 
-// The refusal of a slice of the wrong length.
-pub const WRONG_LENGTH: usize = 2;
+use crate::fault::Fault;
 
-// A line missing, surplus or malformed.
-pub const MALFORMED: usize = 7;
-
-// A place in a text, or the number of a fault.
-#[derive(Clone, Copy)]
-pub enum Place {
-    At(usize),
-    Fault(usize),
-}
+// What was read, with the place behind it.
+pub type Read<T> = Result<(T, usize), Fault>;
 
 // At the end 0, which no sheet has.
 pub fn byte_at(text: &[u8], i: usize) -> u8
@@ -27,32 +19,22 @@ pub fn byte_at(text: &[u8], i: usize) -> u8
 }
 
 // Behind a byte that must stand at the place.
-pub fn behind(text: &[u8], at: usize, b: u8) -> Place
+pub fn behind(text: &[u8], at: usize, b: u8) -> Result<usize, Fault>
     ensures { rest_at text.now result ≡ behind b (drop at text.now) }
 {
-    if at >= text.len() {
-        return Place::Fault(MALFORMED);
+    if at < text.len() && text[at] == b {
+        return Ok(at + 1);
     }
-    if text[at] != b {
-        return Place::Fault(MALFORMED);
-    }
-    Place::At(at + 1)
+    Err(Fault::Malformed)
 }
 
 // Behind a key, all of which must stand at the place.
-pub fn behind_key(text: &[u8], at: usize, key: &[u8]) -> Place
+pub fn behind_key(text: &[u8], at: usize, key: &[u8]) -> Result<usize, Fault>
     ensures { rest_at text.now result ≡ behind_key key.now (drop at text.now) }
 {
     let mut place = at;
-    for k in 0..key.len() {
-        match behind(text, place, key[k]) {
-            Place::At(next) => {
-                place = next;
-            }
-            Place::Fault(e) => {
-                return Place::Fault(e);
-            }
-        }
+    for &b in key {
+        place = behind(text, place, b)?;
     }
-    Place::At(place)
+    Ok(place)
 }

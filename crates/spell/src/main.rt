@@ -8,7 +8,6 @@ ghost use Rattle.sheet.specs.Sheet.{most_bytes, read_of};
 ghost use Rattle.sheet.specs.Spelling.{printed_spelling};
 ghost use Rattle.spell.specs.Counts.{IsPrefixLen};
 
-use sheet::Spelled;
 use std::io;
 use std::io::{Input, Read, Write};
 
@@ -18,10 +17,7 @@ fn spelling(text: &[u8], out: &mut [u8]) -> usize
     ensures prefix_len { IsPrefixLen result out.new }
     ensures out_after { take result out.new ≡ printed_spelling (read_of text.now) }
 {
-    match sheet::print_spelling(text, out) {
-        Spelled::Written(length) => length,
-        Spelled::Refused(_) => 0,
-    }
+    sheet::print_spelling(text, out).unwrap()
 }
 
 fn print_spelling<W: Write>(text: &[u8], output: &mut W) -> io::Result<()>

@@ -1,5 +1,7 @@
 -- The conversion there and back loses nothing: each enum's number is read as the case that it is the number of, and the
 -- other fields are the same. So it is the other way, for a C state that a call may leave.
+use Rattle.std.specs.Prelude.{None, Option, Some}
+use Rattle.run.specs.declared.state.Kind.{Kind}
 use Prim.Native.Nat.{ℕ, zero, suc}
 use mathlib.Core.Bool.{true}
 use mathlib.Core.Path.{◌≡◌, refl, sym}
@@ -11,10 +13,6 @@ use Rattle.interval.specs.Result.{ok}
 use Rattle.interval.specs.Scalar.{zero_s}
 use Rattle.run.proofs.CheckLaws.{both}
 use Rattle.run.specs.declared.state.Kind.TheVariants as kind
-use Rattle.run.specs.declared.state.Last.{Last}
-use Rattle.run.specs.declared.state.Last.TheVariants as last
-use Rattle.run.specs.declared.state.Phase.{Phase}
-use Rattle.run.specs.declared.state.Phase.TheVariants.{Open, Over}
 use Rattle.run.specs.declared.state.Rejection.{Rejection}
 use Rattle.run.specs.declared.state.Rejection.TheVariants as why
 use Rattle.run.specs.declared.state.State.{State}
@@ -24,41 +22,41 @@ use Rattle.yadzvego.specs.declared.c_state.Run.{Run}
 
 -- ---- each number, read back
 
-pub phase_back : (p : Phase) → phase_at (phase_number p) ≡ p
-phase_back (Open kind.Start) = refl
-phase_back (Open kind.Trial) = refl
-phase_back (Open kind.Correction) = refl
-phase_back Over = refl
+pub phase_back : (p : Option Kind) → phase_at (phase_number p) ≡ p
+phase_back (Some kind.Start) = refl
+phase_back (Some kind.Trial) = refl
+phase_back (Some kind.Correction) = refl
+phase_back None = refl
 
-pub rejection_back : (r : Rejection) → rejection_at (rejection_number r) ≡ r
-rejection_back why.NoneYet = refl
-rejection_back why.NotPositive = refl
-rejection_back why.Infeasible = refl
-rejection_back why.Unresolved = refl
-rejection_back why.NotLower = refl
+pub rejection_back : (r : Option Rejection) → rejection_at (rejection_number r) ≡ r
+rejection_back None = refl
+rejection_back (Some why.NotPositive) = refl
+rejection_back (Some why.Infeasible) = refl
+rejection_back (Some why.Unresolved) = refl
+rejection_back (Some why.NotLower) = refl
 
-pub last_back : (l : Last) → last_at (last_number l) (last_length l) ≡ l
-last_back last.NoneYet = refl
-last_back (last.Taken x) = refl
+pub last_back : (l : Option Scalar) → last_at (last_number l) (last_length l) ≡ l
+last_back None = refl
+last_back (Some x) = refl
 
 -- ---- each number is one of its cases
 
-phase-fits : (p : Phase) → ltb (phase_number p) 4 ≡ true
-phase-fits (Open kind.Start) = refl
-phase-fits (Open kind.Trial) = refl
-phase-fits (Open kind.Correction) = refl
-phase-fits Over = refl
+phase-fits : (p : Option Kind) → ltb (phase_number p) 4 ≡ true
+phase-fits (Some kind.Start) = refl
+phase-fits (Some kind.Trial) = refl
+phase-fits (Some kind.Correction) = refl
+phase-fits None = refl
 
-rejection_fits : (r : Rejection) → ltb (rejection_number r) 5 ≡ true
-rejection_fits why.NoneYet = refl
-rejection_fits why.NotPositive = refl
-rejection_fits why.Infeasible = refl
-rejection_fits why.Unresolved = refl
-rejection_fits why.NotLower = refl
+rejection_fits : (r : Option Rejection) → ltb (rejection_number r) 5 ≡ true
+rejection_fits None = refl
+rejection_fits (Some why.NotPositive) = refl
+rejection_fits (Some why.Infeasible) = refl
+rejection_fits (Some why.Unresolved) = refl
+rejection_fits (Some why.NotLower) = refl
 
-last_fits : (l : Last) → ltb (last_number l) 2 ≡ true
-last_fits last.NoneYet = refl
-last_fits (last.Taken x) = refl
+last_fits : (l : Option Scalar) → ltb (last_number l) 2 ≡ true
+last_fits None = refl
+last_fits (Some x) = refl
 
 pub numbers_fit_lem : (st : State) → numbers_fit (c_state_of st) ≡ true
 unfolding numbers_fit c_state_of

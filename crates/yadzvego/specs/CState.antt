@@ -1,16 +1,12 @@
 -- The C state, a run as C and Rust hold it: every field of the state, its enums by number (PROTOCOL, What the run
 -- keeps). `c_state_of` gives the numbers, `state_of` reads them back and refuses by number 4 those that are
 -- none.
-use Rattle.std.specs.Prelude.{ℕ, Bool, ◌&&◌, eqb, ltb}
+use Rattle.std.specs.Prelude.{ℕ, Bool, ◌&&◌, eqb, ltb, None, Option, Some}
 use Rattle.interval.specs.declared.Scalar.{Scalar}
 use Rattle.interval.specs.Result.{Res, ok, refused}
 use Rattle.interval.specs.Scalar.{zero_s, pick}
 use Rattle.run.specs.declared.state.Kind.{Kind}
 use Rattle.run.specs.declared.state.Kind.TheVariants as kind
-use Rattle.run.specs.declared.state.Last.{Last}
-use Rattle.run.specs.declared.state.Last.TheVariants as last
-use Rattle.run.specs.declared.state.Phase.{Phase}
-use Rattle.run.specs.declared.state.Phase.TheVariants.{Open, Over}
 use Rattle.run.specs.declared.state.Rejection.{Rejection}
 use Rattle.run.specs.declared.state.Rejection.TheVariants as why
 use Rattle.run.specs.declared.state.Contents.{Contents}
@@ -27,24 +23,24 @@ kind_number kind.Start = 0
 kind_number kind.Trial = 1
 kind_number kind.Correction = 2
 
-abbrev pub phase_number : Phase → ℕ
-phase_number (Open k) = kind_number k
-phase_number Over = 3
+abbrev pub phase_number : Option Kind → ℕ
+phase_number (Some k) = kind_number k
+phase_number None = 3
 
-abbrev pub rejection_number : Rejection → ℕ
-rejection_number why.NoneYet = 0
-rejection_number why.NotPositive = 1
-rejection_number why.Infeasible = 2
-rejection_number why.Unresolved = 3
-rejection_number why.NotLower = 4
+abbrev pub rejection_number : Option Rejection → ℕ
+rejection_number None = 0
+rejection_number (Some why.NotPositive) = 1
+rejection_number (Some why.Infeasible) = 2
+rejection_number (Some why.Unresolved) = 3
+rejection_number (Some why.NotLower) = 4
 
-abbrev pub last_number : Last → ℕ
-last_number last.NoneYet = 0
-last_number (last.Taken x) = 1
+abbrev pub last_number : Option Scalar → ℕ
+last_number None = 0
+last_number (Some x) = 1
 
-abbrev pub last_length : Last → Scalar
-last_length last.NoneYet = zero_s
-last_length (last.Taken x) = x
+abbrev pub last_length : Option Scalar → Scalar
+last_length None = zero_s
+last_length (Some x) = x
 
 unfoldable pub c_state_of : State → Run
 c_state_of st = record {
@@ -79,16 +75,16 @@ c_state_of st = record {
 unfoldable pub numbers_fit : Run → Bool
 numbers_fit r = ltb r.phase 4 && (ltb r.rejected 5 && ltb r.last 2)
 
-abbrev pub phase_at : ℕ → Phase
+abbrev pub phase_at : ℕ → Option Kind
 phase_at k =
-    pick (eqb k 0) (Open kind.Start) (pick (eqb k 1) (Open kind.Trial) (pick (eqb k 2) (Open kind.Correction) Over))
+    pick (eqb k 0) (Some kind.Start) (pick (eqb k 1) (Some kind.Trial) (pick (eqb k 2) (Some kind.Correction) None))
 
-abbrev pub rejection_at : ℕ → Rejection
-rejection_at k = pick (eqb k 0) why.NoneYet
-    (pick (eqb k 1) why.NotPositive (pick (eqb k 2) why.Infeasible (pick (eqb k 3) why.Unresolved why.NotLower)))
+abbrev pub rejection_at : ℕ → Option Rejection
+rejection_at k = pick (eqb k 0) None (pick (eqb k 1) (Some why.NotPositive)
+    (pick (eqb k 2) (Some why.Infeasible) (pick (eqb k 3) (Some why.Unresolved) (Some why.NotLower))))
 
-abbrev pub last_at : ℕ → Scalar → Last
-last_at k length = pick (eqb k 0) last.NoneYet (last.Taken length)
+abbrev pub last_at : ℕ → Scalar → Option Scalar
+last_at k length = pick (eqb k 0) None (Some length)
 
 abbrev pub sizes_at : Run → Sizes
 sizes_at r = record { n = r.n; s = r.s; limit = r.limit }

@@ -1,6 +1,7 @@
 -- The event that a call returns, as numbers (PROTOCOL, Calls): which is 0 for a question, 1
 -- for the finish, 2 for a refusal; what an event does not tell is 0.
 use Rattle.std.specs.Prelude.{ℕ}
+use Rattle.run.specs.Refusal.{number_of}
 use Rattle.run.specs.declared.state.Event.{Event}
 use Rattle.run.specs.declared.state.Event.TheVariants as event
 use Rattle.run.specs.declared.state.Stop.{Stop}
@@ -55,4 +56,4 @@ finished e iterations turned standing = record {
 abbrev pub numbers_of : Event → EventNumbers
 numbers_of (event.Question number k standing) = asked 0 (kind_number k) number standing
 numbers_of (event.Finish s iterations turned standing) = finished (ending_of s) iterations turned standing
-numbers_of (event.Refused number) = asked 2 0 number 0
+numbers_of (event.Refused r) = asked 2 0 (number_of r) 0

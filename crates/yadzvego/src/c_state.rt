@@ -6,7 +6,7 @@ ghost use Rattle.yadzvego.specs.CState.{c_state_of, numbers_fit, phase_at, rejec
 ghost use Rattle.yadzvego.specs.CState.{contents_at, search_at, state_at};
 
 use interval::Scalar;
-use run::{Contents, Counts, Kind, Last, Phase, Rejection, Search, Sizes, State, Trial};
+use run::{Contents, Counts, Kind, Rejection, Search, Sizes, State, Trial};
 
 #[repr(C)]
 #[derive(Clone, Copy)]
@@ -46,74 +46,71 @@ pub fn kind_number(k: Kind) -> u8
     }
 }
 
-fn phase_number(p: Phase) -> u8
+fn phase_number(p: Option<Kind>) -> u8
     ensures { result ≡ phase_number p }
 {
     match p {
-        Phase::Open(k) => kind_number(k),
-        Phase::Over => 3,
+        Some(k) => kind_number(k),
+        None => 3,
     }
 }
 
-pub fn rejection_number(r: Rejection) -> u8
+pub fn rejection_number(r: Option<Rejection>) -> u8
     ensures { result ≡ rejection_number r }
 {
     match r {
-        Rejection::NoneYet => 0,
-        Rejection::NotPositive => 1,
-        Rejection::Infeasible => 2,
-        Rejection::Unresolved => 3,
-        Rejection::NotLower => 4,
+        None => 0,
+        Some(Rejection::NotPositive) => 1,
+        Some(Rejection::Infeasible) => 2,
+        Some(Rejection::Unresolved) => 3,
+        Some(Rejection::NotLower) => 4,
     }
 }
 
-fn last_number(l: Last) -> u8
+fn last_number(l: Option<Scalar>) -> u8
     ensures { result ≡ last_number l }
 {
     match l {
-        Last::NoneYet => 0,
-        Last::Taken(_) => 1,
+        None => 0,
+        Some(_) => 1,
     }
 }
 
-fn last_length(l: Last) -> Scalar
+fn last_length(l: Option<Scalar>) -> Scalar
     ensures { result ≡ last_length l }
 {
-    match l {
-        Last::NoneYet => Scalar::ZERO,
-        Last::Taken(x) => x,
-    }
+    l.unwrap_or(Scalar::ZERO)
 }
 
-fn phase_at(k: u8) -> Phase
+fn phase_at(k: u8) -> Option<Kind>
     ensures { result ≡ phase_at k }
 {
     match k {
-        0 => Phase::Open(Kind::Start),
-        1 => Phase::Open(Kind::Trial),
-        2 => Phase::Open(Kind::Correction),
-        _ => Phase::Over,
+        0 => Some(Kind::Start),
+        1 => Some(Kind::Trial),
+        2 => Some(Kind::Correction),
+        _ => None,
     }
 }
 
-fn rejection_at(k: u8) -> Rejection
+fn rejection_at(k: u8) -> Option<Rejection>
     ensures { result ≡ rejection_at k }
 {
     match k {
-        0 => Rejection::NoneYet,
-        1 => Rejection::NotPositive,
-        2 => Rejection::Infeasible,
-        3 => Rejection::Unresolved,
-        _ => Rejection::NotLower,
+        0 => None,
+        1 => Some(Rejection::NotPositive),
+        2 => Some(Rejection::Infeasible),
+        3 => Some(Rejection::Unresolved),
+        _ => Some(Rejection::NotLower),
     }
 }
 
-fn last_at(k: u8, length: Scalar) -> Last
+fn last_at(k: u8, length: Scalar) -> Option<Scalar>
     ensures { result ≡ last_at k length }
 {
     match k {
-        0 => Last::NoneYet,
-        _ => Last::Taken(length),
+        0 => None,
+        _ => Some(length),
     }
 }
 
@@ -121,13 +118,7 @@ fn last_at(k: u8, length: Scalar) -> Last
 pub fn numbers_fit(r: Run) -> bool
     ensures { result ≡ numbers_fit r }
 {
-    if r.phase >= 4 {
-        return false;
-    }
-    if r.rejected >= 5 {
-        return false;
-    }
-    r.last < 2
+    r.phase < 4 && r.rejected < 5 && r.last < 2
 }
 
 pub fn c_state_of(st: State) -> Run

@@ -6,7 +6,7 @@ ghost use Rattle.run.specs.Calls.{refused_by_check};
 ghost use Rattle.yadzvego.specs.Exports.{returned_from, refused_with, run_after, returned_after};
 
 use crate::c_state::{Run, c_state_of, kind_number, rejection_number};
-use run::{Event, Returned, State, Stop};
+use run::{Event, Refusal, Returned, State, Stop};
 
 #[repr(C)]
 #[derive(Clone, Copy)]
@@ -107,7 +107,7 @@ fn numbers_of(a: Event) -> EventNumbers
         Event::Finish(stop, iterations, turned_down, standing) => {
             finished(ending_of(stop), iterations, turned_down, standing)
         }
-        Event::Refused(number) => asked(2, 0, number, 0),
+        Event::Refused(refusal) => asked(2, 0, usize::from(refusal), 0),
     }
 }
 
@@ -129,7 +129,7 @@ fn refused_by_check(a: Event) -> bool
     match a {
         Event::Question(_, _, _) => false,
         Event::Finish(_, _, _, _) => false,
-        Event::Refused(number) => number <= 4,
+        Event::Refused(refusal) => !matches!(refusal, Refusal::Arithmetic(_)),
     }
 }
 

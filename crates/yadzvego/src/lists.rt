@@ -10,31 +10,26 @@ ghost use Rattle.linear.specs.Cholesky.{factor_of};
 ghost use Rattle.linear.specs.Choose.{choose_of};
 ghost use Rattle.yadzvego.specs.Written.{number_of_end, written, written_of};
 
-use crate::scalars;
 use crate::scalars::ScalarResult;
 use interval::Scalar;
-use linear::{Done, LinearError};
+use linear::LinearError;
 
 pub fn number_of(e: LinearError) -> u64
     ensures { result ≡ number_of e }
 {
-    match e {
-        LinearError::TooMany => 1,
-        LinearError::WrongLength => 2,
-        LinearError::Arithmetic(g) => scalars::number_of(g),
-    }
+    usize::from(e) as u64
 }
 
 // Number 0 and the value, or the number of the refusal and zero.
-pub fn scalar_result_of(r: linear::LinearResult) -> ScalarResult
+pub fn scalar_result_of(r: Result<Scalar, LinearError>) -> ScalarResult
     ensures { result ≡ scalar_result_of (result_of r) }
 {
     match r {
-        linear::LinearResult::Value(x) => ScalarResult {
+        Ok(x) => ScalarResult {
             number: 0,
             value: x,
         },
-        linear::LinearResult::Refused(e) => ScalarResult {
+        Err(e) => ScalarResult {
             number: number_of(e),
             value: Scalar::ZERO,
         },
@@ -42,12 +37,12 @@ pub fn scalar_result_of(r: linear::LinearResult) -> ScalarResult
 }
 
 // 0 where the output is written, or the number of the refusal.
-pub fn number_of_done(d: Done) -> u64
+pub fn number_of_done(d: Result<(), LinearError>) -> u64
     ensures { result ≡ number_of_end (done_of d tt) }
 {
     match d {
-        Done::Finished => 0,
-        Done::Refused(e) => number_of(e),
+        Ok(()) => 0,
+        Err(e) => number_of(e),
     }
 }
 

@@ -25,21 +25,18 @@ pub struct ScalarResult {
 pub fn number_of(e: GeopError) -> u64
     ensures { result ≡ number_of e }
 {
-    match e {
-        GeopError::SqrtOfNegative => 5,
-        GeopError::DivisorContainsZero => 6,
-    }
+    usize::from(e) as u64
 }
 
-fn scalar_result_of(r: interval::ScalarResult) -> ScalarResult
+fn scalar_result_of(r: Result<Scalar, GeopError>) -> ScalarResult
     ensures { result ≡ scalar_result_of (result_of r) }
 {
     match r {
-        interval::ScalarResult::Value(x) => ScalarResult {
+        Ok(x) => ScalarResult {
             number: 0,
             value: x,
         },
-        interval::ScalarResult::Refused(e) => ScalarResult {
+        Err(e) => ScalarResult {
             number: number_of(e),
             value: Scalar::ZERO,
         },

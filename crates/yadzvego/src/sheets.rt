@@ -6,8 +6,6 @@ ghost use Rattle.sheet.specs.Settling.{after_text, settle_text_of};
 ghost use Rattle.sheet.specs.Spelling.{spell_text_of};
 ghost use Rattle.yadzvego.specs.SpellResult.{spell_result_of};
 
-use sheet::Spelled;
-
 // Number 0 and how many bytes were written, or the number of the refusal and 0.
 #[repr(C)]
 #[derive(Clone, Copy)]
@@ -22,7 +20,10 @@ pub fn yadzvego_settle_text(text: &[u8], area: &mut [f64], slot: &mut [u8]) -> u
     ensures { after_text result area.new slot.new
         ≡ settle_text_of text.now area.old slot.old }
 {
-    sheet::settle_text(text, area, slot)
+    match sheet::settle_text(text, area, slot) {
+        Ok(()) => 0,
+        Err(fault) => fault.number(),
+    }
 }
 
 // Writes the one spelling of a sheet into 4,096 bytes, then zeros. Bytes of another length are refused by 2, then a
@@ -32,7 +33,10 @@ pub fn yadzvego_spell_text(text: &[u8], out: &mut [u8]) -> SpellResult
     ensures out_after { out.new ≡ (spell_text_of text.now out.old).out }
 {
     match sheet::spell_text(text, out) {
-        Spelled::Written(length) => SpellResult { number: 0, length },
-        Spelled::Refused(number) => SpellResult { number, length: 0 },
+        Ok(length) => SpellResult { number: 0, length },
+        Err(fault) => SpellResult {
+            number: fault.number(),
+            length: 0,
+        },
     }
 }

@@ -1,6 +1,10 @@
 -- Bounds from comparisons of floats: `le` follows the ranks, and a float of a rank between those of two small floats is
 -- small.
-use Rattle.std.proofs.Common.{◌≡◌, ℕ, zero, suc, ◌+◌, ◌*◌, ◌/◌, ◌^◌, ◌<◌, ◌≤◌, Bool, true, false, not, ◌&&◌, ◌||◌, T, eqb, ltb, leb, ℤ, pos, negsuc, neg_ℤ, sym, refl, ap, ◌∙◌, zero-le, le_trans, le_of_eq, le_refl, lt_of_lt_of_le, lt_of_le_of_lt, le_of_lt, mul-le-mul_right, lt_of_mul-lt-mul_right, mul-lt-mul_of_pos_right, one-mul, mul-one, mul_right_comm, mul-div_cancel, arith, le→leb, eqb→eq, ltb→lt, lt→ltb, pow_pos, pow-add}
+use Rattle.std.proofs.Common.{◌≡◌, ℕ, zero, suc, ◌+◌, ◌*◌, ◌/◌, ◌^◌, ◌<◌, ◌≤◌, Bool, true, false, not, ◌&&◌, ◌||◌, T}
+use Rattle.std.proofs.Common.{eqb, ltb, leb, ℤ, pos, negsuc, neg_ℤ, sym, refl, ap, ◌∙◌, zero-le, le_trans, le_of_eq}
+use Rattle.std.proofs.Common.{le_refl, lt_of_lt_of_le, lt_of_le_of_lt, le_of_lt, mul-le-mul_right}
+use Rattle.std.proofs.Common.{lt_of_mul-lt-mul_right, mul-lt-mul_of_pos_right, one-mul, mul-one, mul_right_comm}
+use Rattle.std.proofs.Common.{mul-div_cancel, arith, le→leb, eqb→eq, ltb→lt, lt→ltb, pow_pos, pow-add}
 use lib.Arith.{le→nltb}
 use lib.Pow.{pow-lt}
 use lib.Signed.{le_z}

@@ -1,6 +1,8 @@
 -- 2 ^ k units is a pattern, `power k`. A fraction that is at most 2 ^ k units does not round past it, and one step
 -- outward does not pass the next power.
-use Rattle.std.proofs.Common.{◌≡◌, ℕ, zero, suc, ◌+◌, ◌-◌, ◌*◌, ◌^◌, ◌<◌, ◌≤◌, true, false, T, ℤ, pos, negsuc, nat_abs, sym, refl, ap, ◌∙◌, inl, inr, zero-le, le_trans, le_of_eq, lt_irrefl, mul-le-mul_right, mul_right_comm, not-le_of_lt, le_of_mul-le-mul_right, sub-le, arith, le→leb, leb→le}
+use Rattle.std.proofs.Common.{◌≡◌, ℕ, zero, suc, ◌+◌, ◌-◌, ◌*◌, ◌^◌, ◌<◌, ◌≤◌, true, false, T, ℤ, pos, negsuc, nat_abs}
+use Rattle.std.proofs.Common.{sym, refl, ap, ◌∙◌, inl, inr, zero-le, le_trans, le_of_eq, lt_irrefl, mul-le-mul_right}
+use Rattle.std.proofs.Common.{mul_right_comm, not-le_of_lt, le_of_mul-le-mul_right, sub-le, arith, le→leb, leb→le}
 use native.Mathlib.Nat.{pow-succ'}
 use lib.Pow.{pow-lt}
 use lib.Ieee.{Float, nan, inf, fin, binary64, low, neg, fits}
@@ -76,7 +78,8 @@ rank_finite (fin s m e) h k = tt
 abbrev pub Near : Float → ℕ → Type 0
 Near v b = (inf_bits binary64 ≤ rank binary64 v + b) × (rank binary64 v ≤ inf_bits binary64 + b)
 
-pub parts_small : (v : Float) (k : ℕ) → Small v k → (P (units_of binary64 v) ≤ 2 ^ k) × (N (units_of binary64 v) ≤ 2 ^ k)
+pub parts_small : (v : Float) (k : ℕ) → Small v k → (P (units_of binary64 v) ≤ 2 ^ k)
+    × (N (units_of binary64 v) ≤ 2 ^ k)
 parts_small v k h = parts_le (units_of binary64 v) (2 ^ k) (leb→le (nat_abs (units_of binary64 v)) (2 ^ k) h.at_most)
 
 pub small : (v : Float) (k : ℕ) → T (fits binary64 v) → T (finite v) → P (units_of binary64 v) ≤ 2 ^ k

@@ -1,6 +1,8 @@
 -- A product of numbers of at most 2 ^ a and 2 ^ b units is at most 2 ^ (a + b - 1074) units before it is rounded. The
 -- least and the greatest of the four products are among them.
-use Rattle.std.proofs.Common.{◌≡◌, ℕ, suc, ◌+◌, ◌*◌, ◌^◌, ◌<◌, ◌≤◌, true, false, T, ℤ, pos, negsuc, ◌*ℤ◌, nat_abs, sym, refl, subst, zero-le, le_trans, le_of_eq, mul-le-mul, arith, leb→le, pow_pos, pow_mono, pow-add}
+use Rattle.std.proofs.Common.{◌≡◌, ℕ, suc, ◌+◌, ◌*◌, ◌^◌, ◌<◌, ◌≤◌, true, false, T, ℤ, pos, negsuc, ◌*ℤ◌, nat_abs, sym}
+use Rattle.std.proofs.Common.{refl, subst, zero-le, le_trans, le_of_eq, mul-le-mul, arith, leb→le, pow_pos, pow_mono}
+use Rattle.std.proofs.Common.{pow-add}
 use lib.Ieee.{Float, inf, fin, binary64, low, mul, lt}
 use lib.Ieee.Scale.{finite}
 use Rattle.interval.specs.declared.Scalar.{Scalar}

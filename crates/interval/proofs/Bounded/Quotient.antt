@@ -1,6 +1,8 @@
 -- Where y is at least 2 ^ b units, 1 / y is at most 2 ^ (2148 - b) units before it is rounded. A quotient is the
 -- product with that inverse.
-use Rattle.std.proofs.Common.{◌≡◌, ℕ, suc, ◌+◌, ◌-◌, ◌*◌, ◌^◌, ◌<◌, ◌≤◌, Bool, true, false, ◌&&◌, T, ◌⊎◌, ℤ, pos, sym, refl, ap, ◌∙◌, subst, inl, inr, true≢false, zero-le, le_trans, le_of_eq, lt_of_lt_of_le, lt_irrefl, mul-le-mul_left, not-le_of_lt, arith, pow_pos, pow_mono}
+use Rattle.std.proofs.Common.{◌≡◌, ℕ, suc, ◌+◌, ◌-◌, ◌*◌, ◌^◌, ◌<◌, ◌≤◌, Bool, true, false, ◌&&◌, T, ◌⊎◌, ℤ, pos, sym}
+use Rattle.std.proofs.Common.{refl, ap, ◌∙◌, subst, inl, inr, true≢false, zero-le, le_trans, le_of_eq, lt_of_lt_of_le}
+use Rattle.std.proofs.Common.{lt_irrefl, mul-le-mul_left, not-le_of_lt, arith, pow_pos, pow_mono}
 use lib.Ieee.{Float, fin, binary64, low, div, le, to_bits}
 use Rattle.interval.specs.declared.Scalar.{Scalar}
 use Rattle.interval.specs.Bounded.{Small, Bounded, turned, Far, Away, BoundedResult}

@@ -1,5 +1,9 @@
 -- The root of at most 2 ^ k units is at most 2 ^ j units before it is rounded, where k + 1074 is at most twice j.
-use Rattle.std.proofs.Common.{◌≡◌, ℕ, zero, suc, ◌+◌, ◌*◌, ◌/◌, ◌^◌, ◌<◌, ◌≤◌, Bool, true, false, cond, T, ltb, ℤ, sym, refl, ap, ◌∙◌, inl, inr, true≢false, zero-le, le_trans, le_of_eq, lt_of_lt_of_le, le-add_right, lt_of_le_of_lt, le_of_lt, mul-le-mul_right, zero-lt-suc, mul_assoc, mul_comm, mul-le-mul_left, mul-lt-mul_of_pos_right, mul-pos, zero-mul, not-le_of_lt, arith, lit<, lt→ltb, pow_pos}
+use Rattle.std.proofs.Common.{◌≡◌, ℕ, zero, suc, ◌+◌, ◌*◌, ◌/◌, ◌^◌, ◌<◌, ◌≤◌, Bool, true, false, cond, T, ltb, ℤ, sym}
+use Rattle.std.proofs.Common.{refl, ap, ◌∙◌, inl, inr, true≢false, zero-le, le_trans, le_of_eq, lt_of_lt_of_le}
+use Rattle.std.proofs.Common.{le-add_right, lt_of_le_of_lt, le_of_lt, mul-le-mul_right, zero-lt-suc, mul_assoc}
+use Rattle.std.proofs.Common.{mul_comm, mul-le-mul_left, mul-lt-mul_of_pos_right, mul-pos, zero-mul, not-le_of_lt}
+use Rattle.std.proofs.Common.{arith, lit<, lt→ltb, pow_pos}
 use lib.Ieee.{Float, fin, binary64, low, up, down, lt, fits}
 use lib.Ieee.Bits.{is_true}
 use lib.Ieee.Fits.{up_pos}

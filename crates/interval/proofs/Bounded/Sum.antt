@@ -1,6 +1,7 @@
 -- A sum of two numbers of at most 2 ^ k units is at most 2 ^ (k + 1) units before it is rounded, and half of it at most
 -- 2 ^ k.
-use Rattle.std.proofs.Common.{◌≡◌, ℕ, ◌+◌, ◌*◌, ◌^◌, ◌<◌, Bool, true, false, T, ℤ, sym, ap, ◌∙◌, subst, mul_assoc, mul-pos, add-one, arith, lit<}
+use Rattle.std.proofs.Common.{◌≡◌, ℕ, ◌+◌, ◌*◌, ◌^◌, ◌<◌, Bool, true, false, T, ℤ, sym, ap, ◌∙◌, subst, mul_assoc}
+use Rattle.std.proofs.Common.{mul-pos, add-one, arith, lit<}
 use native.Mathlib.Nat.{pow-succ'}
 use lib.Ieee.{Float, fin, binary64, up, down, add, div, fits}
 use lib.Ieee.Fits.{down_pos, div-fits}

@@ -1,5 +1,8 @@
 -- The sum of two intervals holds the sum of what each holds.
-use Rattle.std.proofs.Common.{◌≡◌, ℕ, ◌+◌, ◌-◌, ◌*◌, ◌/◌, ◌^◌, ◌<◌, ◌≤◌, Bool, true, false, cond, not, ◌&&◌, T, ltb, ℤ, pos, ◌+ℤ◌, ◌*ℤ◌, sym, ap, ◌∙◌, le_trans, le_of_eq, le_refl, mul-le-mul_right, mul_assoc, mul_comm, add-mul, mul-pos, zero-mul, mul-one, mul_right_comm, le_of_mul-le-mul_right, arith, ltb→lt, nltb→le}
+use Rattle.std.proofs.Common.{◌≡◌, ℕ, ◌+◌, ◌-◌, ◌*◌, ◌/◌, ◌^◌, ◌<◌, ◌≤◌, Bool, true, false, cond, not, ◌&&◌, T, ltb, ℤ}
+use Rattle.std.proofs.Common.{pos, ◌+ℤ◌, ◌*ℤ◌, sym, ap, ◌∙◌, le_trans, le_of_eq, le_refl, mul-le-mul_right, mul_assoc}
+use Rattle.std.proofs.Common.{mul_comm, add-mul, mul-pos, zero-mul, mul-one, mul_right_comm, le_of_mul-le-mul_right}
+use Rattle.std.proofs.Common.{arith, ltb→lt, nltb→le}
 use lib.Signed.{le_z}
 use lib.Ieee.{Float, fin, Format, binary64, low, up, down, round, sum, add, fits, to_bits}
 use lib.Ieee.Fits.{down_pos, add-fits}
@@ -195,7 +198,8 @@ dist a b c k = add-mul (a + b) c k ∙ ap (λ (z : ℕ). z + c * k) (add-mul a b
 
 -- r ≤ x + y, x * k ≤ p * l and y * k ≤ q * l give r * k ≤ (p + q) * l
 pub sum_low : (r x y p q : ℤ) (k l : ℕ) → P r * 1 + (N x + N y) ≤ P x + P y + N r * 1
-    → T (le_z (x *ℤ pos k) (p *ℤ pos l)) → T (le_z (y *ℤ pos k) (q *ℤ pos l)) → T (le_z (r *ℤ pos k) ((p +ℤ q) *ℤ pos l))
+    → T (le_z (x *ℤ pos k) (p *ℤ pos l)) → T (le_z (y *ℤ pos k) (q *ℤ pos l))
+    → T (le_z (r *ℤ pos k) ((p +ℤ q) *ℤ pos l))
 sum_low r x y p q k l h a b =
     let g : (P r + N x + N y) * k ≤ (P x + P y + N r) * k = mul-le-mul_right k (omega arith) in
     let s : (P (p +ℤ q) + N p + N q) * l ≡ (P p + P q + N (p +ℤ q)) * l =
@@ -212,7 +216,8 @@ sum_low r x y p q k l h a b =
     ))
 
 pub sum_high : (r x y p q : ℤ) (k l : ℕ) → P x + P y + N r * 1 ≤ P r * 1 + (N x + N y)
-    → T (le_z (p *ℤ pos l) (x *ℤ pos k)) → T (le_z (q *ℤ pos l) (y *ℤ pos k)) → T (le_z ((p +ℤ q) *ℤ pos l) (r *ℤ pos k))
+    → T (le_z (p *ℤ pos l) (x *ℤ pos k)) → T (le_z (q *ℤ pos l) (y *ℤ pos k))
+    → T (le_z ((p +ℤ q) *ℤ pos l) (r *ℤ pos k))
 sum_high r x y p q k l h a b =
     let g : (P x + P y + N r) * k ≤ (P r + N x + N y) * k = mul-le-mul_right k (omega arith) in
     let s : (P (p +ℤ q) + N p + N q) * l ≡ (P p + P q + N (p +ℤ q)) * l =

@@ -1,5 +1,6 @@
 -- A quotient holds the quotients of what the operands hold: the one-sided law, of finite ends.
-use Rattle.std.proofs.Common.{◌≡◌, ℕ, zero, suc, ◌+◌, ◌*◌, ◌^◌, ◌≤◌, Bool, false, ℤ, pos, negsuc, ◌*ℤ◌, neg_ℤ, sym, ap, subst, zero-lt-suc, mul-zero, zero-mul, arith, pow_pos}
+use Rattle.std.proofs.Common.{◌≡◌, ℕ, zero, suc, ◌+◌, ◌*◌, ◌^◌, ◌≤◌, Bool, false, ℤ, pos, negsuc, ◌*ℤ◌, neg_ℤ, sym, ap}
+use Rattle.std.proofs.Common.{subst, zero-lt-suc, mul-zero, zero-mul, arith, pow_pos}
 use native.Mathlib.Nat.{eq_of_mul-eq-mul_right}
 use lib.IntN.{zero-*ℤ}
 use lib.Ieee.{binary64, low}
@@ -53,7 +54,8 @@ none_ratio r (pos (suc n)) k = nothing r (pos 0 *ℤ pos k) (0 * suc n) (zero-*�
 none_ratio r (negsuc n) k = nothing r (pos 0 *ℤ neg_ℤ (pos k)) (0 * suc n) (zero-*ℤ (neg_ℤ (pos k))) (zero-mul (suc n))
 
 pub div_holds : (x y : Scalar) → Fits x → Fits y → Finite x
-    → Finite y → holds_zero y ≡ false → Finite (mul_of x (inverse y)) → (p q : ℤ) (j k : ℕ) → HoldsQ x p j → HoldsQ y q k
+    → Finite y → holds_zero y ≡ false → Finite (mul_of x (inverse y)) → (p q : ℤ) (j k : ℕ) → HoldsQ x p j
+    → HoldsQ y q k
     → HoldsRatio (mul_of x (inverse y)) p j q k
 div_holds x y tx ty fx fy z fr p q zero k a b = subst (λ (p : ℤ). HoldsRatio (mul_of x (inverse y)) p 0 q k)
     (sym (over_none x p a)) (none_ratio (mul_of x (inverse y)) q k)

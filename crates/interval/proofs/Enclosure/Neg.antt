@@ -1,5 +1,6 @@
 -- Negation exchanges the ends and the signs; a difference is the sum with the negation.
-use Rattle.std.proofs.Common.{◌≡◌, ℕ, ◌*◌, ◌/◌, ◌^◌, true, false, T, ℤ, pos, negsuc, ◌-ℤ◌, ◌*ℤ◌, neg_ℤ, sym, refl, ap, subst, arith}
+use Rattle.std.proofs.Common.{◌≡◌, ℕ, ◌*◌, ◌/◌, ◌^◌, true, false, T, ℤ, pos, negsuc, ◌-ℤ◌, ◌*ℤ◌, neg_ℤ, sym, refl, ap}
+use Rattle.std.proofs.Common.{subst, arith}
 use lib.Signed.{le_z}
 use lib.Ieee.{Float, nan, inf, fin, binary64, low, up, down, neg, sub}
 use lib.Ieee.Fits.{neg-fits}
@@ -16,7 +17,8 @@ parts_neg (pos n) = (P-neg n, N-neg n)
 parts_neg (negsuc n) = (refl, refl)
 
 pub signs : (x : Float)
-    → (P (units_of binary64 (neg x)) ≡ N (units_of binary64 x)) × (N (units_of binary64 (neg x)) ≡ P (units_of binary64 x))
+    → (P (units_of binary64 (neg x)) ≡ N (units_of binary64 x))
+    × (N (units_of binary64 (neg x)) ≡ P (units_of binary64 x))
 unfolding units_of neg
 signs nan = (refl, refl)
 signs (inf s) = (refl, refl)

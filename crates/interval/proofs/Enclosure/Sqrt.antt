@@ -1,5 +1,8 @@
 -- The root of an interval holds the root of what it holds.
-use Rattle.std.proofs.Common.{◌≡◌, ℕ, zero, suc, ◌+◌, ◌*◌, ◌/◌, ◌^◌, ◌<◌, ◌≤◌, Bool, true, false, cond, T, ◌⊎◌, ℤ, pos, negsuc, ◌*ℤ◌, sym, refl, ap, ◌∙◌, inl, inr, zero-le, le_trans, le_of_eq, lt_of_lt_of_le, le_of_lt, lt_irrefl, mul-le-mul_right, zero-lt-suc, mul_assoc, mul_comm, mul-le-mul, mul-pos, zero-mul, mul_right_comm, le_of_mul-le-mul_right, arith, le→leb, pow_pos}
+use Rattle.std.proofs.Common.{◌≡◌, ℕ, zero, suc, ◌+◌, ◌*◌, ◌/◌, ◌^◌, ◌<◌, ◌≤◌, Bool, true, false, cond, T, ◌⊎◌, ℤ, pos}
+use Rattle.std.proofs.Common.{negsuc, ◌*ℤ◌, sym, refl, ap, ◌∙◌, inl, inr, zero-le, le_trans, le_of_eq, lt_of_lt_of_le}
+use Rattle.std.proofs.Common.{le_of_lt, lt_irrefl, mul-le-mul_right, zero-lt-suc, mul_assoc, mul_comm, mul-le-mul}
+use Rattle.std.proofs.Common.{mul-pos, zero-mul, mul_right_comm, le_of_mul-le-mul_right, arith, le→leb, pow_pos}
 use lib.Signed.{le_z}
 use lib.Ieee.{Float, fin, binary64, low, up, down, neg, lt, fits}
 use lib.Ieee.Scale.{finite}
@@ -84,7 +87,8 @@ high_part n s t u r (inr k) h = let d : s ≤ u = omega (arith, k.0) in le_trans
 -- stepped up it is not negative, and its square is at least n
 pub root_over : (n : ℕ) → T (finite (next_up (rounded_root binary64 n)))
     → (N (units_of binary64 (next_up (rounded_root binary64 n))) ≡ 0) × (n
-    ≤ P (units_of binary64 (next_up (rounded_root binary64 n))) * P (units_of binary64 (next_up (rounded_root binary64 n))))
+    ≤ P (units_of binary64 (next_up (rounded_root binary64 n))) * P
+    (units_of binary64 (next_up (rounded_root binary64 n))))
 root_over n h =
     let l = 2 ^ low binary64 in
     let u = units_of binary64 (next_up (rounded_root binary64 n)) in
@@ -204,7 +208,8 @@ pub under_root : (x : Float) (s c : ℕ)
     → T (fits binary64 x) → T (finite x) → T (finite (next_down (nearest_root (clamped x))))
     → T (le_z (units_of binary64 x *ℤ pos c) (pos s *ℤ pos (2 ^ low binary64)))
     → T (le_z (units_of binary64 (next_down (nearest_root (clamped x)))) (pos 0)) ⊎ T (le_z
-    ((units_of binary64 (next_down (nearest_root (clamped x))) *ℤ units_of binary64 (next_down (nearest_root (clamped x))))
+    ((units_of binary64 (next_down (nearest_root (clamped x))) *ℤ units_of binary64
+    (next_down (nearest_root (clamped x))))
     *ℤ pos c) (pos (s * (2 ^ low binary64 * 2 ^ low binary64))))
 under_root x s c t f h g =
     let l = 2 ^ low binary64 in

@@ -1,5 +1,7 @@
 -- The absolute value, end by end: by the ends' signs it is x, or -x, or [0, the greater of -lo and hi].
-use Rattle.std.proofs.Common.{◌≡◌, ℕ, zero, suc, ◌*◌, ◌^◌, ◌<◌, Bool, true, false, T, ℤ, pos, negsuc, ◌*ℤ◌, neg_ℤ, nat_abs, sym, refl, ap, subst, inl, inr, lt_of_lt_of_le, lt_irrefl, zero-lt-suc, mul-pos, zero-mul, arith, pow_pos}
+use Rattle.std.proofs.Common.{◌≡◌, ℕ, zero, suc, ◌*◌, ◌^◌, ◌<◌, Bool, true, false, T, ℤ, pos, negsuc, ◌*ℤ◌, neg_ℤ}
+use Rattle.std.proofs.Common.{nat_abs, sym, refl, ap, subst, inl, inr, lt_of_lt_of_le, lt_irrefl, zero-lt-suc, mul-pos}
+use Rattle.std.proofs.Common.{zero-mul, arith, pow_pos}
 use lib.Signed.{le_z}
 use lib.Ieee.{Float, inf, binary64, low, neg, lt, le, eq, fits}
 use lib.Ieee.Scale.{finite}

@@ -1,6 +1,8 @@
 -- A sum holds the sums end by end: a sum with an infinite end is that infinity, and one of finite ends is rounded once
 -- and stepped outward.
-use Rattle.std.proofs.Common.{◌≡◌, ℕ, ◌+◌, ◌-◌, ◌*◌, ◌^◌, ◌<◌, ◌≤◌, Bool, true, false, cond, not, ◌&&◌, T, ltb, ◌⊎◌, ℤ, ◌+ℤ◌, ◌-ℤ◌, neg_ℤ, sym, refl, ap, ◌∙◌, subst, inl, inr, add-mul, lt_of_mul-lt-mul_right, mul-lt-mul_of_pos_right, mul-one, arith, pow_pos}
+use Rattle.std.proofs.Common.{◌≡◌, ℕ, ◌+◌, ◌-◌, ◌*◌, ◌^◌, ◌<◌, ◌≤◌, Bool, true, false, cond, not, ◌&&◌, T, ltb, ◌⊎◌, ℤ}
+use Rattle.std.proofs.Common.{◌+ℤ◌, ◌-ℤ◌, neg_ℤ, sym, refl, ap, ◌∙◌, subst, inl, inr, add-mul, lt_of_mul-lt-mul_right}
+use Rattle.std.proofs.Common.{mul-lt-mul_of_pos_right, mul-one, arith, pow_pos}
 use mathlib.Core.Bool.{beq}
 use lib.Ieee.{Float, inf, fin, binary64, low, up, down, round, sum, add, fits, is_nan}
 use lib.Ieee.Fits.{add-fits}

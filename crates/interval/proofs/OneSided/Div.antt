@@ -2,7 +2,9 @@
 -- stepped down) and an upper end above 0 (1 / a tiny number is +inf).
 -- Of one below 0 it is the same with the signs changed. So no inverse is [±0, ±0] or [-inf, +inf], and the law of
 -- products applies without its condition.
-use Rattle.std.proofs.Common.{◌≡◌, ℕ, zero, suc, ◌*◌, ◌^◌, ◌<◌, Bool, true, false, cond, ◌&&◌, T, eqb, ◌⊎◌, ℤ, pos, negsuc, ◌*ℤ◌, neg_ℤ, sym, refl, ap, ◌∙◌, subst, inl, inr, true≢false, zero-lt-suc, eq-zero-or-pos, mul-pos, one-mul, zero-mul, arith, pow_pos}
+use Rattle.std.proofs.Common.{◌≡◌, ℕ, zero, suc, ◌*◌, ◌^◌, ◌<◌, Bool, true, false, cond, ◌&&◌, T, eqb, ◌⊎◌, ℤ, pos}
+use Rattle.std.proofs.Common.{negsuc, ◌*ℤ◌, neg_ℤ, sym, refl, ap, ◌∙◌, subst, inl, inr, true≢false, zero-lt-suc}
+use Rattle.std.proofs.Common.{eq-zero-or-pos, mul-pos, one-mul, zero-mul, arith, pow_pos}
 use lib.IntN.{neg_ℤ-neg_ℤ, one, *ℤ-one, *ℤ_comm}
 use lib.Signed.{le_z}
 use lib.Ieee.{Float, nan, inf, fin, binary64, low, up, down, round, div, neg, lt, le, eq, fits}

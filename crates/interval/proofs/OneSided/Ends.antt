@@ -1,6 +1,7 @@
 -- Ends by themselves. A finite interval holds what lies within it; a bound stays one where the end moves outward by its
 -- rank; a stepped number is finite or the infinity outward.
-use Rattle.std.proofs.Common.{◌≡◌, ℕ, ◌+◌, ◌*◌, ◌^◌, ◌≤◌, Bool, true, false, not, T, ◌⊎◌, ℤ, pos, ◌*ℤ◌, sym, refl, ap, ◌∙◌, subst, inl, inr, le_of_eq, zero-mul, arith}
+use Rattle.std.proofs.Common.{◌≡◌, ℕ, ◌+◌, ◌*◌, ◌^◌, ◌≤◌, Bool, true, false, not, T, ◌⊎◌, ℤ, pos, ◌*ℤ◌, sym, refl, ap}
+use Rattle.std.proofs.Common.{◌∙◌, subst, inl, inr, le_of_eq, zero-mul, arith}
 use lib.Signed.{le_z}
 use lib.Ieee.{Float, nan, inf, fin, binary64, low, neg, fits, of_bits, is_nan}
 use lib.Ieee.Fits.{neg-fits}

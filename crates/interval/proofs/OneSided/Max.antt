@@ -1,6 +1,7 @@
 -- The greater of two, end by end: the greater lower end is one of the two and so at most the greater choice; the
 -- greater upper end has at least the rank of each. Joining the ends only moves them outward.
-use Rattle.std.proofs.Common.{◌≡◌, ℕ, ◌+◌, Bool, true, false, cond, not, T, ◌⊎◌, ℤ, sym, refl, subst, inl, inr, le_trans, le_of_lt, arith}
+use Rattle.std.proofs.Common.{◌≡◌, ℕ, ◌+◌, Bool, true, false, cond, not, T, ◌⊎◌, ℤ, sym, refl, subst, inl, inr}
+use Rattle.std.proofs.Common.{le_trans, le_of_lt, arith}
 use lib.Signed.{le_z}
 use lib.Ieee.{Float, binary64, fits}
 use Rattle.interval.specs.declared.Scalar.{Scalar}

@@ -1,7 +1,10 @@
 -- A product holds the products, end by end: an infinite end stands for a number that is large enough, so the law of
 -- four finite corners applies. A product of 0 and an infinity is a NaN and is passed over: the other three corners then
 -- bound 0, unless one factor is [±0, ±0] and the other [-inf, +inf].
-use Rattle.std.proofs.Common.{◌≡◌, ℕ, zero, suc, ◌+◌, ◌*◌, ◌/◌, ◌^◌, ◌<◌, ◌≤◌, Bool, true, false, cond, not, T, eqb, ◌⊎◌, ℤ, pos, negsuc, ◌*ℤ◌, neg_ℤ, sym, refl, ap, ◌∙◌, subst, inl, inr, le_trans, le_of_eq, mul-le-mul_right, mul_comm, mul-le-mul_left, one-mul, mul-zero, zero-mul, mul-one, arith, pow_pos}
+use Rattle.std.proofs.Common.{◌≡◌, ℕ, zero, suc, ◌+◌, ◌*◌, ◌/◌, ◌^◌, ◌<◌, ◌≤◌, Bool, true, false, cond, not, T, eqb}
+use Rattle.std.proofs.Common.{◌⊎◌, ℤ, pos, negsuc, ◌*ℤ◌, neg_ℤ, sym, refl, ap, ◌∙◌, subst, inl, inr, le_trans, le_of_eq}
+use Rattle.std.proofs.Common.{mul-le-mul_right, mul_comm, mul-le-mul_left, one-mul, mul-zero, zero-mul, mul-one, arith}
+use Rattle.std.proofs.Common.{pow_pos}
 use lib.IntN.{*ℤ_comm}
 use lib.Signed.{le_z}
 use lib.Ieee.{Float, nan, inf, fin, binary64, low, up, down, round, mul, neg, unlike, fits, to_bits, is_nan}
@@ -245,12 +248,14 @@ module _ (m : Float) (tm : T (fits binary64 m)) (hm : T (finite (next_down m))) 
       let o = zero-P (fin s zero e) tu (s, e, refl) in
       none_at_all (units_of binary64 (next_down m)) (units_of binary64 (fin s zero e)) C l (z (s, e, refl)) o.0 o.1
   fin_inf (fin false (suc n) e) t C l K tu hu h (inr w) f z =
-      subst (λ (c : ℤ). T (le_z (units_of binary64 (next_down m) *ℤ pos l) (units_of binary64 (fin false (suc n) e) *ℤ c)))
+      subst (λ (c : ℤ). T (le_z (units_of binary64 (next_down m) *ℤ pos l)
+      (units_of binary64 (fin false (suc n) e) *ℤ c)))
       (sym w.1)
       (big_pos (units_of binary64 (next_down m)) (units_of binary64 (fin false (suc n) e)) (pos (suc K)) l K h
       (above_units n e tu) (sides_pos (suc n) e) (omega arith) refl)
   fin_inf (fin true (suc n) e) t C l K tu hu h (inl w) f z =
-      subst (λ (c : ℤ). T (le_z (units_of binary64 (next_down m) *ℤ pos l) (units_of binary64 (fin true (suc n) e) *ℤ c)))
+      subst (λ (c : ℤ). T (le_z (units_of binary64 (next_down m) *ℤ pos l)
+      (units_of binary64 (fin true (suc n) e) *ℤ c)))
       (sym w.1)
       (big_neg (units_of binary64 (next_down m)) (units_of binary64 (fin true (suc n) e)) (negsuc K) l K h
       (below_units n e tu) (sides_neg (suc n) e) (omega arith) refl)
@@ -276,7 +281,8 @@ module _ (m : Float) (tm : T (fits binary64 m)) (hm : T (finite (next_down m))) 
       → T (le_z (units_of binary64 (next_down m) *ℤ pos (2 ^ low binary64)) (A *ℤ C))
   corner u v A C K tu tv h (inl a) (inl c) f zu zv =
       subst (λ (z : ℤ). T (le_z (units_of binary64 (next_down m) *ℤ pos (2 ^ low binary64)) (z *ℤ C))) (sym a.1)
-      (subst (λ (z : ℤ). T (le_z (units_of binary64 (next_down m) *ℤ pos (2 ^ low binary64)) (units_of binary64 u *ℤ z)))
+      (subst (λ (z : ℤ). T (le_z (units_of binary64 (next_down m) *ℤ pos (2 ^ low binary64))
+      (units_of binary64 u *ℤ z)))
       (sym c.1)
       (corner_low u v m tu a.0 tv c.0 tm (f (mul_number u v a.0 c.0).1) hm))
   corner u v A C K tu tv h (inl a) (inr c) f zu zv =
@@ -378,7 +384,8 @@ un_number v h = subst (λ (z : Float). T (not (is_nan z))) (neg_neg v) (neg_numb
 
 -- u * v is at most g: then (-u) * v is at least -g
 neg_fact : (g u v : Float) → Number g
-    → (T (not (is_nan (mul binary64 u v))) → rank binary64 (mul binary64 u v) ≤ rank binary64 g) → Fact (neg g) (neg u) v
+    → (T (not (is_nan (mul binary64 u v))) → rank binary64 (mul binary64 u v) ≤ rank binary64 g)
+    → Fact (neg g) (neg u) v
 neg_fact g u v ng f h =
     let w = mul binary64 u v in
     let n : T (not (is_nan w)) = un_number w (subst (λ (z : Float). T (not (is_nan z))) (times_neg u v) h) in

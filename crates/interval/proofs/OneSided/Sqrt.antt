@@ -1,6 +1,7 @@
 -- The root, end by end: of a lower end -inf or below 0 it is 0, stepped down; of an upper end +inf it is +inf; of
 -- others it is rounded once and stepped outward.
-use Rattle.std.proofs.Common.{◌≡◌, ℕ, zero, suc, ◌+◌, ◌*◌, ◌/◌, ◌^◌, Bool, true, false, cond, not, T, ltb, pos, sym, refl, ap, ◌∙◌, subst, inl, inr, arith}
+use Rattle.std.proofs.Common.{◌≡◌, ℕ, zero, suc, ◌+◌, ◌*◌, ◌/◌, ◌^◌, Bool, true, false, cond, not, T, ltb, pos, sym}
+use Rattle.std.proofs.Common.{refl, ap, ◌∙◌, subst, inl, inr, arith}
 use lib.Ieee.{Float, nan, inf, fin, binary64, low, up, down, lt, fits, is_nan}
 use lib.Ieee.Fits.{nan-fits, inf-fits}
 use lib.Ieee.Scale.{finite}
@@ -34,7 +35,8 @@ near_number : (n : ℕ) → T (not (is_nan (rounded_root binary64 n)))
 unfolding rounded_root
 near_number n = round_number binary64 false (2 * isqrt n + cond (ltb (isqrt n * isqrt n) n) 1 0) (2 * 2 ^ low binary64)
 
-root_number : (x : Float) → T (fits binary64 x) → T (finite x) → T (not (lt x zero64)) → T (not (is_nan (nearest_root x)))
+root_number : (x : Float) → T (fits binary64 x) → T (finite x) → T (not (lt x zero64))
+    → T (not (is_nan (nearest_root x)))
 unfolding nearest_root is_nan rank
 root_number (fin s zero e) t f h = tt
 root_number (fin false (suc m) e) t f h = near_number (suc m * up e * 2 ^ low binary64 / down e * 2 ^ low binary64)
@@ -68,7 +70,8 @@ low_number x t f = go (lt x zero64) (root_number x t f)
 pub root_low : (x : Float) (s c : ℕ) → T (fits binary64 x) → LowerBound x (pos s) c
     → LowerRoot (next_down (nearest_root (clamped x))) s c
 root_low x s c t (inl e) =
-    subst (λ (v : Float). LowerRoot (next_down v) s c) (sym (ap (λ (z : Float). nearest_root (clamped z)) e ∙ minus_root))
+    subst (λ (v : Float). LowerRoot (next_down v) s c)
+    (sym (ap (λ (z : Float). nearest_root (clamped z)) e ∙ minus_root))
     (inr (zero_down.0, inl (neg_part (units_of binary64 (next_down zero64)) zero_down.1)))
 root_low x s c t (inr g) =
     step_down (nearest_root (clamped x)) (low_number x t g.0) (λ h. under_root x s c t g.0 h g.1)

@@ -1,6 +1,8 @@
 -- A positive scalar stays positive where four times it is finite, and where a third of it is definitely positive. Four
 -- times is exact for a sharp one, so few quadruplings in a row are finite.
-use Rattle.std.proofs.Common.{◌≡◌, ℕ, zero, suc, ◌+◌, ◌*◌, ◌^◌, ◌<◌, ◌≤◌, Bool, true, false, not, ◌&&◌, T, ℤ, pos, ◌*ℤ◌, sym, refl, ap, ◌∙◌, subst, inl, inr, suc-le-suc, zero-le, le_refl, lt_of_lt_of_le, mul-le-mul_right, mul_comm, eq-or-lt_of_le, not-le_of_lt, arith, lit<, pow_pos}
+use Rattle.std.proofs.Common.{◌≡◌, ℕ, zero, suc, ◌+◌, ◌*◌, ◌^◌, ◌<◌, ◌≤◌, Bool, true, false, not, ◌&&◌, T, ℤ, pos, ◌*ℤ◌}
+use Rattle.std.proofs.Common.{sym, refl, ap, ◌∙◌, subst, inl, inr, suc-le-suc, zero-le, le_refl, lt_of_lt_of_le}
+use Rattle.std.proofs.Common.{mul-le-mul_right, mul_comm, eq-or-lt_of_le, not-le_of_lt, arith, lit<, pow_pos}
 use lib.Ieee.{Float, nan, inf, fin, binary64, low, lt, le, eq, ne, fits, to_bits, of_bits, is_nan, round, neg, mul, add}
 use lib.Ieee.{sum, div, of_int}
 use lib.Ieee.Bits.{is_true, of_bits-to_bits}

@@ -1,6 +1,10 @@
 -- Four times a sharp positive float, sharpened, is exactly four times it or not finite: the product is stepped out by
 -- one place each way, and the middle of the two neighbours is the product again.
-use Rattle.std.proofs.Common.{◌≡◌, ℕ, zero, suc, ◌+◌, ◌-◌, ◌*◌, ◌^◌, ◌<◌, ◌≤◌, true, false, not, T, ℤ, sym, refl, ap, ◌∙◌, subst, inl, inr, true≢false, zero-le, le_trans, le_of_eq, le_refl, lt_of_lt_of_le, lt_of_le_of_lt, le_of_lt, lt_irrefl, mul-le-mul_right, mul_assoc, lt-suc_self, mul_comm, eq-zero-or-pos, mul-le-mul_left, mul-pos, one-mul, zero-mul, mul-one, not-le_of_lt, mul_left_comm, arith, lit<, lit≤, pow_pos, pow_mono, pow-add}
+use Rattle.std.proofs.Common.{◌≡◌, ℕ, zero, suc, ◌+◌, ◌-◌, ◌*◌, ◌^◌, ◌<◌, ◌≤◌, true, false, not, T, ℤ, sym, refl, ap}
+use Rattle.std.proofs.Common.{◌∙◌, subst, inl, inr, true≢false, zero-le, le_trans, le_of_eq, le_refl, lt_of_lt_of_le}
+use Rattle.std.proofs.Common.{lt_of_le_of_lt, le_of_lt, lt_irrefl, mul-le-mul_right, mul_assoc, lt-suc_self, mul_comm}
+use Rattle.std.proofs.Common.{eq-zero-or-pos, mul-le-mul_left, mul-pos, one-mul, zero-mul, mul-one, not-le_of_lt}
+use Rattle.std.proofs.Common.{mul_left_comm, arith, lit<, lit≤, pow_pos, pow_mono, pow-add}
 use lib.Ieee.{Float, nan, inf, fin, binary64, low, hid, up, down, round, add, mul, div, lt, fits, to_bits, is_nan}
 use lib.Ieee.Exact.{HasValue}
 use lib.Ieee.Fits.{down_pos, round-fits, add-fits, div-fits, mul-fits}

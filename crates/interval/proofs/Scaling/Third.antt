@@ -1,6 +1,9 @@
 -- A third of a positive scalar, sharpened, is positive and finite where it is definitely positive: the products with 1
 -- / 3, stepped outward, stay below three eighths of 2 ^ 1024, so their sum is finite.
-use Rattle.std.proofs.Common.{◌≡◌, ℕ, ◌+◌, ◌-◌, ◌*◌, ◌^◌, ◌<◌, ◌≤◌, true, false, not, T, negsuc, sym, refl, ap, ◌∙◌, subst, inl, inr, zero-le, le_trans, le_of_eq, lt_of_le_of_lt, le_of_lt, lt_irrefl, mul-le-mul_right, mul_assoc, mul_comm, mul-le-mul, mul-le-mul_left, mul-pos, mul-one, mul_left_comm, arith, lit<, lit≤, pow_pos}
+use Rattle.std.proofs.Common.{◌≡◌, ℕ, ◌+◌, ◌-◌, ◌*◌, ◌^◌, ◌<◌, ◌≤◌, true, false, not, T, negsuc, sym, refl, ap, ◌∙◌}
+use Rattle.std.proofs.Common.{subst, inl, inr, zero-le, le_trans, le_of_eq, lt_of_le_of_lt, le_of_lt, lt_irrefl}
+use Rattle.std.proofs.Common.{mul-le-mul_right, mul_assoc, mul_comm, mul-le-mul, mul-le-mul_left, mul-pos, mul-one}
+use Rattle.std.proofs.Common.{mul_left_comm, arith, lit<, lit≤, pow_pos}
 use lib.Ieee.{Float, nan, inf, fin, binary64, low, hid, up, down, round, add, mul, div, neg, lt, fits, to_bits, of_bits}
 use lib.Ieee.{is_nan}
 use lib.Ieee.Exact.{HasValue}
@@ -221,7 +224,8 @@ third_above mu a b pa ha pb hb h =
     let low-m = ls.at_p (subst (λ (z : Float). T (not (is_nan z))) (sym sa.0)
     (round_number binary64 false (magnitude binary64 a * 1501199875790165) (2 ^ low binary64 * 2 ^ 52))) in
     let s = add binary64 (next_down m) (next_up g) in
-    subst (λ (z : Float). T (lt zero64 z) → (c : ℕ) × Pattern z c × (0 < c)) (sym (middle_ends mu (inverse (degenerate three64))))
+    subst (λ (z : Float). T (lt zero64 z) → (c : ℕ) × Pattern z c × (0 < c))
+    (sym (middle_ends mu (inverse (degenerate three64))))
     (half_above s (add-fits binary64 (next_down m) (next_up g))
     (sum_under (next_down m) (next_up g) (down_fits m) fm (up_fits g) fg (P-under (next_down m) B1 (down_fits m) fm
     (omega (arith, ka.1))) (P-under (next_up g) (B1 + 1) (up_fits g) fg (omega arith)))) h

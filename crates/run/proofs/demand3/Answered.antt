@@ -1,5 +1,6 @@
 -- An open question and its answer: what the invariant says of a start, a trial or a correction is what the run between
 -- two questions begins with.
+use Rattle.std.specs.Prelude.{Some}
 use Prim.Native.Nat.{ℕ, ◌+◌, ◌*◌, ◌≤◌, ◌<◌, zero-le}
 use mathlib.Core.Bool.{false, cond}
 use mathlib.Core.Logic.{inl, inr}
@@ -40,7 +41,6 @@ use Rattle.run.specs.declared.state.Event.{Event}
 use Rattle.run.specs.declared.state.Event.TheVariants as event
 use Rattle.run.specs.declared.state.Kind.{Kind}
 use Rattle.run.specs.declared.state.Kind.TheVariants as kind
-use Rattle.run.specs.declared.state.Phase.TheVariants.{Open}
 use Rattle.run.specs.declared.state.Rejection.TheVariants as why
 use Rattle.run.specs.declared.state.Sizes.{Sizes}
 use Rattle.run.specs.declared.state.State.{State}
@@ -424,7 +424,7 @@ module _ (law : ExactLaws) (h : History) (r : Run) (sound : Sound r.state)
   -- what the call leaves, whichever question was open
   pub rows_kept :
       (k : Kind) →
-      Phased h r (Open k) →
+      Phased h r (Some k) →
       (x : Answer) (f : Floats x.numbers) →
       CheckedRows r.state.sizes x →
       Keeps h r (demand.rows same x.m x.numbers f)
@@ -435,7 +435,7 @@ module _ (law : ExactLaws) (h : History) (r : Run) (sound : Sound r.state)
 
   pub none_kept :
       (k : Kind) →
-      Phased h r (Open k) →
+      Phased h r (Some k) →
       Keeps h r (demand.none same) (answered_none k r.state (memory_of r.state r.area))
   none_kept kind.Start p = start_none p
   none_kept kind.Trial p = trial_none p

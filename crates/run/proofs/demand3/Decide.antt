@@ -1,5 +1,6 @@
 -- A landed point: taken, it stands with its rows and the filter gains the pair of the point it replaced; not taken,
 -- what stood still stands.
+use Rattle.std.specs.Prelude.{Option, Some}
 use Prim.Native.Nat.{ℕ, ◌+◌, ◌*◌, ◌≤◌, ◌<◌}
 use mathlib.Core.Bool.{Bool, true, not, ◌&&◌, ◌||◌}
 use mathlib.Core.Logic.{inl, inr, ⊎_elim, ◌≢◌}
@@ -42,8 +43,6 @@ use Rattle.run.specs.Demand.{
   Undecided,
   next_mu,
 }
-use Rattle.run.specs.declared.state.Last.{Last}
-use Rattle.run.specs.declared.state.Last.TheVariants as last
 use Rattle.run.specs.declared.state.Sizes.{Sizes}
 use Rattle.run.specs.declared.state.State.{State}
 use Rattle.run.specs.declared.state.Stop.TheVariants as stop
@@ -187,16 +186,16 @@ module _ (S : CallContext) (st : State) (w : Memory) (since : ℕ) (L : Landing 
   taken_way :
       (length mu radius : Scalar) →
       mu ≡ next_mu S.run.state.search.mu →
-      Forward S st.sizes st.counts.landed (last.Taken length) →
+      Forward S st.sizes st.counts.landed (Some length) →
       Way S st.sizes (standing_on st length mu radius).counts.standing
-      (st.counts.standing ∷ L.consistent.before) (last.Taken length) mu
+      (st.counts.standing ∷ L.consistent.before) (Some length) mu
   taken_way length mu radius next f =
       moved taken_new (ap₂ (λ (e : ℕ) (es : List ℕ). e ∷ es) L.still L.still_before) next f
 
   taken_consistent :
       (length mu radius : Scalar) (b : List Float) →
       mu ≡ next_mu S.run.state.search.mu →
-      Forward S st.sizes st.counts.landed (last.Taken length) →
+      Forward S st.sizes st.counts.landed (Some length) →
       Consistent S (standing_on st length mu radius) mu (with_taken w b filter')
   unfolding filter'
   taken_consistent length mu radius b next f =
@@ -230,7 +229,7 @@ module _ (S : CallContext) (st : State) (w : Memory) (since : ℕ) (L : Landing 
       since ≤ 5 →
       (length : Scalar) (linear : Bool) (third : Scalar) →
       div_of st.search.mu (degenerate three64) ≡ ok third →
-      Forward S st.sizes st.counts.landed (last.Taken length) →
+      Forward S st.sizes st.counts.landed (Some length) →
       (b : List Float) → After S st.sizes (next length linear third b)
   unfolding next
   next_after few length linear third is_third f b =
@@ -253,7 +252,7 @@ module _ (S : CallContext) (st : State) (w : Memory) (since : ℕ) (L : Landing 
   pub take_after :
       since ≤ 5 →
       (length : Scalar) →
-      Forward S st.sizes st.counts.landed (last.Taken length) → After S st.sizes (take st w theta length)
+      Forward S st.sizes st.counts.landed (Some length) → After S st.sizes (take st w theta length)
   unfolding take filter' learned next
   take_after few length f =
       let z = st.sizes in
@@ -333,7 +332,7 @@ module _ (law : ExactLaws) (S : CallContext) (st : State) (w : Memory) (since : 
 
   -- undecided, before the damping grew, and half as long as the last
   halves_last :
-      (st.search.first && j.undecided && j.contracting) ≡ true → Halves S z st.counts.landed (last.Taken length)
+      (st.search.first && j.undecided && j.contracting) ≡ true → Halves S z st.counts.landed (Some length)
   unfolding j z x y change
   halves_last h =
       let u = indefinite change && indefinite (sub_of theta new) in
@@ -348,7 +347,7 @@ module _ (law : ExactLaws) (S : CallContext) (st : State) (w : Memory) (since : 
             (of_rows (UndecidedRows z) x.given_is y.given_is
             (undecided_rows law z (standing_answer st w) (landed_answer st w) x.good y.good theta new theta-is
             New-is (and_right f u fu)));
-        shorter = yes (ap (λ (b : Last). contracts b length) L.last_same ∙ and_right (f && u) c h);
+        shorter = yes (ap (λ (b : Option Scalar). contracts b length) L.last_same ∙ and_right (f && u) c h);
       }
 
   decide_after : since ≤ 5 → After S st.sizes (decide st w theta j)

@@ -1,5 +1,9 @@
 -- Demand 3: begin makes the invariant true, each call keeps it and makes its claim, so the claim holds along every list
 -- of calls. A call that is refused by number changes nothing.
+use Rattle.run.specs.declared.refusal.Refusal.{Refusal}
+use Rattle.run.specs.declared.refusal.Refusal.TheVariants.{Altered, OutsideDomain, TooMany, WrongLength}
+use Rattle.std.specs.Prelude.{None, Option, Some}
+use Rattle.run.specs.declared.state.Kind.{Kind}
 use Prim.Native.Nat.{ℕ, ◌+◌, ◌*◌, zero-le}
 use mathlib.Core.Bool.{true, false, not, cond, ◌&&◌}
 use mathlib.Core.Logic.{⊎_elim}
@@ -46,8 +50,6 @@ use Rattle.run.specs.Demand.{
 }
 use Rattle.run.specs.declared.state.Event.TheVariants as event
 use Rattle.run.specs.declared.state.Kind.TheVariants as kind
-use Rattle.run.specs.declared.state.Phase.{Phase}
-use Rattle.run.specs.declared.state.Phase.TheVariants.{Open, Over}
 use Rattle.run.specs.declared.state.Sizes.{Sizes}
 use Rattle.run.proofs.AreaRead.{area_long, memory_back}
 use Rattle.run.proofs.Booleans.{clash, and_left, and_right}
@@ -70,11 +72,11 @@ Kept h r c p =
     is_arithmetic p.event ≡ false → Inv r.state.sizes h' p.run × Claim r.state.sizes h h' r p
 
 -- a refusal that changes nothing
-abbrev refused_by : Run → ℕ → CallResult
+abbrev refused_by : Run → Refusal → CallResult
 refused_by r k = record { event = event.Refused k; run = r }
 
 -- it enters nothing
-entered_refused : (h : History) (r : Run) (c : Call) (k : ℕ) → entered h r c (refused_by r k) ≡ h
+entered_refused : (h : History) (r : Run) (c : Call) (k : Refusal) → entered h r c (refused_by r k) ≡ h
 entered_refused h r c k = by c
   where
     here : eqb h.standing h.standing ≡ true
@@ -115,7 +117,7 @@ entered_refused h r c k = by c
     by (none lent) = as_before (λ n. h.rows n) refl
 
 refused_kept :
-    (h : History) (r : Run) (c : Call) (k : ℕ) →
+    (h : History) (r : Run) (c : Call) (k : Refusal) →
     Inv r.state.sizes h r →
     Inv r.state.sizes (entered h r c (refused_by r k)) r
     × Claim r.state.sizes h (entered h r c (refused_by r k)) r (refused_by r k)
@@ -132,11 +134,11 @@ refused_kept h r c k v =
 
 module _ (law : ExactLaws) (h : History) (r : Run) (v : Inv r.state.sizes h r) where
   -- what is refused by number
-  refused_same : (c : Call) (k : ℕ) → Kept h r c (call_result_by (unchanged r.state r.area k) r.area)
+  refused_same : (c : Call) (k : Refusal) → Kept h r c (call_result_by (unchanged r.state r.area k) r.area)
   refused_same c k q = refused_kept h r c k v
 
   refused_other :
-      (c : Call) (a : List Float) (k : ℕ) → Kept h r c (call_result_by (unchanged r.state a k) r.area)
+      (c : Call) (a : List Float) (k : Refusal) → Kept h r c (call_result_by (unchanged r.state a k) r.area)
   refused_other c a k q = refused_kept h r c k v
 
   Ends : Call → AfterCall → Type 0
@@ -148,24 +150,24 @@ module _ (law : ExactLaws) (h : History) (r : Run) (v : Inv r.state.sizes h r) w
   rows_open :
       (m : ℕ) (xs : List Float) (f : Floats xs) →
       valid r.state ≡ true →
-      (p : Phase) → r.state.phase ≡ p → Phased h r p →
+      (p : Option Kind) → r.state.phase ≡ p → Phased h r p →
       Ends (rows same m xs f) (reply_open r.state r.area m xs p)
   unfolding Ends
-  rows_open m xs f e Over o q = refused_same (rows same m xs f) 4
-  rows_open m xs f e (Open k) o q =
+  rows_open m xs f e None o q = refused_same (rows same m xs f) Altered
+  rows_open m xs f e (Some k) o q =
       let z = r.state.sizes in
       let fits = eqb (length r.area) (area_length z) in
       let count = row_numbers (row_counts z m) in
-      checked (Ends (rows same m xs f)) (constraints_fit m) 1 (unchanged r.state r.area) _
-      (refused_same (rows same m xs f) 1)
+      checked (Ends (rows same m xs f)) (constraints_fit m) TooMany (unchanged r.state r.area) _
+      (refused_same (rows same m xs f) TooMany)
       (λ few.
-      checked (Ends (rows same m xs f)) (fits && eqb (length xs) count) 2 (unchanged r.state r.area) _
-      (refused_same (rows same m xs f) 2)
+      checked (Ends (rows same m xs f)) (fits && eqb (length xs) count) WrongLength (unchanged r.state r.area) _
+      (refused_same (rows same m xs f) WrongLength)
       (λ lengths.
       let long = eqb-true (length r.area) (area_length z) (and_left fits (eqb (length xs) count) lengths) in
       let size = eqb-true (length xs) count (and_right fits (eqb (length xs) count) lengths) in
-      checked (Ends (rows same m xs f)) (all_in_domain xs ((m + z.s) * (z.n + 1))) 3 (unchanged r.state r.area) _
-      (refused_same (rows same m xs f) 3)
+      checked (Ends (rows same m xs f)) (all_in_domain xs ((m + z.s) * (z.n + 1))) OutsideDomain (unchanged r.state r.area) _
+      (refused_same (rows same m xs f) OutsideDomain)
       (λ d g.
       let fit : Fitting z (answer m xs) =
       record { few = leb-true m CONSTRAINTS few; length_is = size; in-domain = d } in
@@ -175,13 +177,13 @@ module _ (law : ExactLaws) (h : History) (r : Run) (v : Inv r.state.sizes h r) w
 
   none_open_lem :
       valid r.state ≡ true →
-      (p : Phase) → r.state.phase ≡ p → Phased h r p → Ends (none same) (none_open r.state r.area p)
+      (p : Option Kind) → r.state.phase ≡ p → Phased h r p → Ends (none same) (none_open r.state r.area p)
   unfolding Ends
-  none_open_lem e Over o q = refused_same (none same) 4
-  none_open_lem e (Open k) o q =
+  none_open_lem e None o q = refused_same (none same) Altered
+  none_open_lem e (Some k) o q =
       let whole = area_length r.state.sizes in
-      checked (Ends (none same)) (eqb (length r.area) whole) 2 (unchanged r.state r.area) _
-      (refused_same (none same) 2)
+      checked (Ends (none same)) (eqb (length r.area) whole) WrongLength (unchanged r.state r.area) _
+      (refused_same (none same) WrongLength)
       (λ long g.
       none_kept law h r v.sound v.counted v.point k q g
       (reply_none_kept r.state r.area e (eqb-true (length r.area) whole long) k o).lengths)
@@ -190,19 +192,19 @@ module _ (law : ExactLaws) (h : History) (r : Run) (v : Inv r.state.sizes h r) w
   rows_other :
       (a : List Float) (m : ℕ) (xs : List Float) (f : Floats xs) →
       Allowed r.state.sizes (rows (other a) m xs f) →
-      (p : Phase) → EndsOther (rows (other a) m xs f) (reply_open r.state a m xs p)
+      (p : Option Kind) → EndsOther (rows (other a) m xs f) (reply_open r.state a m xs p)
   unfolding EndsOther
-  rows_other a m xs f x Over = refused_other (rows (other a) m xs f) a 4
-  rows_other a m xs f x (Open k) =
+  rows_other a m xs f x None = refused_other (rows (other a) m xs f) a Altered
+  rows_other a m xs f x (Some k) =
       let z = r.state.sizes in
       let count = row_numbers (row_counts z m) in
       let fits = eqb (length a) (area_length z) in
       let long = eqb (length xs) count in
-      checked (EndsOther (rows (other a) m xs f)) (constraints_fit m) 1 (unchanged r.state a) _
-      (refused_other (rows (other a) m xs f) a 1)
+      checked (EndsOther (rows (other a) m xs f)) (constraints_fit m) TooMany (unchanged r.state a) _
+      (refused_other (rows (other a) m xs f) a TooMany)
       (λ few.
-      checked (EndsOther (rows (other a) m xs f)) (fits && long) 2 (unchanged r.state a) _
-      (refused_other (rows (other a) m xs f) a 2)
+      checked (EndsOther (rows (other a) m xs f)) (fits && long) WrongLength (unchanged r.state a) _
+      (refused_other (rows (other a) m xs f) a WrongLength)
       (λ e.
       absurd
       (⊎_elim (λ l. omega (arith, l, leb-true m CONSTRAINTS few))
@@ -214,28 +216,28 @@ module _ (law : ExactLaws) (h : History) (r : Run) (v : Inv r.state.sizes h r) w
   none_other :
       (a : List Float) →
       Allowed r.state.sizes (none (other a)) →
-      (p : Phase) → EndsOther (none (other a)) (none_open r.state a p)
+      (p : Option Kind) → EndsOther (none (other a)) (none_open r.state a p)
   unfolding EndsOther
-  none_other a x Over = refused_other (none (other a)) a 4
-  none_other a x (Open k) =
+  none_other a x None = refused_other (none (other a)) a Altered
+  none_other a x (Some k) =
       let whole = area_length r.state.sizes in
-      checked (EndsOther (none (other a))) (eqb (length a) whole) 2 (unchanged r.state a) _
-      (refused_other (none (other a)) a 2) (λ e. absurd (x (eqb-true (length a) whole e)))
+      checked (EndsOther (none (other a))) (eqb (length a) whole) WrongLength (unchanged r.state a) _
+      (refused_other (none (other a)) a WrongLength) (λ e. absurd (x (eqb-true (length a) whole e)))
 
   call_kept : (c : Call) → Allowed r.state.sizes c → Kept h r c (call_result r c)
   unfolding reply_of reply_none_of Ends EndsOther
   call_kept (rows same m xs f) x =
-      checked (Ends (rows same m xs f)) (valid r.state) 4 (unchanged r.state r.area) _
-      (refused_same (rows same m xs f) 4) (λ e. rows_open m xs f e r.state.phase refl v.phased)
+      checked (Ends (rows same m xs f)) (valid r.state) Altered (unchanged r.state r.area) _
+      (refused_same (rows same m xs f) Altered) (λ e. rows_open m xs f e r.state.phase refl v.phased)
   call_kept (rows (other a) m xs f) x =
-      checked (EndsOther (rows (other a) m xs f)) (valid r.state) 4 (unchanged r.state a) _
-      (refused_other (rows (other a) m xs f) a 4) (λ e. rows_other a m xs f x r.state.phase)
+      checked (EndsOther (rows (other a) m xs f)) (valid r.state) Altered (unchanged r.state a) _
+      (refused_other (rows (other a) m xs f) a Altered) (λ e. rows_other a m xs f x r.state.phase)
   call_kept (none same) x =
-      checked (Ends (none same)) (valid r.state) 4 (unchanged r.state r.area) _
-      (refused_same (none same) 4) (λ e. none_open_lem e r.state.phase refl v.phased)
+      checked (Ends (none same)) (valid r.state) Altered (unchanged r.state r.area) _
+      (refused_same (none same) Altered) (λ e. none_open_lem e r.state.phase refl v.phased)
   call_kept (none (other a)) x =
-      checked (EndsOther (none (other a))) (valid r.state) 4 (unchanged r.state a) _
-      (refused_other (none (other a)) a 4) (λ e. none_other a x r.state.phase)
+      checked (EndsOther (none (other a))) (valid r.state) Altered (unchanged r.state a) _
+      (refused_other (none (other a)) a Altered) (λ e. none_other a x r.state.phase)
 
 -- ---- all calls
 
@@ -270,7 +272,7 @@ along law z (c ∷ cs) h r v = (
 module _ (z : Sizes) (start : List Float) (max : Scalar) (fit : sizes_fit z ≡ true)
     (size : length start ≡ 2 * z.n) where
   abbrev begins : Run
-  begins = record { state = state_with z first_mu max (Open kind.Start); area = area_of z (begun_memory start) }
+  begins = record { state = state_with z first_mu max (Some kind.Start); area = area_of z (begun_memory start) }
 
   begun_sound : Sound begins.state
   begun_sound =
@@ -325,11 +327,11 @@ pub begin_holds :
 unfolding begin_of
 begin_holds z start max a =
     let sized = eqb (length start) (2 * z.n) in
-    checked Accepted (sizes_fit z) 1 (unchanged no_run a) _ (not_asked 1)
+    checked Accepted (sizes_fit z) TooMany (unchanged no_run a) _ (not_asked TooMany)
     (λ fit.
-    checked Accepted (sized && eqb (length a) (area_length z)) 2 (unchanged no_run a) _ (not_asked 2)
+    checked Accepted (sized && eqb (length a) (area_length z)) WrongLength (unchanged no_run a) _ (not_asked WrongLength)
     (λ g.
-    checked Accepted (all_in_domain start z.n && step_fits max) 3 (unchanged no_run a) _ (not_asked 3)
+    checked Accepted (all_in_domain start z.n && step_fits max) OutsideDomain (unchanged no_run a) _ (not_asked OutsideDomain)
     (λ d q.
     begun_holds z start max fit
     (eqb-true (length start) (2 * z.n) (and_left sized (eqb (length a) (area_length z)) g)))))
@@ -337,7 +339,7 @@ begin_holds z start max a =
     Accepted : AfterCall → Type 0
     Accepted b = b.event ≡ event.Question 0 kind.Start 0 → Inv z (begun (run_of b)) (run_of b)
 
-    not_asked : (k : ℕ) → Accepted (unchanged no_run a k)
+    not_asked : (k : Refusal) → Accepted (unchanged no_run a k)
     not_asked k q = absurd (let z : ◌≡◌ {A = ℕ} 0 1 = cc in omega arith)
 
 pub demand3_from : ExactLaws → Demand3

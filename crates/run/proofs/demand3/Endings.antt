@@ -1,6 +1,9 @@
 -- How a call ends: a finish, a question or a refusal, each with the invariant for the history that it is entered in,
 -- and the claim. The lists of the memory have just the numbers in use, so that the next call reads them back as they
 -- are.
+use Rattle.run.specs.Refusal.{number_of, refusal_at}
+use Rattle.run.proofs.LengthsKept.{arithmetic_number}
+use Rattle.std.specs.Prelude.{None, Option, Some}
 use Prim.Native.Nat.{ℕ, suc, ◌+◌, ◌*◌, ◌≤◌, ◌<◌, zero-le}
 use mathlib.Core.Bool.{Bool, true, false, not, ◌||◌}
 use mathlib.Core.Logic.{◌⊎◌, inl, inr}
@@ -41,8 +44,6 @@ use Rattle.run.specs.Demand.{
 use Rattle.run.specs.declared.state.Event.TheVariants as event
 use Rattle.run.specs.declared.state.Kind.{Kind}
 use Rattle.run.specs.declared.state.Kind.TheVariants as kind
-use Rattle.run.specs.declared.state.Last.{Last}
-use Rattle.run.specs.declared.state.Phase.TheVariants.{Open, Over}
 use Rattle.run.specs.declared.state.Sizes.{Sizes}
 use Rattle.run.specs.declared.state.State.{State}
 use Rattle.run.specs.declared.state.Stop.{Stop}
@@ -122,7 +123,8 @@ either_after S z false o o' h k = k refl
 
 pub refuse_after : (S : CallContext) (z : Sizes) (st : State) (w : Memory) (k : ℕ) → T (eqb k 5 || eqb k 6)
     → After S z (refuse st w k)
-refuse_after S z st w k h e = clash (eqb k 5 || eqb k 6) h e
+refuse_after S z st w k h e =
+    let n = number_of (refusal_at k) in clash (eqb n 5 || eqb n 6) (rw (arithmetic_number k h) h) e
 
 -- what may be refused, and what follows it
 pub or_refuse_after : (S : CallContext) (z : Sizes) (st : State) (w : Memory) {A : Type 0} {P : A → Type 0} (x : Res A)
@@ -133,7 +135,7 @@ or_refuse_after S z st w (refused k) next (refuses p) h = refuse_after S z st w 
 
 -- ---- the history after an answer that names what stands
 
-module _ (S : CallContext) (z : Sizes) (standing : ℕ) (before : List ℕ) (last : Last) (mu : Scalar) where
+module _ (S : CallContext) (z : Sizes) (standing : ℕ) (before : List ℕ) (last : Option Scalar) (mu : Scalar) where
   record Entered (p : CallResult) : Type 0 where
     pub changes_are : (entered S.history S.run S.call p).changes ≡ length before
     pub stood_are : (entered S.history S.run S.call p).stood ≡ standing ∷ before
@@ -205,11 +207,11 @@ module _ (S : CallContext) (z : Sizes) (p : CallResult) (accepts : is_refused p.
 
 -- the point that `point` gives, of a run that number 4 lets pass
 module _ (st : State) (a : List Float) (v : valid st ≡ true) (l : HasRoom st.sizes a) where
-  pub asked_given : {k : Kind} → st.phase ≡ Open k → point_of st a ≡ (memory_of st a).asked
+  pub asked_given : {k : Kind} → st.phase ≡ Some k → point_of st a ≡ (memory_of st a).asked
   unfolding point_of memory_of
   asked_given e = rw (v, eq-eqb _ _ l, e)
 
-  pub standing_given : st.phase ≡ Over → point_of st a ≡ (memory_of st a).standing
+  pub standing_given : st.phase ≡ None → point_of st a ≡ (memory_of st a).standing
   unfolding point_of memory_of
   standing_given e = rw (v, eq-eqb _ _ l, e)
 
@@ -314,7 +316,7 @@ module _ (S : CallContext) (st : State) (w : Memory) (k : Kind) (corrections sin
   contents_few : ContentBounds st.contents
   contents_few = record { standing = v.stands.rowed.fitting.few; landed = landed_few }
 
-  asked_sound : since ≤ 4 → corrections ≤ 4 → phase_fits st' (Open k) ≡ true → Sound st'
+  asked_sound : since ≤ 4 → corrections ≤ 4 → phase_fits st' (Some k) ≡ true → Sound st'
   unfolding st'
   asked_sound few c q =
       let g = growth_few count_bounds.growth in
@@ -387,7 +389,7 @@ module _ (S : CallContext) (st : State) (w : Memory) (k : Kind) (corrections sin
 
   asked_after :
       Sound st' →
-      Phased h' p.run (Open k) →
+      Phased h' p.run (Some k) →
       Inv st.sizes h' p.run × Claim st.sizes S.history h' S.run p
   unfolding p st' h' older
   asked_after sound phased =

@@ -1,5 +1,7 @@
 -- What holds between history and run from begin on: the counts are those of the history, the area has the rows and the
 -- point of the standing question and the filter its pairs; and what holds of state and memory inside a call.
+use Rattle.std.specs.Prelude.{None, Option, Some}
+use Rattle.run.specs.declared.state.Kind.{Kind}
 use Prim.Native.Nat.{ℕ, ◌+◌, ◌*◌, ◌≤◌, ◌<◌}
 use mathlib.Core.Bool.{Bool, true, false, cond}
 use mathlib.Core.Logic.{◌⊎◌, ◌≢◌}
@@ -45,9 +47,6 @@ use Rattle.run.specs.Demand.{
 use Rattle.run.specs.declared.state.Event.{Event}
 use Rattle.run.specs.declared.state.Counts.{Counts}
 use Rattle.run.specs.declared.state.Kind.TheVariants as kind
-use Rattle.run.specs.declared.state.Last.{Last}
-use Rattle.run.specs.declared.state.Phase.{Phase}
-use Rattle.run.specs.declared.state.Phase.TheVariants.{Open, Over}
 use Rattle.run.specs.declared.state.Search.{Search}
 use Rattle.run.specs.declared.state.Sizes.{Sizes}
 use Rattle.run.specs.declared.state.State.{State}
@@ -153,11 +152,11 @@ pub record Started (h : History) (r : Run) : Type 0 where
   pub own_standing : r.state.counts.standing ≡ 0
   pub count_bounds : CountBounds h.mu r.state.counts r.state.search 0
 
-abbrev pub Phased : History → Run → Phase → Type 0
-Phased h r (Open kind.Start) = Started h r
-Phased h r (Open kind.Trial) = Tried h r 1 r.state.counts.question
-Phased h r (Open kind.Correction) = Corrected h r
-Phased h r Over = Unit
+abbrev pub Phased : History → Run → Option Kind → Type 0
+Phased h r (Some kind.Start) = Started h r
+Phased h r (Some kind.Trial) = Tried h r 1 r.state.counts.question
+Phased h r (Some kind.Correction) = Corrected h r
+Phased h r None = Unit
 
 pub record Inv (z : Sizes) (h : History) (r : Run) : Type 0 where
   pub sizes_are : r.state.sizes ≡ z
@@ -179,19 +178,19 @@ pub record CallContext : Type 0 where
   pub stood_is : history.stood ≡ history.standing ∷ before
   pub changes_are : history.changes ≡ length before
 
-pub record Halves (S : CallContext) (z : Sizes) (standing : ℕ) (last : Last) : Type 0 where
+pub record Halves (S : CallContext) (z : Sizes) (standing : ℕ) (last : Option Scalar) : Type 0 where
   pub not_damped : S.run.state.search.mu ≡ S.history.mu
   pub undecided : Undecided z (S.rows S.history.standing) (S.rows standing)
   pub shorter : T (halves S.run.state.last last)
 
 -- a change of standing: each point that stood had rows, and it is exact progress or halves
-pub record Forward (S : CallContext) (z : Sizes) (standing : ℕ) (last : Last) : Type 0 where
+pub record Forward (S : CallContext) (z : Sizes) (standing : ℕ) (last : Option Scalar) : Type 0 where
   pub answered : (e : ℕ) → In e (standing ∷ S.history.stood) → Answered z (S.rows e)
   pub exact :
       ((e : ℕ) → In e S.history.stood → Lower z (S.rows e) (S.rows standing)) ⊎ Halves S z standing last
 
 -- the point that stood still stands, in its iteration, or the landed one does, in a new one
-pub data Way (S : CallContext) (z : Sizes) (standing : ℕ) (before : List ℕ) (last : Last) (mu : Scalar) : Type 0 where
+pub data Way (S : CallContext) (z : Sizes) (standing : ℕ) (before : List ℕ) (last : Option Scalar) (mu : Scalar) : Type 0 where
   unmoved :
       standing ≡ S.history.standing → before ≡ S.before → mu ≡ S.history.mu → Way S z standing before last mu
   moved :
@@ -201,7 +200,7 @@ pub data Way (S : CallContext) (z : Sizes) (standing : ℕ) (before : List ℕ) 
 
 -- A state, by its sizes, counts, last length and the damping that its iteration began with, with the standing point,
 -- its rows and the filter.
-pub record ConsistentWith (S : CallContext) (z : Sizes) (k : Counts) (last : Last) (mu : Scalar)
+pub record ConsistentWith (S : CallContext) (z : Sizes) (k : Counts) (last : Option Scalar) (mu : Scalar)
     (own : List Float) (rows : Answer) (filter : List Float) : Type 0 where
   pub before : List ℕ
   pub way : Way S z k.standing before last mu

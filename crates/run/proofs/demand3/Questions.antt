@@ -1,5 +1,10 @@
 -- How long a run is: an accepted reply raises the question's number by one or ends the run, a run that is over refuses
 -- every call by 4, and the number is within its bound as long as the invariant of demand 3 holds.
+use Rattle.run.specs.Refusal.{number_of}
+use Rattle.run.specs.declared.refusal.Refusal.{Refusal}
+use Rattle.run.specs.declared.refusal.Refusal.TheVariants.{Altered}
+use Rattle.std.specs.Prelude.{None, Option}
+use Rattle.run.specs.declared.state.Kind.{Kind}
 use Prim.Native.Nat.{ℕ, ◌+◌, ◌≤◌}
 use mathlib.Core.Bool.{Bool, true, false, cond}
 use mathlib.Core.Path.{◌≡◌, refl, ap, ◌∙◌, subst}
@@ -17,8 +22,6 @@ use Rattle.run.specs.Demand.{entered, is_arithmetic, begun}
 use Rattle.run.specs.Questions.{AllAllowed, accepted_in, is_question, questions_in, QuestionBounds}
 use Rattle.run.specs.declared.state.Event.{Event}
 use Rattle.run.specs.declared.state.Event.TheVariants.{Question, Finish, Refused}
-use Rattle.run.specs.declared.state.Phase.{Phase}
-use Rattle.run.specs.declared.state.Phase.TheVariants.{Over}
 use Rattle.run.specs.declared.state.Sizes.{Sizes}
 use Rattle.run.specs.declared.state.State.{State}
 use Rattle.run.proofs.Cleared.{reply_leaves, reply_none_leaves}
@@ -49,27 +52,27 @@ refused_state r (none (other a)) e = ((reply_none_leaves r.state a).unchanged e)
 -- ---- a run that is over
 
 either_check : (b : Bool) (st : State) (a : List Float)
-    → checks b 4 (unchanged st a) (unchanged st a 4) ≡ unchanged st a 4
+    → checks b Altered (unchanged st a) (unchanged st a Altered) ≡ unchanged st a Altered
 either_check true st a = refl
 either_check false st a = refl
 
 reply_closed :
-    (st : State) (a : List Float) (m : ℕ) (xs : List Float) → st.phase ≡ Over → reply_of st a m xs ≡ unchanged st a 4
+    (st : State) (a : List Float) (m : ℕ) (xs : List Float) → st.phase ≡ None → reply_of st a m xs ≡ unchanged st a Altered
 unfolding reply_of
 reply_closed st a m xs e =
-    ap (λ (p : Phase). checks (valid st) 4 (unchanged st a) (reply_open st a m xs p)) e ∙ either_check (valid st) st a
+    ap (λ (p : Option Kind). checks (valid st) Altered (unchanged st a) (reply_open st a m xs p)) e ∙ either_check (valid st) st a
 
-none_closed : (st : State) (a : List Float) → st.phase ≡ Over → reply_none_of st a ≡ unchanged st a 4
+none_closed : (st : State) (a : List Float) → st.phase ≡ None → reply_none_of st a ≡ unchanged st a Altered
 unfolding reply_none_of
 none_closed st a e =
-    ap (λ (p : Phase). checks (valid st) 4 (unchanged st a) (none_open st a p)) e ∙ either_check (valid st) st a
+    ap (λ (p : Option Kind). checks (valid st) Altered (unchanged st a) (none_open st a p)) e ∙ either_check (valid st) st a
 
 -- every call is refused by 4, and the run stays over
 pub record Closed (r : Run) (c : Call) : Type 0 where
-  pub refused : (call_result r c).event ≡ Refused 4
-  pub still : (call_result r c).run.state.phase ≡ Over
+  pub refused : (call_result r c).event ≡ Refused Altered
+  pub still : (call_result r c).run.state.phase ≡ None
 
-closed : (r : Run) (c : Call) → r.state.phase ≡ Over → Closed r c
+closed : (r : Run) (c : Call) → r.state.phase ≡ None → Closed r c
 closed r (rows same m xs f) o =
     let e = reply_closed r.state r.area m xs o in
     record {
@@ -95,14 +98,14 @@ closed r (none (other a)) o =
       still = ap (λ (l : AfterCall). l.state.phase) e ∙ o;
     }
 
-none_asked : (cs : List Call) (r : Run) → r.state.phase ≡ Over → questions_in r cs ≡ 0
+none_asked : (cs : List Call) (r : Run) → r.state.phase ≡ None → questions_in r cs ≡ 0
 unfolding questions_in
 none_asked [] r o = refl
 none_asked (c ∷ cs) r o =
     let k = closed r c o in
     rw (k.refused, none_asked cs (call_result r c).run k.still) refl
 
-none_accepted : (cs : List Call) (r : Run) → r.state.phase ≡ Over → accepted_in r cs ≡ 0
+none_accepted : (cs : List Call) (r : Run) → r.state.phase ≡ None → accepted_in r cs ≡ 0
 unfolding accepted_in
 none_accepted [] r o = refl
 none_accepted (c ∷ cs) r o =
@@ -120,10 +123,11 @@ within : (z : Sizes) (h : History) (r : Run) → Inv z h r → r.state.counts.qu
 within z h r v = (inv_between z h r v).few_questions
 
 -- numbers up to 4 are no arithmetic refusals
-checked_number : (k : ℕ) → leb k 4 ≡ true → is_arithmetic (Refused k) ≡ false
+checked_number : (k : Refusal) → leb (number_of k) 4 ≡ true → is_arithmetic (Refused k) ≡ false
 checked_number k e =
-    let l = leb-true k 4 e in
-    rw (ne_eqb k 5 (λ q. omega (arith, l, q)), ne_eqb k 6 (λ q. omega (arith, l, q))) refl
+    let n = number_of k in
+    let l = leb-true n 4 e in
+    rw (ne_eqb n 5 (λ q. omega (arith, l, q)), ne_eqb n 6 (λ q. omega (arith, l, q))) refl
 
 module _ (z : Sizes) (h : History) (r : Run) (v : Inv z h r) (c : Call) (cs : List Call) (x : Allowed z c)
     (more : (h' : History) (r' : Run) → Inv z h' r' → Few z r' cs) where
@@ -143,7 +147,7 @@ module _ (z : Sizes) (h : History) (r : Run) (v : Inv z h r) (c : Call) (cs : Li
       more (entered h r c (call_result r c)) (call_result r c).run (call_step exact_laws z h r c v x q).0
 
   -- the run is over
-  ends : (a : Event) → is_question a ≡ false → (call_result r c).run.state.phase ≡ Over → FewBy a
+  ends : (a : Event) → is_question a ≡ false → (call_result r c).run.state.phase ≡ None → FewBy a
   ends a n o =
       let w = within z h r v in
       let q = none_asked cs (call_result r c).run o in
@@ -169,9 +173,9 @@ module _ (z : Sizes) (h : History) (r : Run) (v : Inv z h r) (c : Call) (cs : Li
       ends (Finish s i t n) refl
       (subst (λ (a : Event). Follows r.state.counts.question (call_result r c).run.state a) e
       (call_follows r c (ap refused_by_check e)))
-  by_event (Refused k) e = by (leb k 4) refl
+  by_event (Refused k) e = by (leb (number_of k) 4) refl
     where
-      by : (b : Bool) → leb k 4 ≡ b → FewBy (Refused k)
+      by : (b : Bool) → leb (number_of k) 4 ≡ b → FewBy (Refused k)
       by true l =
           let m = after (ap is_arithmetic e ∙ checked_number k l) in
           let kept : (call_result r c).run.state.counts.question ≡ r.state.counts.question =

@@ -1,5 +1,6 @@
 -- For private functions: a basis by its parts, as the program stores it, and what its functions are given and answer.
-use Rattle.std.specs.Prelude.{ℕ, ◌≤◌, ◌<◌, List, [], ◌≡◌, Float}
+use Rattle.linear.specs.declared.results.LinearError.{LinearError}
+use Rattle.std.specs.Prelude.{ℕ, ◌≤◌, ◌<◌, List, [], ◌≡◌, Float, Result}
 use Rattle.interval.specs.Result.{Res}
 use Rattle.interval.specs.Scalar.{zero_s}
 use Rattle.interval.specs.declared.Scalar.{Scalar}
@@ -12,7 +13,6 @@ use Rattle.run.specs.Problem.{Problem}
 use Rattle.run.specs.Results.{count_of, map_r}
 use Rattle.run.specs.Vectors.{matrix}
 use Rattle.run.specs.declared.basis.Shape.{Shape}
-use Rattle.run.specs.declared.results.CountResult.{CountResult}
 
 -- ---- by their parts, as the functions have them
 
@@ -43,7 +43,7 @@ abbrev pub measured_by : Problem → Basis → ℕ → (List Float → Scalar �
 measured_by P b i f = bind (coefficients_in P b i) (λ a. bind (norm_of (outside_at P b i a) P.k) (f a))
 
 -- what is written, or the refusal
-abbrev pub ranked_of : CountResult → List Float → List Float → List Float → List Float → List ℕ → Res Basis
+abbrev pub ranked_of : Result ℕ LinearError → List Float → List Float → List Float → List Float → List ℕ → Res Basis
 ranked_of x q gram coefficients dependent order =
     map_r (λ r. basis_by r q gram coefficients dependent order) (count_of x)
 

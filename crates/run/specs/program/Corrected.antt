@@ -1,6 +1,7 @@
 -- For private functions: what a shift and the answer to a trial are given, what a shift answers, and whether a
 -- correction is nearer the constraints.
-use Rattle.std.specs.Prelude.{ℕ, ◌≤◌, Bool, List, ◌≡◌, Float}
+use Rattle.linear.specs.declared.results.LinearError.{LinearError}
+use Rattle.std.specs.Prelude.{ℕ, ◌≤◌, Bool, List, ◌≡◌, Float, Err, Ok, Result, false, true}
 use Rattle.interval.specs.Result.{Res, ok, refused}
 use Rattle.interval.specs.Scalar.{definitely_less}
 use Rattle.interval.specs.declared.Scalar.{Scalar}
@@ -11,8 +12,6 @@ use Rattle.run.specs.Limits.{VARIABLES, CONSTRAINTS}
 use Rattle.run.specs.Rows.{row_numbers, row_counts}
 use Rattle.run.specs.program.Endings.{Underway}
 use Rattle.run.specs.program.Rows.{FewRows}
-use Rattle.run.specs.declared.corrected.Shifted.{Shifted}
-use Rattle.run.specs.declared.corrected.Shifted.TheVariants as shifted
 use Rattle.run.specs.declared.rows.RowCounts.{RowCounts}
 use Rattle.run.specs.declared.state.State.{State}
 use Rattle.run.specs.Area.{HasRoom}
@@ -34,10 +33,10 @@ pub record RowsToLand (st : State) (area : List Float) (m rows : ℕ) : Type 0 w
 -- ---- what is answered
 
 -- what an answer says, with what the slice for the point holds
-abbrev pub shifted_of : Shifted → List Float → Res Shift
-shifted_of shifted.To next = ok (to next)
-shifted_of shifted.Stay next = ok stay
-shifted_of (shifted.Refused e) next = refused (number_of e)
+abbrev pub shifted_of : Result Bool LinearError → List Float → Res Shift
+shifted_of (Ok true) next = ok (to next)
+shifted_of (Ok false) next = ok stay
+shifted_of (Err e) next = refused (number_of e)
 
 -- whether a correction's rows are nearer the constraints than the landed ones, by the violations of both
 abbrev pub nearer_of : Res Scalar → Res Scalar → Res Bool

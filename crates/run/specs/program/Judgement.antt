@@ -1,11 +1,10 @@
 -- For private functions: what a judgement is given, and what it answers.
-use Rattle.std.specs.Prelude.{ℕ, ◌<◌, ◌≤◌, ◌*◌}
+use Rattle.linear.specs.declared.results.LinearError.{LinearError}
+use Rattle.std.specs.Prelude.{ℕ, ◌<◌, ◌≤◌, ◌*◌, Err, Ok, Result}
 use Rattle.interval.specs.Result.{Res, ok, refused}
 use Rattle.linear.specs.LinearResult.{number_of}
 use Rattle.run.specs.Judgement.{Judged}
 use Rattle.run.specs.declared.judgement.Baseline.{Baseline}
-use Rattle.run.specs.declared.judgement.Judgement.{Judgement}
-use Rattle.run.specs.declared.judgement.Judgement.TheVariants as judgement
 use Rattle.run.specs.declared.rows.RowCounts.{RowCounts}
 use Rattle.run.specs.program.Rows.{FewRows}
 
@@ -17,6 +16,6 @@ pub record Judging (c d : RowCounts) (b : Baseline) (step : ℕ) : Type 0 where
   pub step_is : 2 * c.n ≤ step
 
 -- what a judgement means
-abbrev pub judgement_of : Judgement → Res Judged
-judgement_of (judgement.Of j) = ok j
-judgement_of (judgement.Refused k) = refused (number_of k)
+abbrev pub judgement_of : Result Judged LinearError → Res Judged
+judgement_of (Ok j) = ok j
+judgement_of (Err k) = refused (number_of k)

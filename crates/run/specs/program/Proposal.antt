@@ -1,9 +1,10 @@
 -- For private functions: a standing point by its parts, and what a proposal answers.
-use Rattle.std.specs.Prelude.{ℕ, ◌*◌, Bool, List, [], Float}
+use Rattle.std.specs.Prelude.{ℕ, ◌*◌, Bool, List, [], Float, Result, Ok, Err}
 use Rattle.interval.specs.Result.{Res, ok, refused}
 use Rattle.interval.specs.Scalar.{zero_s, pick}
 use Rattle.interval.specs.declared.Scalar.{Scalar}
 use Rattle.linear.specs.LinearResult.{number_of}
+use Rattle.linear.specs.declared.results.LinearError.{LinearError}
 use Rattle.run.specs.Area.{part_of, places_of, spare_at}
 use Rattle.run.specs.Curvature.{curvature_entries}
 use Rattle.run.specs.declared.rows.RowCounts.{RowCounts}
@@ -55,7 +56,7 @@ abbrev pub curvature_for : Sizes → Bool → List Float → List Float
 curvature_for z plain a = part_of a (pick plain (spare_at z) (places_of z).curvature) (2 * curvature_entries z.n)
 
 -- what is prepared gives the step of every damping of the search
-abbrev pub PreparedAt : Origin → List Float → Prepared → List ℕ → List Float → Type 0
+abbrev pub PreparedAt : Origin → List Float → Result Prepared LinearError → List ℕ → List Float → Type 0
 PreparedAt z a x order fixed =
     let c = z.point.counts in
     PreparedFor c.n (evaluation_of c (rows_of z.sizes c a)) (curvature_for z.sizes z.plain a) z.moving x
@@ -73,16 +74,16 @@ next_in z a delta = moved_of z.point.counts.n (standing_part z.sizes a) delta
 -- ---- what the functions answer
 
 -- with what is written: the step, its multipliers and the point it leads to
-abbrev pub proposal_result : declared.Proposal → List Float → List Float → List Float → Res Proposal
-proposal_result p.NotPositive delta lambda next = ok not_positive
-proposal_result (p.NoDrop r) delta lambda next = ok (no_drop r)
-proposal_result p.Unresolved delta lambda next = ok unresolved
-proposal_result p.NoChange delta lambda next = ok no_change
-proposal_result (p.Ask t) delta lambda next = ok (ask (record {
+abbrev pub proposal_result : Result declared.Proposal LinearError → List Float → List Float → List Float → Res Proposal
+proposal_result (Ok p.NotPositive) delta lambda next = ok not_positive
+proposal_result (Ok (p.NoDrop r)) delta lambda next = ok (no_drop r)
+proposal_result (Ok p.Unresolved) delta lambda next = ok unresolved
+proposal_result (Ok p.NoChange) delta lambda next = ok no_change
+proposal_result (Ok (p.Ask t)) delta lambda next = ok (ask (record {
   delta = delta;
   lambda = lambda;
   next = next;
   predicted = t.predicted;
   tried = t.tried;
 }))
-proposal_result (p.Refused k) delta lambda next = refused (number_of k)
+proposal_result (Err k) delta lambda next = refused (number_of k)

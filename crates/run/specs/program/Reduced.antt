@@ -1,5 +1,6 @@
 -- For private functions: the reduced system by its parts, and what the search for its weights answers.
-use Rattle.std.specs.Prelude.{ℕ, List, ltb, Float}
+use Rattle.linear.specs.declared.results.LinearError.{LinearError}
+use Rattle.std.specs.Prelude.{Bool, ℕ, List, ltb, Float, Err, Ok, Result, false, true}
 use Rattle.interval.specs.Result.{Res, ok, refused}
 use Rattle.interval.specs.Scalar.{zero_s, pick}
 use Rattle.interval.specs.declared.Scalar.{Scalar}
@@ -14,8 +15,6 @@ use Rattle.run.specs.Problem.{Problem}
 use Rattle.run.specs.Reduced.{Weights, weights, none, weights_of, force_of, reduced_of, against_of}
 use Rattle.run.specs.Vectors.{matrix, row, combined_to}
 use Rattle.run.specs.program.NullSpace.{directions_in}
-use Rattle.run.specs.declared.reduced.WeightsEnd.{WeightsEnd}
-use Rattle.run.specs.declared.reduced.WeightsEnd.TheVariants as a
 
 -- ---- what the program keeps and answers
 
@@ -30,10 +29,10 @@ spanned count z = directions_in count z matrix
 unfoldable pub lower_at : ℕ → List Float → List Float → ℕ → ℕ → Scalar
 lower_at k z hz i j = pick (ltb i j) zero_s (choose_of (dot_to (row z i) (row hz j) k))
 
-abbrev pub weights_result : WeightsEnd → List Float → Res Weights
-weights_result a.Found w = ok (weights w)
-weights_result a.NotPositive w = ok none
-weights_result (a.Refused e) w = refused (number_of e)
+abbrev pub weights_result : Result Bool LinearError → List Float → Res Weights
+weights_result (Ok true) w = ok (weights w)
+weights_result (Ok false) w = ok none
+weights_result (Err e) w = refused (number_of e)
 
 -- the weights for a reduced matrix
 unfoldable pub solved_with : ℕ → List Float → List Float → Res Weights

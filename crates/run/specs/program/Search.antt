@@ -9,7 +9,6 @@ use Rattle.run.specs.declared.search.Found.TheVariants as f
 use Rattle.run.specs.declared.search.Turn.{Turn}
 use Rattle.run.specs.declared.search.Turn.TheVariants as t
 use Rattle.run.specs.declared.state.Search.{Search}
-use Rattle.run.specs.declared.state.Stop.{Stop}
 
 -- how the loop over dampings turns after a rejection
 abbrev pub turn_of : Damped → Turn

@@ -1,12 +1,11 @@
 -- For private functions: a step by its parts, and what no damping changes, prepared once for every damping.
-use Rattle.std.specs.Prelude.{ℕ, ◌≤◌, Bool, List, ◌≡◌, Float, take, drop, length}
+use Rattle.linear.specs.declared.results.LinearError.{LinearError}
+use Rattle.std.specs.Prelude.{ℕ, ◌≤◌, Bool, List, ◌≡◌, Float, take, drop, length, Err, None, Ok, Option, Result, Some}
 use Rattle.interval.specs.Result.{Res, ok, refused}
 use Rattle.interval.specs.Scalar.{pick}
 use Rattle.interval.specs.declared.Scalar.{Scalar}
 use Rattle.linear.specs.LinearResult.{number_of}
 use Rattle.linear.specs.Results.{bind}
-use Rattle.linear.specs.declared.results.Done.{Done}
-use Rattle.linear.specs.declared.results.Done.TheVariants as done
 use Rattle.run.specs.Basis.{Basis, correction_of}
 use Rattle.run.specs.Limits.{VARIABLES, CONSTRAINTS}
 use Rattle.run.specs.NullSpace.{Directions, directions_of}
@@ -16,21 +15,16 @@ use Rattle.run.specs.Step.{Step, Stepped, found, not_positive, spread_step, free
 use Rattle.run.specs.Vectors.{matrix, all_finite}
 use Rattle.run.specs.program.Problem.{damped_from, gradient_in}
 use Rattle.run.specs.program.Reduced.{spanned, curved}
-use Rattle.run.specs.declared.results.CountResult.{CountResult}
-use Rattle.run.specs.declared.results.CountResult.TheVariants as count
 use Rattle.run.specs.declared.step.Dimensions.{Dimensions}
 use Rattle.run.specs.declared.step.Prepared.{Prepared}
-use Rattle.run.specs.declared.step.Prepared.TheVariants as p
-use Rattle.run.specs.declared.step.StepEnd.{StepEnd}
-use Rattle.run.specs.declared.step.StepEnd.TheVariants as s
 
 abbrev pub step_in : List Float → List Float → ℕ → Step
 step_in delta lambda r = record { delta = delta; lambda = lambda; independent = r }
 
-abbrev pub end_of : StepEnd → List Float → List Float → Res Stepped
-end_of (s.Found r) delta lambda = ok (found (step_in delta lambda r))
-end_of s.NotPositive delta lambda = ok not_positive
-end_of (s.Refused e) delta lambda = refused (number_of e)
+abbrev pub end_of : Result (Option ℕ) LinearError → List Float → List Float → Res Stepped
+end_of (Ok (Some r)) delta lambda = ok (found (step_in delta lambda r))
+end_of (Ok None) delta lambda = ok not_positive
+end_of (Err e) delta lambda = refused (number_of e)
 
 -- the step, once its multipliers are solved for, and spread over all variables
 unfoldable pub with_multipliers : List Float → ℕ → Res (List Float) → Res Stepped
@@ -69,30 +63,24 @@ tested_step P = pick (all_finite P.h 144) (kept_step P) (ok not_positive)
 -- ---- what no damping changes
 
 -- how many rows are in the basis, and how many directions are free
-abbrev pub independent_in : Prepared → ℕ
-independent_in (p.Ready r count) = r
-independent_in (p.Refused e) = 0
+abbrev pub independent_in : Result Prepared LinearError → ℕ
+independent_in (Ok p) = p.independent
+independent_in (Err e) = 0
 
-abbrev pub free_in : Prepared → ℕ
-free_in (p.Ready r count) = count
-free_in (p.Refused e) = 0
+abbrev pub free_in : Result Prepared LinearError → ℕ
+free_in (Ok p) = p.free
+free_in (Err e) = 0
 
 -- at most twelve of each
-pub record Few (x : Prepared) : Type 0 where
+pub record Few (x : Result Prepared LinearError) : Type 0 where
   pub independent : independent_in x ≤ 12
   pub free : free_in x ≤ 12
 
--- how the preparation ends with r independent rows, where the correction and then the directions ended so
-abbrev pub ready_of : Done → CountResult → ℕ → Prepared
-ready_of done.Finished (count.Value free) r = p.Ready r free
-ready_of done.Finished (count.Refused e) r = p.Refused e
-ready_of (done.Refused e) x r = p.Refused e
-
 -- the step over the kept variables from it, for the curvature and the gradient of a problem
-abbrev pub ready_step : Prepared → Problem → List Float → List Float → List ℕ → List Float → List Float → Res Stepped
-ready_step (p.Ready r count) P q coefficients order delta z =
-    free_step P (basis_for r q coefficients order) delta (spanned count z)
-ready_step (p.Refused e) P q coefficients order delta z = refused (number_of e)
+abbrev pub ready_step : Result Prepared LinearError → Problem → List Float → List Float → List ℕ → List Float → List Float → Res Stepped
+ready_step (Ok p) P q coefficients order delta z =
+    free_step P (basis_for p.independent q coefficients order) delta (spanned p.free z)
+ready_step (Err e) P q coefficients order delta z = refused (number_of e)
 
 -- ---- the factors: Q, the coefficients, the correction and the directions, one behind the other
 
@@ -102,7 +90,7 @@ basis_with r order factors = basis_for r (take 288 factors) (take 288 (drop 288 
 abbrev pub directions_with : ℕ → List Float → Directions
 directions_with count factors = spanned count (take 288 (drop 600 factors))
 
-abbrev pub step_from_factors : Prepared → Problem → List ℕ → List Float → Res Stepped
+abbrev pub step_from_factors : Result Prepared LinearError → Problem → List ℕ → List Float → Res Stepped
 step_from_factors x P order factors =
     ready_step x P (take 288 factors) (take 288 (drop 288 factors)) order (take 24 (drop 576 factors))
     (take 288 (drop 600 factors))
@@ -132,24 +120,24 @@ abbrev pub factors_in : List Float → List Float
 factors_in fixed = take 888 (drop 336 fixed)
 
 -- with the damping mu; none where H is not finite
-unfoldable pub damped_step : ℕ → Prepared → List ℕ → List Float → Scalar → Res Stepped
+unfoldable pub damped_step : ℕ → Result Prepared LinearError → List ℕ → List Float → Scalar → Res Stepped
 damped_step k x order fixed mu =
     let h = damped_from k fixed mu in
     pick (all_finite h 144) (step_from_factors x (curved k h (gradient_in fixed)) order (factors_in fixed)) (ok not_positive)
 
 -- over all variables
-unfoldable pub prepared_step : ℕ → List Bool → Prepared → List ℕ → List Float → Scalar → Res Stepped
+unfoldable pub prepared_step : ℕ → List Bool → Result Prepared LinearError → List ℕ → List Float → Scalar → Res Stepped
 prepared_step n moving x order fixed mu =
     let k = kept_to moving n in
     spread_end k (damped_step k.count x order fixed mu)
 
-pub record PreparedSizes (x : Prepared) (order : List ℕ) (fixed : List Float) : Type 0 where
+pub record PreparedSizes (x : Result Prepared LinearError) (order : List ℕ) (fixed : List Float) : Type 0 where
   pub few : Few x
   pub order_length : length order ≡ 24
   pub fixed_length : length fixed ≡ fixed_len
 
 -- what is prepared gives the step of every damping
-pub record PreparedFor (n : ℕ) (e : Evaluation) (b : List Float) (moving : List Bool) (x : Prepared) (order : List ℕ)
+pub record PreparedFor (n : ℕ) (e : Evaluation) (b : List Float) (moving : List Bool) (x : Result Prepared LinearError) (order : List ℕ)
     (fixed : List Float) : Type 0 where
   pub sizes : PreparedSizes x order fixed
   pub steps : (mu : Scalar) → prepared_step n moving x order fixed mu ≡ step_of n e b moving mu

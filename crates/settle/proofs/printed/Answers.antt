@@ -1,33 +1,14 @@
--- `printed` meets its contract and ends: i counts up to the length, past bytes that are not zero.
-use Prim.Native.Nat.{◌-◌, ◌≤◌}
-use mathlib.Core.Path.{◌≡◌, refl, sym}
-use native.Mathlib.Omega.{arith}
-use lib.ListN.{length}
-use lib.Seq.{length-take-le}
-use borrow.Author.Rules.{rules}
-use Rattle.settle.proofs.ScanLaws.{Scanned, scanned_none, scanned_more, scanned_zero, scanned_all}
+-- `printed` meets its contract: the place of the first zero is how many bytes stand before it.
+use Rattle.std.proofs.Common.{◌≡◌, rules, tests, take}
+use mathlib.Core.Path.{sym, ap, ◌∙◌}
+use Rattle.std.proofs.lemmas.Iterator.{IsFirst-from_position, YieldsList-from_slice, index_from_first}
+use Rattle.settle.proofs.ScanLaws.{before_count, none_first, zero_first, other_first, take_before}
 use Rattle.settle.proofs.printed.Goals as goal
 
-pub loop-i-init : goal.loop-i-init
-loop-i-init c = (omega arith, refl, scanned_none _)
-
-pub returns-then-slot-i-eq-END : goal.returns-then-slot-i-eq-END
-returns-then-slot-i-eq-END c =
-    let l = c.loop-i in
-    record {
-      prefix_len = (omega arith, sym (length-take-le _ _ (omega arith)));
-      slot_value = scanned_zero _ _ l.invariant.2 c.loop-i-test.true c.if-slot-i-eq-END.true;
-    }
-
-pub loop-i-preserved : goal.loop-i-preserved
-loop-i-preserved c =
-    let l = c.loop-i in
-    (omega arith, refl, scanned_more _ _ l.invariant.2 c.loop-i-test.true c.if-slot-i-eq-END.false)
-
-pub returns : goal.returns
-returns c =
-    let l = c.loop-i in
-    record {
-      prefix_len = (omega arith, sym (length-take-le _ _ (omega arith)));
-      slot_value = scanned_all _ l.i l.invariant.2 (omega arith);
-    }
+pub returns-clause-slot_value : goal.returns-clause-slot_value
+returns-clause-slot_value c =
+    let slot = c.args.slot.now in
+    let first = IsFirst-from_position _ _ _ (λ b. b ≡ 0) (λ b. b ≡ 0 → ⊥) c.position.ensures.ran
+    (YieldsList-from_slice slot cc) (λ x q k. search (rules, tests)) (λ x q k. search (rules, tests)) in
+    let count = index_from_first before_count (λ b. b ≡ 0) (λ b. b ≡ 0 → ⊥) none_first zero_first other_first slot _ first in
+    ap (λ k. take k slot) (c.unwrap_or.ensures ∙ sym count) ∙ take_before slot

@@ -2,8 +2,11 @@
 use mathlib.Core.Path.{ap, ◌∙◌}
 use borrow.Author.Rules.{rules}
 use Rattle.settle.specs.Printed.{before_zero}
-use Rattle.settle.proofs.PrintedLaws.{before_padded, settled_slot}
+use Rattle.settle.proofs.PrintedLaws.{before_padded, settled_slot, settled_ok}
 use Rattle.settle.proofs.settled.Goals as goal
+
+pub unwrap-requires : goal.unwrap-requires
+unwrap-requires c = settled_ok _ _ _ c.settle_text.result c.requires.0 c.requires.1 c.settle_text.ensures
 
 pub returns : goal.returns
 returns c =

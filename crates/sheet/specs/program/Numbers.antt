@@ -1,17 +1,11 @@
--- What serves the reader's private functions: numbers with capped sizes, and where what follows them begins. All above
--- the cap is out of every range, so no test tells a size from its cap.
-use Rattle.std.specs.Prelude.{ℕ, ◌+◌, ◌-◌, ◌*◌, List, [], ◌∷◌, leb, drop}
+-- What serves the reader's private functions: numbers with capped sizes. All above the cap is out of every range, so no
+-- test tells a size from its cap.
+use Rattle.std.specs.Prelude.{ℕ, ◌+◌, ◌-◌, ◌*◌, List, [], ◌∷◌, leb}
 use Rattle.interval.specs.Result.{Res, ok, refused}
 use Rattle.interval.specs.Scalar.{pick}
-use Rattle.sheet.specs.Text.{Part, part, MALFORMED}
+use Rattle.sheet.specs.Text.{Part, part}
 use Rattle.sheet.specs.Numbers.{is_digit}
 use Rattle.sheet.specs.declared.numbers.Number.{Number}
-use Rattle.sheet.specs.declared.numbers.OneField.{OneField}
-use Rattle.sheet.specs.declared.numbers.OneField.TheVariants as one
-use Rattle.sheet.specs.declared.numbers.TwoFields.{TwoFields}
-use Rattle.sheet.specs.declared.numbers.TwoFields.TheVariants as two
-use Rattle.sheet.specs.declared.numbers.ThreeFields.{ThreeFields}
-use Rattle.sheet.specs.declared.numbers.ThreeFields.TheVariants as three
 
 abbrev pub CAP : ℕ
 CAP = 10000001
@@ -40,16 +34,3 @@ abbrev pub capped_three : Res (Part (Number × Number × Number)) → Res (Part 
 capped_three (ok p) =
     ok (part (capped_number p.value.0, capped_number p.value.1, capped_number p.value.2) p.rest)
 capped_three (refused k) = refused k
-
--- what a function returns, in a text
-abbrev pub field_in : List ℕ → OneField → Res (Part Number)
-field_in text (one.Read x next) = ok (part x (drop next text))
-field_in text one.Malformed = refused MALFORMED
-
-abbrev pub two_in : List ℕ → TwoFields → Res (Part (Number × Number))
-two_in text (two.Read x y next) = ok (part (x, y) (drop next text))
-two_in text two.Malformed = refused MALFORMED
-
-abbrev pub three_in : List ℕ → ThreeFields → Res (Part (Number × Number × Number))
-three_in text (three.Read x y z next) = ok (part (x, y, z) (drop next text))
-three_in text three.Malformed = refused MALFORMED

@@ -1,6 +1,7 @@
 -- What serves the functions that settle: a sheet within its ranges, with rows of the length that it asks for.
 use Rattle.std.specs.Prelude.{ℕ, ◌+◌, ◌*◌, ◌≤◌, List, ◌≡◌, Float, length}
 use Rattle.run.specs.Calls.{AfterCall}
+use Rattle.run.specs.declared.refusal.Refusal.TheVariants.{Altered}
 use Rattle.run.specs.declared.state.Event.TheVariants.{Refused}
 use Rattle.run.specs.declared.state.State.{State}
 use Rattle.sheet.specs.Settling.{answer_of}
@@ -27,4 +28,4 @@ pub record InRange (s : Sheet) (rows : ℕ) : Type 0 where
 
 -- the reply to a state; its last event has no part in it
 abbrev pub reply_to : definition.Sheet → List Float → State → List Float → AfterCall
-reply_to s aims st a = answer_of s aims (record { state = st; event = Refused 0; area = a })
+reply_to s aims st a = answer_of s aims (record { state = st; event = Refused Altered; area = a })

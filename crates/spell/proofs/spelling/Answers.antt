@@ -8,14 +8,15 @@ use borrow.Author.Rules.{rules}
 use borrow.Author.Tests.{eq-eqb}
 use lib.ListN.{length, replicate, take, length-append}
 use lib.Seq.{take_at, length-take-le}
-use Rattle.interval.specs.Result.{ok, refused}
+use Rattle.std.specs.Prelude.{Result, Ok, Err, IsOk}
+use Rattle.interval.specs.Result.{ok}
 use Rattle.interval.proofs.Results.{refused_ok}
 use Rattle.spell.specs.Counts.{IsPrefixLen}
 use Rattle.sheet.specs.Lines.{padded_to}
 use Rattle.sheet.specs.Sheet.{most_bytes, read_of}
 use Rattle.sheet.specs.Spelling.{AfterSpelling, after_spelling, returned_in, written_text}
 use Rattle.sheet.specs.Spelling.{printed_spelling, print_spelling_of}
-use Rattle.sheet.specs.declared.spelling.Spelled.{Spelled}
+use Rattle.sheet.specs.declared.fault.Fault.{Fault}
 use Rattle.sheet.proofs.SheetLaws.{same}
 use Rattle.spell.proofs.WholeText.{print_of}
 use Rattle.spell.proofs.spelling.Goals as goal
@@ -35,29 +36,28 @@ begins size text out n e l =
       ap (take n) e ∙ take_at text zeros n (sym l),
     )
 
-module _ (text out : List ℕ) (fits : length out ≡ most_bytes) (r : Spelled) {after : List ℕ}
+module _ (text out : List ℕ) (fits : length out ≡ most_bytes) (r : Result ℕ Fault) {after : List ℕ}
     (e : after_spelling (returned_in r) after ≡ print_spelling_of text out) where
   returned : returned_in r ≡ ok (length (print_of text))
   returned = ap (λ (a : AfterSpelling). a.returned) (e ∙ is_written text out fits)
 
-  printed : (n : ℕ) → returned_in r ≡ ok n → IsPrefixLen n after × (take n after ≡ print_of text)
+  printed : (n : ℕ) → r ≡ Ok n → IsPrefixLen n after × (take n after ≡ print_of text)
   printed n q =
       begins most_bytes (print_of text) after n (ap (λ (a : AfterSpelling). a.out) (e ∙ is_written text out fits))
-      (same (sym q ∙ returned))
+      (same (sym (ap returned_in q) ∙ returned))
 
-  not_refused : (k : ℕ) → returned_in r ≡ refused k → ⊥
-  not_refused k q = refused_ok (sym q ∙ returned)
+-- a call that is not refused
+accepted : {n : ℕ} (r : Result ℕ Fault) → returned_in r ≡ ok n → IsOk r
+accepted (Ok n) e = search rules
+accepted (Err f) e = absurd (refused_ok e)
 
-pub returns-in-Written : goal.returns-in-Written
-returns-in-Written c =
+pub unwrap-requires : goal.unwrap-requires
+unwrap-requires c =
     let p = c.print_spelling in
-    let q =
-    printed c.args.text.now c.args.out.now c.requires p.result p.ensures _ (ap returned_in c.in-Written.is) in
+    accepted p.result (returned c.args.text.now c.args.out.now c.requires p.result p.ensures)
+
+pub returns : goal.returns
+returns c =
+    let p = c.print_spelling in
+    let q = printed c.args.text.now c.args.out.now c.requires p.result p.ensures _ (search rules) in
     record { prefix_len = q.0; out_after = q.1 }
-
-pub returns-in-Refused : goal.returns-in-Refused
-returns-in-Refused c =
-    let p = c.print_spelling in
-    absurd
-    (not_refused c.args.text.now c.args.out.now c.requires p.result p.ensures _
-    (ap returned_in c.in-Refused.is))

@@ -1,5 +1,5 @@
 -- `abs` meets its contract: each branch is the definition's by its tests, and the size of a choice is enclosed.
-use Rattle.std.proofs.Common.{◌≡◌, ◌^◌, T, sym, subst, rules}
+use Rattle.std.proofs.Common.{◌≡◌, ◌^◌, T, sym, subst}
 use lib.Ieee.{of_bits, binary64, fits}
 use Rattle.interval.specs.declared.Scalar.{Scalar}
 use Rattle.interval.specs.Scalar.{abs_of}

@@ -1,5 +1,5 @@
 -- `add` meets its contract: the ends are the definition's, and the sum encloses.
-use Rattle.std.proofs.Common.{◌≡◌, ◌+ℤ◌, sym, subst, rules}
+use Rattle.std.proofs.Common.{◌≡◌, ◌+ℤ◌, sym, subst}
 use Rattle.interval.specs.Scalar.{add_of}
 use Rattle.interval.specs.Enclosure.{Encloses}
 use Rattle.interval.proofs.Given.{yes}

@@ -1,6 +1,6 @@
 -- `from_ratio` meets its contract: a zero denominator is refused, and else the quotient of the nearest floats is
 -- stepped outward.
-use Rattle.std.proofs.Common.{◌≡◌, zero, suc, ℤ, pos, negsuc, sym, refl, ap, ◌∙◌, arith, w64, SFits, of_z, rules}
+use Rattle.std.proofs.Common.{◌≡◌, zero, suc, ℤ, pos, negsuc, sym, refl, ap, ◌∙◌, arith, w64, SFits, of_z}
 use mir.ValLaws.{to_z-of_z}
 use lib.Ieee.{of_int, binary64, div}
 use Rattle.interval.specs.Step.{next_up, next_down}

@@ -1,5 +1,5 @@
 -- `inverse` meets its contract: the test decides the refusal.
-use Rattle.std.proofs.Common.{sym, ap, ◌∙◌, rules}
+use Rattle.std.proofs.Common.{sym, ap, ◌∙◌}
 use lib.Ieee.{of_bits}
 use Rattle.interval.specs.Result.{ok}
 use Rattle.interval.specs.Scalar.{inverse_of}

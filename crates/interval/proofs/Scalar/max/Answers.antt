@@ -1,5 +1,5 @@
 -- `max` meets its contract: the chosen ends joined are the definition's, and the greater of two choices is enclosed.
-use Rattle.std.proofs.Common.{◌≡◌, sym, subst, rules}
+use Rattle.std.proofs.Common.{◌≡◌, sym, subst}
 use Rattle.interval.specs.Enclosure.{Encloses, maxℤ}
 use Rattle.interval.specs.Scalar.{max_of}
 use Rattle.interval.proofs.Given.{yes}

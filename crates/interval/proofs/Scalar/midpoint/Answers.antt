@@ -1,5 +1,4 @@
 -- `midpoint` meets its contract.
-use Rattle.std.proofs.Common.{rules}
 use lib.Ieee.{of_bits}
 use Rattle.interval.proofs.Scalar.midpoint.Goals as goal
 

@@ -1,5 +1,5 @@
 -- `mul` meets its contract: the corners are the definition's, and the product encloses.
-use Rattle.std.proofs.Common.{sym, subst, rules}
+use Rattle.std.proofs.Common.{sym, subst}
 use Rattle.interval.specs.Enclosure.{EnclosesProduct}
 use Rattle.interval.proofs.Given.{yes}
 use Rattle.interval.proofs.Enclosure.Mul.{mul_holds}

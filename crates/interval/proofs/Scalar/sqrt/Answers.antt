@@ -1,5 +1,5 @@
 -- `sqrt` meets its contract: the test decides the refusal, and else the stepped roots of the ends enclose the root.
-use Rattle.std.proofs.Common.{◌≡◌, sym, ap, ◌∙◌, subst, rules}
+use Rattle.std.proofs.Common.{◌≡◌, sym, ap, ◌∙◌, subst}
 use lib.Ieee.{of_bits}
 use Rattle.interval.specs.Scalar.{sqrt_of, outward, clamped}
 use Rattle.interval.specs.Root.{nearest_root}

@@ -1,5 +1,5 @@
 -- `sub` meets its contract: the ends are the definition's, and the difference encloses.
-use Rattle.std.proofs.Common.{◌≡◌, ◌-ℤ◌, sym, subst, rules}
+use Rattle.std.proofs.Common.{◌≡◌, ◌-ℤ◌, sym, subst}
 use Rattle.interval.specs.Scalar.{sub_of}
 use Rattle.interval.specs.Enclosure.{Encloses}
 use Rattle.interval.proofs.Given.{yes}

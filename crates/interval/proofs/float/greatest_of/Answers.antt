@@ -1,5 +1,4 @@
 -- `greatest_of` meets its contract: the fold by max is a fold of plain choices.
-use Rattle.std.proofs.Common.{rules}
 use lib.Ieee.{of_bits, div, neg}
 use Rattle.interval.proofs.MinMax.{greatest_is}
 use Rattle.interval.proofs.float.greatest_of.Goals as goal

@@ -1,5 +1,4 @@
 -- `least_of` meets its contract: the fold by min is a fold of plain choices.
-use Rattle.std.proofs.Common.{rules}
 use lib.Ieee.{of_bits, div}
 use Rattle.interval.proofs.MinMax.{least_is}
 use Rattle.interval.proofs.float.least_of.Goals as goal

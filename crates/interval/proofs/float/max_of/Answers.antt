@@ -1,12 +1,12 @@
 -- `max_of` meets its contract.
-use Rattle.std.proofs.Common.{rules}
 use Rattle.interval.specs.Float.{fmax}
+use Rattle.interval.proofs.Tests.{same_nan}
 use Rattle.interval.proofs.float.max_of.Goals as goal
 
-pub returns-then-a : goal.returns-then-a
+pub returns-then-is_nan : goal.returns-then-is_nan
 unfolding fmax
-returns-then-a c = simp c.if-a.true
+returns-then-is_nan c = rw (← same_nan c.args.a, ← c.is_nan.ensures.value, c.if-is_nan.true)
 
 pub returns : goal.returns
 unfolding fmax
-returns c = simp c.if-a.false c.greater_of.ensures
+returns c = rw (← same_nan c.args.a, ← c.is_nan.ensures.value, c.if-is_nan.false) c.greater_of.ensures

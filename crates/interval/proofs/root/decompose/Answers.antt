@@ -1,5 +1,4 @@
 -- `decompose` meets its contract: the fields of the pattern, a field of 0 counted as 1.
-use Rattle.std.proofs.Common.{rules}
 use Rattle.interval.proofs.RootBits.{parts_zero, parts_more}
 use Rattle.interval.proofs.root.decompose.Goals as goal
 

@@ -1,10 +1,6 @@
 -- `even_exponent` meets its contract: an odd exponent gives one factor of 2 to c.
-use Rattle.std.proofs.Common.{rules}
 use Rattle.interval.proofs.RootBits.{even_step}
 use Rattle.interval.proofs.root.even_exponent.Goals as goal
-
-pub returns-then-s-eq0 : goal.returns-then-s-eq0
-returns-then-s-eq0 c = search rules
 
 pub returns : goal.returns
 returns c = even_step c.args.s.c c.args.s.e

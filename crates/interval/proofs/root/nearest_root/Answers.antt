@@ -2,7 +2,7 @@
 use Rattle.std.proofs.Common.{T, sym, ◌∙◌, subst, le_of_lt}
 use lib.Ieee.{of_bits, div, binary64}
 use Rattle.interval.proofs.Patterns.{no_nan}
-use Rattle.interval.proofs.Tests.{positive, negative, no_nan_of}
+use Rattle.interval.proofs.Tests.{positive, negative}
 use Rattle.interval.proofs.RootCases.{root_nan, root_inf, root_zero, root_none, root_above, Above}
 use Rattle.interval.proofs.root.nearest_root.Goals as goal
 
@@ -18,9 +18,6 @@ unfolding of_bits div
 above c =
     root_above c.args.x (subst T (sym c.well_formed.0.1) tt)
     (positive c.args.x c.if-x.false c.if-x-2.false c.if-x-3.true)
-
-pub float_to_bits-x : goal.float_to_bits-x
-float_to_bits-x c = no_nan_of c.args.x c.if-x.false
 
 pub root_bits-requires : goal.root_bits-requires
 root_bits-requires c = ((above c).0, (above c).1)

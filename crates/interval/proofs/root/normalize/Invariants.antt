@@ -1,6 +1,5 @@
 -- `normalize` meets its contract: each turn moves one factor of 2 from the exponent to c.
-use Rattle.std.proofs.Common.{arith, rules}
-use Rattle.interval.proofs.RootBits.{Up, up_start, up_more, up_turn}
+use Rattle.interval.proofs.RootBits.{Up}
 use Rattle.interval.proofs.root.normalize.Given as goal
 
 abbrev pub invariant-loop-c : goal.invariant-loop-c

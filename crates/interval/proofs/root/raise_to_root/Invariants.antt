@@ -1,7 +1,6 @@
 -- `raise_to_root` meets its contract: the square of the candidate stays at most c, and the loop is left where the next
 -- square is above c.
-use Rattle.std.proofs.Common.{◌+◌, ◌-◌, ◌*◌, ◌^◌, ◌≤◌, arith, rules}
-use Rattle.interval.proofs.RootExtend.{root_lt, fits28}
+use Rattle.std.proofs.Common.{◌-◌, ◌*◌, ◌^◌, ◌≤◌}
 use Rattle.interval.proofs.root.raise_to_root.Given as goal
 
 abbrev pub invariant-loop-q : goal.invariant-loop-q

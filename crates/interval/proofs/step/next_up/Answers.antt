@@ -3,16 +3,12 @@ use Rattle.std.proofs.Common.{ℕ, not, T, sym, ap, ◌∙◌, subst}
 use lib.Ieee.{of_bits, div, binary64, nan_bits, le}
 use Rattle.interval.specs.Scalar.{zero64}
 use Rattle.interval.proofs.Given.{yes}
-use Rattle.interval.proofs.NextUp.{Stepped, stepped, not_nan, ends}
+use Rattle.interval.proofs.NextUp.{Stepped, stepped, ends}
 use Rattle.interval.proofs.step.next_up.Goals as goal
 
 above : (c : goal.Then-x) → Stepped c.args.x (le zero64 c.args.x)
 unfolding of_bits div
 above c = stepped c.args.x (yes c.well_formed.0.1) c.if-x.true
-
-pub float_to_bits-x : goal.float_to_bits-x
-unfolding of_bits div
-float_to_bits-x c = not_nan c.args.x c.if-x.true
 
 pub pattern_above-requires : goal.pattern_above-requires
 unfolding of_bits

@@ -1,5 +1,4 @@
 -- `minus_fresh` meets its contract: the bounds of the product are added to those of z, each to the other.
-use borrow.Author.Rules.{rules}
 use Rattle.interval.specs.Scalar.{mul_of}
 use Rattle.linear.proofs.BoundLaws.{difference_below, difference_above, difference_bounds}
 use Rattle.linear.proofs.bounds.minus_fresh.Goals as goal

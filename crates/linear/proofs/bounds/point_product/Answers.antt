@@ -1,7 +1,6 @@
 -- `point_product` meets its contract: the product of the lower ends is the greatest and the least of the four.
 use mathlib.Core.Path.{◌≡◌, ap, ◌∙◌, subst, sym}
 use mathlib.Core.Bool.{true, not}
-use borrow.Author.Rules.{rules}
 use lib.Dec.{T}
 use lib.Ieee.{Float, inf, binary64, add, div, neg, is_nan, of_bits}
 use Rattle.interval.specs.Float.{greater}

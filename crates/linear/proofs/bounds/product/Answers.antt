@@ -1,6 +1,5 @@
 -- `product` meets its contract: each bound is the greatest of four products, stepped up, with -0 made +0.
 use mathlib.Core.Path.{refl, ap}
-use borrow.Author.Rules.{rules}
 use lib.Ieee.{of_bits}
 use Rattle.linear.specs.Bounds.{unsigned}
 use Rattle.linear.proofs.BoundLaws.{product_below, product_above, product_bounds}

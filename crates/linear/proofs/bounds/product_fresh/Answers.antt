@@ -1,6 +1,5 @@
 -- `product_fresh` meets its contract: each bound is the greatest of four products, stepped up.
 use mathlib.Core.Path.{refl}
-use borrow.Author.Rules.{rules}
 use Rattle.linear.proofs.BoundLaws.{second_below, second_above, second_bounds}
 use Rattle.linear.proofs.bounds.product_fresh.Goals as goal
 

@@ -3,7 +3,6 @@ use mathlib.Core.Path.{◌≡◌, refl, sym, ap, ◌∙◌, subst}
 use mathlib.Core.Logic.{inl, inr}
 use mathlib.Core.Bool.{Bool, true, false}
 use Prim.Native.Nat.{zero, suc}
-use borrow.Author.Rules.{rules}
 use lib.Dec.{T}
 use lib.IntN.{negsuc}
 use lib.Ieee.{Float, nan, inf, fin, binary64, add, mul, neg, lt, eq, ne, fits, round, of_bits}
@@ -55,6 +54,3 @@ returns-then-q-2 c =
     let g = c.well_formed.0.1.1 in
     square-bounds c.args.q (is-tiny true c.args.q.lo (yes g.0.1) c.if-q-2.true)
     (is-tiny false c.args.q.hi (yes g.1.0.1) c.if-q.true)
-
-pub returns : goal.returns
-returns c = c.product.ensures

@@ -1,5 +1,4 @@
 -- `choose` meets its contract: the test decides which of the two is chosen.
-use borrow.Author.Rules.{rules}
 use lib.Ieee.{of_bits}
 use Rattle.linear.specs.Choose.{choose_of}
 use Rattle.linear.proofs.choices.choose.Goals as goal

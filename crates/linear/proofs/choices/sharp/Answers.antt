@@ -1,6 +1,5 @@
 -- `sharp` meets its contract: each check decides one of the definition's.
 use borrow.Author.Tests.{le-leb, lt-leb, eq-eqb, ne_eqb}
-use borrow.Author.Rules.{rules}
 use Rattle.linear.specs.Calls.{sharp_reply}
 use Rattle.linear.proofs.choices.sharp.Goals as goal
 

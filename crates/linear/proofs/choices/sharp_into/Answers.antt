@@ -1,14 +1,10 @@
 -- `sharp_into` meets its contract: the slice starts with the scalars chosen so far, and is else as it was.
-use mathlib.Core.Path.{◌≡◌, sym, ◌∙◌}
-use mathlib.Core.List.{◌++◌}
-use Prim.Native.Nat.{◌*◌, ◌≤◌, ◌-◌}
+use mathlib.Core.Path.{sym, ◌∙◌}
 use native.Mathlib.Omega.{arith}
-use native.Mathlib.Nat.{le_antisymm}
 use borrow.Author.Rules.{rules}
-use lib.ListN.{length, drop}
 use Rattle.linear.specs.Flat.{at}
 use Rattle.linear.specs.Choose.{choose_of, sharp_of}
-use Rattle.linear.proofs.Lists.{list_to-none, list_to-more, list_to-all}
+use Rattle.linear.proofs.Lists.{list_to-none, list_to-more}
 use Rattle.linear.proofs.choices.sharp_into.Goals as goal
 
 pub loop-i-init : goal.loop-i-init
@@ -26,10 +22,3 @@ loop-i-preserved c =
       search rules,
       e ∙ list_to-more (λ j. choose_of (at a.v.now j)) c.loop-i.i a.out.now (omega arith),
     )
-
-pub returns : goal.returns
-unfolding sharp_of
-returns c =
-    let a = c.args in
-    let e = rw (le_antisymm c.loop-i.invariant.0 c.loop-i-test.false) at c.loop-i.invariant.2 in
-    e ∙ list_to-all (λ j. choose_of (at a.v.now j)) a.n a.out.now c.requires

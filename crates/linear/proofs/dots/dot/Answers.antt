@@ -1,7 +1,6 @@
 -- `dot` meets its contract: each check decides one of the definition's.
 use mathlib.Core.Path.{ap}
 use borrow.Author.Tests.{le-leb, lt-leb, eq-eqb, ne_eqb}
-use borrow.Author.Rules.{rules}
 use Rattle.interval.specs.Result.{ok}
 use Rattle.linear.specs.Calls.{dot_reply}
 use Rattle.linear.proofs.dots.dot.Goals as goal

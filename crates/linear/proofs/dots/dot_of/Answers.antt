@@ -3,9 +3,6 @@ use lib.Ieee.{of_bits}
 use Rattle.linear.proofs.Sums.{along_start}
 use Rattle.linear.proofs.dots.dot_of.Goals as goal
 
-pub row_dot-requires : goal.row_dot-requires
-row_dot-requires c = tt
-
 pub returns : goal.returns
 unfolding of_bits
 returns c = rw (along_start, along_start) at c.row_dot.ensures

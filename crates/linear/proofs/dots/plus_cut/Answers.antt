@@ -1,14 +1,11 @@
 -- `plus_cut` meets its contract: the sum is that of the products so far, and each place is its run's, or outside the
 -- slice.
-use mathlib.Core.Path.{◌≡◌, ◌∙◌}
-use Prim.Native.Nat.{◌+◌, ◌*◌, ◌≤◌, ◌-◌}
-use native.Mathlib.Nat.{le_antisymm}
+use mathlib.Core.Path.{◌∙◌}
 use borrow.Author.Rules.{rules}
-use lib.ListN.{length}
-use Rattle.linear.specs.Flat.{along, scalars_at}
+use Rattle.linear.specs.Flat.{along}
 use Rattle.linear.specs.Dot.{plus_to}
 use Rattle.linear.proofs.Sums.{plus_to-more}
-use Rattle.linear.proofs.Walks.{Cut, at_cut, cut_none, cut_more}
+use Rattle.linear.proofs.Walks.{at_cut, cut_none, cut_more}
 use Rattle.linear.proofs.dots.plus_cut.Goals as goal
 
 pub loop-init : goal.loop-init
@@ -27,6 +24,3 @@ loop-preserved c =
       cut_more _ _ _ l.counter l.invariant.2 c.ahead-p.ensures,
       cut_more _ _ _ l.counter l.invariant.3 c.ahead-q.ensures,
     )
-
-pub returns : goal.returns
-returns c = rw (le_antisymm c.loop.invariant.0 c.loop-test.false) at c.loop.invariant.1

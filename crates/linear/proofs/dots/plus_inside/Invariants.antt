@@ -1,21 +1,13 @@
 -- `plus_inside` meets its contract: from where the points end the bounds are those of the sum so far, and proper, and
 -- each place is inside.
-use mathlib.Core.Path.{refl, ◌∙◌}
-use Prim.Native.Nat.{◌≤◌, ◌-◌}
-use native.Mathlib.Nat.{le_antisymm}
-use native.Mathlib.Omega.{arith}
-use borrow.Author.Rules.{rules}
+use Prim.Native.Nat.{◌≤◌}
 use Rattle.interval.specs.declared.Scalar.{Scalar}
 use Rattle.linear.specs.Bounds.{Bounding}
-use Rattle.linear.specs.Flat.{along, scalars_at}
+use Rattle.linear.specs.Flat.{scalars_at}
 use Rattle.linear.specs.Dot.{plus_to}
-use Rattle.linear.proofs.Sums.{plus_to-more, points_within}
-use Rattle.linear.proofs.BoundLaws.{bounds_back, proper_bounds, bounding}
 use Rattle.linear.proofs.dots.plus_inside.Given as goal
 
 abbrev pub invariant-loop-t : goal.invariant-loop-t
-invariant-loop-t l = (l.t ≤ l.k) × ((z : Scalar) → Bounding (plus_to (scalars_at l.a l.i) (scalars_at l.b l.j) z l.done) l.initial.sum
+invariant-loop-t l = (l.t ≤ l.k)
+    × ((z : Scalar) → Bounding (plus_to (scalars_at l.a l.i) (scalars_at l.b l.j) z l.done) l.initial.sum
     → Bounding (plus_to (scalars_at l.a l.i) (scalars_at l.b l.j) z l.t) l.sum)
-
-abbrev pub decreases-loop-t : goal.decreases-loop-t
-decreases-loop-t l = l.k - l.t

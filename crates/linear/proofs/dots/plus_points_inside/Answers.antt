@@ -2,15 +2,14 @@
 -- points, and each place is inside.
 use Rattle.std.proofs.Common.{ap, not}
 use mathlib.Core.Path.{◌≡◌, refl, sym, ◌∙◌, subst}
-use Prim.Native.Nat.{ℕ, ◌≤◌, ◌-◌}
+use Prim.Native.Nat.{ℕ}
 use native.Mathlib.Nat.{le_antisymm}
-use native.Mathlib.Omega.{arith}
 use borrow.Author.Rules.{rules}
 use Rattle.linear.specs.Bounds.{scalar_of, Bounding}
 use Rattle.linear.specs.Flat.{along, scalars_at}
-use Rattle.linear.specs.Dot.{plus_to, points_from}
+use Rattle.linear.specs.Dot.{plus_to}
 use Rattle.linear.proofs.Sums.{plus_to-more, points_start, points_all, points_on, points_end}
-use Rattle.linear.proofs.BoundLaws.{bounds_back, start_bounds, bounding, both_sharp}
+use Rattle.linear.proofs.BoundLaws.{bounds_back, start_bounds, bounding}
 use Rattle.linear.proofs.dots.plus_points_inside.Goals as goal
 
 pub loop-t-init : goal.loop-t-init
@@ -21,36 +20,6 @@ loop-t-init c = (
   start_bounds c.args.z c.requires.start,
 )
 
-pub overflow_mul-t : goal.overflow_mul-t
-overflow_mul-t c = omega (
-  arith,
-  c.requires.first c.loop-t.t c.loop-t-test.true,
-)
-
-pub overflow_add-i : goal.overflow_add-i
-overflow_add-i c = omega (
-  arith,
-  c.requires.first c.loop-t.t c.loop-t-test.true,
-)
-
-pub at_inside-x-requires : goal.at_inside-x-requires
-at_inside-x-requires c = c.requires.first c.loop-t.t c.loop-t-test.true
-
-pub overflow_mul-t-in-loop-t : goal.overflow_mul-t-in-loop-t
-overflow_mul-t-in-loop-t c = omega (
-  arith,
-  c.requires.second c.loop-t.t c.loop-t-test.true,
-)
-
-pub overflow_add-j : goal.overflow_add-j
-overflow_add-j c = omega (
-  arith,
-  c.requires.second c.loop-t.t c.loop-t-test.true,
-)
-
-pub at_inside-y-requires : goal.at_inside-y-requires
-at_inside-y-requires c = c.requires.second c.loop-t.t c.loop-t-test.true
-
 pub returns-then-not-are_points : goal.returns-then-not-are_points
 unfolding along
 returns-then-not-are_points c =
@@ -59,12 +28,6 @@ returns-then-not-are_points c =
     c.at_inside-x.ensures c.at_inside-y.ensures
     c.are_points.ensures (ap not c.if-not-are_points.true) in
     (e ∙ l.invariant.1, l.invariant.2)
-
-pub plus_points-sum-requires : goal.plus_points-sum-requires
-plus_points-sum-requires c =
-    let l = c.loop-t in
-    let s = both_sharp _ _ _ c.are_points.ensures (ap not c.if-not-are_points.false) in
-    (l.invariant.2.proper, s.0, s.1)
 
 pub loop-t-preserved : goal.loop-t-preserved
 unfolding along

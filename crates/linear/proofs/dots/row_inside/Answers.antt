@@ -1,50 +1,10 @@
 -- `row_inside` meets its contract: from where the points end the bounds are those of the sum so far.
 use mathlib.Core.Path.{sym, ◌∙◌}
-use Prim.Native.Nat.{◌≤◌, ◌-◌}
-use native.Mathlib.Omega.{arith}
 use borrow.Author.Rules.{rules}
 use Rattle.interval.specs.Scalar.{zero_s}
-use Rattle.linear.specs.Flat.{along}
 use Rattle.linear.proofs.Sums.{along_row}
-use Rattle.linear.proofs.SumBounds.{GoneOn, gone_more, gone_last}
+use Rattle.linear.proofs.SumBounds.{gone_more, gone_last}
 use Rattle.linear.proofs.dots.row_inside.Goals as goal
-
-pub row_points_inside-begun-requires : goal.row_points_inside-begun-requires
-row_points_inside-begun-requires c = c.requires
-
-pub loop-t-init : goal.loop-t-init
-loop-t-init c = (c.row_points_inside-begun.ensures.0, λ z h. h)
-
-pub overflow_add-a0 : goal.overflow_add-a0
-overflow_add-a0 c =
-    omega
-    (arith, c.requires.first c.loop-t.t c.loop-t-test.true)
-
-pub at_inside-requires : goal.at_inside-requires
-at_inside-requires c =
-    omega
-    (arith, c.requires.first c.loop-t.t c.loop-t-test.true)
-
-pub overflow_add-b0 : goal.overflow_add-b0
-overflow_add-b0 c =
-    omega (
-      arith,
-      c.requires.second c.loop-t.t
-          c.loop-t-test.true,
-    )
-
-pub at_inside-requires-in-loop-t : goal.at_inside-requires-in-loop-t
-at_inside-requires-in-loop-t c =
-    omega (
-      arith,
-      c.requires.second c.loop-t.t
-          c.loop-t-test.true,
-    )
-
-pub plus_product-sum-requires : goal.plus_product-sum-requires
-plus_product-sum-requires c =
-    (c.loop-t.invariant.1 zero_s
-    c.row_points_inside-begun.ensures.1).proper
 
 pub loop-t-preserved : goal.loop-t-preserved
 loop-t-preserved c =

@@ -1,16 +1,8 @@
 -- `row_inside` meets its contract: from where the points end the bounds are those of the sum so far.
-use mathlib.Core.Path.{sym, ◌∙◌}
-use Prim.Native.Nat.{◌≤◌, ◌-◌}
-use native.Mathlib.Omega.{arith}
-use borrow.Author.Rules.{rules}
-use Rattle.interval.specs.Scalar.{zero_s}
+use Prim.Native.Nat.{◌≤◌}
 use Rattle.linear.specs.Flat.{along}
-use Rattle.linear.proofs.Sums.{along_row}
-use Rattle.linear.proofs.SumBounds.{GoneOn, gone_more, gone_last}
+use Rattle.linear.proofs.SumBounds.{GoneOn}
 use Rattle.linear.proofs.dots.row_inside.Given as goal
 
 abbrev pub invariant-loop-t : goal.invariant-loop-t
 invariant-loop-t l = (l.t ≤ l.k) × GoneOn (along l.a l.a0 1) (along l.b l.b0 1) l.done l.initial.sum l.t l.sum
-
-abbrev pub decreases-loop-t : goal.decreases-loop-t
-decreases-loop-t l = l.k - l.t

@@ -1,11 +1,10 @@
 -- `rows_inside` meets its contract: the bounds are those of the difference so far, and proper, and each place is
 -- inside.
 use mathlib.Core.Path.{◌≡◌, refl, ap, ◌∙◌}
-use Prim.Native.Nat.{ℕ, ◌+◌, ◌*◌, ◌≤◌, ◌-◌}
+use Prim.Native.Nat.{ℕ, ◌+◌, ◌*◌}
 use native.Mathlib.Nat.{le_antisymm}
 use native.Mathlib.Omega.{arith}
 use borrow.Author.Rules.{rules}
-use Rattle.linear.specs.Bounds.{scalar_of, Bounding}
 use Rattle.linear.specs.Flat.{at, along}
 use Rattle.linear.specs.Dot.{minus_to}
 use Rattle.linear.proofs.Sums.{minus_to-more}
@@ -16,29 +15,6 @@ pub loop-t-init : goal.loop-t-init
 unfolding minus_to
 loop-t-init c =
     (search rules, proper_bounds c.args.z c.bounds_of-sum.ensures c.requires.start)
-
-pub overflow_add-i0 : goal.overflow_add-i0
-overflow_add-i0 c =
-    omega (arith, c.requires.first c.loop-t.t c.loop-t-test.true)
-
-pub at_inside-requires : goal.at_inside-requires
-at_inside-requires c =
-    omega (arith, c.requires.first c.loop-t.t c.loop-t-test.true)
-
-pub overflow_add-j0 : goal.overflow_add-j0
-overflow_add-j0 c = omega (
-  arith,
-  c.requires.second c.loop-t.t c.loop-t-test.true,
-)
-
-pub at_inside-requires-in-loop-t : goal.at_inside-requires-in-loop-t
-at_inside-requires-in-loop-t c = omega (
-  arith,
-  c.requires.second c.loop-t.t c.loop-t-test.true,
-)
-
-pub minus_fresh-sum-requires : goal.minus_fresh-sum-requires
-minus_fresh-sum-requires c = c.loop-t.invariant.1.proper
 
 pub loop-t-preserved : goal.loop-t-preserved
 unfolding along

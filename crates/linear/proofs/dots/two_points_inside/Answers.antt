@@ -1,16 +1,13 @@
 -- `two_points_inside` meets its contract: the bounds are those of both sums so far, and each place is inside.
-use Rattle.std.proofs.Common.{ap, not}
 use mathlib.Core.Path.{sym, ◌∙◌}
-use Prim.Native.Nat.{◌≤◌, ◌-◌}
 use native.Mathlib.Nat.{le_refl, le_antisymm}
 use native.Mathlib.Omega.{arith}
 use borrow.Author.Rules.{rules}
-use Rattle.linear.specs.Bounds.{scalar_of, Bounding}
-use Rattle.linear.specs.Flat.{along, scalars_at}
+use Rattle.linear.specs.Flat.{along}
 use Rattle.linear.specs.Dot.{plus_to}
 use Rattle.linear.proofs.Sums.{along_row}
 use Rattle.linear.proofs.BoundLaws.{start_bounds}
-use Rattle.linear.proofs.SumBounds.{plus_more, three_sharp}
+use Rattle.linear.proofs.SumBounds.{plus_more}
 use Rattle.linear.proofs.dots.two_points_inside.Goals as goal
 
 pub loop-t-init : goal.loop-t-init
@@ -20,36 +17,6 @@ loop-t-init c = (
   start_bounds c.args.y c.requires.first_start,
   start_bounds c.args.z c.requires.second_start,
 )
-
-pub overflow_mul-t : goal.overflow_mul-t
-overflow_mul-t c = omega (
-  arith,
-  c.requires.first c.loop-t.t c.loop-t-test.true,
-)
-
-pub overflow_add-i : goal.overflow_add-i
-overflow_add-i c = omega (
-  arith,
-  c.requires.first c.loop-t.t c.loop-t-test.true,
-)
-
-pub at_inside-u-requires : goal.at_inside-u-requires
-at_inside-u-requires c = c.requires.first c.loop-t.t c.loop-t-test.true
-
-pub overflow_mul-t-in-loop-t : goal.overflow_mul-t-in-loop-t
-overflow_mul-t-in-loop-t c = omega (
-  arith,
-  c.requires.second c.loop-t.t c.loop-t-test.true,
-)
-
-pub overflow_add-j : goal.overflow_add-j
-overflow_add-j c = omega (
-  arith,
-  c.requires.second c.loop-t.t c.loop-t-test.true,
-)
-
-pub at_inside-v-requires : goal.at_inside-v-requires
-at_inside-v-requires c = c.requires.second c.loop-t.t c.loop-t-test.true
 
 pub overflow_add-b0 : goal.overflow_add-b0
 overflow_add-b0 c = omega (
@@ -61,32 +28,6 @@ pub at_inside-w-requires : goal.at_inside-w-requires
 at_inside-w-requires c = omega (
   arith,
   c.requires.row c.loop-t.t c.loop-t-test.true,
-)
-
-pub returns-then-not-are_three_points : goal.returns-then-not-are_three_points
-returns-then-not-are_three_points c = c.loop-t.invariant
-
-pub plus_points-first-requires : goal.plus_points-first-requires
-plus_points-first-requires c =
-    let s = three_sharp _ _ _ _ c.are_three_points.ensures (ap not c.if-not-are_three_points.false) in (
-      c.loop-t.invariant.1.proper,
-      s.0,
-      s.2,
-    )
-
-pub plus_points-second-requires : goal.plus_points-second-requires
-plus_points-second-requires c =
-    let s = three_sharp _ _ _ _ c.are_three_points.ensures (ap not c.if-not-are_three_points.false) in (
-      c.loop-t.invariant.2.proper,
-      s.1,
-      s.2,
-    )
-
-pub overflow_step-t : goal.overflow_step-t
-overflow_step-t c = omega (
-  arith,
-  c.loop-t-test.true,
-  c.well_formed,
 )
 
 pub loop-t-preserved : goal.loop-t-preserved

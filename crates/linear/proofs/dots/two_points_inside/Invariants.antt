@@ -1,20 +1,11 @@
 -- `two_points_inside` meets its contract: the bounds are those of both sums so far, and each place is inside.
-use mathlib.Core.Path.{sym, ◌∙◌}
-use Prim.Native.Nat.{◌≤◌, ◌-◌}
-use native.Mathlib.Nat.{le_refl, le_antisymm}
-use native.Mathlib.Omega.{arith}
-use borrow.Author.Rules.{rules}
+use Prim.Native.Nat.{◌≤◌}
 use Rattle.linear.specs.Bounds.{scalar_of, Bounding}
 use Rattle.linear.specs.Flat.{along, scalars_at}
 use Rattle.linear.specs.Dot.{plus_to}
-use Rattle.linear.proofs.Sums.{along_row}
-use Rattle.linear.proofs.BoundLaws.{start_bounds}
-use Rattle.linear.proofs.SumBounds.{plus_more, three_sharp}
 use Rattle.linear.proofs.dots.two_points_inside.Given as goal
 
 abbrev pub invariant-loop-t : goal.invariant-loop-t
-invariant-loop-t l = (l.t ≤ l.k) × Bounding (plus_to (scalars_at l.a l.i) (along l.b l.b0 1) (scalar_of l.initial.first) l.t) l.first
+invariant-loop-t l = (l.t ≤ l.k)
+    × Bounding (plus_to (scalars_at l.a l.i) (along l.b l.b0 1) (scalar_of l.initial.first) l.t) l.first
     × Bounding (plus_to (scalars_at l.a l.j) (along l.b l.b0 1) (scalar_of l.initial.second) l.t) l.second
-
-abbrev pub decreases-loop-t : goal.decreases-loop-t
-decreases-loop-t l = l.k - l.t

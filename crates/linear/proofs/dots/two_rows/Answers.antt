@@ -1,15 +1,8 @@
 -- `two_rows` meets its contract: both ways give both sums.
-use borrow.Author.Rules.{rules}
 use lib.Ieee.{of_bits}
 use Rattle.linear.proofs.BoundLaws.{bounds_back}
-use Rattle.linear.proofs.SumBounds.{anew, anew_length, anew_inside, zero_bounds}
+use Rattle.linear.proofs.SumBounds.{anew, anew_inside, zero_bounds}
 use Rattle.linear.proofs.dots.two_rows.Goals as goal
-
-pub slice_bounds-two_inside-end : goal.slice_bounds-two_inside-end
-slice_bounds-two_inside-end c = anew_length c.args.a.now
-
-pub slice_bounds-two_inside-end-then-are_rows_inside : goal.slice_bounds-two_inside-end-then-are_rows_inside
-slice_bounds-two_inside-end-then-are_rows_inside c = anew_length c.args.b.now
 
 pub two_inside-requires : goal.two_inside-requires
 unfolding of_bits
@@ -28,28 +21,3 @@ two_inside-requires c =
 pub returns-then-are_rows_inside : goal.returns-then-are_rows_inside
 unfolding of_bits
 returns-then-are_rows_inside c = simp (anew, bounds_back c.bounds_of-zero.ensures) at c.two_inside.ensures
-
-pub slice_bounds-row_dot-end : goal.slice_bounds-row_dot-end
-slice_bounds-row_dot-end c = anew_length c.args.a.now
-
-pub slice_bounds-row_dot-end-2 : goal.slice_bounds-row_dot-end-2
-slice_bounds-row_dot-end-2 c = anew_length c.args.b.now
-
-pub row_dot-requires : goal.row_dot-requires
-row_dot-requires c = tt
-
-pub slice_bounds-row_dot-end-3 : goal.slice_bounds-row_dot-end-3
-slice_bounds-row_dot-end-3 c =
-    anew_length c.args.a.now
-
-pub slice_bounds-row_dot-end-4 : goal.slice_bounds-row_dot-end-4
-slice_bounds-row_dot-end-4 c =
-    anew_length c.args.b.now
-
-pub row_dot-requires-2 : goal.row_dot-requires-2
-row_dot-requires-2 c = tt
-
-pub returns : goal.returns
-unfolding of_bits
-returns c =
-    (rw (anew, anew) at c.row_dot.ensures, rw (anew, anew) at c.row_dot-2.ensures)

@@ -1,20 +1,11 @@
 -- `cholesky` meets its contract: each check decides one of the definition's.
-use native.Mathlib.Omega.{arith}
-use borrow.Author.Rules.{rules}
 use borrow.Author.Tests.{le-leb, lt-leb, eq-eqb, ne_eqb}
 use Rattle.linear.specs.Calls.{cholesky_reply}
-use Rattle.linear.proofs.Cells.{product_small}
 use Rattle.linear.proofs.factor.cholesky.Goals as goal
 
 pub returns-then-n-gt24 : goal.returns-then-n-gt24
 unfolding cholesky_reply
 returns-then-n-gt24 c = rw (lt-leb _ _ c.if-n-gt24.true)
-
-pub overflow_mul-n : goal.overflow_mul-n
-overflow_mul-n c = omega (arith, product_small c.if-n-gt24.false c.if-n-gt24.false)
-
-pub overflow_mul-n-2 : goal.overflow_mul-n-2
-overflow_mul-n-2 c = omega (arith, product_small c.if-n-gt24.false c.if-n-gt24.false)
 
 pub returns-then-a-n : goal.returns-then-a-n
 unfolding cholesky_reply

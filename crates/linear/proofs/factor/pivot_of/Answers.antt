@@ -1,5 +1,4 @@
 -- `pivot_of` meets its contract: the definition's steps, from what each call gives.
-use borrow.Author.Rules.{rules}
 use lib.Ieee.{of_bits}
 use Rattle.linear.specs.Cholesky.{pivot_of}
 use Rattle.linear.proofs.factor.pivot_of.Goals as goal

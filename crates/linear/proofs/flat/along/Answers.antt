@@ -1,7 +1,6 @@
 -- `along` meets its contract: the place is the run's, or both are outside the slice.
 use mathlib.Core.Path.{◌∙◌}
 use native.Mathlib.Omega.{arith}
-use borrow.Author.Rules.{rules}
 use Rattle.linear.specs.Flat.{along}
 use Rattle.linear.proofs.Walks.{at_cut}
 use Rattle.linear.proofs.flat.along.Goals as goal

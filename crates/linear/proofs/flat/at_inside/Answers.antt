@@ -3,7 +3,6 @@ use mathlib.Core.Path.{sym}
 use Prim.Native.Nat.{◌+◌, ◌*◌}
 use native.Mathlib.Omega.{arith}
 use borrow.Author.Tests.{lt-ltb}
-use borrow.Author.Rules.{rules}
 use lib.ListN.{length}
 use Rattle.linear.proofs.FlatLaws.{at_inside}
 use Rattle.linear.proofs.flat.at_inside.Goals as goal

@@ -3,16 +3,9 @@ use mathlib.Core.Path.{sym}
 use Prim.Native.Nat.{◌+◌, ◌*◌}
 use native.Mathlib.Omega.{arith}
 use borrow.Author.Tests.{lt-ltb, le-ltb}
-use borrow.Author.Rules.{rules}
-use lib.ListN.{length, length-set}
+use lib.ListN.{length}
 use Rattle.linear.proofs.FlatLaws.{put_inside, put_outside}
 use Rattle.linear.proofs.flat.put.Goals as goal
-
-pub bounds-xs-k-then-i-xs : goal.bounds-xs-k-then-i-xs
-bounds-xs-k-then-i-xs c = simp length-set (omega arith)
-
-pub shape_of-xs : goal.shape_of-xs
-shape_of-xs c = simp length-set
 
 pub returns-then-i-xs : goal.returns-then-i-xs
 returns-then-i-xs c =

@@ -3,16 +3,9 @@ use mathlib.Core.Path.{sym}
 use Prim.Native.Nat.{◌+◌, ◌*◌}
 use native.Mathlib.Omega.{arith}
 use borrow.Author.Tests.{lt-ltb}
-use borrow.Author.Rules.{rules}
-use lib.ListN.{length, length-set}
+use lib.ListN.{length}
 use Rattle.linear.proofs.FlatLaws.{put_inside}
 use Rattle.linear.proofs.flat.put_inside.Goals as goal
-
-pub bounds-xs-k-2 : goal.bounds-xs-k-2
-bounds-xs-k-2 c = simp length-set (omega arith)
-
-pub shape_of-xs : goal.shape_of-xs
-shape_of-xs c = simp length-set
 
 pub returns : goal.returns
 returns c =

@@ -1,32 +1,15 @@
 -- `columns` meets its contract: the slice starts with the scalars stored so far, and is else as it was.
-use mathlib.Core.Path.{◌≡◌, sym, ◌∙◌}
-use mathlib.Core.List.{◌++◌}
-use Prim.Native.Nat.{◌+◌, ◌*◌, ◌≤◌, ◌-◌}
+use mathlib.Core.Path.{sym, ◌∙◌}
+use Prim.Native.Nat.{◌+◌, ◌*◌}
 use native.Mathlib.Nat.{le_antisymm}
 use native.Mathlib.Omega.{arith}
 use borrow.Author.Rules.{rules}
-use lib.ListN.{length, drop}
-use Rattle.linear.specs.Flat.{list_to}
 use Rattle.linear.specs.Householder.{column_entry, columns_of}
 use Rattle.linear.proofs.Lists.{list_to-none, list_to-more, list_to-all}
-use Rattle.linear.proofs.Reflections.{columns_small, rows_positive}
 use Rattle.linear.proofs.householder.columns.Goals as goal
-
-pub overflow_mul-n : goal.overflow_mul-n
-overflow_mul-n c = omega (arith, columns_small c.requires.0.columns c.requires.0.rows)
 
 pub loop-p-init : goal.loop-p-init
 loop-p-init c = (search rules, search rules, sym (list_to-none _ _))
-
-pub column_entry-requires : goal.column_entry-requires
-column_entry-requires c = (
-  c.requires.0,
-  rows_positive (c.args.r + 1) c.args.m c.loop-p-test.true,
-  omega (arith, columns_small c.requires.0.columns c.requires.0.rows),
-)
-
-pub overflow_step-p : goal.overflow_step-p
-overflow_step-p c = omega (arith, columns_small c.requires.0.columns c.requires.0.rows)
 
 pub loop-p-preserved : goal.loop-p-preserved
 loop-p-preserved c =

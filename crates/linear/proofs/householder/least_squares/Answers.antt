@@ -1,9 +1,6 @@
 -- `least_squares` meets its contract: each check decides one of the definition's.
-use native.Mathlib.Omega.{arith}
-use borrow.Author.Rules.{rules}
 use borrow.Author.Tests.{le-leb, lt-leb, eq-eqb, ne_eqb}
 use Rattle.linear.specs.Calls.{least_squares_reply}
-use Rattle.linear.proofs.Cells.{product_small}
 use Rattle.linear.proofs.householder.least_squares.Goals as goal
 
 pub returns-then-m-gt24 : goal.returns-then-m-gt24
@@ -13,12 +10,6 @@ returns-then-m-gt24 c = rw (lt-leb _ _ c.if-m-gt24.true)
 pub returns-then-r-gt24 : goal.returns-then-r-gt24
 unfolding least_squares_reply
 returns-then-r-gt24 c = rw (le-leb _ _ c.if-m-gt24.false, lt-leb _ _ c.if-r-gt24.true)
-
-pub overflow_mul-m : goal.overflow_mul-m
-overflow_mul-m c = omega (arith, product_small c.if-m-gt24.false c.if-r-gt24.false)
-
-pub overflow_mul-m-2 : goal.overflow_mul-m-2
-overflow_mul-m-2 c = omega (arith, product_small c.if-m-gt24.false c.if-r-gt24.false)
 
 pub returns-then-rows-m : goal.returns-then-rows-m
 unfolding least_squares_reply

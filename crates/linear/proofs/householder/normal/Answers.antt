@@ -1,5 +1,4 @@
 -- `normal` meets its contract: the definition's steps, from what each call gives.
-use borrow.Author.Rules.{rules}
 use Rattle.linear.proofs.Reflections.{normal_is}
 use Rattle.linear.proofs.householder.normal.Goals as goal
 

@@ -1,22 +1,19 @@
 -- `reflect` meets its contract: the quotient decides, and each arm is the definition's.
-use borrow.Author.Rules.{rules}
 use lib.Ieee.{of_bits}
+use Rattle.std.proofs.lemmas.Result.{err_from_is_err_and}
 use Rattle.linear.proofs.Sums.{along_start}
 use Rattle.linear.proofs.Reflections.{reflect_ok, reflect_refused}
 use Rattle.linear.proofs.householder.reflect.Goals as goal
 
-pub row_dot-s-requires : goal.row_dot-s-requires
-row_dot-s-requires c = tt
-
-pub returns-in-Value : goal.returns-in-Value
+pub returns : goal.returns
 unfolding of_bits
-returns-in-Value c =
-    let q = rw c.in-Value.is at
-    c.div-q.ensures.value in
+returns c =
+    let q = rw c.in_ok-q.was at c.div.ensures.value in
     reflect_ok _ _ _ _ _ (rw along_start at c.row_dot-s.ensures) c.mul.ensures.value q c.minus_scaled.ensures
 
-pub returns-in-Refused : goal.returns-in-Refused
+pub returns-in_err-q : goal.returns-in_err-q
 unfolding of_bits
-returns-in-Refused c =
-    let q = rw c.in-Refused.is at c.div-q.ensures.value in
-    reflect_refused _ _ _ _ _ (rw along_start at c.row_dot-s.ensures) c.mul.ensures.value q
+returns-in_err-q c =
+    let p = err_from_is_err_and c.from_residual.result c.from_residual.ensures.1 in
+    let q = rw c.in_err-q.was at c.div.ensures.value in
+    rw (p.1, p.2) (reflect_refused _ _ _ _ _ (rw along_start at c.row_dot-s.ensures) c.mul.ensures.value q)

@@ -1,5 +1,4 @@
 -- `reflect_by` meets its contract: the test on v · v decides the arm.
-use borrow.Author.Rules.{rules}
 use lib.Ieee.{of_bits}
 use Rattle.linear.specs.Householder.{reflect_by}
 use Rattle.linear.proofs.householder.reflect_by.Goals as goal

@@ -1,5 +1,4 @@
 -- `reflect_with` meets its contract: the test on the length decides the arm.
-use borrow.Author.Rules.{rules}
 use lib.Ieee.{of_bits}
 use Rattle.linear.specs.Householder.{reflect_with}
 use Rattle.linear.proofs.Reflections.{with-marks}

@@ -1,29 +1,17 @@
 -- `tail` meets its contract: the slice starts with the scalars stored so far, and is else as it was.
-use mathlib.Core.Path.{◌≡◌, sym, ◌∙◌}
-use mathlib.Core.List.{◌++◌}
-use Prim.Native.Nat.{◌+◌, ◌*◌, ◌≤◌, ◌-◌}
+use mathlib.Core.Path.{sym, ◌∙◌}
+use Prim.Native.Nat.{◌+◌, ◌*◌, ◌-◌}
 use native.Mathlib.Nat.{le_antisymm}
 use native.Mathlib.Omega.{arith}
 use borrow.Author.Rules.{rules}
-use lib.ListN.{length, drop}
-use Rattle.linear.specs.Flat.{along, list_to}
+use Rattle.linear.specs.Flat.{along}
 use Rattle.linear.specs.Householder.{tail_of}
-use Rattle.linear.proofs.Cells.{product_small}
 use Rattle.linear.proofs.Lists.{list_to-none, list_to-more, list_to-all}
 use Rattle.linear.proofs.Sums.{along_row}
 use Rattle.linear.proofs.householder.tail.Goals as goal
 
-pub overflow_mul-base : goal.overflow_mul-base
-overflow_mul-base c = omega (arith, (let the-start : c.args.j * c.args.m ≤ 576 = product_small (omega arith) (omega arith) in the-start))
-
-pub overflow_add-base : goal.overflow_add-base
-overflow_add-base c = omega (arith, (let the-start : c.args.j * c.args.m ≤ 576 = product_small (omega arith) (omega arith) in the-start))
-
 pub loop-k-init : goal.loop-k-init
 loop-k-init c = (search rules, search rules, sym (list_to-none _ _))
-
-pub overflow_add-base-in-loop-k : goal.overflow_add-base-in-loop-k
-overflow_add-base-in-loop-k c = omega (arith, (let the-start : c.args.j * c.args.m ≤ 576 = product_small (omega arith) (omega arith) in the-start))
 
 pub loop-k-preserved : goal.loop-k-preserved
 loop-k-preserved c =

@@ -1,17 +1,7 @@
 -- `value_row` meets its contract: each test decides an arm, and the last is the definition's steps.
-use Prim.Native.Nat.{◌+◌, ◌*◌, ◌-◌, ◌≤◌}
-use native.Mathlib.Omega.{arith}
-use borrow.Author.Rules.{rules}
 use lib.Ieee.{of_bits}
 use Rattle.linear.specs.Householder.{value_step}
-use Rattle.linear.proofs.Cells.{product_small}
 use Rattle.linear.proofs.householder.value_row.Goals as goal
-
-pub overflow_mul-j : goal.overflow_mul-j
-overflow_mul-j c = omega (arith, (let the-start : (c.args.k - 1 - c.args.t) * c.args.m ≤ 576 = product_small (omega arith) (omega arith) in the-start))
-
-pub overflow_add-j : goal.overflow_add-j
-overflow_add-j c = omega (arith, (let the-start : (c.args.k - 1 - c.args.t) * c.args.m ≤ 576 = product_small (omega arith) (omega arith) in the-start))
 
 pub returns-then-left_out-j : goal.returns-then-left_out-j
 unfolding value_step
@@ -25,21 +15,6 @@ returns-then-not-definitely_not_equal c = rw (
   ← c.definitely_not_equal.ensures,
   c.if-not-definitely_not_equal.true,
 )
-
-pub overflow_mul-r : goal.overflow_mul-r
-overflow_mul-r c = omega (arith, (let the-last : c.args.r * c.args.m ≤ 576 = product_small (omega arith) (omega arith) in the-last))
-
-pub overflow_add-r : goal.overflow_add-r
-overflow_add-r c = omega (arith, (let the-last : c.args.r * c.args.m ≤ 576 = product_small (omega arith) (omega arith) in the-last))
-
-pub overflow_mul-j-2 : goal.overflow_mul-j-2
-overflow_mul-j-2 c = omega (arith, (let the-behind : (c.args.k - 1 - c.args.t + 1) * c.args.m ≤ 576 = product_small (omega arith) (omega arith) in the-behind))
-
-pub overflow_add-j-3 : goal.overflow_add-j-3
-overflow_add-j-3 c = omega (arith, (let the-behind : (c.args.k - 1 - c.args.t + 1) * c.args.m ≤ 576 = product_small (omega arith) (omega arith) in the-behind))
-
-pub minus_dot-known-requires : goal.minus_dot-known-requires
-minus_dot-known-requires c = tt
 
 pub returns : goal.returns
 unfolding value_step of_bits

@@ -1,12 +1,7 @@
 -- `largest` meets its contract: the bounds are those of the greatest size so far.
-use mathlib.Core.Path.{sym, ap, ◌∙◌}
-use Prim.Native.Nat.{◌≤◌, ◌-◌}
-use native.Mathlib.Nat.{le_antisymm}
 use borrow.Author.Rules.{rules}
 use lib.Ieee.{of_bits}
-use Rattle.interval.specs.Scalar.{degenerate}
-use Rattle.linear.specs.Flat.{at}
-use Rattle.linear.proofs.LargestEnds.{Largest, largest_none, largest_more}
+use Rattle.linear.proofs.LargestEnds.{largest_none, largest_more}
 use Rattle.linear.proofs.norms.largest.Goals as goal
 
 pub loop-i-init : goal.loop-i-init
@@ -21,9 +16,3 @@ loop-i-preserved c =
       largest_more _ l.i l.invariant.1 (g.0, g.1.0) c.at-x.ensures c.greater_of-below.ensures
           c.greater_of-above.ensures,
     )
-
-pub returns : goal.returns
-returns c =
-    let l = c.loop-i in
-    c.degenerate.ensures ∙ ap degenerate c.greater_of.ensures
-    ∙ sym (rw (le_antisymm l.invariant.0 c.loop-i-test.false) at l.invariant.1.value)

@@ -1,6 +1,5 @@
 -- `norm_of` meets its contract: the test on the greatest size decides the arm.
 use mathlib.Core.Path.{sym, ◌∙◌}
-use borrow.Author.Rules.{rules}
 use lib.Ieee.{of_bits}
 use Rattle.linear.specs.Flat.{at}
 use Rattle.linear.specs.Norm.{norm_of}

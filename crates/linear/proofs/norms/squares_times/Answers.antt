@@ -1,15 +1,11 @@
 -- `squares_times` meets its contract: the bounds are those of the squares so far, and proper.
-use mathlib.Core.Path.{◌≡◌, ap, ◌∙◌}
-use Prim.Native.Nat.{◌≤◌, ◌-◌}
+use mathlib.Core.Path.{ap, ◌∙◌}
 use native.Mathlib.Nat.{le_antisymm}
 use borrow.Author.Rules.{rules}
 use lib.Ieee.{of_bits}
 use Rattle.interval.specs.declared.Scalar.{Scalar}
 use Rattle.interval.specs.Scalar.{mul_of}
-use Rattle.linear.specs.Flat.{at}
-use Rattle.linear.specs.Dot.{plus_to, dot_to}
-use Rattle.linear.specs.Norm.{times}
-use Rattle.linear.specs.Bounds.{Bounding}
+use Rattle.linear.specs.Dot.{plus_to}
 use Rattle.linear.proofs.BoundLaws.{bounds_back}
 use Rattle.linear.proofs.SumBounds.{zero_bounds, plus_more}
 use Rattle.linear.proofs.norms.squares_times.Goals as goal
@@ -17,9 +13,6 @@ use Rattle.linear.proofs.norms.squares_times.Goals as goal
 pub loop-j-init : goal.loop-j-init
 unfolding plus_to of_bits
 loop-j-init c = (search rules, zero_bounds c.bounds_of-sum.ensures)
-
-pub plus_square-sum-requires : goal.plus_square-sum-requires
-plus_square-sum-requires c = c.loop-j.invariant.1.proper
 
 pub loop-j-preserved : goal.loop-j-preserved
 loop-j-preserved c =

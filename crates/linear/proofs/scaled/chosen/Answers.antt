@@ -1,5 +1,4 @@
 -- `chosen` meets its contract: the lesser bound says whether zero is among the interval.
-use borrow.Author.Rules.{rules}
 use lib.Ieee.{of_bits}
 use Rattle.interval.proofs.Given.{yes}
 use Rattle.linear.proofs.BoundLaws.{chosen_zero, chosen_middle}

@@ -1,18 +1,13 @@
 -- `scaled_cut` meets its contract: the places so far are filled, and each place is its run's, or outside the slice.
-use mathlib.Core.Path.{◌≡◌, refl, ◌∙◌}
-use Prim.Native.Nat.{ℕ, ◌+◌, ◌≤◌, ◌<◌, ◌-◌}
-use native.Mathlib.Nat.{le_antisymm}
+use mathlib.Core.Path.{refl, ◌∙◌}
+use Prim.Native.Nat.{ℕ, ◌+◌, ◌≤◌, ◌<◌}
 use native.Mathlib.Omega.{arith}
 use borrow.Author.Rules.{rules}
-use lib.ListN.{length}
 use Rattle.linear.specs.Flat.{fill_to}
 use Rattle.linear.specs.Scaled.{minus_scaled}
 use Rattle.linear.proofs.FillLaws.{scaled_more, put_cut}
-use Rattle.linear.proofs.Walks.{Cut, at_cut, cut_next, cut_size}
+use Rattle.linear.proofs.Walks.{at_cut, cut_next, cut_size}
 use Rattle.linear.proofs.scaled.scaled_cut.Goals as goal
-
-fewer : {k t : ℕ} → t < k → k - (t + 1) < k - t
-fewer h = omega arith
 
 counted : {k t : ℕ} → t < k → t + 1 ≤ k
 counted h = omega arith
@@ -21,20 +16,9 @@ pub loop-init : goal.loop-init
 unfolding minus_scaled fill_to
 loop-init c = (search rules, refl, refl, omega arith, omega arith)
 
-pub overflow_step : goal.overflow_step
-overflow_step c = omega (
-  arith,
-  c.loop-test.true,
-  c.ranges,
-)
-
-pub loop-smaller : goal.loop-smaller
-loop-smaller c = fewer c.loop-test.true
-
 pub loop-preserved : goal.loop-preserved
 loop-preserved c =
-    let l =
-    c.loop in
+    let l = c.loop in
     let a = c.args in
     let here = cut_size l.invariant.3 l.invariant.1 in (
       counted c.loop-test.true,
@@ -50,6 +34,3 @@ loop-preserved c =
       cut_next a.v0 l.counter l.invariant.3 c.ahead-i.ensures (search rules),
       cut_next a.w0 l.counter l.invariant.4 c.ahead-j.ensures refl,
     )
-
-pub returns : goal.returns
-returns c = rw (le_antisymm c.loop.invariant.0 c.loop-test.false) at c.loop.invariant.2

@@ -1,19 +1,12 @@
 -- `scaled_cut` meets its contract: the places so far are filled, and each place is its run's, or outside the slice.
-use mathlib.Core.Path.{◌≡◌, refl, ◌∙◌}
-use Prim.Native.Nat.{ℕ, ◌+◌, ◌≤◌, ◌<◌, ◌-◌}
-use native.Mathlib.Nat.{le_antisymm}
-use native.Mathlib.Omega.{arith}
-use borrow.Author.Rules.{rules}
+use mathlib.Core.Path.{◌≡◌}
+use Prim.Native.Nat.{◌+◌, ◌≤◌}
 use lib.ListN.{length}
-use Rattle.linear.specs.Flat.{fill_to}
 use Rattle.linear.specs.Scaled.{minus_scaled}
-use Rattle.linear.proofs.FillLaws.{scaled_more, put_cut}
-use Rattle.linear.proofs.Walks.{Cut, at_cut, cut_next, cut_size}
+use Rattle.linear.proofs.Walks.{Cut}
 use Rattle.linear.proofs.scaled.scaled_cut.Given as goal
 
 abbrev pub invariant-loop : goal.invariant-loop
-invariant-loop l = (l.counter ≤ l.k) × (length l.v ≡ length l.initial.v) × (l.v ≡ minus_scaled l.initial.v l.v0 l.a l.w l.w0 l.counter)
+invariant-loop l = (l.counter ≤ l.k) × (length l.v ≡ length l.initial.v)
+    × (l.v ≡ minus_scaled l.initial.v l.v0 l.a l.w l.w0 l.counter)
     × Cut (length l.initial.v) l.i (l.v0 + l.counter) × Cut (length l.w) l.j (l.w0 + l.counter)
-
-abbrev pub decreases-loop : goal.decreases-loop
-decreases-loop l = l.k - l.counter

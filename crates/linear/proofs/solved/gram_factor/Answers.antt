@@ -1,13 +1,11 @@
 -- `gram_factor` meets its contract: each check decides one of the definition's.
 use native.Mathlib.Omega.{arith}
-use borrow.Author.Rules.{rules}
 use borrow.Author.Tests.{le-leb, lt-leb, eq-eqb, ne_eqb}
 use Prim.Native.Nat.{◌*◌}
 use mathlib.Core.Path.{◌≡◌}
 use lib.ListN.{length}
 use Rattle.linear.specs.Calls.{blank, gram_factor_reply}
 use Rattle.linear.specs.Solved.{gram_factor_of}
-use Rattle.linear.proofs.Cells.{product_small}
 use Rattle.linear.proofs.Replied.{replied_beside}
 use Rattle.linear.proofs.solved.gram_factor.Goals as goal
 
@@ -19,12 +17,6 @@ pub returns-then-n-gt24 : goal.returns-then-n-gt24
 unfolding gram_factor_reply
 returns-then-n-gt24 c = rw (le-leb _ _ c.if-m-gt24.false, lt-leb _ _ c.if-n-gt24.true)
 
-pub overflow_mul-m : goal.overflow_mul-m
-overflow_mul-m c = omega (arith, product_small c.if-m-gt24.false c.if-n-gt24.false)
-
-pub overflow_mul-m-2 : goal.overflow_mul-m-2
-overflow_mul-m-2 c = omega (arith, product_small c.if-m-gt24.false c.if-n-gt24.false)
-
 pub returns-then-jc-m : goal.returns-then-jc-m
 unfolding gram_factor_reply
 returns-then-jc-m c =
@@ -33,12 +25,6 @@ returns-then-jc-m c =
       le-leb _ _ c.if-n-gt24.false,
       ne_eqb _ _ c.if-jc-m.true,
     )
-
-pub overflow_mul-m-3 : goal.overflow_mul-m-3
-overflow_mul-m-3 c = omega (arith, product_small c.if-m-gt24.false c.if-m-gt24.false)
-
-pub overflow_mul-m-4 : goal.overflow_mul-m-4
-overflow_mul-m-4 c = omega (arith, product_small c.if-m-gt24.false c.if-m-gt24.false)
 
 pub returns-then-g-m : goal.returns-then-g-m
 unfolding gram_factor_reply

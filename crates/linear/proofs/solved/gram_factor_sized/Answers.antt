@@ -1,5 +1,4 @@
 -- `gram_factor_sized` meets its contract: the factor of the products reads their lower triangle alone.
-use borrow.Author.Rules.{rules}
 use Rattle.linear.specs.Cholesky.{factor_of}
 use Rattle.linear.proofs.SolvedLaws.{gram_factor}
 use Rattle.linear.proofs.solved.gram_factor_sized.Goals as goal

@@ -1,121 +1,12 @@
 -- `gram_rows` meets its contract: the rows above are in place, and both rows up to the column.
-use Prim.Native.Nat.{◌+◌, ◌*◌, ◌≤◌, ◌<◌, ◌-◌}
+use Prim.Native.Nat.{◌*◌, ◌<◌}
 use mathlib.Core.Path.{◌≡◌, ◌∙◌}
 use native.Mathlib.Omega.{arith}
 use borrow.Author.Rules.{rules}
 use lib.ListN.{length}
 use Rattle.linear.specs.Solved.{gram_at}
-use Rattle.linear.proofs.Cells.{product_small}
-use Rattle.linear.proofs.GramRows.{Filled, filled_none, filled_two, filled_all, second_row}
+use Rattle.linear.proofs.GramRows.{filled_two, second_row}
 use Rattle.linear.proofs.solved.gram_rows.Goals as goal
-
-pub overflow_mul-top : goal.overflow_mul-top
-overflow_mul-top c = omega (
-  arith,
-  ((let the-rooms : (c.args.i * c.args.n ≤ 576) × (c.args.i * c.args.m ≤ 576) = (
-    product_small (omega (arith, c.requires)) c.requires.0.columns,
-    product_small (omega (arith, c.requires)) c.requires.0.rows,
-  ) in the-rooms)).0,
-)
-
-pub overflow_mul-row : goal.overflow_mul-row
-overflow_mul-row c = omega (
-  arith,
-  ((let the-rooms : (c.args.i * c.args.n ≤ 576) × (c.args.i * c.args.m ≤ 576) = (
-    product_small (omega (arith, c.requires)) c.requires.0.columns,
-    product_small (omega (arith, c.requires)) c.requires.0.rows,
-  ) in the-rooms)).1,
-)
-
-pub overflow_add-j-end : goal.overflow_add-j-end
-overflow_add-j-end c = omega (arith, c.requires)
-
-pub loop-j-init : goal.loop-j-init
-loop-j-init c =
-    let a = c.args in (
-      search rules,
-      search rules,
-      filled_none (gram_at a.n a.jc.now) a.m a.i (a.i + 2) a.g.now
-          c.requires.3,
-    )
-
-pub overflow_add-top : goal.overflow_add-top
-overflow_add-top c = omega (
-  arith,
-  c.requires,
-  ((let the-rooms : (c.args.i * c.args.n ≤ 576) × (c.args.i * c.args.m ≤ 576) = (
-    product_small (omega (arith, c.requires)) c.requires.0.columns,
-    product_small (omega (arith, c.requires)) c.requires.0.rows,
-  ) in the-rooms)).0,
-)
-
-pub overflow_mul-j : goal.overflow_mul-j
-overflow_mul-j c =
-    omega (
-      arith,
-      product_small {i = c.loop-j.j} {n = c.args.n} (omega (arith, c.requires, c.loop-j-test.true))
-          c.requires.0.columns,
-    )
-
-pub two_rows-d-requires : goal.two_rows-d-requires
-two_rows-d-requires c = tt
-
-pub overflow_add-row : goal.overflow_add-row
-overflow_add-row c =
-    omega (
-      arith,
-      c.requires,
-      c.loop-j-test.true,
-      ((let the-rooms : (c.args.i * c.args.n ≤ 576) × (c.args.i * c.args.m ≤ 576) = (
-        product_small (omega (arith, c.requires)) c.requires.0.columns,
-        product_small (omega (arith, c.requires)) c.requires.0.rows,
-      ) in the-rooms)).1,
-    )
-
-pub put-requires : goal.put-requires
-put-requires c = tt
-
-pub overflow_add-row-in-loop-j : goal.overflow_add-row-in-loop-j
-overflow_add-row-in-loop-j c =
-    omega (
-      arith,
-      c.requires,
-      ((let the-rooms : (c.args.i * c.args.n ≤ 576) × (c.args.i * c.args.m ≤ 576) = (
-        product_small (omega (arith, c.requires)) c.requires.0.columns,
-        product_small (omega (arith, c.requires)) c.requires.0.rows,
-      ) in the-rooms)).1,
-    )
-
-pub overflow_add-row-in-loop-j-2 : goal.overflow_add-row-in-loop-j-2
-overflow_add-row-in-loop-j-2 c =
-    omega (
-      arith,
-      c.requires,
-      c.loop-j-test.true,
-      ((let the-rooms : (c.args.i * c.args.n ≤ 576) × (c.args.i * c.args.m ≤ 576) = (
-        product_small (omega (arith, c.requires)) c.requires.0.columns,
-        product_small (omega (arith, c.requires)) c.requires.0.rows,
-      ) in the-rooms)).1,
-    )
-
-pub put-requires-in-loop-j : goal.put-requires-in-loop-j
-put-requires-in-loop-j c = tt
-
-pub overflow_step-j : goal.overflow_step-j
-overflow_step-j c =
-    omega (
-      arith,
-      c.loop-j-test.true,
-      c.requires,
-    )
-
-pub loop-j-smaller : goal.loop-j-smaller
-loop-j-smaller c =
-    omega (
-      arith,
-      c.loop-j-test.true,
-      c.requires,
-    )
 
 pub loop-j-preserved : goal.loop-j-preserved
 loop-j-preserved c =
@@ -132,9 +23,3 @@ loop-j-preserved c =
       rw
           (c.put-in-loop-j.ensures, c.put.ensures) fill,
     )
-
-pub returns : goal.returns
-returns c =
-    let a = c.args in
-    filled_all (gram_at a.n a.jc.now) a.m a.i (a.i + 2) c.loop-j.j c.loop-j.g
-    c.loop-j-test.false c.loop-j.invariant.2

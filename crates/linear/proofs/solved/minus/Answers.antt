@@ -1,11 +1,11 @@
 -- `minus` meets its contract: the slice starts with the scalars stored so far, and is else as it was.
 use mathlib.Core.Path.{◌≡◌, sym, ◌∙◌, ap}
 use mathlib.Core.List.{◌++◌}
-use Prim.Native.Nat.{ℕ, ◌+◌, ◌*◌, ◌/◌, ◌≤◌, ◌-◌}
+use Prim.Native.Nat.{ℕ, ◌+◌, ◌*◌, ◌/◌}
 use native.Mathlib.Nat.{le_antisymm}
 use native.Mathlib.Omega.{arith}
 use borrow.Author.Rules.{rules}
-use lib.ListN.{length, drop}
+use lib.ListN.{drop}
 use Rattle.interval.specs.declared.Scalar.{Scalar}
 use Rattle.linear.specs.Flat.{list_to}
 use Rattle.linear.specs.Solved.{minus_at, minus_of}
@@ -14,14 +14,6 @@ use Rattle.linear.proofs.solved.minus.Goals as goal
 
 pub loop-h-init : goal.loop-h-init
 loop-h-init c = (search rules, search rules, sym (list_to-none _ _))
-
-pub overflow_mul-h : goal.overflow_mul-h
-overflow_mul-h c =
-    omega (arith, c.requires, c.loop-h-test.true)
-
-pub minus_two-requires : goal.minus_two-requires
-minus_two-requires c =
-    omega (arith, c.requires, c.loop-h-test.true)
 
 pub loop-h-preserved : goal.loop-h-preserved
 loop-h-preserved c =
@@ -36,9 +28,6 @@ loop-h-preserved c =
       (rw l.invariant.2 at c.minus_two.ensures) ∙ more ∙ ap
           (λ (i : ℕ). list_to f i ++ drop (2 * i) a.out.now) e,
     )
-
-pub put-requires : goal.put-requires
-put-requires c = tt
 
 pub returns-then-i-n : goal.returns-then-i-n
 unfolding minus_of

@@ -1,19 +1,12 @@
 -- `minus` meets its contract: the slice starts with the scalars stored so far, and is else as it was.
-use mathlib.Core.Path.{◌≡◌, sym, ◌∙◌, ap}
+use mathlib.Core.Path.{◌≡◌}
 use mathlib.Core.List.{◌++◌}
-use Prim.Native.Nat.{ℕ, ◌+◌, ◌*◌, ◌/◌, ◌≤◌, ◌-◌}
-use native.Mathlib.Nat.{le_antisymm}
-use native.Mathlib.Omega.{arith}
-use borrow.Author.Rules.{rules}
+use Prim.Native.Nat.{◌*◌, ◌≤◌}
 use lib.ListN.{length, drop}
-use Rattle.interval.specs.declared.Scalar.{Scalar}
 use Rattle.linear.specs.Flat.{list_to}
-use Rattle.linear.specs.Solved.{minus_at, minus_of}
-use Rattle.linear.proofs.Lists.{list_to-none, list_to-more, list_to-two, list_to-all}
+use Rattle.linear.specs.Solved.{minus_at}
 use Rattle.linear.proofs.solved.minus.Given as goal
 
 abbrev pub invariant-loop-h : goal.invariant-loop-h
-invariant-loop-h l = (l.h ≤ l.half) × (length l.out ≡ length l.initial.out) × (l.out ≡ list_to (minus_at l.m l.n l.jc l.from l.k) (2 * l.h) ++ drop (2 * (2 * l.h)) l.initial.out)
-
-abbrev pub decreases-loop-h : goal.decreases-loop-h
-decreases-loop-h l = l.half - l.h
+invariant-loop-h l = (l.h ≤ l.half) × (length l.out ≡ length l.initial.out)
+    × (l.out ≡ list_to (minus_at l.m l.n l.jc l.from l.k) (2 * l.h) ++ drop (2 * (2 * l.h)) l.initial.out)

@@ -1,11 +1,7 @@
 -- `minus_at` meets its contract: the difference along the column and along k, whose places the two calls before it
 -- give, chosen.
-use borrow.Author.Rules.{rules}
 use Rattle.linear.proofs.SolvedLaws.{value-at}
 use Rattle.linear.proofs.solved.minus_at.Goals as goal
-
-pub minus_dot-requires : goal.minus_dot-requires
-minus_dot-requires c = tt
 
 pub returns : goal.returns
 returns c =

@@ -3,12 +3,10 @@
 use mathlib.Core.Path.{◌≡◌, sym, ◌∙◌}
 use Prim.Native.Nat.{◌*◌, ◌≤◌}
 use native.Mathlib.Omega.{arith}
-use borrow.Author.Rules.{rules}
 use borrow.Author.Tests.{le-leb, lt-leb, eq-eqb, ne_eqb}
 use lib.ListN.{length}
 use Rattle.linear.specs.Calls.{minus_factored_reply}
 use Rattle.linear.specs.Cholesky.{factor_of}
-use Rattle.linear.proofs.Cells.{product_small}
 use Rattle.linear.proofs.SolvedLaws.{minus_factored, factored_reply}
 use Rattle.linear.proofs.solved.minus_factored.Goals as goal
 
@@ -20,12 +18,6 @@ pub returns-then-n-gt24 : goal.returns-then-n-gt24
 unfolding minus_factored_reply
 returns-then-n-gt24 c = rw (le-leb _ _ c.if-m-gt24.false, lt-leb _ _ c.if-n-gt24.true)
 
-pub overflow_mul-m : goal.overflow_mul-m
-overflow_mul-m c = omega (arith, product_small c.if-m-gt24.false c.if-n-gt24.false)
-
-pub overflow_mul-m-2 : goal.overflow_mul-m-2
-overflow_mul-m-2 c = omega (arith, product_small c.if-m-gt24.false c.if-n-gt24.false)
-
 pub returns-then-jc-m : goal.returns-then-jc-m
 unfolding minus_factored_reply
 returns-then-jc-m c =
@@ -34,12 +26,6 @@ returns-then-jc-m c =
       le-leb _ _ c.if-n-gt24.false,
       ne_eqb _ _ c.if-jc-m.true,
     )
-
-pub overflow_mul-m-3 : goal.overflow_mul-m-3
-overflow_mul-m-3 c = omega (arith, product_small c.if-m-gt24.false c.if-m-gt24.false)
-
-pub overflow_mul-m-4 : goal.overflow_mul-m-4
-overflow_mul-m-4 c = omega (arith, product_small c.if-m-gt24.false c.if-m-gt24.false)
 
 pub returns-then-l-m : goal.returns-then-l-m
 unfolding minus_factored_reply
@@ -100,9 +86,6 @@ returns-then-out-n c =
       eq-eqb _ _ c.if-from-n.false,
       ne_eqb _ _ c.if-out-n.true,
     )
-
-pub cleared-requires : goal.cleared-requires
-cleared-requires c = tt
 
 pub returns : goal.returns
 returns c =

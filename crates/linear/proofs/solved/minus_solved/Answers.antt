@@ -1,9 +1,6 @@
 -- `minus_solved` meets its contract: each check decides one of the definition's.
-use native.Mathlib.Omega.{arith}
-use borrow.Author.Rules.{rules}
 use borrow.Author.Tests.{le-leb, lt-leb, eq-eqb, ne_eqb}
 use Rattle.linear.specs.Calls.{minus_solved_reply}
-use Rattle.linear.proofs.Cells.{product_small}
 use Rattle.linear.proofs.solved.minus_solved.Goals as goal
 
 pub returns-then-m-gt24 : goal.returns-then-m-gt24
@@ -13,12 +10,6 @@ returns-then-m-gt24 c = rw (lt-leb _ _ c.if-m-gt24.true)
 pub returns-then-n-gt24 : goal.returns-then-n-gt24
 unfolding minus_solved_reply
 returns-then-n-gt24 c = rw (le-leb _ _ c.if-m-gt24.false, lt-leb _ _ c.if-n-gt24.true)
-
-pub overflow_mul-m : goal.overflow_mul-m
-overflow_mul-m c = omega (arith, product_small c.if-m-gt24.false c.if-n-gt24.false)
-
-pub overflow_mul-m-2 : goal.overflow_mul-m-2
-overflow_mul-m-2 c = omega (arith, product_small c.if-m-gt24.false c.if-n-gt24.false)
 
 pub returns-then-jc-m : goal.returns-then-jc-m
 unfolding minus_solved_reply

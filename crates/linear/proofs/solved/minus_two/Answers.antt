@@ -1,17 +1,7 @@
 -- `minus_two` meets its contract: both differences, chosen, are stored.
 use Prim.Native.Nat.{◌+◌}
-use borrow.Author.Rules.{rules}
 use Rattle.linear.proofs.SolvedLaws.{value-at, two_stored}
 use Rattle.linear.proofs.solved.minus_two.Goals as goal
-
-pub two_minus-d-requires : goal.two_minus-d-requires
-two_minus-d-requires c = tt
-
-pub put-requires : goal.put-requires
-put-requires c = tt
-
-pub put-requires-2 : goal.put-requires-2
-put-requires-2 c = tt
 
 pub returns : goal.returns
 returns c =

@@ -1,20 +1,11 @@
 -- `solve_cholesky` meets its contract: each check decides one of the definition's.
-use native.Mathlib.Omega.{arith}
-use borrow.Author.Rules.{rules}
 use borrow.Author.Tests.{le-leb, lt-leb, eq-eqb, ne_eqb}
 use Rattle.linear.specs.Calls.{solve_reply}
-use Rattle.linear.proofs.Cells.{product_small}
 use Rattle.linear.proofs.substitution.solve_cholesky.Goals as goal
 
 pub returns-then-n-gt24 : goal.returns-then-n-gt24
 unfolding solve_reply
 returns-then-n-gt24 c = rw (lt-leb _ _ c.if-n-gt24.true)
-
-pub overflow_mul-n : goal.overflow_mul-n
-overflow_mul-n c = omega (arith, product_small c.if-n-gt24.false c.if-n-gt24.false)
-
-pub overflow_mul-n-2 : goal.overflow_mul-n-2
-overflow_mul-n-2 c = omega (arith, product_small c.if-n-gt24.false c.if-n-gt24.false)
 
 pub returns-then-l-n : goal.returns-then-l-n
 unfolding solve_reply

@@ -3,10 +3,9 @@ use mathlib.Core.List.{List}
 use mathlib.Core.Path.{◌≡◌, refl}
 use Prim.Native.Nat.{ℕ, ◌+◌, ◌≤◌, ◌<◌}
 use native.Mathlib.Omega.{arith}
-use borrow.Author.Rules.{rules}
 use lib.ListN.{length, get_or}
 use Rattle.run.specs.Area.{start_of}
-use Rattle.run.proofs.AreaLaws.{clearing, cleared_more, cleared_whole}
+use Rattle.run.proofs.AreaLaws.{clearing, cleared_more}
 use Rattle.run.proofs.PlaceLaws.{slot_before}
 use Rattle.run.proofs.area.clear_slots.Goals as goal
 
@@ -22,21 +21,11 @@ room sizes {k} l b h = omega (arith, b, slot_before sizes k (length sizes) l, h)
 pub loop-k-init : goal.loop-k-init
 loop-k-init c = (refl, omega arith, clearing _ _ _ _)
 
-pub bounds-from-k : goal.bounds-from-k
-bounds-from-k c = omega (arith, another c.loop-k-test.true c.loop-k.invariant.0, c.requires.0)
-
 pub overflow_add-base : goal.overflow_add-base
 overflow_add-base c =
     let l = another c.loop-k-test.true c.loop-k.invariant.0 in
     let below = c.requires.3 c.loop-k.k l in
     omega (arith, room c.args.sizes.now l c.loop-k.invariant.2.begins c.requires.2, below.0, below.1)
-
-pub bounds-to-k : goal.bounds-to-k
-bounds-to-k c = omega (arith, another c.loop-k-test.true c.loop-k.invariant.0, c.requires.1)
-
-pub overflow_sub-to : goal.overflow_sub-to
-overflow_sub-to c =
-    let below = c.requires.3 c.loop-k.k (another c.loop-k-test.true c.loop-k.invariant.0) in omega (arith, below.0)
 
 pub clear_from-requires : goal.clear_from-requires
 clear_from-requires c =
@@ -49,9 +38,6 @@ clear_from-requires c =
       below.1,
       c.loop-k.invariant.2.long,
     )
-
-pub bounds-sizes-k : goal.bounds-sizes-k
-bounds-sizes-k c = omega (arith, another c.loop-k-test.true c.loop-k.invariant.0)
 
 pub overflow_add-base-in-loop-k : goal.overflow_add-base-in-loop-k
 overflow_add-base-in-loop-k c =
@@ -68,10 +54,3 @@ loop-k-preserved c =
       cleared_more a.sizes.now a.from.now a.to.now a.area.now
           (record { below = c.requires.3; inside = c.requires.2 }) i.2 l c.clear_from.ensures,
     )
-
-pub returns : goal.returns
-returns c =
-    let i = c.loop-k.invariant in
-    let a = c.args in
-    cleared_whole a.sizes.now a.from.now a.to.now a.area.now (record { below = c.requires.3; inside = c.requires.2 })
-    i.2 (omega (arith, i.0, i.1, c.loop-k-test.false))

@@ -10,11 +10,7 @@ use Rattle.run.specs.program.Area.{cleared_to, written}
 use Rattle.run.proofs.AreaLaws.{cleared_end}
 use Rattle.run.proofs.MemoryLaws.{unused_fit, cleared_uses}
 use Rattle.run.proofs.PlaceLaws.{spare_room}
-use borrow.Author.Rules.{rules}
 use Rattle.run.proofs.area.clear_unused.Goals as goal
-
-pub used_in-requires : goal.used_in-requires
-used_in-requires c = c.requires.1
 
 pub clear_slots-requires : goal.clear_slots-requires
 clear_slots-requires c =

@@ -4,11 +4,7 @@ use Prim.Native.Nat.{ℕ}
 use Rattle.run.specs.Area.{Slots, in_order}
 use Rattle.run.specs.program.Area.{standing_alone}
 use Rattle.run.proofs.MemoryLaws.{alone_fit, keeps_standing}
-use borrow.Author.Rules.{rules}
 use Rattle.run.proofs.area.keep_standing.Goals as goal
-
-pub numbers_in-all-requires : goal.numbers_in-all-requires
-numbers_in-all-requires c = c.requires.1
 
 pub clear_slots-requires : goal.clear_slots-requires
 clear_slots-requires c =

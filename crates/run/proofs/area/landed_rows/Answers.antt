@@ -3,19 +3,10 @@ use native.Mathlib.Omega.{arith}
 use lib.Dec.{lit<}
 use Rattle.run.specs.Area.{indices}
 use Rattle.run.proofs.PlaceLaws.{each_same, place_room, rows_fit}
-use borrow.Author.Rules.{rules}
 use Rattle.run.proofs.area.landed_rows.Goals as goal
-
-pub row_numbers-requires : goal.row_numbers-requires
-row_numbers-requires c = c.requires.1
 
 pub part-requires : goal.part-requires
 part-requires c =
     let e = (each_same c.places.ensures).landed-rows in
     place_room c.args.z indices.landed_rows (lit< tt) e
     (omega (arith, c.row_numbers.ensures, rows_fit c.args.z c.args.c c.requires.1)) c.requires.0
-
-pub returns : goal.returns
-returns c =
-    rw ((each_same c.places.ensures).landed-rows, c.row_numbers.ensures)
-    at c.part.ensures

@@ -3,13 +3,9 @@ use native.Mathlib.Omega.{arith}
 use lib.Dec.{lit<}
 use Rattle.run.specs.Area.{indices}
 use Rattle.run.proofs.PlaceLaws.{each_same, place_room}
-use borrow.Author.Rules.{rules}
 use Rattle.run.proofs.area.standing_point.Goals as goal
 
 pub part-requires : goal.part-requires
 part-requires c =
     let e = (each_same c.places.ensures).standing in
     place_room c.args.z indices.standing (lit< tt) e (omega (arith, c.requires.1)) c.requires.0
-
-pub returns : goal.returns
-returns c = rw (each_same c.places.ensures).standing at c.part.ensures

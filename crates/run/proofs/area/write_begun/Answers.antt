@@ -10,7 +10,6 @@ use Rattle.run.specs.Area.{indices}
 use Rattle.run.specs.program.Area.{written}
 use Rattle.run.proofs.PlaceLaws.{each_same, place_room}
 use Rattle.run.proofs.WriterLaws.{begun_holds}
-use borrow.Author.Rules.{rules}
 use Rattle.run.proofs.area.write_begun.Goals as goal
 
 pub write-requires : goal.write-requires

@@ -1,7 +1,7 @@
 -- `write_landed` meets its contract: the asked point goes over the one that landed before, and the rows over a slot
 -- that is clear.
 use mathlib.Core.List.{List}
-use mathlib.Core.Path.{refl, ap, ap₂, ◌∙◌}
+use mathlib.Core.Path.{ap, ap₂, ◌∙◌}
 use Prim.Native.Nat.{ℕ, ◌≤◌}
 use native.Mathlib.Omega.{arith}
 use lib.Dec.{lit<}
@@ -10,13 +10,9 @@ use Rattle.linear.specs.Flat.{zeros}
 use Rattle.run.specs.Area.{point_len, indices}
 use Rattle.run.specs.program.Area.{written}
 use Rattle.run.proofs.MemoryLaws.{point_fits, landed_rows_fit}
-use Rattle.run.proofs.PlaceLaws.{each_same, place_room, slots_apart}
+use Rattle.run.proofs.PlaceLaws.{each_same, place_room}
 use Rattle.run.proofs.WriterLaws.{landed_holds}
-use borrow.Author.Rules.{rules}
 use Rattle.run.proofs.area.write_landed.Goals as goal
-
-pub numbers_in-count-requires : goal.numbers_in-count-requires
-numbers_in-count-requires c = c.requires.1
 
 pub copy-requires : goal.copy-requires
 copy-requires c =
@@ -24,7 +20,6 @@ copy-requires c =
     let at = each_same c.places-at.ensures in
     let f : c.numbers_in-count.result.landed ≤ point_len =
     omega (arith, (each_same c.numbers_in-count.ensures).landed, point_fits c.args.st c.requires.1) in (
-      slots_apart z indices.asked indices.landed at.asked at.landed f f refl,
       place_room z indices.asked (lit< tt) at.asked f c.requires.0,
       place_room z indices.landed (lit< tt) at.landed f c.requires.0,
     )

@@ -11,11 +11,7 @@ use Rattle.run.specs.program.Area.{written}
 use Rattle.run.proofs.MemoryLaws.{point_fits}
 use Rattle.run.proofs.PlaceLaws.{each_same, place_room}
 use Rattle.run.proofs.WriterLaws.{started_holds}
-use borrow.Author.Rules.{rules}
 use Rattle.run.proofs.area.write_start.Goals as goal
-
-pub overflow_mul-st : goal.overflow_mul-st
-overflow_mul-st c = omega (arith, c.requires.1.standing_few.few_variables)
 
 pub clear_from-requires : goal.clear_from-requires
 clear_from-requires c =

@@ -1,7 +1,7 @@
 -- `write_taken` meets its contract: what landed goes over what stood, of which the rows and the multipliers are
 -- cleared, and the pair behind those before it.
 use mathlib.Core.List.{List}
-use mathlib.Core.Path.{◌≡◌, refl, ap, ap₂, ◌∙◌}
+use mathlib.Core.Path.{◌≡◌, ap, ap₂, ◌∙◌}
 use Prim.Native.Nat.{ℕ, ◌≤◌}
 use native.Mathlib.Omega.{arith}
 use lib.Dec.{lit<}
@@ -12,13 +12,9 @@ use Rattle.run.specs.Area.{point_len, rows_len, indices, area_length}
 use Rattle.run.specs.program.Area.{written}
 use Rattle.run.proofs.MemoryLaws.{point_fits, standing_rows_fit, landed_rows_fit, multipliers_fit}
 use Rattle.run.proofs.MemoryLaws.{curvature_fits}
-use Rattle.run.proofs.PlaceLaws.{each_same, place_room, slots_apart, slot_room}
+use Rattle.run.proofs.PlaceLaws.{each_same, place_room, slot_room}
 use Rattle.run.proofs.WriterLaws.{taken_holds}
-use borrow.Author.Rules.{rules}
 use Rattle.run.proofs.area.write_taken.Goals as goal
-
-pub numbers_in-count-requires : goal.numbers_in-count-requires
-numbers_in-count-requires c = c.requires.1
 
 pub copy-requires : goal.copy-requires
 copy-requires c =
@@ -27,7 +23,6 @@ copy-requires c =
     let count = (each_same c.numbers_in-count.ensures).landed in
     let f : c.numbers_in-count.result.landed ≤ point_len =
     omega (arith, count, point_fits c.args.st c.requires.1) in (
-      slots_apart z indices.landed indices.standing at.landed at.standing f f refl,
       place_room z indices.landed (lit< tt) at.landed f c.requires.0,
       place_room z indices.standing (lit< tt) at.standing f c.requires.0,
     )
@@ -57,7 +52,6 @@ copy-requires-2 c =
       c.copy.auto,
       c.requires.0,
     ) in the-long-cleared) in (
-      slots_apart z indices.landed_rows indices.standing_rows at.landed-rows at.standing-rows f f refl,
       place_room z indices.landed_rows (lit< tt) at.landed-rows f long,
       place_room z indices.standing_rows (lit< tt) at.standing-rows f long,
     )
@@ -87,7 +81,8 @@ pub write-requires : goal.write-requires
 write-requires c =
     place_room c.args.st.sizes indices.curvature (lit< tt)
     (each_same c.places-at.ensures).curvature
-    (omega (arith, c.requires.3, curvature_fits c.args.st c.requires.1)) ((let the-long_after : length c.clear_from-2.new.area ≡ area_length c.args.st.sizes =
+    (omega (arith, c.requires.3, curvature_fits c.args.st c.requires.1))
+    ((let the-long_after : length c.clear_from-2.new.area ≡ area_length c.args.st.sizes =
     omega (
       arith,
       c.clear_from-2.auto,
@@ -135,27 +130,6 @@ write-requires-2 c =
                 ) in the-long-cleared),
           ) in the-long_after),
     )
-
-pub shape_of-area : goal.shape_of-area
-shape_of-area c = omega (
-  arith,
-  c.write-2.auto,
-  c.write.auto,
-  (let the-long_after : length c.clear_from-2.new.area ≡ area_length c.args.st.sizes =
-      omega (
-        arith,
-        c.clear_from-2.auto,
-        c.copy-2.auto,
-        (let the-long-cleared : length c.clear_from.new.area ≡ area_length c.args.st.sizes =
-            omega (
-              arith,
-              c.clear_from.auto,
-              c.copy.auto,
-              c.requires.0,
-            ) in the-long-cleared),
-      ) in the-long_after),
-  c.requires.0,
-)
 
 pub returns : goal.returns
 returns c w u whole landed =

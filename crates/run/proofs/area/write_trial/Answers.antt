@@ -13,17 +13,7 @@ use Rattle.run.specs.program.Area.{written}
 use Rattle.run.proofs.MemoryLaws.{point_fits, landed_rows_fit, multipliers_fit}
 use Rattle.run.proofs.PlaceLaws.{each_same, place_room}
 use Rattle.run.proofs.WriterLaws.{trial_holds}
-use borrow.Author.Rules.{rules}
 use Rattle.run.proofs.area.write_trial.Goals as goal
-
-pub numbers_in-count-requires : goal.numbers_in-count-requires
-numbers_in-count-requires c = c.requires.1
-
-pub write_next-requires : goal.write_next-requires
-write_next-requires c = (
-  c.requires.0,
-  c.requires.1.standing_few.few_variables,
-)
 
 pub clear_from-requires : goal.clear_from-requires
 clear_from-requires c =

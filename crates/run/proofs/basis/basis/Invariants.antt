@@ -1,18 +1,14 @@
 -- `basis` meets its contract: the invariant is the fold at the rows passed, not refused.
-use borrow.Author.Rules.{rules}
 use mathlib.Core.List.{List}
-use mathlib.Core.Path.{◌≡◌, refl, sym, ap, ◌∙◌}
+use mathlib.Core.Path.{◌≡◌}
 use Prim.Native.Nat.{ℕ, ◌≤◌, ◌-◌}
-use native.Mathlib.Nat.{le_antisymm}
-use native.Mathlib.Omega.{arith}
-use lib.Ieee.{Float, of_bits}
+use lib.Ieee.{Float}
 use lib.ListN.{length}
 use Rattle.interval.specs.Result.{ok}
 use Rattle.interval.specs.Scalar.{zero_s}
 use Rattle.linear.specs.Results.{fold_r}
-use Rattle.run.specs.Basis.{Basis, no_rows, row_step, basis_of}
-use Rattle.run.specs.program.Basis.{basis_by, problem_by, without_gram}
-use Rattle.run.proofs.BasisLaws.{rank_next, rows_next, rows_refused}
+use Rattle.run.specs.Basis.{no_rows, row_step}
+use Rattle.run.specs.program.Basis.{basis_by, problem_by}
 use Rattle.run.proofs.basis.basis.Given as goal
 
 -- after the rows 0 to i - 1: what was written is the basis of them, and each slice is as long as it was

@@ -1,9 +1,6 @@
 -- `chosen_at` meets its contract: one place more is filled in each turn.
 use borrow.Author.Rules.{rules}
-use mathlib.Core.Path.{◌≡◌, ap, ◌∙◌}
-use Prim.Native.Nat.{◌≤◌, ◌-◌}
-use native.Mathlib.Nat.{le_antisymm}
-use lib.ListN.{length}
+use mathlib.Core.Path.{ap, ◌∙◌}
 use Rattle.linear.specs.Choose.{choose_of}
 use Rattle.linear.specs.Flat.{at}
 use Rattle.run.specs.Vectors.{fill_to}
@@ -25,6 +22,3 @@ loop-j-preserved c =
           c.loop-j.invariant.2
           (c.choose.ensures ∙ ap choose_of c.at.ensures),
     )
-
-pub returns : goal.returns
-returns c = rw (le_antisymm c.loop-j.invariant.0 c.loop-j-test.false) at c.loop-j.invariant.2

@@ -1,20 +1,13 @@
 -- `coefficient_rows` meets its contract: the slice starts with the coefficients stored so far, and is else as it was.
-use borrow.Author.Rules.{rules}
-use mathlib.Core.Path.{◌≡◌, sym, ◌∙◌}
+use mathlib.Core.Path.{◌≡◌}
 use mathlib.Core.List.{List, [], ◌++◌}
 use Prim.Native.Nat.{ℕ, ◌*◌, ◌/◌, ◌%◌, ◌≤◌, ◌-◌}
-use native.Mathlib.Nat.{le_antisymm}
-use native.Mathlib.Omega.{arith}
 use lib.Ieee.{Float}
 use lib.ListN.{length, drop}
 use Rattle.interval.specs.declared.Scalar.{Scalar}
 use Rattle.linear.specs.Flat.{list_to}
-use Rattle.linear.proofs.Lists.{list_to-none, list_to-more, list_to-all}
-use Rattle.linear.proofs.Reflections.{rows_positive}
 use Rattle.run.specs.program.Basis.{basis_by}
 use Rattle.run.specs.Basis.{coefficient_at}
-use Rattle.run.proofs.BasisLaws.{packed_row, packed_column}
-use Rattle.run.proofs.RowLaws.{few}
 use Rattle.run.proofs.basis.coefficient_rows.Given as goal
 
 -- the p-th coefficient

@@ -1,5 +1,6 @@
 -- `measure` meets its contract: the length of the places that were filled, which read only the coefficients that were
 -- solved for.
+use Rattle.std.proofs.lemmas.Result.{err_from_is_err_and}
 use mathlib.Core.Path.{sym, ap, ◌∙◌}
 use Prim.Native.Nat.{ℕ, ◌*◌, ◌≤◌}
 use native.Mathlib.Omega.{arith}
@@ -12,14 +13,13 @@ use Rattle.linear.proofs.Folds.{bind_ok, bind_refused}
 use Rattle.run.specs.Vectors.{column, entry}
 use Rattle.run.proofs.BasisLaws.{left_take}
 use Rattle.run.proofs.VectorLaws.{norm_fill}
-use borrow.Author.Rules.{rules}
 use Rattle.run.proofs.basis.measure.Goals as goal
 
-pub returns-in-Finished : goal.returns-in-Finished
-returns-in-Finished c =
+pub returns : goal.returns
+returns c =
     let a = c.args in
     let x = c.coefficients.new.a in
-    let e = rw c.in-Finished.is at c.coefficients.ensures in
+    let e = rw c.in_ok-coefficients.was at c.coefficients.ensures in
     let g : ℕ → Scalar =
     λ j. minus_to (at x) (column a.q.now j) (entry a.wide.now a.passed.m j) a.passed.r in
     let h : 2 * a.passed.k ≤ 24 = omega (arith, c.requires.0.variables) in
@@ -32,8 +32,9 @@ returns-in-Finished c =
     (l ∙ left_take a.passed.k a.passed.r a.passed.m a.wide.now a.q.now x m)
     ∙ sym (bind_ok _ (sym e))
 
-pub returns-in-Refused : goal.returns-in-Refused
+pub returns-in_err-coefficients : goal.returns-in_err-coefficients
 unfolding bind
-returns-in-Refused c =
-    let e = rw c.in-Refused.is at c.coefficients.ensures in
-    λ f. sym (bind_refused _ (sym e))
+returns-in_err-coefficients c =
+    let e = rw c.in_err-coefficients.was at c.coefficients.ensures in
+    let p = err_from_is_err_and c.from_residual.result c.from_residual.ensures.1 in
+    λ f. rw (p.1, p.2) (sym (bind_refused _ (sym e)))

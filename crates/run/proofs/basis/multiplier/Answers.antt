@@ -1,13 +1,6 @@
 -- `multiplier` meets its contract: the definition's steps, from what each call gives.
 use Rattle.run.proofs.BasisLaws.{multiplier_is}
-use borrow.Author.Rules.{rules}
 use Rattle.run.proofs.basis.multiplier.Goals as goal
-
-pub row_dot-z-requires : goal.row_dot-z-requires
-row_dot-z-requires c = tt
-
-pub minus_dot-s-requires : goal.minus_dot-s-requires
-minus_dot-s-requires c = tt
 
 pub returns : goal.returns
 returns c =

@@ -1,9 +1,8 @@
 -- `outside` meets its contract: an even number of places is filled so far, and at the end one more where k is odd.
 use borrow.Author.Rules.{rules}
 use mathlib.Core.Path.{◌≡◌, ◌∙◌}
-use Prim.Native.Nat.{ℕ, ◌+◌, ◌*◌, ◌/◌, ◌≤◌, ◌-◌}
+use Prim.Native.Nat.{ℕ, ◌+◌, ◌*◌, ◌/◌}
 use native.Mathlib.Omega.{arith}
-use lib.ListN.{length}
 use Rattle.interval.specs.declared.Scalar.{Scalar}
 use Rattle.linear.specs.Dot.{minus_to}
 use Rattle.linear.specs.Flat.{at}
@@ -17,25 +16,10 @@ pub loop-h-init : goal.loop-h-init
 unfolding fill_to
 loop-h-init c = search rules
 
-pub two_outside-requires : goal.two_outside-requires
-two_outside-requires c =
-    let h = c.requires in
-    (h.1, omega (arith, h.0, c.loop-h-test.true))
-
 pub loop-h-preserved : goal.loop-h-preserved
 loop-h-preserved c =
     let l = c.loop-h in
     (search rules, search rules, fill_first_two _ _ l.h l.invariant.2 c.two_outside.ensures)
-
-pub returns-then-half-k : goal.returns-then-half-k
-returns-then-half-k c =
-    let l = c.loop-h in
-    let a = c.args in
-    let e : 2 * l.h ≡ a.k = omega (arith, l.invariant.0, c.loop-h-test.false, c.if-half-k.true) in
-    rw e at l.invariant.2
-
-pub minus_dot-requires : goal.minus_dot-requires
-minus_dot-requires c = tt
 
 pub returns : goal.returns
 returns c =

@@ -1,22 +1,16 @@
 -- `pack` meets its contract: the slice starts with the entries stored so far, and is else as it was.
-use borrow.Author.Rules.{rules}
-use mathlib.Core.Path.{◌≡◌, sym, ◌∙◌}
+use mathlib.Core.Path.{◌≡◌}
 use mathlib.Core.List.{◌++◌}
-use Prim.Native.Nat.{ℕ, ◌*◌, ◌/◌, ◌%◌, ◌≤◌, ◌-◌}
-use native.Mathlib.Nat.{le_antisymm}
-use native.Mathlib.Omega.{arith}
+use Prim.Native.Nat.{◌*◌, ◌/◌, ◌%◌, ◌≤◌, ◌-◌}
 use lib.ListN.{length, drop}
-use Rattle.interval.specs.declared.Scalar.{Scalar}
 use Rattle.linear.specs.Flat.{list_to}
-use Rattle.linear.proofs.Lists.{list_to-none, list_to-more, list_to-all}
-use Rattle.linear.proofs.Reflections.{rows_positive}
 use Rattle.run.specs.Vectors.{entry}
-use Rattle.run.proofs.BasisLaws.{packed_row, packed_column}
-use Rattle.run.proofs.RowLaws.{few}
 use Rattle.run.proofs.basis.pack.Given as goal
 
 abbrev pub invariant-loop-p : goal.invariant-loop-p
-invariant-loop-p l = (l.p ≤ l.n) × (length l.to ≡ length l.initial.to) × (l.to ≡ list_to (λ j. entry l.a (j / l.r) (j % l.r)) l.p ++ drop (2 * l.p) l.initial.to)
+invariant-loop-p l =
+    (l.p ≤ l.n) × (length l.to ≡ length l.initial.to)
+    × (l.to ≡ list_to (λ j. entry l.a (j / l.r) (j % l.r)) l.p ++ drop (2 * l.p) l.initial.to)
 
 abbrev pub decreases-loop-p : goal.decreases-loop-p
 decreases-loop-p l = l.n - l.p

@@ -1,23 +1,16 @@
 -- `projections` meets its contract: the slice starts with the products stored so far, and is else as it was.
 use borrow.Author.Rules.{rules}
-use mathlib.Core.Path.{◌≡◌, sym, ◌∙◌}
-use mathlib.Core.List.{◌++◌}
-use Prim.Native.Nat.{ℕ, ◌*◌, ◌≤◌, ◌-◌}
-use native.Mathlib.Nat.{le_antisymm}
+use mathlib.Core.Path.{sym, ◌∙◌}
+use Prim.Native.Nat.{ℕ}
 use native.Mathlib.Omega.{arith}
-use lib.ListN.{length, drop}
 use Rattle.interval.specs.declared.Scalar.{Scalar}
 use Rattle.linear.specs.Dot.{dot_to}
-use Rattle.linear.specs.Flat.{list_to}
-use Rattle.linear.proofs.Lists.{list_to-none, list_to-more, list_to-all}
+use Rattle.linear.proofs.Lists.{list_to-none, list_to-more}
 use Rattle.run.specs.Vectors.{row}
 use Rattle.run.proofs.basis.projections.Goals as goal
 
 pub loop-j-init : goal.loop-j-init
 loop-j-init c = (search rules, search rules, sym (list_to-none _ _))
-
-pub row_dot-requires : goal.row_dot-requires
-row_dot-requires c = tt
 
 pub loop-j-preserved : goal.loop-j-preserved
 loop-j-preserved c =
@@ -33,9 +26,3 @@ loop-j-preserved c =
           ∙ list_to-more f c.loop-j.j a.b.now
           (omega (arith, c.requires.1.1, c.loop-j-test.true)),
     )
-
-pub returns : goal.returns
-returns c =
-    let a = c.args in
-    let e = rw (le_antisymm c.loop-j.invariant.0 c.loop-j-test.false) at c.loop-j.invariant.2 in
-    e ∙ list_to-all (λ t. dot_to (row a.wide.now a.i) (row a.q.now t) a.k) a.r a.b.now c.requires.1.1

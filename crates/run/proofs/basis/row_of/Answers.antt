@@ -1,9 +1,7 @@
 -- `row_of` meets its contract: one place more is filled in each turn.
 use borrow.Author.Rules.{rules}
-use mathlib.Core.Path.{◌≡◌, sym, ◌∙◌}
-use Prim.Native.Nat.{◌*◌, ◌≤◌, ◌-◌}
-use native.Mathlib.Nat.{le_antisymm}
-use lib.ListN.{length}
+use mathlib.Core.Path.{sym, ◌∙◌}
+use Prim.Native.Nat.{◌*◌}
 use Rattle.linear.proofs.Sums.{along_row}
 use Rattle.run.specs.Vectors.{row, fill_to}
 use Rattle.run.proofs.VectorLaws.{fill_first}
@@ -25,6 +23,3 @@ loop-p-preserved c =
           (c.at.ensures
           ∙ sym (along_row a.jc.now (12 * a.i) c.loop-p.p)),
     )
-
-pub returns : goal.returns
-returns c = rw (le_antisymm c.loop-p.invariant.0 c.loop-p-test.false) at c.loop-p.invariant.2

@@ -1,16 +1,13 @@
 -- `sides` meets its contract: the slice starts with the values stored so far, and is else as it was.
 use borrow.Author.Rules.{rules}
 use mathlib.Core.Path.{◌≡◌, sym, ◌∙◌}
-use mathlib.Core.List.{List, [], ◌++◌}
-use Prim.Native.Nat.{ℕ, ◌*◌, ◌≤◌, ◌-◌}
-use native.Mathlib.Nat.{le_antisymm}
+use mathlib.Core.List.{List, []}
+use Prim.Native.Nat.{ℕ}
 use native.Mathlib.Omega.{arith}
-use lib.ListN.{length, drop}
 use Rattle.interval.specs.declared.Scalar.{Scalar}
 use Rattle.interval.specs.Scalar.{neg_of}
 use Rattle.linear.specs.Choose.{choose_of}
-use Rattle.linear.specs.Flat.{list_to}
-use Rattle.linear.proofs.Lists.{list_to-none, list_to-more, list_to-all}
+use Rattle.linear.proofs.Lists.{list_to-none, list_to-more}
 use Rattle.run.specs.program.Basis.{basis_by}
 use Rattle.run.specs.Basis.{order_at}
 use Rattle.run.specs.Rows.{Rows, rows_in, value_at}
@@ -24,9 +21,6 @@ side r order e t eo ec ed ev = rw (ev, ed, ec, eo)
 
 pub loop-t-init : goal.loop-t-init
 loop-t-init c = (search rules, search rules, sym (list_to-none _ _))
-
-pub value_of-c-requires : goal.value_of-c-requires
-value_of-c-requires c = tt
 
 pub loop-t-preserved : goal.loop-t-preserved
 loop-t-preserved c =
@@ -50,9 +44,3 @@ loop-t-preserved c =
           (omega
           (arith, c.requires.1.1, c.loop-t-test.true)),
     )
-
-pub returns : goal.returns
-returns c =
-    let a = c.args in
-    let e = rw (le_antisymm c.loop-t.invariant.0 c.loop-t-test.false) at c.loop-t.invariant.2 in
-    e ∙ list_to-all (side_at a.r a.order.now (rows_in a.xs.now a.e)) a.m a.rhs.now c.requires.1.1

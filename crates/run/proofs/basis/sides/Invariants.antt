@@ -1,16 +1,12 @@
 -- `sides` meets its contract: the slice starts with the values stored so far, and is else as it was.
-use borrow.Author.Rules.{rules}
-use mathlib.Core.Path.{◌≡◌, sym, ◌∙◌}
+use mathlib.Core.Path.{◌≡◌}
 use mathlib.Core.List.{List, [], ◌++◌}
 use Prim.Native.Nat.{ℕ, ◌*◌, ◌≤◌, ◌-◌}
-use native.Mathlib.Nat.{le_antisymm}
-use native.Mathlib.Omega.{arith}
 use lib.ListN.{length, drop}
 use Rattle.interval.specs.declared.Scalar.{Scalar}
 use Rattle.interval.specs.Scalar.{neg_of}
 use Rattle.linear.specs.Choose.{choose_of}
 use Rattle.linear.specs.Flat.{list_to}
-use Rattle.linear.proofs.Lists.{list_to-none, list_to-more, list_to-all}
 use Rattle.run.specs.program.Basis.{basis_by}
 use Rattle.run.specs.Basis.{order_at}
 use Rattle.run.specs.Rows.{Rows, rows_in, value_at}

@@ -1,18 +1,16 @@
--- `store_chosen` meets its contract: each arm is the definition's.
+-- `store_chosen` meets its contract: each exit is the definition's.
 use mathlib.Core.Path.{ap}
+use Rattle.std.proofs.lemmas.Result.{err_from_is_err_and}
 use Rattle.interval.specs.Result.{ok}
 use Rattle.linear.specs.Results.{bind}
-use borrow.Author.Rules.{rules}
 use Rattle.run.proofs.basis.store_chosen.Goals as goal
 
-pub returns-in-Value : goal.returns-in-Value
+pub returns-in_err-q : goal.returns-in_err-q
 unfolding bind
-returns-in-Value c =
-    rw (
-      c.in-Value.is,
-      ← c.choose.ensures,
-    ) (ap ok c.put.ensures)
+returns-in_err-q c =
+    let p = err_from_is_err_and c.from_residual.result c.from_residual.ensures.1 in
+    rw (p.1, p.2, c.in_err-q.was)
 
-pub returns-in-Refused : goal.returns-in-Refused
+pub returns : goal.returns
 unfolding bind
-returns-in-Refused c = rw c.in-Refused.is
+returns c = rw (c.in_ok-q.was, ← c.choose.ensures) (ap ok c.put.ensures)

@@ -1,18 +1,8 @@
 -- `two_outside` meets its contract: both differences are stored, the factors of their products exchanged.
 use Prim.Native.Nat.{◌+◌}
-use borrow.Author.Rules.{rules}
 use Rattle.linear.proofs.SolvedLaws.{two_stored}
 use Rattle.run.proofs.BasisLaws.{outside_exchanged}
 use Rattle.run.proofs.basis.two_outside.Goals as goal
-
-pub two_minus-d-requires : goal.two_minus-d-requires
-two_minus-d-requires c = tt
-
-pub put-requires : goal.put-requires
-put-requires c = tt
-
-pub put-requires-2 : goal.put-requires-2
-put-requires-2 c = tt
 
 pub returns : goal.returns
 returns c =

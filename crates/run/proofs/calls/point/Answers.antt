@@ -11,7 +11,6 @@ use Rattle.run.specs.Checks.{valid}
 use Rattle.run.specs.declared.state.State.{State}
 use Rattle.run.proofs.CheckLaws.{bounds, compared_other}
 use Rattle.run.proofs.CallLaws.{point_at_lem, point_none, point_inside}
-use borrow.Author.Rules.{rules}
 use Rattle.run.proofs.calls.point.Goals as goal
 
 inside : (st : State) (a : List Float) → valid st ≡ true → HasRoom st.sizes a

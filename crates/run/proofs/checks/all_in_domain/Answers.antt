@@ -2,14 +2,12 @@
 -- goes beyond it, a NaN is among them.
 use borrow.Author.Rules.{rules}
 use borrow.Author.Tests.{lt-ltb}
-use mathlib.Core.Path.{◌≡◌, refl, sym}
-use Prim.Native.Nat.{◌+◌, ◌*◌, ◌≤◌, ◌-◌}
-use native.Mathlib.Nat.{le_antisymm}
+use mathlib.Core.Path.{refl, sym}
+use Prim.Native.Nat.{◌+◌, ◌*◌}
 use native.Mathlib.Numerals.{add-one}
 use native.Mathlib.Omega.{arith}
 use lib.ListN.{length}
 use Rattle.linear.proofs.FlatLaws.{at_inside}
-use Rattle.run.specs.Checks.{all_in_domain}
 use Rattle.run.specs.Vectors.{all_to}
 use Rattle.run.proofs.Domains.{none_beyond}
 use Rattle.run.proofs.checks.all_in_domain.Goals as goal
@@ -28,6 +26,3 @@ loop-i-preserved c =
     let a = c.args in
     let inside = lt-ltb (2 * l.i + 1) (length a.xs.now) (omega arith) in
     (search rules, rw (add-one, c.in_domain-inside.ensures, at_inside a.xs.now l.i inside, l.invariant.1))
-
-pub returns : goal.returns
-returns c = rw (le_antisymm c.loop-i.invariant.0 c.loop-i-test.false) at c.loop-i.invariant.1

@@ -1,17 +1,8 @@
 -- `all_in_domain` meets its contract: whether all so far are in the domain, each read inside the slice; where the count
 -- goes beyond it, a NaN is among them.
-use borrow.Author.Rules.{rules}
-use borrow.Author.Tests.{lt-ltb}
-use mathlib.Core.Path.{◌≡◌, refl, sym}
-use Prim.Native.Nat.{◌+◌, ◌*◌, ◌≤◌, ◌-◌}
-use native.Mathlib.Nat.{le_antisymm}
-use native.Mathlib.Numerals.{add-one}
-use native.Mathlib.Omega.{arith}
-use lib.ListN.{length}
-use Rattle.linear.proofs.FlatLaws.{at_inside}
+use mathlib.Core.Path.{◌≡◌}
+use Prim.Native.Nat.{◌≤◌, ◌-◌}
 use Rattle.run.specs.Checks.{all_in_domain}
-use Rattle.run.specs.Vectors.{all_to}
-use Rattle.run.proofs.Domains.{none_beyond}
 use Rattle.run.proofs.checks.all_in_domain.Given as goal
 
 abbrev pub invariant-loop-i : goal.invariant-loop-i

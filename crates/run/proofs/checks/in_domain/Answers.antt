@@ -6,6 +6,3 @@ use Rattle.run.proofs.checks.in_domain.Goals as goal
 pub float_from_bits-most : goal.float_from_bits-most
 unfolding nan_bits
 float_from_bits-most c = search rules
-
-pub returns : goal.returns
-returns c = search rules

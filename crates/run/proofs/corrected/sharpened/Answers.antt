@@ -1,15 +1,9 @@
 -- `sharpened` meets its contract: the vector is filled so far.
-use mathlib.Core.List.{List}
-use mathlib.Core.Path.{◌≡◌, sym, ap, ◌∙◌}
-use Prim.Native.Nat.{ℕ, ◌≤◌, ◌-◌}
-use native.Mathlib.Nat.{le_antisymm}
+use mathlib.Core.Path.{sym, ap, ◌∙◌}
 use borrow.Author.Rules.{rules}
-use lib.Ieee.{Float}
-use lib.ListN.{length}
 use Rattle.interval.specs.declared.Scalar.{Scalar}
 use Rattle.interval.specs.Scalar.{sharpen}
-use Rattle.linear.specs.Flat.{at}
-use Rattle.run.specs.Vectors.{vector, fill_to}
+use Rattle.run.specs.Vectors.{vector}
 use Rattle.run.proofs.VectorLaws.{fill_none, fill_first}
 use Rattle.run.proofs.corrected.sharpened.Goals as goal
 use Rattle.run.proofs.corrected.sharpened.Invariants.{sharp}
@@ -33,6 +27,3 @@ loop-i-preserved c = (
       (c.sharpen.ensures
       ∙ ap (λ (v : Scalar). sharpen v) c.at-v.ensures),
 )
-
-pub returns : goal.returns
-returns c = rw (le_antisymm c.loop-i.invariant.0 c.loop-i-test.false) at c.loop-i.invariant.2

@@ -1,16 +1,13 @@
 -- `sharpened` meets its contract: the vector is filled so far.
 use mathlib.Core.List.{List}
-use mathlib.Core.Path.{◌≡◌, sym, ap, ◌∙◌}
+use mathlib.Core.Path.{◌≡◌}
 use Prim.Native.Nat.{ℕ, ◌≤◌, ◌-◌}
-use native.Mathlib.Nat.{le_antisymm}
-use borrow.Author.Rules.{rules}
 use lib.Ieee.{Float}
 use lib.ListN.{length}
 use Rattle.interval.specs.declared.Scalar.{Scalar}
 use Rattle.interval.specs.Scalar.{sharpen}
 use Rattle.linear.specs.Flat.{at}
 use Rattle.run.specs.Vectors.{vector, fill_to}
-use Rattle.run.proofs.VectorLaws.{fill_none, fill_first}
 use Rattle.run.proofs.corrected.sharpened.Given as goal
 
 abbrev pub sharp : List Float → ℕ → Scalar

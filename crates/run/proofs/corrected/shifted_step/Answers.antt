@@ -1,10 +1,7 @@
 -- `shifted_step` meets its contract: the step is filled so far, and read where it is not.
-use mathlib.Core.Path.{◌≡◌, sym, ◌∙◌}
-use Prim.Native.Nat.{◌≤◌, ◌-◌}
+use mathlib.Core.Path.{sym, ◌∙◌}
 use native.Mathlib.Nat.{le_antisymm}
 use borrow.Author.Rules.{rules}
-use lib.ListN.{length}
-use Rattle.run.specs.Vectors.{fill_to}
 use Rattle.run.specs.Corrected.{shifted_step}
 use Rattle.run.proofs.PointLaws.{sharp_sum, sharp-sum}
 use Rattle.run.proofs.VectorLaws.{fill_none, fill_first, at_next}

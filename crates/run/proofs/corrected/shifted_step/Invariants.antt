@@ -1,13 +1,9 @@
 -- `shifted_step` meets its contract: the step is filled so far, and read where it is not.
-use mathlib.Core.Path.{◌≡◌, sym, ◌∙◌}
+use mathlib.Core.Path.{◌≡◌}
 use Prim.Native.Nat.{◌≤◌, ◌-◌}
-use native.Mathlib.Nat.{le_antisymm}
-use borrow.Author.Rules.{rules}
 use lib.ListN.{length}
 use Rattle.run.specs.Vectors.{fill_to}
-use Rattle.run.specs.Corrected.{shifted_step}
-use Rattle.run.proofs.PointLaws.{sharp_sum, sharp-sum}
-use Rattle.run.proofs.VectorLaws.{fill_none, fill_first, at_next}
+use Rattle.run.proofs.PointLaws.{sharp_sum}
 use Rattle.run.proofs.corrected.shifted_step.Given as goal
 
 abbrev pub invariant-loop-i : goal.invariant-loop-i

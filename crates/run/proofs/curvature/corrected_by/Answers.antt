@@ -1,13 +1,7 @@
 -- `corrected_by` meets its contract: the test decides whether there is an update.
-use mathlib.Core.Path.{refl}
 use lib.Ieee.{of_bits}
 use Rattle.run.proofs.CurvatureLaws.{corrected, uncorrected}
-use borrow.Author.Rules.{rules}
 use Rattle.run.proofs.curvature.corrected_by.Goals as goal
-
-pub less_chosen-requires : goal.less_chosen-requires
-unfolding of_bits
-less_chosen-requires c = refl
 
 pub returns-then-definitely_not_equal : goal.returns-then-definitely_not_equal
 unfolding of_bits

@@ -2,8 +2,5 @@
 use Rattle.linear.proofs.Sums.{along_start}
 use Rattle.run.proofs.curvature.dot_of.Goals as goal
 
-pub row_dot-requires : goal.row_dot-requires
-row_dot-requires c = tt
-
 pub returns : goal.returns
 returns c = rw (along_start, along_start) at c.row_dot.ensures

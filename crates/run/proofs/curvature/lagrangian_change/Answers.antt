@@ -1,21 +1,13 @@
 -- `lagrangian_change` meets its contract: the sum's new values, chosen, into a clear array, and then the vector is
 -- filled so far.
-use mathlib.Core.Path.{◌≡◌, refl, sym, ◌∙◌}
-use Prim.Native.Nat.{◌≤◌, ◌-◌}
+use mathlib.Core.Path.{refl, sym, ◌∙◌}
 use native.Mathlib.Nat.{le_antisymm}
-use native.Mathlib.Omega.{arith}
 use lib.Ieee.{of_bits}
-use lib.ListN.{length}
-use Rattle.run.specs.Vectors.{vector, fill_to}
 use Rattle.run.specs.Rows.{evaluation_of}
-use Rattle.run.specs.Curvature.{lagrangian_change_at}
 use Rattle.run.proofs.CurvatureLaws.{turned_is}
 use Rattle.run.proofs.VectorLaws.{fill_none, fill_first}
 use borrow.Author.Rules.{rules}
 use Rattle.run.proofs.curvature.lagrangian_change.Goals as goal
-
-pub chosen_values-requires : goal.chosen_values-requires
-chosen_values-requires c = tt
 
 pub loop-j-init : goal.loop-j-init
 loop-j-init c = (
@@ -24,11 +16,6 @@ loop-j-init c = (
   c.requires.2
       ∙ sym (fill_none _ _),
 )
-
-pub lagrangian_change_at-requires : goal.lagrangian_change_at-requires
-lagrangian_change_at-requires c =
-    let p = c.requires in
-    (p.0, p.1, omega (arith, p.0.few_variables, c.loop-j-test.true))
 
 pub loop-j-preserved : goal.loop-j-preserved
 loop-j-preserved c =

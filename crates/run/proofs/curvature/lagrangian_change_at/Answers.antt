@@ -10,8 +10,7 @@ use Rattle.run.specs.declared.rows.RowSet.{RowSet}
 use Rattle.run.specs.Rows.{rows_in, first_rows, constraint_set, sum_set, evaluation_of}
 use Rattle.run.specs.Residuals.{transposed_at}
 use Rattle.run.specs.Curvature.{lagrangian_change_at}
-use Rattle.run.proofs.RowLaws.{constraints_small, sum_small, first_small}
-use borrow.Author.Rules.{rules}
+use Rattle.run.proofs.RowLaws.{constraints_small, first_small}
 use Rattle.run.proofs.curvature.lagrangian_change_at.Goals as goal
 
 value :
@@ -32,25 +31,6 @@ transposed_at-held-requires c =
           (rw c.constraints.ensures (constraints_small p.1)),
       p.2,
     )
-
-pub transposed_at-requires : goal.transposed_at-requires
-transposed_at-requires c =
-    let p = c.requires in
-    (rw c.constraints-2.ensures (constraints_small p.0), p.2)
-
-pub transposed_at-requires-2 : goal.transposed_at-requires-2
-transposed_at-requires-2 c =
-    let p = c.requires in
-    (rw c.sum.ensures (sum_small p.1), p.2)
-
-pub sum-requires-2 : goal.sum-requires-2
-sum-requires-2 c =
-    c.requires.0
-
-pub transposed_at-requires-3 : goal.transposed_at-requires-3
-transposed_at-requires-3 c =
-    let p = c.requires in
-    (rw c.sum-2.ensures (sum_small p.0), p.2)
 
 pub returns : goal.returns
 returns c =

@@ -1,10 +1,9 @@
 -- `learned` meets its contract: no entry so far was learned, and one that was settles it.
-use mathlib.Core.Bool.{Bool, false, not, ◌||◌}
+use mathlib.Core.Bool.{Bool, not, ◌||◌}
 use mathlib.Core.List.{List}
 use mathlib.Core.Path.{◌≡◌, refl, sym, ◌∙◌}
-use Prim.Native.Nat.{ℕ, ◌*◌, ◌≤◌, ◌-◌}
+use Prim.Native.Nat.{ℕ, ◌*◌}
 use native.Mathlib.Nat.{le_antisymm}
-use native.Mathlib.Omega.{arith}
 use borrow.Author.Rules.{rules}
 use lib.Ieee.{Float}
 use Rattle.interval.specs.declared.Scalar.{Scalar}
@@ -12,7 +11,6 @@ use Rattle.interval.specs.Scalar.{zero_s, is_sharp, definitely_not_equal}
 use Rattle.linear.specs.Flat.{at}
 use Rattle.run.specs.Vectors.{any_to}
 use Rattle.run.specs.Curvature.{learned_of}
-use Rattle.run.proofs.RowLaws.{few}
 use Rattle.run.proofs.VectorLaws.{any_turn, any_broke}
 use Rattle.run.proofs.curvature.learned.Invariants.{bent}
 use Rattle.run.proofs.curvature.learned.Goals as goal
@@ -21,9 +19,6 @@ told :
     (b : List Float) (p : ℕ) {x : Scalar} {r : Bool} → x ≡ at b p →
     r ≡ (not (is_sharp x) || definitely_not_equal x zero_s) → bent b p ≡ r
 told b p ex er = rw (← ex, ← er)
-
-pub overflow_mul-q : goal.overflow_mul-q
-overflow_mul-q c = omega (arith, few c.requires c.requires)
 
 pub loop-p-init : goal.loop-p-init
 unfolding any_to
@@ -37,15 +32,6 @@ returns-then-bends c =
     c.loop-p-test.true c.loop-p.invariant.1
     (told a.b.now c.loop-p.p c.at.ensures
     c.bends.ensures ∙ c.if-bends.true))
-
-pub overflow_step-p : goal.overflow_step-p
-overflow_step-p c =
-    omega (
-      arith,
-      few c.requires
-          c.requires,
-      c.loop-p-test.true,
-    )
 
 pub loop-p-preserved : goal.loop-p-preserved
 loop-p-preserved c =

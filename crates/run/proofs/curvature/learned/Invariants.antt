@@ -1,19 +1,12 @@
 -- `learned` meets its contract: no entry so far was learned, and one that was settles it.
 use mathlib.Core.Bool.{Bool, false, not, ◌||◌}
 use mathlib.Core.List.{List}
-use mathlib.Core.Path.{◌≡◌, refl, sym, ◌∙◌}
-use Prim.Native.Nat.{ℕ, ◌*◌, ◌≤◌, ◌-◌}
-use native.Mathlib.Nat.{le_antisymm}
-use native.Mathlib.Omega.{arith}
-use borrow.Author.Rules.{rules}
+use mathlib.Core.Path.{◌≡◌}
+use Prim.Native.Nat.{ℕ, ◌≤◌, ◌-◌}
 use lib.Ieee.{Float}
-use Rattle.interval.specs.declared.Scalar.{Scalar}
 use Rattle.interval.specs.Scalar.{zero_s, is_sharp, definitely_not_equal}
 use Rattle.linear.specs.Flat.{at}
 use Rattle.run.specs.Vectors.{any_to}
-use Rattle.run.specs.Curvature.{learned_of}
-use Rattle.run.proofs.RowLaws.{few}
-use Rattle.run.proofs.VectorLaws.{any_turn, any_broke}
 use Rattle.run.proofs.curvature.learned.Given as goal
 
 abbrev pub bent : List Float → ℕ → Bool

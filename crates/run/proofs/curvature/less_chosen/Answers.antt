@@ -1,15 +1,13 @@
 -- `less_chosen` meets its contract: the vector is filled so far.
 use mathlib.Core.List.{List}
 use mathlib.Core.Path.{◌≡◌, sym, ◌∙◌}
-use Prim.Native.Nat.{ℕ, ◌≤◌, ◌-◌}
-use native.Mathlib.Nat.{le_antisymm}
+use Prim.Native.Nat.{ℕ}
 use lib.Ieee.{Float}
-use lib.ListN.{length}
 use Rattle.interval.specs.declared.Scalar.{Scalar}
 use Rattle.interval.specs.Scalar.{sub_of}
 use Rattle.linear.specs.Choose.{choose_of}
 use Rattle.linear.specs.Flat.{at}
-use Rattle.run.specs.Vectors.{vector, fill_to}
+use Rattle.run.specs.Vectors.{vector}
 use Rattle.run.proofs.VectorLaws.{fill_none, fill_first}
 use borrow.Author.Rules.{rules}
 use Rattle.run.proofs.curvature.less_chosen.Invariants.{difference}
@@ -34,6 +32,3 @@ loop-i-preserved c =
     let filled = c.put.ensures ∙ fill_first vector (difference a.y.now a.bs.now) l.i l.invariant.2
     v in
     (search rules, search rules, filled)
-
-pub returns : goal.returns
-returns c = rw (le_antisymm c.loop-i.invariant.0 c.loop-i-test.false) at c.loop-i.invariant.2

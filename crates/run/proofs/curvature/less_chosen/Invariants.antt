@@ -1,8 +1,7 @@
 -- `less_chosen` meets its contract: the vector is filled so far.
 use mathlib.Core.List.{List}
-use mathlib.Core.Path.{◌≡◌, sym, ◌∙◌}
+use mathlib.Core.Path.{◌≡◌}
 use Prim.Native.Nat.{ℕ, ◌≤◌, ◌-◌}
-use native.Mathlib.Nat.{le_antisymm}
 use lib.Ieee.{Float}
 use lib.ListN.{length}
 use Rattle.interval.specs.declared.Scalar.{Scalar}
@@ -10,8 +9,6 @@ use Rattle.interval.specs.Scalar.{sub_of}
 use Rattle.linear.specs.Choose.{choose_of}
 use Rattle.linear.specs.Flat.{at}
 use Rattle.run.specs.Vectors.{vector, fill_to}
-use Rattle.run.proofs.VectorLaws.{fill_none, fill_first}
-use borrow.Author.Rules.{rules}
 use Rattle.run.proofs.curvature.less_chosen.Given as goal
 
 abbrev pub difference : List Float → List Float → ℕ → Scalar

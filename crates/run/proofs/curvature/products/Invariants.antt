@@ -1,19 +1,13 @@
 -- `products` meets its contract: the slice is filled so far.
 use mathlib.Core.List.{List}
-use mathlib.Core.Path.{◌≡◌, sym, ◌∙◌}
+use mathlib.Core.Path.{◌≡◌}
 use Prim.Native.Nat.{ℕ, ◌*◌, ◌≤◌, ◌-◌}
-use native.Mathlib.Nat.{le_antisymm}
-use native.Mathlib.Omega.{arith}
-use borrow.Author.Rules.{rules}
 use lib.Ieee.{Float}
 use lib.ListN.{length}
 use Rattle.interval.specs.declared.Scalar.{Scalar}
 use Rattle.linear.specs.Flat.{at, along}
 use Rattle.linear.specs.Dot.{dot_to}
-use Rattle.linear.proofs.Cells.{product_small}
-use Rattle.linear.proofs.Sums.{along_start}
 use Rattle.run.specs.Vectors.{fill_to}
-use Rattle.run.proofs.VectorLaws.{fill_none, fill_first}
 use Rattle.run.proofs.curvature.products.Given as goal
 
 abbrev pub product : ℕ → List Float → List Float → ℕ → Scalar

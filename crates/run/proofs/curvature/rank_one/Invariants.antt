@@ -1,18 +1,12 @@
 -- `rank_one` meets its contract: the invariant is the fold at the entries passed, not refused.
-use mathlib.Core.Path.{◌≡◌, refl, sym}
+use mathlib.Core.Path.{◌≡◌}
 use Prim.Native.Nat.{◌≤◌, ◌-◌}
-use native.Mathlib.Nat.{le_antisymm}
-use native.Mathlib.Omega.{arith}
-use borrow.Author.Rules.{rules}
 use lib.ListN.{length}
 use Rattle.interval.specs.declared.Scalar.{Scalar}
 use Rattle.interval.specs.Result.{ok, result_of}
 use Rattle.interval.specs.Scalar.{inverse_of}
 use Rattle.linear.specs.Results.{fold_r}
-use Rattle.linear.proofs.Cells.{square_positive}
-use Rattle.linear.proofs.Turns.{went_on, broke_off}
-use Rattle.run.proofs.RowLaws.{few}
-use Rattle.run.specs.Curvature.{rank_one_step, rank_one_of}
+use Rattle.run.specs.Curvature.{rank_one_step}
 use Rattle.run.proofs.curvature.rank_one.Given as goal
 
 -- for every scalar that the inverse is of

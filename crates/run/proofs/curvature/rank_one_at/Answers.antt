@@ -9,7 +9,6 @@ use Rattle.interval.specs.Scalar.{mul_of, div_of}
 use Rattle.linear.specs.Flat.{at}
 use Rattle.linear.specs.Substitution.{store_r}
 use Rattle.run.specs.Curvature.{chosen_sum, rank_one_step}
-use borrow.Author.Rules.{rules}
 use Rattle.run.proofs.curvature.rank_one_at.Goals as goal
 
 step :

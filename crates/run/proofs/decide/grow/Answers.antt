@@ -5,13 +5,9 @@ use Rattle.interval.proofs.Given.{yes}
 use Rattle.run.specs.State.{searching}
 use Rattle.run.specs.State.{rejected_for, with_radius}
 use Rattle.run.specs.declared.state.Search.{Search}
-use Rattle.run.proofs.IterateLaws.{searched, limits_searched, grown_bounded, grow_on, grow_stops}
-use Rattle.run.proofs.MemoryLaws.{limits_of, works_as, seeks_as}
-use borrow.Author.Rules.{rules}
+use Rattle.run.proofs.IterateLaws.{searched, grown_bounded, grow_on, grow_stops}
+use Rattle.run.proofs.MemoryLaws.{works_as, seeks_as}
 use Rattle.run.proofs.decide.grow.Goals as goal
-
-pub damp-requires : goal.damp-requires
-damp-requires c = omega (arith, c.requires.1.few_turned)
 
 pub search-requires : goal.search-requires
 search-requires c =
@@ -32,11 +28,6 @@ returns-in-On c w h =
     let t = c.with_search.ensures in
     grow_on (searching a.st within) w (sym c.in-On.is ∙ c.damp.ensures) t
     (c.search.ensures w (seeks_as t h))
-
-pub finish-requires : goal.finish-requires
-finish-requires c =
-    let p = c.requires in
-    rw c.with_search-in-Stop.ensures (p.0, limits_searched _ (limits_of p.1))
 
 pub returns-in-Stop : goal.returns-in-Stop
 returns-in-Stop c w h =

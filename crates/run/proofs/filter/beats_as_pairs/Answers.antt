@@ -1,12 +1,8 @@
 -- `beats_as_pairs` meets its contract: the pairs asked are those of the flat filter.
-use borrow.Author.Rules.{rules}
 use mathlib.Core.Path.{◌∙◌, ap}
 use Rattle.run.specs.program.Filter.{beats_pairs}
 use Rattle.run.proofs.FilterLaws.{beats_same}
 use Rattle.run.proofs.filter.beats_as_pairs.Goals as goal
-
-pub returns-then-count-gt-ITERATIONS : goal.returns-then-count-gt-ITERATIONS
-returns-then-count-gt-ITERATIONS c = c.beats.ensures
 
 pub returns : goal.returns
 returns c =

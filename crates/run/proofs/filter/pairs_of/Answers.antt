@@ -1,10 +1,7 @@
 -- `pairs_of` meets its contract: the pairs so far are stored.
 use borrow.Author.Rules.{rules}
-use Prim.Native.Nat.{◌≤◌, ◌-◌}
-use native.Mathlib.Nat.{le_antisymm}
 use native.Mathlib.Omega.{arith}
-use mathlib.Core.Path.{◌≡◌, refl}
-use lib.ListN.{length, take}
+use mathlib.Core.Path.{refl}
 use Rattle.run.specs.program.Filter.{pairs_to}
 use Rattle.run.proofs.FilterLaws.{pairs_turn}
 use Rattle.run.proofs.filter.pairs_of.Goals as goal
@@ -16,6 +13,3 @@ loop-i-init c = (search rules, search rules, refl)
 pub loop-i-preserved : goal.loop-i-preserved
 loop-i-preserved c =
     (search rules, search rules, pairs_turn _ _ _ (omega arith) c.loop-i.invariant.2 c.pair_at.ensures)
-
-pub returns : goal.returns
-returns c = rw (le_antisymm c.loop-i.invariant.0 c.loop-i-test.false) at c.loop-i.invariant.2

@@ -1,12 +1,8 @@
 -- `pairs_of` meets its contract: the pairs so far are stored.
-use borrow.Author.Rules.{rules}
 use Prim.Native.Nat.{◌≤◌, ◌-◌}
-use native.Mathlib.Nat.{le_antisymm}
-use native.Mathlib.Omega.{arith}
-use mathlib.Core.Path.{◌≡◌, refl}
+use mathlib.Core.Path.{◌≡◌}
 use lib.ListN.{length, take}
 use Rattle.run.specs.program.Filter.{pairs_to}
-use Rattle.run.proofs.FilterLaws.{pairs_turn}
 use Rattle.run.proofs.filter.pairs_of.Given as goal
 
 abbrev pub invariant-loop-i : goal.invariant-loop-i

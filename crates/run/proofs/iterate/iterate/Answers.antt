@@ -2,12 +2,7 @@
 use borrow.Author.Tests.{le-leb, lt-leb}
 use Rattle.run.specs.Iterate.{iterate}
 use Rattle.run.proofs.EndingLaws.{when, unless}
-use Rattle.run.proofs.MemoryLaws.{limits_of}
-use borrow.Author.Rules.{rules}
 use Rattle.run.proofs.iterate.iterate.Goals as goal
-
-pub finish-requires : goal.finish-requires
-finish-requires c = let p = c.requires in (p.0, limits_of p.1)
 
 pub returns-then-st : goal.returns-then-st
 unfolding iterate

@@ -3,14 +3,8 @@ use mathlib.Core.List.{[]}
 use Rattle.run.specs.Area.{with_trial}
 use Rattle.run.specs.Vectors.{moved_of}
 use Rattle.run.specs.Iterate.{left_at}
-use Rattle.run.proofs.IterateLaws.{limits_searched}
-use Rattle.run.proofs.MemoryLaws.{limits_of, works_as}
-use borrow.Author.Rules.{rules}
+use Rattle.run.proofs.MemoryLaws.{works_as}
 use Rattle.run.proofs.iterate.left_at.Goals as goal
-
-pub write_trial-requires : goal.write_trial-requires
-write_trial-requires c =
-    let p = c.requires in (p.0, limits_of p.1, p.2)
 
 pub ask-requires : goal.ask-requires
 ask-requires c =
@@ -27,22 +21,12 @@ returns-in-Ask c w h t =
     (with_trial a.st w next a.delta.now a.lambda.now) _
     (c.write_trial.ensures w h t))
 
-pub finish-requires : goal.finish-requires
-finish-requires c =
-    let p = c.requires in
-    rw c.with_search.ensures (p.0, limits_searched _ (limits_of p.1))
-
 pub returns-in-Stop : goal.returns-in-Stop
 unfolding left_at
 returns-in-Stop c w h t =
     rw c.in-Stop.is
     (rw c.with_search.ensures at
     (c.finish.ensures w (works_as c.with_search.ensures h)))
-
-pub refuse-requires : goal.refuse-requires
-refuse-requires c =
-    let p = c.requires in
-    rw c.with_search-in-Refused.ensures (p.0, limits_searched _ (limits_of p.1))
 
 pub returns-in-Refused : goal.returns-in-Refused
 unfolding left_at

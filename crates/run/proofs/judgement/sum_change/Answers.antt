@@ -1,14 +1,12 @@
 -- `sum_change` meets its contract: the sum is that of the rows so far.
 use borrow.Author.Rules.{rules}
 use mathlib.Core.Path.{◌≡◌, refl}
-use Prim.Native.Nat.{◌≤◌, ◌-◌}
 use native.Mathlib.Nat.{le_antisymm}
 use lib.Ieee.{of_bits}
 use Rattle.interval.specs.declared.Scalar.{Scalar}
 use Rattle.interval.specs.Scalar.{add_of, sub_of}
-use Rattle.linear.specs.Dot.{plus_to, dot_to}
+use Rattle.linear.specs.Dot.{plus_to}
 use Rattle.linear.proofs.Sums.{plus_to-more}
-use Rattle.run.specs.Rows.{rows_in, value_at}
 use Rattle.run.specs.Judgement.{sum_change}
 use Rattle.run.proofs.judgement.sum_change.Goals as goal
 
@@ -23,12 +21,6 @@ module _ {x y p q r : Scalar} (e : x ≡ p) (f : y ≡ q) where
 pub loop-i-init : goal.loop-i-init
 unfolding plus_to of_bits
 loop-i-init c = (search rules, refl)
-
-pub value_of-a-requires : goal.value_of-a-requires
-value_of-a-requires c = tt
-
-pub value_of-b-requires : goal.value_of-b-requires
-value_of-b-requires c = tt
 
 pub loop-i-preserved : goal.loop-i-preserved
 loop-i-preserved c =

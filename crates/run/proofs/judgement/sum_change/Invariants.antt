@@ -1,15 +1,9 @@
 -- `sum_change` meets its contract: the sum is that of the rows so far.
-use borrow.Author.Rules.{rules}
-use mathlib.Core.Path.{◌≡◌, refl}
+use mathlib.Core.Path.{◌≡◌}
 use Prim.Native.Nat.{◌≤◌, ◌-◌}
-use native.Mathlib.Nat.{le_antisymm}
-use lib.Ieee.{of_bits}
-use Rattle.interval.specs.declared.Scalar.{Scalar}
 use Rattle.interval.specs.Scalar.{add_of, sub_of}
-use Rattle.linear.specs.Dot.{plus_to, dot_to}
-use Rattle.linear.proofs.Sums.{plus_to-more}
+use Rattle.linear.specs.Dot.{dot_to}
 use Rattle.run.specs.Rows.{rows_in, value_at}
-use Rattle.run.specs.Judgement.{sum_change}
 use Rattle.run.proofs.judgement.sum_change.Given as goal
 
 abbrev pub invariant-loop-i : goal.invariant-loop-i

@@ -1,16 +1,12 @@
 -- `free_directions` meets its contract: the directions start from clear slices and the remainders, and what is still to
 -- be taken from here is what was to be taken at first.
 use mathlib.Core.List.{List}
-use mathlib.Core.Path.{◌≡◌, refl, sym, ◌∙◌}
+use mathlib.Core.Path.{◌≡◌}
 use Prim.Native.Nat.{ℕ, ◌≤◌, ◌-◌}
-use native.Mathlib.Nat.{le_antisymm}
-use native.Mathlib.Omega.{arith}
-use borrow.Author.Rules.{rules}
-use lib.Ieee.{Float, of_bits}
+use lib.Ieee.{Float}
 use lib.ListN.{length}
 use Rattle.run.specs.program.NullSpace.{directions_in, span_of}
 use Rattle.run.specs.NullSpace.{directions_to, directions_of}
-use Rattle.run.proofs.NullSpaceLaws.{directions_none}
 use Rattle.run.proofs.null_space.free_directions.Given as goal
 
 -- with so many directions taken: those that are still to come are the rest of all

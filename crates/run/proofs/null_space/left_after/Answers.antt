@@ -1,9 +1,6 @@
 -- `left_after` meets its contract: the slice is the definition's, of the rows of q so far.
-use mathlib.Core.Path.{◌≡◌, ◌∙◌}
-use Prim.Native.Nat.{◌≤◌, ◌-◌}
-use native.Mathlib.Nat.{le_antisymm}
+use mathlib.Core.Path.{◌∙◌}
 use borrow.Author.Rules.{rules}
-use lib.ListN.{length}
 use Rattle.run.specs.NullSpace.{left_after}
 use Rattle.run.proofs.NullSpaceLaws.{after_turn}
 use Rattle.run.proofs.null_space.left_after.Goals as goal
@@ -16,6 +13,3 @@ pub loop-t-preserved : goal.loop-t-preserved
 loop-t-preserved c =
     let l = c.loop-t in
     (search rules, search rules, c.part_off.ensures ∙ after_turn _ _ _ _ l.t l.invariant.2)
-
-pub returns : goal.returns
-returns c = rw (le_antisymm c.loop-t.invariant.0 c.loop-t-test.false) at c.loop-t.invariant.2

@@ -1,11 +1,8 @@
 -- `left_after` meets its contract: the slice is the definition's, of the rows of q so far.
-use mathlib.Core.Path.{◌≡◌, ◌∙◌}
+use mathlib.Core.Path.{◌≡◌}
 use Prim.Native.Nat.{◌≤◌, ◌-◌}
-use native.Mathlib.Nat.{le_antisymm}
-use borrow.Author.Rules.{rules}
 use lib.ListN.{length}
 use Rattle.run.specs.NullSpace.{left_after}
-use Rattle.run.proofs.NullSpaceLaws.{after_turn}
 use Rattle.run.proofs.null_space.left_after.Given as goal
 
 abbrev pub invariant-loop-t : goal.invariant-loop-t

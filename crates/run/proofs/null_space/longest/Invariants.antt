@@ -1,11 +1,7 @@
 -- `longest` meets its contract: the choice so far is the definition's.
 use mathlib.Core.Path.{◌≡◌}
 use Prim.Native.Nat.{◌+◌, ◌≤◌, ◌-◌}
-use native.Mathlib.Omega.{arith}
-use borrow.Author.Rules.{rules}
-use Rattle.run.specs.NullSpace.{longest_to}
 use Rattle.run.specs.program.NullSpace.{longest_in}
-use Rattle.run.proofs.NullSpaceLaws.{longest_turn}
 use Rattle.run.proofs.null_space.longest.Given as goal
 
 abbrev pub invariant-loop-p : goal.invariant-loop-p

@@ -1,14 +1,9 @@
 -- `remainders` meets its contract: the slice is the definition's, of the directions so far, an even number of them, and
 -- at the end of one more where k is odd.
-use mathlib.Core.Path.{◌≡◌, ◌∙◌}
-use Prim.Native.Nat.{◌+◌, ◌*◌, ◌/◌, ◌≤◌, ◌-◌}
-use native.Mathlib.Omega.{arith}
-use borrow.Author.Rules.{rules}
-use lib.Ieee.{of_bits}
+use mathlib.Core.Path.{◌≡◌}
+use Prim.Native.Nat.{◌*◌, ◌≤◌, ◌-◌}
 use lib.ListN.{length}
 use Rattle.run.specs.NullSpace.{remainders_to}
-use Rattle.run.proofs.NullSpaceLaws.{remainders_turn}
-use Rattle.run.proofs.TwoRows.{two_remainders}
 use Rattle.run.proofs.null_space.remainders.Given as goal
 
 abbrev pub invariant-loop-h : goal.invariant-loop-h

@@ -1,9 +1,5 @@
 -- `two_left_after` meets its contract: both rows are the definition's, of the rows of q so far.
-use mathlib.Core.Path.{◌≡◌}
-use Prim.Native.Nat.{◌+◌, ◌≤◌, ◌-◌}
-use native.Mathlib.Nat.{le_antisymm}
 use borrow.Author.Rules.{rules}
-use lib.ListN.{length}
 use Rattle.run.specs.NullSpace.{left_after}
 use Rattle.run.proofs.TwoRows.{two_after}
 use Rattle.run.proofs.null_space.two_left_after.Goals as goal
@@ -19,6 +15,3 @@ loop-t-preserved c =
       search rules,
       two_after _ _ _ _ l.t c.requires.0 l.invariant.2 c.two_parts_off.ensures,
     )
-
-pub returns : goal.returns
-returns c = rw (le_antisymm c.loop-t.invariant.0 c.loop-t-test.false) at c.loop-t.invariant.2

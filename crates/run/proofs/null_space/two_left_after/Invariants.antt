@@ -1,11 +1,8 @@
 -- `two_left_after` meets its contract: both rows are the definition's, of the rows of q so far.
 use mathlib.Core.Path.{◌≡◌}
 use Prim.Native.Nat.{◌+◌, ◌≤◌, ◌-◌}
-use native.Mathlib.Nat.{le_antisymm}
-use borrow.Author.Rules.{rules}
 use lib.ListN.{length}
 use Rattle.run.specs.NullSpace.{left_after}
-use Rattle.run.proofs.TwoRows.{two_after}
 use Rattle.run.proofs.null_space.two_left_after.Given as goal
 
 abbrev pub invariant-loop-t : goal.invariant-loop-t

@@ -1,5 +1,4 @@
 -- `two_parts_off` meets its contract: what is taken off row p leaves row p + 1 as it was.
-use borrow.Author.Rules.{rules}
 use Rattle.run.proofs.TwoRows.{two_off}
 use Rattle.run.proofs.null_space.two_parts_off.Goals as goal
 

@@ -2,9 +2,8 @@
 -- the end one more where k is odd.
 use mathlib.Core.Path.{◌≡◌, ◌∙◌}
 use native.Mathlib.Omega.{arith}
-use Prim.Native.Nat.{◌+◌, ◌*◌, ◌/◌, ◌≤◌, ◌-◌}
+use Prim.Native.Nat.{◌+◌, ◌*◌, ◌/◌}
 use borrow.Author.Rules.{rules}
-use lib.ListN.{length}
 use Rattle.run.specs.NullSpace.{without_to}
 use Rattle.run.proofs.NullSpaceLaws.{without_turn}
 use Rattle.run.proofs.TwoRows.{without_two}
@@ -14,27 +13,10 @@ pub loop-h-init : goal.loop-h-init
 unfolding without_to
 loop-h-init c = search rules
 
-pub two_parts_off-requires : goal.two_parts_off-requires
-two_parts_off-requires c =
-    let h = c.requires in
-    (h.0, (h.1, omega (arith, h.0, c.loop-h-test.true)))
-
 pub loop-h-preserved : goal.loop-h-preserved
 loop-h-preserved c =
     let l = c.loop-h in
     (search rules, search rules, without_two _ _ _ _ l.h l.invariant.2 c.two_parts_off.ensures)
-
-pub returns-then-half-k : goal.returns-then-half-k
-returns-then-half-k c =
-    let l = c.loop-h in
-    let e : 2 * l.h ≡ c.args.k = omega
-    (arith, l.invariant.0, c.loop-h-test.false, c.if-half-k.true) in
-    rw e at l.invariant.2
-
-pub part_off-requires : goal.part_off-requires
-part_off-requires c =
-    let h = c.requires in
-    (h.0, (h.1, omega (arith, h.0, c.if-half-k.false)))
 
 pub returns : goal.returns
 returns c =

@@ -1,13 +1,9 @@
 -- `without` meets its contract: the slice is the definition's, of the remainders so far: an even number of them, and at
 -- the end one more where k is odd.
-use mathlib.Core.Path.{◌≡◌, ◌∙◌}
-use native.Mathlib.Omega.{arith}
-use Prim.Native.Nat.{◌+◌, ◌*◌, ◌/◌, ◌≤◌, ◌-◌}
-use borrow.Author.Rules.{rules}
+use mathlib.Core.Path.{◌≡◌}
+use Prim.Native.Nat.{◌*◌, ◌≤◌, ◌-◌}
 use lib.ListN.{length}
 use Rattle.run.specs.NullSpace.{without_to}
-use Rattle.run.proofs.NullSpaceLaws.{without_turn}
-use Rattle.run.proofs.TwoRows.{without_two}
 use Rattle.run.proofs.null_space.without.Given as goal
 
 abbrev pub invariant-loop-h : goal.invariant-loop-h

@@ -6,18 +6,19 @@ use borrow.Author.Tests.{eq-eqb, ne_eqb}
 use lib.ListN.{length}
 use Rattle.run.specs.Pieces.{along_reply}
 use Rattle.run.proofs.PieceLaws.{finished, sized_passed, wants_passed}
-use borrow.Author.Rules.{rules}
+use Rattle.std.proofs.lemmas.Result.{err_from_is_err_and}
 use Rattle.run.proofs.pieces.along.Goals as goal
 
-pub returns-in_default : goal.returns-in_default
+pub returns-in_err-wants : goal.returns-in_err-wants
 unfolding along_reply
-returns-in_default c =
-    rw (← c.sized.ensures, ← c.wants-fit.ensures, c.in_default.is)
+returns-in_err-wants c =
+    let p = err_from_is_err_and c.from_residual.result c.from_residual.ensures.1 in
+    rw (p.1, p.2, ← c.sized.ensures, ← c.wants.ensures, c.in_err-wants.was)
 
 pub overflow_mul-c : goal.overflow_mul-c
 overflow_mul-c c =
-    let p = wants_passed _ _ _ (finished c.in-Finished.is)
-    c.wants-fit.ensures in
+    let p = wants_passed _ _ _ (finished c.in_ok-wants.was)
+    c.wants.ensures in
     omega (arith, (sized_passed p.0 c.sized.ensures).counts.few_variables)
 
 pub returns-then-out-c : goal.returns-then-out-c
@@ -25,16 +26,16 @@ unfolding along_reply
 returns-then-out-c c =
     rw (
       ← c.sized.ensures,
-      ← c.wants-fit.ensures,
-      c.in-Finished.is,
+      ← c.wants.ensures,
+      c.in_ok-wants.was,
       ne_eqb _ _
           c.if-out-c.true,
     )
 
 pub along_constraints-requires : goal.along_constraints-requires
 along_constraints-requires c =
-    let p = wants_passed _ _ _ (finished c.in-Finished.is)
-    c.wants-fit.ensures in
+    let p = wants_passed _ _ _ (finished c.in_ok-wants.was)
+    c.wants.ensures in
     let z = (sized_passed p.0 c.sized.ensures).counts in
     record {
       few = z;
@@ -51,8 +52,8 @@ returns c =
     let size : length k.new.out ≡ 2 * n = omega (arith, k.auto, long) in
     rw (
       ← c.sized.ensures,
-      ← c.wants-fit.ensures,
-      c.in-Finished.is,
+      ← c.wants.ensures,
+      c.in_ok-wants.was,
       eq-eqb _ _ long,
       ← k.ensures,
     )

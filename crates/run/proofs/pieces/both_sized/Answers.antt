@@ -1,5 +1,5 @@
 -- `both_sized` meets its contract: the checks one after the other.
-use borrow.Author.Rules.{rules}
+use Rattle.std.proofs.lemmas.Result.{err_from_is_err_and}
 use borrow.Author.Tests.{le-leb, lt-leb}
 use Rattle.linear.specs.Results.{bind}
 use Rattle.run.specs.Pieces.{both_sized}
@@ -9,16 +9,17 @@ pub returns-then-m-gt-CONSTRAINTS : goal.returns-then-m-gt-CONSTRAINTS
 unfolding both_sized
 returns-then-m-gt-CONSTRAINTS c = rw (lt-leb _ _ c.if-m-gt-CONSTRAINTS.true)
 
-pub returns-in_default : goal.returns-in_default
+pub returns-in_err-sized : goal.returns-in_err-sized
 unfolding both_sized bind
-returns-in_default c =
-    rw (le-leb _ _ c.if-m-gt-CONSTRAINTS.false, ← c.sized-first.ensures, c.in_default.is)
+returns-in_err-sized c =
+    let p = err_from_is_err_and c.from_residual.result c.from_residual.ensures.1 in
+    rw (p.1, p.2, le-leb _ _ c.if-m-gt-CONSTRAINTS.false, ← c.sized.ensures, c.in_err-sized.was)
 
 pub returns : goal.returns
 unfolding both_sized bind
 returns c =
     rw (
       le-leb _ _ c.if-m-gt-CONSTRAINTS.false,
-      ← c.sized-first.ensures,
-      c.in-Finished.is,
-    ) c.sized.ensures
+      ← c.sized.ensures,
+      c.in_ok-sized.was,
+    ) c.sized-2.ensures

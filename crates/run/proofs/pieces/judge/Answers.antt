@@ -3,33 +3,36 @@ use native.Mathlib.Omega.{arith}
 use borrow.Author.Tests.{le-leb, lt-leb}
 use Rattle.run.specs.Pieces.{judge_reply}
 use Rattle.run.proofs.PieceLaws.{finished, both_passed, wants_passed}
-use borrow.Author.Rules.{rules}
+use Rattle.std.proofs.lemmas.Result.{err_from_is_err_and}
 use Rattle.run.proofs.pieces.judge.Goals as goal
 
 pub returns-then-count-gt-ITERATIONS : goal.returns-then-count-gt-ITERATIONS
 unfolding judge_reply
 returns-then-count-gt-ITERATIONS c = rw (lt-leb _ _ c.if-count-gt-ITERATIONS.true)
 
-pub returns-in-Refused : goal.returns-in-Refused
+pub returns-in_err-wants : goal.returns-in_err-wants
 unfolding judge_reply
-returns-in-Refused c =
+returns-in_err-wants c =
+    let p = err_from_is_err_and c.from_residual.result c.from_residual.ensures.1 in
     rw (
+      p.1,
+      p.2,
       le-leb _ _ c.if-count-gt-ITERATIONS.false,
       ← c.both_sized.ensures,
       ← c.wants-fit.ensures,
       ← c.wants.ensures,
-      c.in-Refused.is,
+      c.in_err-wants.was,
     )
 
 pub violation-landed-requires : goal.violation-landed-requires
 violation-landed-requires c =
-    let p = wants_passed _ _ _ (finished c.in-Finished.is) c.wants.ensures in
+    let p = wants_passed _ _ _ (finished c.in_ok-wants.was) c.wants.ensures in
     let q = wants_passed _ _ _ p.0 c.wants-fit.ensures in
     (both_passed q.0 c.both_sized.ensures).second.counts.few_constraints
 
 pub judge-requires : goal.judge-requires
 judge-requires c =
-    let p = wants_passed _ _ _ (finished c.in-Finished.is)
+    let p = wants_passed _ _ _ (finished c.in_ok-wants.was)
     c.wants.ensures in
     let q = wants_passed _ _ _ p.0 c.wants-fit.ensures in
     let z = both_passed q.0 c.both_sized.ensures in
@@ -48,6 +51,6 @@ returns c =
       ← c.both_sized.ensures,
       ← c.wants-fit.ensures,
       ← c.wants.ensures,
-      c.in-Finished.is,
+      c.in_ok-wants.was,
     )
     (c.judge.ensures c.violation-landed.ensures)

@@ -3,7 +3,6 @@ use mathlib.Core.Path.{ap}
 use Rattle.interval.specs.Result.{ok}
 use borrow.Author.Tests.{le-leb, lt-leb, eq-eqb, ne_eqb}
 use Rattle.run.specs.Pieces.{learned_reply}
-use borrow.Author.Rules.{rules}
 use Rattle.run.proofs.pieces.learned.Goals as goal
 
 pub returns-then-n-gt-VARIABLES : goal.returns-then-n-gt-VARIABLES

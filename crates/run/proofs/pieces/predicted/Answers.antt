@@ -2,22 +2,23 @@
 use Rattle.run.proofs.pieces.predicted.Goals as goal
 use Rattle.run.specs.Pieces.{predicted_reply}
 use Rattle.run.proofs.PieceLaws.{finished, sized_passed, wants_passed}
-use borrow.Author.Rules.{rules}
-use Rattle.run.proofs.pieces.predicted.Statement.{statement}
-use Rattle.run.proofs.pieces.predicted.Tie as tie
+use Rattle.std.proofs.lemmas.Result.{err_from_is_err_and}
 
-pub returns-in-Refused : goal.returns-in-Refused
+pub returns-in_err-wants : goal.returns-in_err-wants
 unfolding predicted_reply
-returns-in-Refused c =
+returns-in_err-wants c =
+    let p = err_from_is_err_and c.from_residual.result c.from_residual.ensures.1 in
     rw (
+      p.1,
+      p.2,
       ← c.sized.ensures,
       ← c.wants.ensures,
-      c.in-Refused.is,
+      c.in_err-wants.was,
     )
 
 pub predicted-requires : goal.predicted-requires
 predicted-requires c =
-    let p = wants_passed _ _ _ (finished c.in-Finished.is) c.wants.ensures in
+    let p = wants_passed _ _ _ (finished c.in_ok-wants.was) c.wants.ensures in
     let z = sized_passed p.0 c.sized.ensures in
     z.counts
 
@@ -27,5 +28,5 @@ returns c =
     rw (
       ← c.sized.ensures,
       ← c.wants.ensures,
-      c.in-Finished.is,
+      c.in_ok-wants.was,
     ) c.predicted.ensures

@@ -1,15 +1,13 @@
 -- `sized` meets its contract: the sizes and m decide the definition's first three checks, the count its last.
 use mathlib.Core.Bool.{Bool, true}
 use mathlib.Core.Path.{◌≡◌, sym, ◌∙◌}
-use native.Mathlib.Omega.{arith}
-use borrow.Author.Rules.{rules}
 use borrow.Author.Tests.{le-leb, lt-leb, eq-eqb, ne_eqb}
 use Rattle.run.specs.Checks.{sizes_fit}
 use Rattle.run.specs.Pieces.{sized_of}
 use Rattle.run.specs.declared.rows.RowCounts.{RowCounts}
 use Rattle.run.specs.declared.state.Sizes.{Sizes}
 use Rattle.run.proofs.CheckLaws.{SizeBounds, size_bounds}
-use Rattle.run.proofs.PieceLaws.{answer_small, too_many}
+use Rattle.run.proofs.PieceLaws.{too_many}
 use Rattle.run.proofs.pieces.sized.Goals as goal
 
 abbrev sizes : RowCounts → Sizes
@@ -30,30 +28,6 @@ returns-then-c-gt-CONSTRAINTS c =
     let b = passed c.args.c c.sizes_fit.ensures
     c.if-not-sizes_fit.false in
     rw (le-leb _ _ b.n, lt-leb _ _ c.if-c-gt-CONSTRAINTS.true)
-
-pub overflow_add-c : goal.overflow_add-c
-overflow_add-c c =
-    let b = passed c.args.c
-    c.sizes_fit.ensures c.if-not-sizes_fit.false in
-    omega (arith, c.if-c-gt-CONSTRAINTS.false, b.s)
-
-pub overflow_add-c-2 : goal.overflow_add-c-2
-overflow_add-c-2 c =
-    let b = passed c.args.c
-    c.sizes_fit.ensures c.if-not-sizes_fit.false in
-    omega (arith, b.n)
-
-pub overflow_mul-c : goal.overflow_mul-c
-overflow_mul-c c =
-    let b = passed c.args.c
-    c.sizes_fit.ensures c.if-not-sizes_fit.false in
-    omega (arith, answer_small b.n c.if-c-gt-CONSTRAINTS.false b.s)
-
-pub overflow_mul-c-2 : goal.overflow_mul-c-2
-overflow_mul-c-2 c =
-    let b = passed c.args.c
-    c.sizes_fit.ensures c.if-not-sizes_fit.false in
-    omega (arith, answer_small b.n c.if-c-gt-CONSTRAINTS.false b.s)
 
 pub returns-then-count-c : goal.returns-then-count-c
 unfolding sized_of

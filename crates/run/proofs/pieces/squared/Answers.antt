@@ -6,26 +6,29 @@ use Rattle.run.specs.Residuals.{squared_of}
 use Rattle.run.specs.Pieces.{squared_reply}
 use Rattle.run.proofs.RowLaws.{sum_small}
 use Rattle.run.proofs.PieceLaws.{finished, fits_passed}
-use borrow.Author.Rules.{rules}
+use Rattle.std.proofs.lemmas.Result.{err_from_is_err_and}
 use Rattle.run.proofs.pieces.squared.Goals as goal
 
-pub returns-in-Refused : goal.returns-in-Refused
+pub returns-in_err-fits : goal.returns-in_err-fits
 unfolding squared_reply
-returns-in-Refused c =
+returns-in_err-fits c =
+    let p = err_from_is_err_and c.from_residual.result c.from_residual.ensures.1 in
     rw (
+      p.1,
+      p.2,
       ← c.variables_read.ensures,
       ← c.fits.ensures,
-      c.in-Refused.is,
+      c.in_err-fits.was,
     )
 
 pub sum-requires : goal.sum-requires
 sum-requires c =
-    let z = (fits_passed (finished c.in-Finished.is) c.fits.ensures).sized in
+    let z = (fits_passed (finished c.in_ok-fits.was) c.fits.ensures).sized in
     z.counts
 
 pub squared-requires : goal.squared-requires
 squared-requires c =
-    let z = (fits_passed (finished c.in-Finished.is)
+    let z = (fits_passed (finished c.in_ok-fits.was)
     c.fits.ensures).sized in
     rw c.sum.ensures (sum_small z.counts)
 
@@ -36,7 +39,7 @@ returns c =
     rw (
       ← c.variables_read.ensures,
       ← c.fits.ensures,
-      c.in-Finished.is,
+      c.in_ok-fits.was,
     )
     (ap ok (c.squared.ensures ∙ ap (λ e. squared_of (rows_in a.xs.now e) a.delta.now a.d)
     c.sum.ensures))

@@ -4,24 +4,27 @@ use native.Mathlib.Omega.{arith}
 use lib.ListN.{length}
 use Rattle.run.specs.Pieces.{update_reply}
 use Rattle.run.proofs.PieceLaws.{finished, both_passed, wants_passed}
-use borrow.Author.Rules.{rules}
+use Rattle.std.proofs.lemmas.Result.{err_from_is_err_and}
 use Rattle.run.proofs.pieces.update_curvature.Goals as goal
 
-pub returns-in_default : goal.returns-in_default
+pub returns-in_err-wants : goal.returns-in_err-wants
 unfolding update_reply
-returns-in_default c =
+returns-in_err-wants c =
+    let p = err_from_is_err_and c.from_residual.result c.from_residual.ensures.1 in
     rw (
+      p.1,
+      p.2,
       ← c.both_sized.ensures,
       ← c.wants-rows.ensures,
       ← c.wants.ensures,
-      ← c.wants-fit.ensures,
-      c.in_default.is,
+      ← c.wants-2.ensures,
+      c.in_err-wants.was,
     )
 
 pub update_curvature-requires : goal.update_curvature-requires
 update_curvature-requires c =
-    let p = wants_passed _ _ _ (finished c.in-Finished.is)
-    c.wants-fit.ensures in
+    let p = wants_passed _ _ _ (finished c.in_ok-wants.was)
+    c.wants-2.ensures in
     let q = wants_passed _ _ _ p.0 c.wants.ensures in
     let r = wants_passed _ _ _ q.0 c.wants-rows.ensures in
     let z = both_passed r.0 c.both_sized.ensures in
@@ -30,7 +33,7 @@ update_curvature-requires c =
 pub returns : goal.returns
 unfolding update_reply
 returns c =
-    let p = wants_passed _ _ _ (finished c.in-Finished.is) c.wants-fit.ensures in
+    let p = wants_passed _ _ _ (finished c.in_ok-wants.was) c.wants-2.ensures in
     let q = wants_passed _ _ _ p.0 c.wants.ensures in
     let r = wants_passed _ _ _ q.0 c.wants-rows.ensures in
     let k = c.update_curvature in
@@ -39,8 +42,8 @@ returns c =
       ← c.both_sized.ensures,
       ← c.wants-rows.ensures,
       ← c.wants.ensures,
-      ← c.wants-fit.ensures,
-      c.in-Finished.is,
+      ← c.wants-2.ensures,
+      c.in_ok-wants.was,
       ← k.ensures,
     )
     (rw size at c.cleared.ensures)

@@ -1,18 +1,20 @@
 -- `wants` meets its contract: each arm is the definition's.
-use borrow.Author.Rules.{rules}
+use Rattle.std.proofs.lemmas.Result.{err_from_is_err_and}
 use borrow.Author.Tests.{eq-eqb, ne_eqb}
 use Rattle.linear.specs.Results.{bind}
 use Rattle.run.specs.Pieces.{wants_of}
 use Rattle.run.proofs.pieces.wants.Goals as goal
 
+pub returns-in_err-before : goal.returns-in_err-before
+unfolding wants_of bind
+returns-in_err-before c =
+    let p = err_from_is_err_and c.from_residual.result c.from_residual.ensures.1 in
+    rw (p.1, p.2, c.in_err-before.was)
+
 pub returns-then-count-wanted : goal.returns-then-count-wanted
 unfolding wants_of bind
-returns-then-count-wanted c = rw (c.in-Finished.is, ne_eqb _ _ c.if-count-wanted.true)
+returns-then-count-wanted c = rw (c.in_ok-before.was, ne_eqb _ _ c.if-count-wanted.true)
 
-pub returns-else-count-wanted : goal.returns-else-count-wanted
+pub returns : goal.returns
 unfolding wants_of bind
-returns-else-count-wanted c = rw (c.in-Finished.is, eq-eqb _ _ c.if-count-wanted.false)
-
-pub returns-in-Refused : goal.returns-in-Refused
-unfolding wants_of bind
-returns-in-Refused c = rw c.in-Refused.is
+returns c = rw (c.in_ok-before.was, eq-eqb _ _ c.if-count-wanted.false)

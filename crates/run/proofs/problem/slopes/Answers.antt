@@ -1,6 +1,5 @@
 -- `slopes` meets its contract: the slopes as they are, and then the choices of them.
 use mathlib.Core.Path.{◌∙◌}
-use borrow.Author.Rules.{rules}
 use Rattle.run.proofs.ProblemLaws.{squeezed_plain}
 use Rattle.run.proofs.problem.slopes.Goals as goal
 

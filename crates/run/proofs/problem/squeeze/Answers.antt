@@ -1,10 +1,8 @@
 -- `squeeze` meets its contract: one row more is filled in each turn.
 use borrow.Author.Rules.{rules}
-use mathlib.Core.Path.{◌≡◌, ◌∙◌}
-use Prim.Native.Nat.{ℕ, ◌≤◌, ◌-◌}
+use mathlib.Core.Path.{◌∙◌}
+use Prim.Native.Nat.{ℕ}
 use native.Mathlib.Nat.{le_antisymm}
-use native.Mathlib.Omega.{arith}
-use lib.ListN.{length}
 use Rattle.interval.specs.declared.Scalar.{Scalar}
 use Rattle.run.specs.program.Problem.{kept_by, chosen_if, squeezed_as}
 use Rattle.run.specs.Problem.{variable}
@@ -16,28 +14,6 @@ use Rattle.run.proofs.problem.squeeze.Goals as goal
 pub loop-i-init : goal.loop-i-init
 unfolding fill_rows
 loop-i-init c = search rules
-
-pub overflow_mul-i : goal.overflow_mul-i
-overflow_mul-i c =
-    omega (arith, c.loop-i-test.true, c.requires.0.few_rows)
-
-pub squeeze_row-requires : goal.squeeze_row-requires
-squeeze_row-requires c =
-    let t = c.loop-i-test.true in (
-      c.requires.0,
-      omega (arith, t, c.requires.0.few_rows),
-      c.requires.1,
-      c.requires.2,
-      omega (arith, t, c.requires.0.few_rows),
-    )
-
-pub overflow_step-i : goal.overflow_step-i
-overflow_step-i c =
-    omega (
-      arith,
-      c.loop-i-test.true,
-      c.requires.0.few_rows,
-    )
 
 pub loop-i-preserved : goal.loop-i-preserved
 loop-i-preserved c =

@@ -1,9 +1,8 @@
 -- `squeeze_row` meets its contract: one place more is filled in each turn.
 use borrow.Author.Rules.{rules}
-use mathlib.Core.Path.{◌≡◌, ◌∙◌}
-use Prim.Native.Nat.{ℕ, ◌≤◌, ◌-◌}
-use native.Mathlib.Nat.{le_antisymm}
-use lib.ListN.{length, get_or}
+use mathlib.Core.Path.{◌∙◌}
+use Prim.Native.Nat.{ℕ}
+use lib.ListN.{get_or}
 use Rattle.interval.specs.declared.Scalar.{Scalar}
 use Rattle.run.specs.program.Problem.{chosen_if}
 use Rattle.run.specs.Rows.{rows_in, slope_at}
@@ -15,11 +14,6 @@ pub loop-p-init : goal.loop-p-init
 unfolding fill_to
 loop-p-init c = search rules
 
-pub kept_slope-requires : goal.kept_slope-requires
-kept_slope-requires c =
-    let p = c.requires in
-    (p.0, p.1)
-
 pub loop-p-preserved : goal.loop-p-preserved
 loop-p-preserved c =
     let a = c.args in
@@ -30,6 +24,3 @@ loop-p-preserved c =
       search rules,
       c.put.ensures ∙ fill_turn a.to.now a.t0 f l.p l.invariant.2 c.kept_slope.ensures,
     )
-
-pub returns : goal.returns
-returns c = rw (le_antisymm c.loop-p.invariant.0 c.loop-p-test.false) at c.loop-p.invariant.2

@@ -1,10 +1,6 @@
 -- `undamped_at` meets its contract: on the diagonal the sum, elsewhere chosen.
 use Rattle.run.proofs.ProblemLaws.{undamped_on, undamped_off}
-use borrow.Author.Rules.{rules}
 use Rattle.run.proofs.problem.undamped_at.Goals as goal
-
-pub plus_dot-v-requires : goal.plus_dot-v-requires
-plus_dot-v-requires c = tt
 
 pub returns-then-i-j : goal.returns-then-i-j
 returns-then-i-j c =

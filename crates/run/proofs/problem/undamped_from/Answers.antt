@@ -1,6 +1,5 @@
 -- `undamped_from` meets its contract: the entry across the diagonal is the same where B's is.
 use mathlib.Core.Path.{sym, ap, ◌∙◌}
-use borrow.Author.Rules.{rules}
 use Rattle.interval.specs.declared.Scalar.{Scalar}
 use Rattle.run.specs.program.Problem.{undamped_at}
 use Rattle.run.proofs.Symmetry.{undamped_across}
@@ -15,6 +14,3 @@ returns-then-is_mirrored c =
     ∙ p.2 m.0
     ∙ ap (λ (z : Scalar). undamped_at a.jr.now a.s z a.j a.i) (sym m.1)
     ∙ undamped_across a.jr.now a.s a.b a.i a.j m.0
-
-pub returns : goal.returns
-returns c = c.undamped_at.ensures

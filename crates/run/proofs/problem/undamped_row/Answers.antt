@@ -1,9 +1,9 @@
 -- `undamped_row` meets its contract: one place more is filled in each turn.
 use borrow.Author.Rules.{rules}
-use mathlib.Core.Path.{◌≡◌, sym, ap, ◌∙◌}
-use Prim.Native.Nat.{◌*◌, ◌≤◌, ◌-◌}
-use native.Mathlib.Nat.{le_antisymm, le_trans}
-use lib.ListN.{length, get_or}
+use mathlib.Core.Path.{sym, ap, ◌∙◌}
+use Prim.Native.Nat.{◌*◌}
+use native.Mathlib.Nat.{le_trans}
+use lib.ListN.{get_or}
 use Rattle.interval.specs.declared.Scalar.{Scalar}
 use Rattle.run.specs.program.Problem.{undamped_at, undamped_between}
 use Rattle.run.specs.Vectors.{fill_to}
@@ -15,12 +15,6 @@ use Rattle.run.proofs.problem.undamped_row.Goals as goal
 pub loop-j-init : goal.loop-j-init
 unfolding fill_to
 loop-j-init c = search rules
-
-pub along-start-requires : goal.along-start-requires
-along-start-requires c = tt
-
-pub along-across-requires : goal.along-across-requires
-along-across-requires c = tt
 
 pub undamped_from-v-requires : goal.undamped_from-v-requires
 undamped_from-v-requires c =
@@ -55,6 +49,3 @@ loop-j-preserved c =
           l.j
           l.invariant.2 e,
     )
-
-pub returns : goal.returns
-returns c = rw (le_antisymm c.loop-j.invariant.0 c.loop-j-test.false) at c.loop-j.invariant.2

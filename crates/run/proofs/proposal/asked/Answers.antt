@@ -1,12 +1,14 @@
--- `asked` meets its contract: each arm is the definition's.
-use borrow.Author.Rules.{rules}
+-- `asked` meets its contract: each exit is the definition's.
+use Rattle.std.proofs.lemmas.Result.{err_from_is_err_and}
 use Rattle.linear.specs.Results.{bind}
 use Rattle.run.proofs.proposal.asked.Goals as goal
 
-pub returns-in-Value : goal.returns-in-Value
+pub returns-in_err-tried : goal.returns-in_err-tried
 unfolding bind
-returns-in-Value c delta lambda next = rw c.in-Value.is
+returns-in_err-tried c delta lambda next =
+    let p = err_from_is_err_and c.from_residual.result c.from_residual.ensures.1 in
+    rw (p.1, p.2, c.in_err-tried.was)
 
-pub returns-in-Refused : goal.returns-in-Refused
+pub returns : goal.returns
 unfolding bind
-returns-in-Refused c delta lambda next = rw c.in-Refused.is
+returns c delta lambda next = rw c.in_ok-tried.was

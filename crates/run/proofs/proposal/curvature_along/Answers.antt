@@ -1,6 +1,5 @@
 -- `curvature_along` meets its contract: the scalars that are filled are the products with the curvature's rows.
 use mathlib.Core.Path.{refl, ◌∙◌}
-use borrow.Author.Rules.{rules}
 use lib.Ieee.{of_bits}
 use Rattle.run.proofs.CurvatureLaws.{bent_products}
 use Rattle.run.proofs.proposal.curvature_along.Goals as goal

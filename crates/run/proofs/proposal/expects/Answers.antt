@@ -9,10 +9,7 @@ use Rattle.run.specs.Proposal.{curvature_along, expects_of}
 use Rattle.run.specs.Rows.{rows_in, sum_of, sum_set}
 use Rattle.run.specs.Residuals.{squared_of}
 use Rattle.run.specs.declared.proposal.StandingPoint.{StandingPoint}
-use Rattle.run.specs.declared.rows.RowCounts.{RowCounts}
 use Rattle.run.specs.declared.rows.RowSet.{RowSet}
-use Rattle.run.proofs.RowLaws.{sum_small}
-use borrow.Author.Rules.{rules}
 use Rattle.run.proofs.proposal.expects.Goals as goal
 
 -- the drop of the sum, less what the curvature bends
@@ -26,11 +23,6 @@ dropped p rows b delta {bent = v} ee el ef eb ed et =
     let fall = ef ∙ ap (λ (x : Scalar). sub_of p.f x) left in
     et ∙ ap (λ (x : Scalar). definitely_greater x zero_s) (ed ∙ ap (λ (x : Scalar). sub_of x v) fall
     ∙ ap (λ (x : Scalar). sub_of (sub_of p.f (squared_of (sum_of p.counts rows) delta p.counts.n)) x) eb)
-
-pub squared-left-requires : goal.squared-left-requires
-squared-left-requires c =
-    let f = c.requires in
-    rw c.sum.ensures (sum_small f)
 
 pub returns-then-definitely_greater : goal.returns-then-definitely_greater
 unfolding expects_of of_bits

@@ -1,4 +1,7 @@
 -- `propose` meets its contract: each arm is the definition's.
+use Rattle.std.proofs.lemmas.Result.{err_from_is_err_and}
+use Rattle.std.specs.Prelude.{ℕ, Option, Result, Ok}
+use Rattle.linear.specs.declared.results.LinearError.{LinearError}
 use mathlib.Core.Path.{◌≡◌, sym, ap, ◌∙◌}
 use mathlib.Core.List.{List}
 use lib.Ieee.{Float}
@@ -8,38 +11,15 @@ use Rattle.run.specs.Results.{truth_of}
 use Rattle.run.specs.Step.{Step, Stepped, found, not_positive}
 use Rattle.run.specs.program.Proposal.{standing_in}
 use Rattle.run.specs.program.Step.{end_of}
-use Rattle.run.specs.declared.step.StepEnd.{StepEnd}
 use Rattle.run.proofs.ProposalLaws.{expects_reads, within_reads, proposal_refused, proposal_by}
 use Rattle.run.proofs.ProposalLaws.{proposed_refused, proposed_drop, proposed_not}
-use borrow.Author.Rules.{rules}
 use Rattle.run.proofs.proposal.propose.Goals as goal
 
 -- the definition's step, from how the step ended
-stepped : (raw lambda : List Float) {got r : StepEnd} {x y : Res Stepped} → end_of got raw lambda ≡ x → x ≡ y → got ≡ r
+stepped : (raw lambda : List Float) {got r : Result (Option ℕ) LinearError} {x y : Res Stepped}
+    → end_of got raw lambda ≡ x → x ≡ y → got ≡ r
     → y ≡ end_of r raw lambda
-stepped raw lambda eg es er = sym (eg ∙ es) ∙ ap (λ (s : StepEnd). end_of s raw lambda) er
-
-pub damped_step-requires : goal.damped_step-requires
-damped_step-requires c =
-    let p = c.requires in
-    (p.few_rows.0.few_variables, c.well_formed.0.1.1.1.1.0.1.0.1, p.prepared_at.sizes, p.few_rows.3)
-
-pub standing_rows-rows-requires : goal.standing_rows-rows-requires
-standing_rows-rows-requires c = let p = c.requires.few_rows in (p.1, p.0)
-
-pub curvature_for-b-requires : goal.curvature_for-b-requires
-curvature_for-b-requires c = let p = c.requires.few_rows in (p.1, p.2)
-
-pub expects-requires : goal.expects-requires
-expects-requires c = c.requires.few_rows.0
-
-pub standing_point-x-requires : goal.standing_point-x-requires
-standing_point-x-requires c = let p = c.requires.few_rows in (p.1, p.2)
-
-pub within-requires : goal.within-requires
-within-requires c =
-    let p = c.requires.few_rows in
-    (p.0, c.damped_step.auto.delta ∙ p.3.delta_length)
+stepped raw lambda eg es er = sym (eg ∙ es) ∙ ap (λ (s : Result (Option ℕ) LinearError). end_of s raw lambda) er
 
 pub returns-then-drop : goal.returns-then-drop
 returns-then-drop c =
@@ -47,7 +27,7 @@ returns-then-drop c =
     let from : Standing = standing_in a.origin a.area.now in
     let raw = c.damped_step.new.delta in
     let lambda = c.damped_step.new.lambda in
-    let x : Step = record { delta = raw; lambda = lambda; independent = c.in-Found.r } in
+    let x : Step = record { delta = raw; lambda = lambda; independent = c.in-Some.independent } in
     let expected : expects_of from raw ≡ truth_of c.expects.result =
     sym (rw (c.standing_rows-rows.ensures, c.curvature_for-b.ensures) at c.expects.ensures
     ∙ expects_reads from raw) in
@@ -58,47 +38,55 @@ returns-then-drop c =
     ) at (c.within.ensures lambda)
     ∙ within_reads from a.state.radius raw lambda
     ∙ sym (proposal_by from a.state.mu a.state.radius (found x)
-    (stepped raw lambda c.damped_step.ensures (c.requires.prepared_at.steps a.state.mu) c.in-Found.is)
-    ∙ proposed_drop from a.state.mu a.state.radius x (expected ∙ ap truth_of c.in-Value.is ∙ ap ok c.if-drop.true))
+    (stepped raw lambda c.damped_step.ensures (c.requires.prepared_at.steps a.state.mu)
+    (c.in_ok-step.was ∙ ap Ok c.in-Some.is))
+    ∙ proposed_drop from a.state.mu a.state.radius x (expected ∙ ap truth_of c.in_ok-drop.was ∙ ap ok c.if-drop.true))
 
-pub returns-in-Value : goal.returns-in-Value
-returns-in-Value c =
+pub returns : goal.returns
+returns c =
     let a = c.args in
     let from : Standing = standing_in a.origin a.area.now in
     let raw = c.damped_step.new.delta in
     let lambda = c.damped_step.new.lambda in
-    let x : Step = record { delta = raw; lambda = lambda; independent = c.in-Found.r } in
+    let x : Step = record { delta = raw; lambda = lambda; independent = c.in-Some.independent } in
     let expected : expects_of from raw ≡ truth_of c.expects.result =
     sym (rw (c.standing_rows-rows.ensures, c.curvature_for-b.ensures) at c.expects.ensures
     ∙ expects_reads from raw) in
     sym (proposal_by from a.state.mu a.state.radius (found x)
-    (stepped raw lambda c.damped_step.ensures (c.requires.prepared_at.steps a.state.mu) c.in-Found.is)
-    ∙ proposed_not from a.state.mu a.state.radius x (expected ∙ ap truth_of c.in-Value.is ∙ ap ok c.if-drop.false))
+    (stepped raw lambda c.damped_step.ensures (c.requires.prepared_at.steps a.state.mu)
+    (c.in_ok-step.was ∙ ap Ok c.in-Some.is))
+    ∙ proposed_not from a.state.mu a.state.radius x (expected ∙ ap truth_of c.in_ok-drop.was ∙ ap ok c.if-drop.false))
 
-pub returns-in-Refused-expects : goal.returns-in-Refused-expects
-returns-in-Refused-expects c =
+pub returns-in_err-drop : goal.returns-in_err-drop
+returns-in_err-drop c =
     let a = c.args in
     let from : Standing = standing_in a.origin a.area.now in
     let raw = c.damped_step.new.delta in
     let lambda = c.damped_step.new.lambda in
-    let x : Step = record { delta = raw; lambda = lambda; independent = c.in-Found.r } in
+    let x : Step = record { delta = raw; lambda = lambda; independent = c.in-Some.independent } in
     let expected : expects_of from raw ≡ truth_of c.expects.result =
     sym (rw (c.standing_rows-rows.ensures, c.curvature_for-b.ensures) at c.expects.ensures
     ∙ expects_reads from raw) in
-    sym (proposal_by from a.state.mu a.state.radius (found x)
-    (stepped raw lambda c.damped_step.ensures (c.requires.prepared_at.steps a.state.mu) c.in-Found.is)
-    ∙ proposed_refused from a.state.mu a.state.radius x (expected ∙ ap truth_of c.in-Refused-expects.is))
+    let p = err_from_is_err_and c.from_residual-in_err-drop.result c.from_residual-in_err-drop.ensures.1 in
+    rw (p.1, p.2)
+    (sym (proposal_by from a.state.mu a.state.radius (found x)
+    (stepped raw lambda c.damped_step.ensures (c.requires.prepared_at.steps a.state.mu)
+    (c.in_ok-step.was ∙ ap Ok c.in-Some.is))
+    ∙ proposed_refused from a.state.mu a.state.radius x (expected ∙ ap truth_of c.in_err-drop.was)))
 
-pub returns-in-NotPositive : goal.returns-in-NotPositive
-returns-in-NotPositive c =
+pub returns-in_default : goal.returns-in_default
+returns-in_default c =
     let a = c.args in
     let from : Standing = standing_in a.origin a.area.now in
     sym (proposal_by from a.state.mu a.state.radius not_positive
-    (stepped _ _ c.damped_step.ensures (c.requires.prepared_at.steps a.state.mu) c.in-NotPositive.is))
+    (stepped _ _ c.damped_step.ensures (c.requires.prepared_at.steps a.state.mu)
+    (c.in_ok-step.was ∙ ap Ok c.in_default.is)))
 
-pub returns-in-Refused : goal.returns-in-Refused
-returns-in-Refused c =
+pub returns-in_err-step : goal.returns-in_err-step
+returns-in_err-step c =
     let a = c.args in
     let from : Standing = standing_in a.origin a.area.now in
-    sym (proposal_refused from a.state.mu a.state.radius
-    (stepped _ _ c.damped_step.ensures (c.requires.prepared_at.steps a.state.mu) c.in-Refused.is))
+    let p = err_from_is_err_and c.from_residual.result c.from_residual.ensures.1 in
+    rw (p.1, p.2)
+    (sym (proposal_refused from a.state.mu a.state.radius
+    (stepped _ _ c.damped_step.ensures (c.requires.prepared_at.steps a.state.mu) c.in_err-step.was)))

@@ -1,10 +1,9 @@
 -- `trial` meets its contract: the places so far are chosen or clear, and the place that is read is still as it was.
 use mathlib.Core.Path.{◌≡◌, refl, ap, ◌∙◌}
-use Prim.Native.Nat.{ℕ, ◌+◌, ◌≤◌, ◌-◌}
+use Prim.Native.Nat.{ℕ, ◌+◌}
 use native.Mathlib.Nat.{le_antisymm}
 use native.Mathlib.Omega.{arith}
 use lib.Dec.{ltb}
-use lib.ListN.{length}
 use Rattle.interval.specs.declared.Scalar.{Scalar}
 use Rattle.interval.specs.Scalar.{zero_s, pick}
 use Rattle.linear.specs.Choose.{choose_of}
@@ -35,11 +34,6 @@ loop-i-preserved c =
       c.put.ensures
           ∙ rw z at (fill_turn a.delta.now 0 f l.i l.invariant.2 v),
     )
-
-pub tried-requires : goal.tried-requires
-tried-requires c =
-    let p = c.requires in
-    (p.0, c.loop-i.invariant.1 ∙ p.1)
 
 pub returns : goal.returns
 returns c lambda =

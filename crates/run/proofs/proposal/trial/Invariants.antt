@@ -1,20 +1,12 @@
 -- `trial` meets its contract: the places so far are chosen or clear, and the place that is read is still as it was.
-use mathlib.Core.Path.{◌≡◌, refl, ap, ◌∙◌}
-use Prim.Native.Nat.{ℕ, ◌+◌, ◌≤◌, ◌-◌}
-use native.Mathlib.Nat.{le_antisymm}
-use native.Mathlib.Omega.{arith}
+use mathlib.Core.Path.{◌≡◌}
+use Prim.Native.Nat.{◌≤◌, ◌-◌}
 use lib.Dec.{ltb}
 use lib.ListN.{length}
-use Rattle.interval.specs.declared.Scalar.{Scalar}
 use Rattle.interval.specs.Scalar.{zero_s, pick}
 use Rattle.linear.specs.Choose.{choose_of}
 use Rattle.linear.specs.Flat.{at}
-use Rattle.run.specs.program.Proposal.{point_of}
-use Rattle.run.specs.Rows.{constraints_of}
-use Rattle.run.specs.Vectors.{fill_to, vector, chosen_of}
-use Rattle.run.proofs.ProposalLaws.{trial_is, chosen_in_place}
-use Rattle.run.proofs.VectorLaws.{fill_turn, at_next}
-use borrow.Author.Rules.{rules}
+use Rattle.run.specs.Vectors.{fill_to}
 use Rattle.run.proofs.proposal.trial.Given as goal
 
 abbrev pub invariant-loop-i : goal.invariant-loop-i

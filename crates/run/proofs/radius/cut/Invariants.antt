@@ -1,17 +1,11 @@
 -- `cut` meets its contract: the first places are filled, and the place that is read is still as it was.
-use mathlib.Core.Path.{◌≡◌, refl, ap, ◌∙◌}
-use Prim.Native.Nat.{ℕ, ◌+◌, ◌≤◌, ◌-◌}
-use native.Mathlib.Nat.{le_antisymm}
-use native.Mathlib.Omega.{arith}
-use borrow.Author.Rules.{rules}
+use mathlib.Core.Path.{◌≡◌}
+use Prim.Native.Nat.{◌≤◌, ◌-◌}
 use lib.ListN.{length}
-use Rattle.interval.specs.declared.Scalar.{Scalar}
 use Rattle.interval.specs.Scalar.{mul_of}
 use Rattle.linear.specs.Choose.{choose_of}
 use Rattle.linear.specs.Flat.{at}
-use Rattle.run.specs.Radius.{cut_of}
 use Rattle.run.specs.Vectors.{fill_to}
-use Rattle.run.proofs.VectorLaws.{fill_turn, at_fill_ahead}
 use Rattle.run.proofs.radius.cut.Given as goal
 
 abbrev pub invariant-loop-i : goal.invariant-loop-i

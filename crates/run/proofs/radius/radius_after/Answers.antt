@@ -2,10 +2,8 @@
 use Rattle.interval.specs.Scalar.{pick, upper, definitely_less}
 use mathlib.Core.Bool.{Bool, ◌||◌}
 use mathlib.Core.Path.{sym, ap, ◌∙◌}
-use borrow.Author.Tests.{not-true, not-false}
 use lib.Ieee.{of_bits}
 use Rattle.run.proofs.DecideLaws.{reach_far, reach_near}
-use borrow.Author.Rules.{rules}
 use Rattle.run.proofs.radius.radius_after.Goals as goal
 
 pub returns-then-not-definitely_greater : goal.returns-then-not-definitely_greater

@@ -1,26 +1,20 @@
 -- `against` meets its contract: the slice starts with the products stored so far, and is else as it was.
 use mathlib.Core.Path.{◌≡◌, sym, ◌∙◌}
-use mathlib.Core.List.{◌++◌}
-use Prim.Native.Nat.{ℕ, ◌*◌, ◌≤◌, ◌-◌}
-use native.Mathlib.Nat.{le_antisymm}
+use Prim.Native.Nat.{ℕ}
 use native.Mathlib.Omega.{arith}
 use borrow.Author.Rules.{rules}
-use lib.ListN.{length, drop}
 use Rattle.interval.specs.declared.Scalar.{Scalar}
 use Rattle.interval.specs.Scalar.{neg_of}
 use Rattle.linear.specs.Choose.{choose_of}
 use Rattle.linear.specs.Dot.{dot_to}
-use Rattle.linear.specs.Flat.{at, list_to}
-use Rattle.linear.proofs.Lists.{list_to-none, list_to-more, list_to-all}
+use Rattle.linear.specs.Flat.{at}
+use Rattle.linear.proofs.Lists.{list_to-none, list_to-more}
 use Rattle.linear.proofs.Sums.{along_start}
 use Rattle.run.specs.Vectors.{row}
 use Rattle.run.proofs.reduced.against.Goals as goal
 
 pub loop-t-init : goal.loop-t-init
 loop-t-init c = (search rules, search rules, sym (list_to-none _ _))
-
-pub row_dot-x-requires : goal.row_dot-x-requires
-row_dot-x-requires c = tt
 
 pub loop-t-preserved : goal.loop-t-preserved
 loop-t-preserved c =
@@ -42,10 +36,3 @@ loop-t-preserved c =
             c.loop-t-test.true,
           )),
     )
-
-pub returns : goal.returns
-returns c =
-    let a = c.args in
-    let e = rw (le_antisymm c.loop-t.invariant.0 c.loop-t-test.false) at c.loop-t.invariant.2 in
-    e ∙ list_to-all (λ j. choose_of (neg_of (dot_to (row a.z.now j) (at a.force.now) a.k))) a.count
-    a.out.now c.requires.1

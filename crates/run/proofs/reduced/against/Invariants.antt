@@ -1,18 +1,12 @@
 -- `against` meets its contract: the slice starts with the products stored so far, and is else as it was.
-use mathlib.Core.Path.{◌≡◌, sym, ◌∙◌}
+use mathlib.Core.Path.{◌≡◌}
 use mathlib.Core.List.{◌++◌}
-use Prim.Native.Nat.{ℕ, ◌*◌, ◌≤◌, ◌-◌}
-use native.Mathlib.Nat.{le_antisymm}
-use native.Mathlib.Omega.{arith}
-use borrow.Author.Rules.{rules}
+use Prim.Native.Nat.{◌*◌, ◌≤◌, ◌-◌}
 use lib.ListN.{length, drop}
-use Rattle.interval.specs.declared.Scalar.{Scalar}
 use Rattle.interval.specs.Scalar.{neg_of}
 use Rattle.linear.specs.Choose.{choose_of}
 use Rattle.linear.specs.Dot.{dot_to}
 use Rattle.linear.specs.Flat.{at, list_to}
-use Rattle.linear.proofs.Lists.{list_to-none, list_to-more, list_to-all}
-use Rattle.linear.proofs.Sums.{along_start}
 use Rattle.run.specs.Vectors.{row}
 use Rattle.run.proofs.reduced.against.Given as goal
 

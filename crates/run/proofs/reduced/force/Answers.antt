@@ -1,14 +1,7 @@
 -- `force` meets its contract: the first places hold the definition's, and the rest are clear.
-use mathlib.Core.Path.{◌≡◌, sym, ◌∙◌}
-use Prim.Native.Nat.{◌≤◌, ◌-◌}
+use mathlib.Core.Path.{sym, ◌∙◌}
 use native.Mathlib.Nat.{le_antisymm}
-use lib.ListN.{length}
-use Rattle.interval.specs.Scalar.{add_of}
-use Rattle.linear.specs.Choose.{choose_of}
-use Rattle.linear.specs.Flat.{at}
-use Rattle.run.specs.Vectors.{vector, fill_to}
-use Rattle.run.specs.Reduced.{h_times_at, force_of}
-use Rattle.run.specs.program.Reduced.{curved}
+use Rattle.run.specs.Reduced.{force_of}
 use Rattle.run.proofs.VectorLaws.{fill_none, fill_first}
 use borrow.Author.Rules.{rules}
 use Rattle.run.proofs.reduced.force.Goals as goal

@@ -1,68 +1,31 @@
 -- `free_part` meets its contract: the part of the array has the length asked, and the weights decide.
-use mathlib.Core.Path.{◌≡◌, refl, sym, ◌∙◌}
-use mathlib.Core.List.{[], ◌∷◌}
-use mathlib.Core.Logic.{inl, inr}
-use denote.Enum.Declared.{tag_of}
-use types.Run.{OneOf}
+use Rattle.std.proofs.lemmas.Result.{err_from_is_err_and}
+use Rattle.std.specs.Prelude.{Err, Ok, false}
+use mathlib.Core.Path.{ap, ◌∙◌}
 use Rattle.run.specs.program.Reduced.{curved, spanned}
-use Rattle.run.specs.declared.reduced.WeightsEnd.{WeightsEnd}
-use Rattle.run.specs.declared.reduced.WeightsEnd.TheVariants as a
-use Rattle.run.specs.contracts.reduced.WeightsEnd.{the_type}
-use Prim.Native.Nat.{ℕ, ◌*◌, ◌≤◌}
-use native.Mathlib.Omega.{arith}
-use lib.Ieee.{of_bits}
-use lib.Seq.{length-take-le}
 use Rattle.run.proofs.ReducedLaws.{parted, unparted, parted_with}
-use Rattle.run.proofs.Prefixes.{front_room, front_kept}
-use borrow.Author.Rules.{rules}
+use Rattle.run.proofs.Prefixes.{front_kept}
+use Rattle.run.proofs.RowLaws.{short}
 use Rattle.run.proofs.reduced.free_part.Goals as goal
 
--- an end that is not the first is one of the others
-others : (end : WeightsEnd) → (end ≡ a.Found → ⊥) → OneOf (1 ∷ (2 ∷ [])) (tag_of the_type end)
-others a.Found n = absurd (n refl)
-others a.NotPositive n = inl refl
-others (a.Refused e) n = inr refl
+pub returns-in_err-is_positive : goal.returns-in_err-is_positive
+returns-in_err-is_positive c =
+    let a = c.args in
+    let e = err_from_is_err_and c.from_residual.result c.from_residual.ensures.1 in
+    rw (e.1, e.2)
+    (unparted (Err _) c.weigh.new.w a.delta.now (curved a.k a.h.now a.g.now) (spanned a.count a.z.now) (λ q. cc)
+    ∙ parted _ _ _ _ _ _ c.force.ensures (rw c.in_err-is_positive.was at c.weigh.ensures))
 
-short : {t : ℕ} → t ≤ 12 → 2 * t ≤ 24
-short h = omega (arith, h)
-
-pub force-requires : goal.force-requires
-unfolding of_bits
-force-requires c = (c.requires.0, refl)
-
-pub slice_bounds-weigh-end-2 : goal.slice_bounds-weigh-end-2
-slice_bounds-weigh-end-2 c =
-    sym (length-take-le _ _ (short c.requires.1))
-
-pub weigh-end-requires : goal.weigh-end-requires
-weigh-end-requires c =
-    (c.requires.0, (c.requires.1, length-take-le _ _ (short c.requires.1)))
-
-pub returns-in_default : goal.returns-in_default
-returns-in_default c =
-    unparted c.weigh-end.result _ _ (curved c.args.k c.args.h.now c.args.g.now)
-    (spanned c.args.count c.args.z.now) (others c.weigh-end.result c.in_default.not-Found)
+pub returns-then-not-is_positive : goal.returns-then-not-is_positive
+returns-then-not-is_positive c =
+    let a = c.args in
+    unparted (Ok false) c.weigh.new.w a.delta.now (curved a.k a.h.now a.g.now) (spanned a.count a.z.now) (λ q. cc)
     ∙ parted _ _ _ _ _ _ c.force.ensures
-    c.weigh-end.ensures
-
-pub slice_bounds-w-end-2 : goal.slice_bounds-w-end-2
-slice_bounds-w-end-2 c =
-    front_room _ c.weigh-end.new.w _
-    (short c.requires.1) c.weigh-end.auto.w
-
-pub slice_bounds-combine-end : goal.slice_bounds-combine-end
-slice_bounds-combine-end c =
-    sym (length-take-le _ _
-    (front_room _ c.weigh-end.new.w _
-    (short c.requires.1) c.weigh-end.auto.w))
+    (rw c.if-not-is_positive.true at (rw c.in_ok-is_positive.was at c.weigh.ensures))
 
 pub returns : goal.returns
 returns c =
-    parted_with _ _ _ _ _ _
-    c.force.ensures c.weigh-end.ensures
-    c.in-Found.is
-    (front_kept _
-    c.weigh-end.new.w _
-    (short c.requires.1)
-    c.weigh-end.auto.w)
-    c.combine.ensures
+    let e = c.in_ok-is_positive.was ∙ ap Ok c.if-not-is_positive.false in
+    rw e
+    at (parted_with _ _ _ _ _ _ c.force.ensures c.weigh.ensures e
+    (front_kept _ c.weigh.new.w _ (short c.requires.1) c.weigh.auto.w) c.combine.ensures)

@@ -1,13 +1,10 @@
 -- `h_times_row` meets its contract: the row holds the products so far, an even number of them, and at the end one more
 -- where k is odd.
 use mathlib.Core.Path.{◌≡◌, ◌∙◌}
-use Prim.Native.Nat.{◌+◌, ◌*◌, ◌/◌, ◌≤◌, ◌-◌}
+use Prim.Native.Nat.{◌+◌, ◌*◌, ◌/◌}
 use native.Mathlib.Omega.{arith}
 use borrow.Author.Rules.{rules}
-use lib.ListN.{length}
-use Rattle.linear.specs.Choose.{choose_of}
-use Rattle.linear.specs.Dot.{dot_to}
-use Rattle.run.specs.Vectors.{row, fill_to}
+use Rattle.run.specs.Vectors.{fill_to}
 use Rattle.run.proofs.TwoRows.{fill_two}
 use Rattle.run.proofs.VectorLaws.{fill_turn}
 use Rattle.run.proofs.reduced.h_times_row.Goals as goal
@@ -15,11 +12,6 @@ use Rattle.run.proofs.reduced.h_times_row.Goals as goal
 pub loop-p-init : goal.loop-p-init
 unfolding fill_to
 loop-p-init c = search rules
-
-pub two_h_times-requires : goal.two_h_times-requires
-two_h_times-requires c =
-    let h = c.requires in
-    (h.1, omega (arith, h.0, c.loop-p-test.true))
 
 pub loop-p-preserved : goal.loop-p-preserved
 loop-p-preserved c =
@@ -32,13 +24,6 @@ returns-then-half-k c =
     let e : 2 * l.p ≡ c.args.k = omega
     (arith, l.invariant.0, c.loop-p-test.false, c.if-half-k.true) in
     rw e at l.invariant.2
-
-pub overflow_add-t : goal.overflow_add-t
-overflow_add-t c = let h = c.requires in omega (arith, h.0, h.1)
-
-pub h_times_at-requires : goal.h_times_at-requires
-h_times_at-requires c =
-    omega (arith, c.requires.0, c.if-half-k.false)
 
 pub returns : goal.returns
 returns c =

@@ -1,15 +1,11 @@
 -- `h_times_row` meets its contract: the row holds the products so far, an even number of them, and at the end one more
 -- where k is odd.
-use mathlib.Core.Path.{◌≡◌, ◌∙◌}
-use Prim.Native.Nat.{◌+◌, ◌*◌, ◌/◌, ◌≤◌, ◌-◌}
-use native.Mathlib.Omega.{arith}
-use borrow.Author.Rules.{rules}
+use mathlib.Core.Path.{◌≡◌}
+use Prim.Native.Nat.{◌*◌, ◌≤◌, ◌-◌}
 use lib.ListN.{length}
 use Rattle.linear.specs.Choose.{choose_of}
 use Rattle.linear.specs.Dot.{dot_to}
 use Rattle.run.specs.Vectors.{row, fill_to}
-use Rattle.run.proofs.TwoRows.{fill_two}
-use Rattle.run.proofs.VectorLaws.{fill_turn}
 use Rattle.run.proofs.reduced.h_times_row.Given as goal
 
 abbrev pub invariant-loop-p : goal.invariant-loop-p

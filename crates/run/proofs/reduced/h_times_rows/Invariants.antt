@@ -1,13 +1,10 @@
 -- `h_times_rows` meets its contract: the first rows hold the products, and the rest are clear.
-use mathlib.Core.Path.{◌≡◌, ◌∙◌}
+use mathlib.Core.Path.{◌≡◌}
 use Prim.Native.Nat.{◌≤◌, ◌-◌}
-use native.Mathlib.Nat.{le_antisymm}
 use lib.ListN.{length}
 use Rattle.linear.specs.Choose.{choose_of}
 use Rattle.linear.specs.Dot.{dot_to}
 use Rattle.run.specs.Vectors.{matrix, row, fill_rows}
-use Rattle.run.proofs.VectorLaws.{fill_rows_turn}
-use borrow.Author.Rules.{rules}
 use Rattle.run.proofs.reduced.h_times_rows.Given as goal
 
 abbrev pub invariant-loop-t : goal.invariant-loop-t

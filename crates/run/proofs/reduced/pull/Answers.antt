@@ -1,15 +1,9 @@
 -- `pull` meets its contract: the first places hold the definition's, and the rest are clear.
-use mathlib.Core.Path.{◌≡◌, ◌∙◌}
-use Prim.Native.Nat.{◌≤◌, ◌-◌}
+use mathlib.Core.Path.{◌∙◌}
 use native.Mathlib.Nat.{le_antisymm}
 use borrow.Author.Rules.{rules}
-use lib.ListN.{length}
-use Rattle.interval.specs.Scalar.{add_of, neg_of}
-use Rattle.linear.specs.Choose.{choose_of}
-use Rattle.linear.specs.Flat.{at}
-use Rattle.run.specs.Vectors.{vector, fill_to}
-use Rattle.run.specs.Reduced.{h_times_at, pull_of}
-use Rattle.run.specs.program.Reduced.{curved}
+use Rattle.run.specs.Vectors.{fill_to}
+use Rattle.run.specs.Reduced.{pull_of}
 use Rattle.run.proofs.ReducedLaws.{negated}
 use Rattle.run.proofs.VectorLaws.{fill_first}
 use Rattle.run.proofs.reduced.pull.Goals as goal

@@ -1,17 +1,10 @@
 -- `reduced` meets its contract: the slice starts with the products stored so far, and is else as it was.
-use mathlib.Core.Path.{◌≡◌, sym, ◌∙◌}
+use mathlib.Core.Path.{◌≡◌}
 use mathlib.Core.List.{◌++◌}
-use Prim.Native.Nat.{ℕ, ◌+◌, ◌*◌, ◌/◌, ◌%◌, ◌≤◌, ◌-◌}
-use native.Mathlib.Nat.{le_antisymm, le_trans}
-use native.Mathlib.Omega.{arith}
-use borrow.Author.Rules.{rules}
+use Prim.Native.Nat.{◌*◌, ◌/◌, ◌%◌, ◌≤◌, ◌-◌}
 use lib.ListN.{length, drop}
-use Rattle.interval.specs.declared.Scalar.{Scalar}
 use Rattle.linear.specs.Flat.{list_to}
-use Rattle.linear.proofs.Cells.{square_positive, place_row, place_column}
-use Rattle.linear.proofs.Lists.{list_to-none, list_to-more, list_to-all}
 use Rattle.run.specs.program.Reduced.{lower_at}
-use Rattle.run.proofs.RowLaws.{few}
 use Rattle.run.proofs.reduced.reduced.Given as goal
 
 abbrev pub invariant-loop-p : goal.invariant-loop-p

@@ -1,5 +1,4 @@
 -- `reduced_at` meets its contract: zero above the diagonal, the sum of products, chosen, below.
-use borrow.Author.Rules.{rules}
 use borrow.Author.Tests.{lt-ltb, le-ltb}
 use lib.Ieee.{of_bits}
 use Rattle.run.specs.program.Reduced.{lower_at}
@@ -8,9 +7,6 @@ use Rattle.run.proofs.reduced.reduced_at.Goals as goal
 pub returns-then-i-j : goal.returns-then-i-j
 unfolding lower_at of_bits
 returns-then-i-j c = rw (lt-ltb _ _ c.if-i-j.true)
-
-pub row_dot-requires : goal.row_dot-requires
-row_dot-requires c = tt
 
 pub returns : goal.returns
 unfolding lower_at

@@ -1,5 +1,4 @@
 -- `slope_at` meets its contract: the definition's steps, from what each call gives.
-use borrow.Author.Rules.{rules}
 use Rattle.linear.proofs.Sums.{along_start}
 use Rattle.run.proofs.reduced.slope_at.Goals as goal
 

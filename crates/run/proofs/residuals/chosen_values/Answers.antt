@@ -1,11 +1,8 @@
 -- `chosen_values` meets its contract: the places so far are filled.
 use borrow.Author.Rules.{rules}
-use mathlib.Core.Path.{◌≡◌, refl, ap, ◌∙◌}
-use Prim.Native.Nat.{◌≤◌, ◌-◌}
-use native.Mathlib.Nat.{le_antisymm}
-use lib.ListN.{length}
+use mathlib.Core.Path.{refl, ap, ◌∙◌}
 use Rattle.linear.specs.Choose.{choose_of}
-use Rattle.run.specs.Vectors.{fill_to, chosen_of}
+use Rattle.run.specs.Vectors.{fill_to}
 use Rattle.run.specs.Rows.{rows_in, value_at}
 use Rattle.run.proofs.VectorLaws.{fill_first}
 use Rattle.run.proofs.residuals.chosen_values.Goals as goal
@@ -13,9 +10,6 @@ use Rattle.run.proofs.residuals.chosen_values.Goals as goal
 pub loop-i-init : goal.loop-i-init
 unfolding fill_to
 loop-i-init c = (search rules, refl, refl)
-
-pub value_of-requires : goal.value_of-requires
-value_of-requires c = tt
 
 pub loop-i-preserved : goal.loop-i-preserved
 loop-i-preserved c =
@@ -28,6 +22,3 @@ loop-i-preserved c =
       c.put.ensures
           ∙ fill_first _ (λ j. choose_of (value_at (rows_in a.xs.now a.e) j)) l.i l.invariant.2 v,
     )
-
-pub returns : goal.returns
-returns c = rw (le_antisymm c.loop-i.invariant.0 c.loop-i-test.false) at c.loop-i.invariant.2

@@ -1,14 +1,9 @@
 -- `depends_on` meets its contract: no slope so far is definitely not zero.
 use borrow.Author.Rules.{rules}
-use mathlib.Core.Path.{◌≡◌, refl, sym}
-use mathlib.Core.Bool.{false}
-use Prim.Native.Nat.{◌≤◌, ◌-◌}
+use mathlib.Core.Path.{refl, sym}
 use native.Mathlib.Nat.{le_antisymm}
-use native.Mathlib.Omega.{arith}
 use lib.Ieee.{of_bits}
-use Rattle.interval.specs.Scalar.{zero_s, definitely_not_equal}
 use Rattle.run.specs.Vectors.{any_to}
-use Rattle.run.specs.Rows.{rows_in, slope_at}
 use Rattle.run.specs.Residuals.{depends_on}
 use Rattle.run.proofs.VectorLaws.{any_turn, any_broke}
 use Rattle.run.proofs.residuals.depends_on.Goals as goal
@@ -16,10 +11,6 @@ use Rattle.run.proofs.residuals.depends_on.Goals as goal
 pub loop-i-init : goal.loop-i-init
 unfolding any_to
 loop-i-init c = (search rules, refl)
-
-pub slope_of-requires : goal.slope_of-requires
-slope_of-requires c =
-    (c.requires.0, omega (arith, c.requires.0.few_rows, c.loop-i-test.true))
 
 pub returns-then-definitely_not_equal : goal.returns-then-definitely_not_equal
 unfolding depends_on of_bits

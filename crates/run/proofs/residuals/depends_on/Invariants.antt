@@ -1,16 +1,10 @@
 -- `depends_on` meets its contract: no slope so far is definitely not zero.
-use borrow.Author.Rules.{rules}
-use mathlib.Core.Path.{◌≡◌, refl, sym}
+use mathlib.Core.Path.{◌≡◌}
 use mathlib.Core.Bool.{false}
 use Prim.Native.Nat.{◌≤◌, ◌-◌}
-use native.Mathlib.Nat.{le_antisymm}
-use native.Mathlib.Omega.{arith}
-use lib.Ieee.{of_bits}
 use Rattle.interval.specs.Scalar.{zero_s, definitely_not_equal}
 use Rattle.run.specs.Vectors.{any_to}
 use Rattle.run.specs.Rows.{rows_in, slope_at}
-use Rattle.run.specs.Residuals.{depends_on}
-use Rattle.run.proofs.VectorLaws.{any_turn, any_broke}
 use Rattle.run.proofs.residuals.depends_on.Given as goal
 
 abbrev pub invariant-loop-i : goal.invariant-loop-i

@@ -1,18 +1,16 @@
 -- `linearized` meets its contract: the places so far are filled.
-use borrow.Author.Rules.{rules}
-use mathlib.Core.Path.{◌≡◌, refl, ◌∙◌}
+use mathlib.Core.Path.{◌≡◌}
 use Prim.Native.Nat.{◌≤◌, ◌-◌}
-use native.Mathlib.Nat.{le_antisymm}
-use native.Mathlib.Omega.{arith}
 use lib.ListN.{length}
 use Rattle.run.specs.Vectors.{fill_to}
 use Rattle.run.specs.Rows.{rows_in}
 use Rattle.run.specs.Residuals.{linearized_at}
-use Rattle.run.proofs.VectorLaws.{fill_first}
 use Rattle.run.proofs.residuals.linearized.Given as goal
 
 abbrev pub invariant-loop-i : goal.invariant-loop-i
-invariant-loop-i l = (l.i ≤ l.count) × (length l.out ≡ length l.initial.out) × (l.out ≡ fill_to l.initial.out 0 (linearized_at (rows_in l.xs l.e) l.delta l.d) l.i)
+invariant-loop-i l =
+    (l.i ≤ l.count) × (length l.out ≡ length l.initial.out)
+    × (l.out ≡ fill_to l.initial.out 0 (linearized_at (rows_in l.xs l.e) l.delta l.d) l.i)
 
 abbrev pub decreases-loop-i : goal.decreases-loop-i
 decreases-loop-i l = l.count - l.i

@@ -1,9 +1,7 @@
 -- `linearized_at` meets its contract: from the set's slopes on, those of row i begin at i n.
-use borrow.Author.Rules.{rules}
 use mathlib.Core.List.{List}
 use mathlib.Core.Path.{◌≡◌, refl}
 use Prim.Native.Nat.{ℕ, ◌*◌}
-use native.Mathlib.Omega.{arith}
 use lib.Ieee.{Float}
 use lib.ListN.{drop}
 use Rattle.interval.specs.declared.Scalar.{Scalar}
@@ -14,7 +12,6 @@ use Rattle.linear.proofs.Sums.{along_start}
 use Rattle.run.specs.Rows.{Rows, value_at}
 use Rattle.run.specs.Residuals.{linearized_at}
 use Rattle.run.proofs.Sublists.{along_behind}
-use Rattle.run.proofs.RowLaws.{row_near}
 use Rattle.run.proofs.residuals.linearized_at.Goals as goal
 
 -- the sum of the value and of what the slopes give
@@ -25,11 +22,6 @@ added : (e : Rows) (delta : List Float) (d i : ℕ) {slopes : List Float} {x y r
 unfolding linearized_at
 added e delta d i es ey ex er =
     rw (er, ex, ey, es, along_behind e.list e.slopes (i * e.n) 1 refl, along_start delta)
-
-pub overflow_mul-i : goal.overflow_mul-i
-overflow_mul-i c =
-    let h = c.requires in
-    omega (arith, row_near h.1 h.0.few_variables)
 
 pub returns : goal.returns
 returns c =

@@ -6,15 +6,7 @@ use Rattle.run.specs.Area.{standing_counts}
 use Rattle.run.specs.Residuals.{violation_of}
 use Rattle.run.specs.Rows.{constraints_of}
 use Rattle.run.proofs.MemoryLaws.{read_standing_rows}
-use borrow.Author.Rules.{rules}
 use Rattle.run.proofs.residuals.standing_violation.Goals as goal
-
-pub standing_rows-requires : goal.standing_rows-requires
-standing_rows-requires c =
-    let p = c.requires in (p.0, rw c.standing_counts-c.ensures p.1)
-
-pub violation-requires : goal.violation-requires
-violation-requires c = rw c.standing_counts-c.ensures c.requires.1.few_constraints
 
 pub returns : goal.returns
 returns c w h e =

@@ -1,5 +1,4 @@
 -- `transposed_at` meets its contract: from the set's slopes on, those by variable j begin at j.
-use borrow.Author.Rules.{rules}
 use mathlib.Core.List.{List}
 use mathlib.Core.Path.{◌≡◌, refl}
 use Prim.Native.Nat.{ℕ, ◌*◌}

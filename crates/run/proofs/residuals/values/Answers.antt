@@ -1,9 +1,6 @@
 -- `values` meets its contract: the places so far are filled.
 use borrow.Author.Rules.{rules}
-use mathlib.Core.Path.{◌≡◌, refl, ◌∙◌}
-use Prim.Native.Nat.{◌≤◌, ◌-◌}
-use native.Mathlib.Nat.{le_antisymm}
-use lib.ListN.{length}
+use mathlib.Core.Path.{refl, ◌∙◌}
 use Rattle.run.specs.Vectors.{fill_to}
 use Rattle.run.specs.Rows.{rows_in, value_at}
 use Rattle.run.proofs.VectorLaws.{fill_first}
@@ -12,9 +9,6 @@ use Rattle.run.proofs.residuals.values.Goals as goal
 pub loop-i-init : goal.loop-i-init
 unfolding fill_to
 loop-i-init c = (search rules, refl, refl)
-
-pub value_of-requires : goal.value_of-requires
-value_of-requires c = tt
 
 pub loop-i-preserved : goal.loop-i-preserved
 loop-i-preserved c =
@@ -25,6 +19,3 @@ loop-i-preserved c =
       c.put.ensures ∙ fill_first _ (value_at (rows_in a.xs.now a.e))
           l.i l.invariant.2 c.value_of.ensures,
     )
-
-pub returns : goal.returns
-returns c = rw (le_antisymm c.loop-i.invariant.0 c.loop-i-test.false) at c.loop-i.invariant.2

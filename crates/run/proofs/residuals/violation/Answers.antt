@@ -1,23 +1,11 @@
 -- `violation` meets its contract: the scalars that are filled are the values.
-use mathlib.Core.Path.{◌≡◌, ◌∙◌}
+use mathlib.Core.Path.{◌∙◌}
 use Prim.Native.Nat.{◌*◌, ◌≤◌}
 use native.Mathlib.Omega.{arith}
-use lib.ListN.{length}
 use Rattle.run.specs.Rows.{constraints_of, value_at}
 use Rattle.run.specs.Residuals.{violation_of}
 use Rattle.run.proofs.VectorLaws.{norm_fill}
-use borrow.Author.Rules.{rules}
 use Rattle.run.proofs.residuals.violation.Goals as goal
-
-pub values-requires : goal.values-requires
-values-requires c = tt
-
-pub norm_of-requires : goal.norm_of-requires
-norm_of-requires c =
-    let p = c.requires in
-    let o = c.values in
-    let l : length o.new.out ≡ 24 = o.auto.out in
-    (omega (arith, p), omega (arith, p, l))
 
 pub returns : goal.returns
 unfolding violation_of

@@ -3,8 +3,5 @@ use mathlib.Core.Path.{◌∙◌}
 use Rattle.linear.proofs.Sums.{along_row}
 use Rattle.run.proofs.rows.value_at.Goals as goal
 
-pub along-requires : goal.along-requires
-along-requires c = tt
-
 pub returns : goal.returns
 returns c = c.along.ensures ∙ along_row _ _ _

@@ -1,5 +1,7 @@
 -- `seek_from` meets its contract: at every turn the search that is left gives what the whole one gives, with fewer
 -- dampings.
+use Rattle.std.specs.Prelude.{Result}
+use Rattle.linear.specs.declared.results.LinearError.{LinearError}
 use mathlib.Core.List.{List}
 use mathlib.Core.Path.{◌≡◌, refl, sym, ap, ◌∙◌}
 use native.Mathlib.Omega.{arith}
@@ -17,11 +19,10 @@ use Rattle.run.specs.declared.search.Turn.{Turn}
 use Rattle.run.specs.declared.search.Turn.TheVariants as t
 use Rattle.run.specs.declared.state.Search.{Search}
 use Rattle.run.proofs.SearchLaws.{Seeking, seeking, few, onward, followed, Grew, grew, seek_on}
-use borrow.Author.Rules.{rules}
 use Rattle.run.proofs.search.seek_from.Goals as goal
 
 -- how the question so far is followed, from what it stands on and what is written: delta, lambda and the next point
-module _ (S : Standing) (max : Scalar) (here : Search) (p : declared.Proposal) {got : Turn}
+module _ (S : Standing) (max : Scalar) (here : Search) (p : Result declared.Proposal LinearError) {got : Turn}
     (delta lambda next : List Float)
     (follows : (on : Search → Found) (d l n : List Float) →
     turn_result got on d l n ≡ follow on S.e.constraints.count max here (proposal_result p d l n))
@@ -42,42 +43,31 @@ module _ (S : Standing) (max : Scalar) (here : Search) (p : declared.Proposal) {
       turn_result r (onward S max start i) delta lambda next ≡ search_to DAMPINGS S max start
   whole start i r e = followed-as r e (onward S max start i) ∙ followed S max start i
 
-pub loop-left-init : goal.loop-left-init
-loop-left-init c =
+pub loop-found-init : goal.loop-found-init
+loop-found-init c =
     let g = c.well_formed.1.1.1.1.1.0.1.1.0.1.1 in
     (refl, refl, seeking _ _ c.args.from (yes g.0.1, yes g.1.0.1) (yes c.requires.turned_down_bound.1))
 
-pub propose-p-requires : goal.propose-p-requires
-propose-p-requires c =
-    let i = c.loop-left.invariant in
-    let p = c.requires.few_rows in
-    let d = i.0 ∙ p.3.delta_length in
-    let m = i.1 ∙ p.3.lambda_length in
-    record {
-      few_rows = (p.0, p.1, p.2, record { delta_length = d; lambda_length = m });
-      prepared_at = c.requires.prepared_at;
-    }
-
 pub follow-requires : goal.follow-requires
 follow-requires c =
-    let i = c.loop-left.invariant.2 in
+    let i = c.loop-found.invariant.2 in
     omega (arith, few _ _ _ i, i.later, c.requires.turned_down_bound.0)
 
-pub loop-left-smaller : goal.loop-left-smaller
-loop-left-smaller c =
+pub loop-found-smaller : goal.loop-found-smaller
+loop-found-smaller c =
     let a = c.args in
     let S : Standing = standing_in a.origin a.area.now in
-    let i = c.loop-left.invariant.2 in
-    let g = grown-to S a.origin.max_step c.loop-left.state _ _ _ _ c.follow.ensures c.propose-p.ensures _ c.in-On.is in
+    let i = c.loop-found.invariant.2 in
+    let g = grown-to S a.origin.max_step c.loop-found.state _ _ _ _ c.follow.ensures c.propose-p.ensures _ c.in-On.is in
     omega (arith, g.one_more, i.later, few _ _ _ i)
 
-pub loop-left-preserved : goal.loop-left-preserved
-loop-left-preserved c =
+pub loop-found-preserved : goal.loop-found-preserved
+loop-found-preserved c =
     let a = c.args in
     let S : Standing = standing_in a.origin a.area.now in
-    let i = c.loop-left.invariant in
+    let i = c.loop-found.invariant in
     let l = c.propose-p.auto in
-    let x = c.loop-left.state in
+    let x = c.loop-found.state in
     let f = c.follow.ensures in
     let p = c.propose-p.ensures in
     let e = c.in-On.is in (
@@ -87,10 +77,10 @@ loop-left-preserved c =
           (whole S a.origin.max_step x _ _ _ _ f p a.from i.2 _ e),
     )
 
-pub returns : goal.returns
+pub returns-in-Leave : goal.returns-in-Leave
 unfolding search_of
-returns c =
+returns-in-Leave c =
     let a = c.args in
     let S : Standing = standing_in a.origin a.area.now in
-    whole S a.origin.max_step c.loop-left.state _ _ _ _ c.follow.ensures c.propose-p.ensures a.from
-    c.loop-left.invariant.2 _ c.in-Leave.is
+    whole S a.origin.max_step c.loop-found.state _ _ _ _ c.follow.ensures c.propose-p.ensures a.from
+    c.loop-found.invariant.2 _ c.in-Leave.is

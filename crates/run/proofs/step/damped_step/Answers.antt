@@ -5,17 +5,11 @@ use native.Mathlib.Omega.{arith}
 use lib.Ieee.{of_bits}
 use Rattle.run.proofs.ProblemLaws.{kept_few}
 use Rattle.run.proofs.StepLaws.{prepared_by, end_spread}
-use borrow.Author.Rules.{rules}
 use Rattle.run.proofs.step.damped_step.Goals as goal
 
 -- the places are there
 inside : {k n l : ℕ} → k ≤ n → n ≤ 12 → l ≡ 12 → k ≤ l
 inside h j e = omega arith
-
-pub keep-k-requires : goal.keep-k-requires
-keep-k-requires c =
-    let p = c.requires in
-    (p.0, p.1, refl)
 
 pub kept_step-end-requires : goal.kept_step-end-requires
 unfolding of_bits

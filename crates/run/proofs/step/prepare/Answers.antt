@@ -13,18 +13,12 @@ use Rattle.run.proofs.EndingLaws.{cut_length}
 use Rattle.run.proofs.ProblemLaws.{kept_few, kept_near}
 use Rattle.run.proofs.StepLaws.{clear_long, first_clear, with_first, first_long, second_clear, both_written}
 use Rattle.run.proofs.StepLaws.{prepared_is}
-use borrow.Author.Rules.{rules}
 use Rattle.run.proofs.step.prepare.Goals as goal
 
 -- what is undamped keeps its length
 undamped-long : (a u : List Float) → a ≡ zeros fixed_len → length u ≡ length (take 336 (drop 0 a))
     → length u ≡ 336
 undamped-long a u clear e = e ∙ cut_length 336 0 a (omega (arith, clear_long a clear))
-
-pub keep-k-requires : goal.keep-k-requires
-keep-k-requires c =
-    let p = c.requires in
-    (p.0.few_variables, p.1, refl)
 
 pub problem-requires : goal.problem-requires
 unfolding of_bits

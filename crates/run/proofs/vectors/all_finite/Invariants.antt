@@ -1,13 +1,8 @@
 -- `all_finite` meets its contract: all so far are finite.
-use borrow.Author.Rules.{rules}
-use mathlib.Core.Path.{◌≡◌, refl, sym}
+use mathlib.Core.Path.{◌≡◌}
 use mathlib.Core.Bool.{true}
 use Prim.Native.Nat.{◌≤◌, ◌-◌}
-use native.Mathlib.Nat.{le_antisymm}
-use borrow.Author.Tests.{not-true, not-false}
-use Rattle.linear.specs.Flat.{at}
-use Rattle.run.specs.Vectors.{all_to, all_finite}
-use Rattle.run.proofs.VectorLaws.{all_turn, all_broke}
+use Rattle.run.specs.Vectors.{all_finite}
 use Rattle.run.proofs.vectors.all_finite.Given as goal
 
 abbrev pub invariant-loop-i : goal.invariant-loop-i

@@ -1,12 +1,10 @@
 -- `chosen` meets its contract: the places so far are filled.
 use borrow.Author.Rules.{rules}
-use mathlib.Core.Path.{◌≡◌, refl, ap, ◌∙◌}
-use Prim.Native.Nat.{◌+◌, ◌≤◌, ◌-◌}
-use native.Mathlib.Nat.{le_antisymm}
-use lib.ListN.{length}
+use mathlib.Core.Path.{refl, ap, ◌∙◌}
+use Prim.Native.Nat.{◌+◌}
 use Rattle.linear.specs.Choose.{choose_of}
 use Rattle.linear.specs.Flat.{at}
-use Rattle.run.specs.Vectors.{fill_to, chosen_of}
+use Rattle.run.specs.Vectors.{fill_to}
 use Rattle.run.proofs.VectorLaws.{fill_first}
 use Rattle.run.proofs.vectors.chosen.Goals as goal
 
@@ -26,6 +24,3 @@ loop-i-preserved c =
       c.put.ensures
           ∙ fill_first _ (λ j. choose_of (at a.xs.now (a.base + j))) l.i l.invariant.2 v,
     )
-
-pub returns : goal.returns
-returns c = rw (le_antisymm c.loop-i.invariant.0 c.loop-i-test.false) at c.loop-i.invariant.2

@@ -1,13 +1,8 @@
 -- `chosen` meets its contract: the places so far are filled.
-use borrow.Author.Rules.{rules}
-use mathlib.Core.Path.{◌≡◌, refl, ap, ◌∙◌}
-use Prim.Native.Nat.{◌+◌, ◌≤◌, ◌-◌}
-use native.Mathlib.Nat.{le_antisymm}
+use mathlib.Core.Path.{◌≡◌}
+use Prim.Native.Nat.{◌≤◌, ◌-◌}
 use lib.ListN.{length}
-use Rattle.linear.specs.Choose.{choose_of}
-use Rattle.linear.specs.Flat.{at}
-use Rattle.run.specs.Vectors.{fill_to, chosen_of}
-use Rattle.run.proofs.VectorLaws.{fill_first}
+use Rattle.run.specs.Vectors.{chosen_of}
 use Rattle.run.proofs.vectors.chosen.Given as goal
 
 abbrev pub invariant-loop-i : goal.invariant-loop-i

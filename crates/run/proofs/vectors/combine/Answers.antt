@@ -2,11 +2,9 @@
 use borrow.Author.Rules.{rules}
 use mathlib.Core.Path.{◌≡◌, refl}
 use mathlib.Core.List.{List}
-use Prim.Native.Nat.{ℕ, ◌+◌, ◌*◌, ◌≤◌, ◌-◌}
-use native.Mathlib.Nat.{le_antisymm}
+use Prim.Native.Nat.{ℕ, ◌+◌, ◌*◌}
 use native.Mathlib.Numerals.{add-one}
 use lib.Ieee.{Float}
-use lib.ListN.{length}
 use Rattle.interval.specs.declared.Scalar.{Scalar}
 use Rattle.interval.specs.Scalar.{neg_of}
 use Rattle.linear.specs.Flat.{at}
@@ -32,6 +30,3 @@ loop-t-preserved c =
       turn _ _ _ _ _ l.t l.invariant.2 c.at-w.ensures
           c.neg.ensures.value c.minus_scaled.ensures,
     )
-
-pub returns : goal.returns
-returns c = rw (le_antisymm c.loop-t.invariant.0 c.loop-t-test.false) at c.loop-t.invariant.2

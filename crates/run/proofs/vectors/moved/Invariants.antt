@@ -1,13 +1,9 @@
 -- `moved` meets its contract: the vector is filled so far.
-use mathlib.Core.Path.{◌≡◌, sym, ◌∙◌}
+use mathlib.Core.Path.{◌≡◌}
 use Prim.Native.Nat.{◌≤◌, ◌-◌}
-use native.Mathlib.Nat.{le_antisymm}
-use borrow.Author.Rules.{rules}
 use lib.ListN.{length}
 use Rattle.run.specs.Vectors.{vector, fill_to}
-use Rattle.run.specs.Vectors.{moved_of}
-use Rattle.run.proofs.PointLaws.{sharp_sum, sharp-sum}
-use Rattle.run.proofs.VectorLaws.{fill_none, fill_first}
+use Rattle.run.proofs.PointLaws.{sharp_sum}
 use Rattle.run.proofs.vectors.moved.Given as goal
 
 abbrev pub invariant-loop-i : goal.invariant-loop-i

@@ -1,8 +1,8 @@
 -- `same` meets its contract: all variables so far are not told apart, and one that is settles it.
-use mathlib.Core.Bool.{Bool, true}
+use mathlib.Core.Bool.{Bool}
 use mathlib.Core.List.{List}
 use mathlib.Core.Path.{◌≡◌, refl, sym, ◌∙◌}
-use Prim.Native.Nat.{ℕ, ◌≤◌, ◌-◌}
+use Prim.Native.Nat.{ℕ}
 use native.Mathlib.Nat.{le_antisymm}
 use borrow.Author.Rules.{rules}
 use lib.Ieee.{Float}
@@ -11,7 +11,6 @@ use Rattle.interval.specs.Scalar.{could_be_equal}
 use Rattle.linear.specs.Flat.{at}
 use Rattle.run.specs.Vectors.{all_to}
 use Rattle.run.specs.Vectors.{same_of}
-use Rattle.run.proofs.Booleans.{negated}
 use Rattle.run.proofs.VectorLaws.{all_turn, all_broke}
 use Rattle.run.proofs.vectors.same.Goals as goal
 use Rattle.run.proofs.vectors.same.Invariants.{alike}

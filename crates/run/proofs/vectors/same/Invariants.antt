@@ -1,18 +1,12 @@
 -- `same` meets its contract: all variables so far are not told apart, and one that is settles it.
 use mathlib.Core.Bool.{Bool, true}
 use mathlib.Core.List.{List}
-use mathlib.Core.Path.{◌≡◌, refl, sym, ◌∙◌}
+use mathlib.Core.Path.{◌≡◌}
 use Prim.Native.Nat.{ℕ, ◌≤◌, ◌-◌}
-use native.Mathlib.Nat.{le_antisymm}
-use borrow.Author.Rules.{rules}
 use lib.Ieee.{Float}
-use Rattle.interval.specs.declared.Scalar.{Scalar}
 use Rattle.interval.specs.Scalar.{could_be_equal}
 use Rattle.linear.specs.Flat.{at}
 use Rattle.run.specs.Vectors.{all_to}
-use Rattle.run.specs.Vectors.{same_of}
-use Rattle.run.proofs.Booleans.{negated}
-use Rattle.run.proofs.VectorLaws.{all_turn, all_broke}
 use Rattle.run.proofs.vectors.same.Given as goal
 
 abbrev pub alike : (a b : List Float) → ℕ → Bool

@@ -2,11 +2,10 @@
 use borrow.Author.Rules.{rules}
 use mathlib.Core.Path.{◌≡◌, ap, ◌∙◌}
 use mathlib.Core.List.{List}
-use Prim.Native.Nat.{ℕ, ◌+◌, ◌≤◌, ◌-◌}
-use native.Mathlib.Nat.{le_antisymm}
+use Prim.Native.Nat.{ℕ, ◌+◌}
 use native.Mathlib.Numerals.{add-one}
 use lib.Ieee.{Float, of_bits}
-use lib.ListN.{length, get_or}
+use lib.ListN.{get_or}
 use Rattle.interval.specs.declared.Scalar.{Scalar}
 use Rattle.linear.specs.Flat.{at, put, zeros}
 use Rattle.run.specs.Vectors.{spread_to}
@@ -34,6 +33,3 @@ loop-t-preserved c =
       search rules,
       turn _ _ _ l.t l.invariant.2 c.at.ensures c.put.ensures,
     )
-
-pub returns : goal.returns
-returns c = rw (le_antisymm c.loop-t.invariant.0 c.loop-t-test.false) at c.loop-t.invariant.2

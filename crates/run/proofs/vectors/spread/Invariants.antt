@@ -1,14 +1,7 @@
 -- `spread` meets its contract: those so far are stored in a clear vector.
-use borrow.Author.Rules.{rules}
-use mathlib.Core.Path.{◌≡◌, ap, ◌∙◌}
-use mathlib.Core.List.{List}
-use Prim.Native.Nat.{ℕ, ◌+◌, ◌≤◌, ◌-◌}
-use native.Mathlib.Nat.{le_antisymm}
-use native.Mathlib.Numerals.{add-one}
-use lib.Ieee.{Float, of_bits}
-use lib.ListN.{length, get_or}
-use Rattle.interval.specs.declared.Scalar.{Scalar}
-use Rattle.linear.specs.Flat.{at, put, zeros}
+use mathlib.Core.Path.{◌≡◌}
+use Prim.Native.Nat.{◌≤◌, ◌-◌}
+use lib.ListN.{length}
 use Rattle.run.specs.Vectors.{spread_to}
 use Rattle.run.proofs.vectors.spread.Given as goal
 

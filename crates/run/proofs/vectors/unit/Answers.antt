@@ -1,12 +1,7 @@
 -- `unit` meets its contract: the places so far are filled.
 use borrow.Author.Rules.{rules}
-use mathlib.Core.Path.{◌≡◌, refl, sym, ap, ◌∙◌}
-use Prim.Native.Nat.{◌≤◌, ◌-◌}
-use native.Mathlib.Nat.{le_antisymm}
-use lib.ListN.{length}
-use Rattle.interval.specs.declared.Scalar.{Scalar}
-use Rattle.interval.specs.Result.{result_of}
-use Rattle.interval.specs.Scalar.{inverse_of, div_of}
+use mathlib.Core.Path.{refl, sym, ap, ◌∙◌}
+use Rattle.interval.specs.Scalar.{div_of}
 use Rattle.linear.specs.Choose.{choose_of}
 use Rattle.linear.specs.Flat.{along}
 use Rattle.linear.proofs.Sums.{along_row}
@@ -34,9 +29,3 @@ loop-p-preserved c =
           c.put.ensures ∙ fill_turn _ a.t0 (unit_at (along a.v.now a.v0 1) len) l.p
           (l.invariant.2 len e) v,
     )
-
-pub returns : goal.returns
-returns c =
-    let e = c.loop-p.invariant.2 c.args.length
-    c.inverse-inverse.ensures in
-    rw (le_antisymm c.loop-p.invariant.0 c.loop-p-test.false) at e

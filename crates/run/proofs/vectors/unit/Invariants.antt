@@ -1,17 +1,12 @@
 -- `unit` meets its contract: the places so far are filled.
-use borrow.Author.Rules.{rules}
-use mathlib.Core.Path.{◌≡◌, refl, sym, ap, ◌∙◌}
+use mathlib.Core.Path.{◌≡◌}
 use Prim.Native.Nat.{◌≤◌, ◌-◌}
-use native.Mathlib.Nat.{le_antisymm}
 use lib.ListN.{length}
 use Rattle.interval.specs.declared.Scalar.{Scalar}
 use Rattle.interval.specs.Result.{result_of}
-use Rattle.interval.specs.Scalar.{inverse_of, div_of}
-use Rattle.linear.specs.Choose.{choose_of}
+use Rattle.interval.specs.Scalar.{inverse_of}
 use Rattle.linear.specs.Flat.{along}
-use Rattle.linear.proofs.Sums.{along_row}
-use Rattle.run.specs.Vectors.{fill_to, unit_at, or_zero}
-use Rattle.run.proofs.VectorLaws.{fill_turn}
+use Rattle.run.specs.Vectors.{fill_to, unit_at}
 use Rattle.run.proofs.vectors.unit.Given as goal
 
 -- for every length that the inverse is of

@@ -1,14 +1,10 @@
 -- `decimal` meets its contract: the digits from the place `first` on are stored, and the rest has those before.
 use Prim.Native.Nat.{◌-◌}
-use mathlib.Core.Path.{refl, ◌∙◌}
+use mathlib.Core.Path.{◌∙◌}
 use native.Mathlib.Omega.{arith}
 use lib.ListN.{length-set}
-use borrow.Author.Rules.{rules}
-use Rattle.sheet.proofs.DecimalLaws.{Stored, stored_none, stored_more, stored_all}
+use Rattle.sheet.proofs.DecimalLaws.{stored_more, stored_all}
 use Rattle.sheet.proofs.lines.decimal.Goals as goal
-
-pub loop-rest-init : goal.loop-rest-init
-loop-rest-init c = stored_none _ _ (omega arith) refl refl
 
 pub loop-rest-preserved : goal.loop-rest-preserved
 loop-rest-preserved c = stored_more c.loop-rest.invariant (omega arith) (omega arith) (omega arith)

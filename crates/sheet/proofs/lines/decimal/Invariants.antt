@@ -1,10 +1,5 @@
 -- `decimal` meets its contract: the digits from the place `first` on are stored, and the rest has those before.
-use Prim.Native.Nat.{◌-◌}
-use mathlib.Core.Path.{refl, ◌∙◌}
-use native.Mathlib.Omega.{arith}
-use lib.ListN.{length-set}
-use borrow.Author.Rules.{rules}
-use Rattle.sheet.proofs.DecimalLaws.{Stored, stored_none, stored_more, stored_all}
+use Rattle.sheet.proofs.DecimalLaws.{Stored}
 use Rattle.sheet.proofs.lines.decimal.Given as goal
 
 abbrev pub invariant-loop-rest : goal.invariant-loop-rest

@@ -1,22 +1,20 @@
--- `whole_number` meets its contract: below 0 the machine's v + 1 and what that leaves of 0 fit, and the size of v is
--- one more than what is left.
+-- `whole_number` meets its contract: below 0 the size of v is one more than what the machine's v + 1 leaves of 0.
 use Prim.Native.Nat.{ℕ, zero, suc, ◌+◌, ◌<◌}
-use mathlib.Core.Bool.{true, false}
+use mathlib.Core.Bool.{true}
 use mathlib.Core.List.{◌∷◌}
 use mathlib.Core.Path.{◌≡◌, refl, sym, ap, ◌∙◌, subst}
 use native.Mathlib.Numerals.{add-one}
 use native.Mathlib.Omega.{arith}
 use lib.Dec.{T, ltb→lt}
 use lib.IntN.{ℤ, pos, negsuc, neg_ℤ, nat_abs, suc_ℤ, ◌+ℤ◌, ◌-ℤ◌, +ℤ_one, neg_ℤ-neg_ℤ}
-use lib.Signed.{mag, lt_z, non_neg}
+use lib.Signed.{mag, lt_z}
 use mir.Syntax.{w64}
-use mir.Val.{Fits, SFits, to_z, of_z}
+use mir.Val.{SFits, to_z, of_z}
 use mir.ValLaws.{to_z-of_z}
-use borrow.Author.Rules.{rules}
 use Rattle.sheet.specs.Decimal.{decimal_of, whole_text}
 use Rattle.sheet.specs.Numbers.{MINUS}
 use Rattle.sheet.proofs.AppendLaws.{appends_as, then}
-use Rattle.sheet.proofs.SignedLaws.{from_zero, fits_as, reads_as, minus_fits}
+use Rattle.sheet.proofs.SignedLaws.{from_zero, reads_as, minus_fits}
 use Rattle.sheet.proofs.lines.whole_number.Goals as goal
 
 -- what the machine reads back from the bits that it keeps of a number
@@ -26,14 +24,6 @@ read v = to_z w64 (of_z w64 v)
 negative : (v : ℤ) → lt_z v (pos 0) ≡ true → v ≡ negsuc (mag v)
 negative (pos n) t = let h = ltb→lt n 0 (subst T (sym t) tt) in absurd (omega (arith, h))
 negative (negsuc n) t = refl
-
-not_negative : (v : ℤ) → lt_z v (pos 0) ≡ false → v ≡ pos (mag v)
-not_negative (pos n) t = refl
-not_negative (negsuc n) t = absurd (subst T t tt)
-
--- what may be cast to an unsigned number
-casts : {z : ℤ} {n : ℕ} → z ≡ pos n → n < 9223372036854775808 → T (non_neg z) × Fits w64 (nat_abs z)
-casts {z} {n} e h = rw e (tt, record { fits = omega arith })
 
 -- ---- below 0
 
@@ -72,45 +62,14 @@ module _ {v : ℤ} (b : Below v) where
   left_is : read (rest v) ≡ pos (mag v)
   left_is = reads_as rest_is plus
 
-  size_fits : Fits w64 (nat_abs (read (rest v)) + 1)
-  size_fits = let h = b.near in rw left_is (record { fits = omega (arith, h) })
-
   text : MINUS ∷ decimal_of (nat_abs (read (rest v)) + 1) ≡ whole_text v
   text =
       ap (λ (z : ℤ). MINUS ∷ decimal_of (nat_abs z + 1)) left_is
       ∙ ap (λ (n : ℕ). MINUS ∷ decimal_of n) (add-one (mag v))
       ∙ ap whole_text (sym b.is)
 
-pub overflow_add-v : goal.overflow_add-v
-overflow_add-v c = let b = below c.args.v c.ranges.v c.if-v-lt0.true in fits_as (more-is b) (minus b)
-
-pub overflow_sub-v : goal.overflow_sub-v
-overflow_sub-v c = let b = below c.args.v c.ranges.v c.if-v-lt0.true in fits_as (rest_is b) (plus b)
-
-pub overflow_cast-v : goal.overflow_cast-v
-overflow_cast-v c = let b = below c.args.v c.ranges.v c.if-v-lt0.true in casts (left_is b) b.near
-
-pub overflow_add-v-then-v-lt0 : goal.overflow_add-v-then-v-lt0
-overflow_add-v-then-v-lt0 c = size_fits (below c.args.v c.ranges.v c.if-v-lt0.true)
-
 pub returns-then-v-lt0 : goal.returns-then-v-lt0
 returns-then-v-lt0 c = (
   omega (arith, c.number.ensures.0, c.append-digits.ensures.0),
   appends_as (then c.append-digits.ensures.1 c.number.ensures.1) (text (below c.args.v c.ranges.v c.if-v-lt0.true)),
 )
-
--- ---- from 0 on
-
-not_below : (v : ℤ) → SFits w64 v → lt_z (read v) (pos 0) ≡ false → (read v ≡ pos (mag v)) × (read v ≡ v)
-not_below v f t = let e = to_z-of_z w64 v f in (e ∙ not_negative v (rw e at t), e)
-
-pub overflow_cast-v-2 : goal.overflow_cast-v-2
-overflow_cast-v-2 c = casts (not_below c.args.v c.ranges.v c.if-v-lt0.false).0 c.ranges.v.sfits
-
-pub returns : goal.returns
-returns c =
-    let e = not_below c.args.v c.ranges.v c.if-v-lt0.false in (
-      omega (arith, c.number-2.ensures.0),
-      appends_as c.number-2.ensures.1
-          (ap (λ (z : ℤ). decimal_of (nat_abs z)) e.0 ∙ ap whole_text (sym e.0 ∙ e.1)),
-    )

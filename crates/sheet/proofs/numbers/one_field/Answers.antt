@@ -1,6 +1,4 @@
 -- `one_field` meets its contract: a field that ends its line.
-use borrow.Author.Rules.{rules}
-use mathlib.Core.Path.{sym, ap, ◌∙◌}
 use Rattle.sheet.specs.Numbers.{one_of}
 use Rattle.sheet.proofs.numbers.one_field.Goals as goal
 

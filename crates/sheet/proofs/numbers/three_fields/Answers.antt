@@ -1,23 +1,30 @@
 -- `three_fields` meets its contract: a field, and what follows its comma; each may be malformed.
 use borrow.Author.Rules.{rules}
-use mathlib.Core.Path.{sym, ◌∙◌}
+use mathlib.Core.Path.{◌≡◌, sym, ◌∙◌}
+use Rattle.std.specs.Prelude.{Err}
 use Rattle.linear.proofs.Folds.{bind_ok, bind_refused}
-use Rattle.sheet.specs.program.Numbers.{field_in, two_in}
-use Rattle.sheet.proofs.Tests.{told}
+use Rattle.sheet.specs.program.Text.{read_in}
+use Rattle.sheet.proofs.Tests.{passed_on}
 use Rattle.sheet.proofs.NumberLaws.{three_capped}
 use Rattle.sheet.proofs.numbers.three_fields.Goals as goal
 
-pub returns-in-Read-two_fields : goal.returns-in-Read-two_fields
-returns-in-Read-two_fields c =
-    sym (three_capped _ ∙ bind_ok _ (told (field_in _) c.field.ensures c.in-Read.is)
-    ∙ bind_ok _ (told (two_in _) c.two_fields.ensures c.in-Read-two_fields.is))
+pub returns-in_err-x : goal.returns-in_err-x
+returns-in_err-x c =
+    let r : c.from_residual.result ≡ Err c.in_err-x.field-0.0 = search rules in
+    passed_on (read_in _) r
+    (sym (three_capped _
+    ∙ bind_refused _ (sym c.in_err-x.ensures)))
 
-pub returns-in-Malformed-two_fields : goal.returns-in-Malformed-two_fields
-returns-in-Malformed-two_fields c =
-    sym (three_capped _ ∙ bind_ok _ (told (field_in _) c.field.ensures c.in-Read.is)
-    ∙ bind_refused _ (told (two_in _) c.two_fields.ensures c.in-Malformed-two_fields.is))
+pub returns-in_err-y : goal.returns-in_err-y
+returns-in_err-y c =
+    let r : c.from_residual-in_err-y.result ≡ Err c.in_err-y.field-0.0 = search rules in
+    passed_on (read_in _) r
+    (sym (three_capped _
+    ∙ bind_ok _ (sym c.in_ok-x.ensures)
+    ∙ bind_refused _ (sym c.in_err-y.ensures)))
 
-pub returns-in-Malformed : goal.returns-in-Malformed
-returns-in-Malformed c =
+pub returns : goal.returns
+returns c =
     sym (three_capped _
-    ∙ bind_refused _ (told (field_in _) c.field.ensures c.in-Malformed.is))
+    ∙ bind_ok _ (sym c.in_ok-x.ensures)
+    ∙ bind_ok _ (sym c.in_ok-y.ensures))

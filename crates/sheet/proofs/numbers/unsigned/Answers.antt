@@ -1,25 +1,19 @@
 -- `unsigned` meets its contract: the digits in front, with the cap at each; what is left of them is read on from the
 -- size reached.
 use borrow.Author.Rules.{rules}
-use mathlib.Core.Bool.{true, false}
-use mathlib.Core.Path.{◌≡◌, refl, sym, ap, ◌∙◌}
-use Prim.Native.Nat.{ℕ, ◌+◌, ◌-◌, ◌*◌, ◌≤◌}
-use native.Mathlib.Omega.{arith}
-use borrow.Author.Tests.{not-true, not-false}
-use lib.ListN.{length, drop, get_or}
+use mathlib.Core.Bool.{true}
+use mathlib.Core.Path.{◌≡◌, sym, ap, ◌∙◌}
+use Prim.Native.Nat.{◌+◌, ◌-◌, ◌*◌}
+use lib.ListN.{drop, get_or}
 use Rattle.sheet.specs.Text.{head}
 use Rattle.sheet.specs.Numbers.{is_digit}
-use Rattle.sheet.specs.program.Numbers.{CAP, capped_from}
-use Rattle.sheet.proofs.NumberLaws.{digit, capped_most, from_turn, from_stop, from_end, no_digit, digits_read}
+use Rattle.sheet.proofs.NumberLaws.{capped_most, from_turn, from_stop, from_end, no_digit, digits_read}
 use Rattle.sheet.proofs.numbers.unsigned.Goals as goal
 
 pub returns-then-not-is_digit : goal.returns-then-not-is_digit
 returns-then-not-is_digit c =
     sym (no_digit _ _ (ap is_digit (sym c.byte_at.ensures) ∙ sym c.is_digit.ensures
     ∙ c.if-not-is_digit.true))
-
-pub loop-i-init : goal.loop-i-init
-loop-i-init c = (search rules, search rules, refl)
 
 pub returns-then-not-is_digit-2 : goal.returns-then-not-is_digit-2
 returns-then-not-is_digit-2 c =
@@ -29,30 +23,6 @@ returns-then-not-is_digit-2 c =
     ∙ c.if-not-is_digit.false in e)
     (l.invariant.2 ∙ from_stop _ _ _ c.loop-i-test.true (sym c.is_digit-in-loop-i.ensures
     ∙ c.if-not-is_digit-2.true)))
-
-pub overflow_mul-size : goal.overflow_mul-size
-overflow_mul-size c = omega (arith, c.loop-i.invariant.1)
-
-pub overflow_sub-b : goal.overflow_sub-b
-overflow_sub-b c =
-    (digit _ (sym c.is_digit-in-loop-i.ensures ∙ c.if-not-is_digit-2.false)).0
-
-pub overflow_cast-b : goal.overflow_cast-b
-overflow_cast-b c =
-    omega (
-      arith,
-      digit (get_or c.args.text.now c.loop-i.i 0)
-          (sym c.is_digit-in-loop-i.ensures ∙ c.if-not-is_digit-2.false),
-    )
-
-pub overflow_add-size : goal.overflow_add-size
-overflow_add-size c =
-    omega (
-      arith,
-      digit (get_or c.args.text.now c.loop-i.i 0)
-          (sym c.is_digit-in-loop-i.ensures ∙ c.if-not-is_digit-2.false),
-      c.loop-i.invariant.1,
-    )
 
 pub loop-i-preserved : goal.loop-i-preserved
 loop-i-preserved c =

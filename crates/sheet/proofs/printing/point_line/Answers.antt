@@ -1,7 +1,6 @@
 -- `point_line` meets its contract: the key, two words with a comma between them and the line's end are five texts one
 -- after the other.
 use native.Mathlib.Omega.{arith}
-use borrow.Author.Rules.{rules}
 use Rattle.sheet.proofs.AppendLaws.{then}
 use Rattle.sheet.proofs.printing.point_line.Goals as goal
 

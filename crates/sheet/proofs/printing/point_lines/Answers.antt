@@ -1,11 +1,6 @@
 -- `point_lines` meets its contract: the lines of the first i points are printed.
-use mathlib.Core.Path.{◌≡◌, refl, ap, ◌∙◌}
-use Prim.Native.Nat.{◌+◌, ◌*◌, ◌-◌, ◌≤◌}
+use mathlib.Core.Path.{refl, ◌∙◌}
 use native.Mathlib.Omega.{arith}
-use borrow.Author.Rules.{rules}
-use lib.ListN.{length}
-use Rattle.sheet.specs.Printing.{point_lines}
-use Rattle.sheet.specs.program.Lines.{Appends}
 use Rattle.sheet.proofs.AppendLaws.{appends_none, appends_as, then}
 use Rattle.sheet.proofs.PrintingLaws.{lines_none, lines_more}
 use Rattle.sheet.proofs.printing.point_lines.Goals as goal
@@ -22,10 +17,3 @@ loop-i-preserved c =
       appends_as (then v.3 c.point_line-end.ensures.1)
           (lines_more _ _ c.at.ensures c.at-in-loop-i.ensures),
     )
-
-pub returns : goal.returns
-returns c =
-    let v = c.loop-i.invariant in
-    let a = c.args in
-    let e : c.loop-i.i ≡ a.count = omega (arith, v.0) in
-    (omega (arith, v.2, e), appends_as v.3 (ap (point_lines a.point.now) e))

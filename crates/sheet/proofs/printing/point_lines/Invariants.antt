@@ -1,13 +1,9 @@
 -- `point_lines` meets its contract: the lines of the first i points are printed.
-use mathlib.Core.Path.{◌≡◌, refl, ap, ◌∙◌}
+use mathlib.Core.Path.{◌≡◌}
 use Prim.Native.Nat.{◌+◌, ◌*◌, ◌-◌, ◌≤◌}
-use native.Mathlib.Omega.{arith}
-use borrow.Author.Rules.{rules}
 use lib.ListN.{length}
 use Rattle.sheet.specs.Printing.{point_lines}
 use Rattle.sheet.specs.program.Lines.{Appends}
-use Rattle.sheet.proofs.AppendLaws.{appends_none, appends_as, then}
-use Rattle.sheet.proofs.PrintingLaws.{lines_none, lines_more}
 use Rattle.sheet.proofs.printing.point_lines.Given as goal
 
 abbrev pub invariant-loop-i : goal.invariant-loop-i

@@ -1,5 +1,4 @@
 -- `print_error` meets its contract: the line stands in bytes that are all 0.
-use borrow.Author.Rules.{rules}
 use Rattle.sheet.proofs.AppendLaws.{appends_all}
 use Rattle.sheet.proofs.printing.print_error.Goals as goal
 

@@ -1,5 +1,4 @@
 -- `print_finish` meets its contract: its lines stand one after the other in bytes that are all 0.
-use borrow.Author.Rules.{rules}
 use Rattle.sheet.proofs.AppendLaws.{then, appends_all}
 use Rattle.sheet.proofs.printing.print_finish.Goals as goal
 

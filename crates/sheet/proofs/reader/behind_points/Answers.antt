@@ -1,42 +1,47 @@
 -- `behind_points` meets its contract: the limit, the reach and the rules; each may be at fault.
 use borrow.Author.Rules.{rules}
-use mathlib.Core.Path.{sym, ◌∙◌}
-use lib.ListN.{drop}
+use mathlib.Core.Path.{◌≡◌, sym, ◌∙◌}
+use Rattle.std.specs.Prelude.{Err}
 use Rattle.linear.proofs.Folds.{bind_ok, bind_refused}
 use Rattle.sheet.specs.Sheet.{behind_points_of}
-use Rattle.sheet.specs.program.Sheet.{count_in, coordinates_in, list_in}
-use Rattle.sheet.proofs.Tests.{told}
-use Rattle.sheet.proofs.SheetLaws.{behind_points_is}
+use Rattle.sheet.specs.program.Sheet.{sheet_in}
+use Rattle.sheet.proofs.Tests.{passed_on}
 use Rattle.sheet.proofs.reader.behind_points.Goals as goal
 
-pub returns-in-Read-natural : goal.returns-in-Read-natural
-returns-in-Read-natural c =
-    let a = c.args in
-    let r = c.all_rules-last.result in (
-      behind_points_is a.points.count (coordinates_in a.points) _
-          (told (count_in _) c.natural.ensures c.in-Read.is)
-          (told (count_in _) c.natural-in-Read.ensures c.in-Read-natural.is)
-          r.read (list_in r.rules) (drop r.place a.text.now) r.fault c.all_rules-last.ensures.0,
-      c.requires,
-      c.all_rules-last.ensures.1,
+pub returns-in_err-limit : goal.returns-in_err-limit
+unfolding behind_points_of
+returns-in_err-limit c =
+    let r : c.from_residual.result ≡ Err c.in_err-limit.field-0.0 = search rules in (
+      passed_on (sheet_in _) r (sym (bind_refused _ (sym c.in_err-limit.ensures))),
+      rw r tt,
     )
 
-pub returns-in-Fault-natural : goal.returns-in-Fault-natural
+pub returns-in_err-reach : goal.returns-in_err-reach
 unfolding behind_points_of
-returns-in-Fault-natural c =
-    let e = c.no_sheet.ensures in (
-      rw (e.0, e.1)
-          (sym (bind_ok _ (told (count_in _) c.natural.ensures c.in-Read.is)
-          ∙ bind_refused _ (told (count_in _) c.natural-in-Read.ensures c.in-Fault-natural.is))),
-      e.2,
-      e.3,
+returns-in_err-reach c =
+    let r : c.from_residual-in_err-reach.result ≡ Err c.in_err-reach.field-0.0 = search rules in (
+      passed_on (sheet_in _) r
+          (sym (bind_ok _ (sym c.in_ok-limit.ensures)
+          ∙ bind_refused _ (sym c.in_err-reach.ensures))),
+      rw r tt,
     )
 
-pub returns-in-Fault : goal.returns-in-Fault
+pub returns-in_err-rules : goal.returns-in_err-rules
 unfolding behind_points_of
-returns-in-Fault c =
-    let e = c.no_sheet-in-Fault.ensures in (
-      rw (e.0, e.1) (sym (bind_refused _ (told (count_in _) c.natural.ensures c.in-Fault.is))),
-      e.2,
-      e.3,
+returns-in_err-rules c =
+    let r : c.from_residual-in_err-rules.result ≡ Err c.in_err-rules.field-0.0 = search rules in (
+      passed_on (sheet_in _) r
+          (sym (bind_ok _ (sym c.in_ok-limit.ensures)
+          ∙ bind_ok _ (sym c.in_ok-reach.ensures)
+          ∙ bind_refused _ (sym c.in_err-rules.ensures.0))),
+      rw r tt,
     )
+
+pub returns : goal.returns
+unfolding behind_points_of
+returns c = (
+  sym (bind_ok _ (sym c.in_ok-limit.ensures)
+      ∙ bind_ok _ (sym c.in_ok-reach.ensures)
+      ∙ bind_ok _ (sym c.in_ok-rules.ensures.0)),
+  (c.requires, c.in_ok-rules.ensures.1),
+)

@@ -1,27 +1,21 @@
 -- `points` meets its contract: what is still to be read is what the points so far leave.
 use borrow.Author.Rules.{rules}
-use mathlib.Core.List.{[]}
-use mathlib.Core.Path.{◌≡◌}
-use Prim.Native.Nat.{◌*◌, ◌-◌, ◌≤◌}
+use mathlib.Core.Path.{◌≡◌, sym}
 use native.Mathlib.Omega.{arith}
-use lib.ListN.{length, take, drop}
-use Rattle.sheet.specs.Sheet.{points_from}
-use Rattle.sheet.specs.program.Sheet.{point_in}
-use Rattle.sheet.proofs.Tests.{told}
+use Rattle.std.specs.Prelude.{Err}
+use Rattle.sheet.specs.program.Sheet.{points_in}
+use Rattle.sheet.proofs.Tests.{passed_on}
 use Rattle.sheet.proofs.ArrayLaws.{points_end, points_more, points_fault}
 use Rattle.sheet.proofs.reader.points.Goals as goal
 
-pub loop-i-init : goal.loop-i-init
-loop-i-init c =
-    let z : c.args.count - 0 ≡ c.args.count = omega arith in (search rules, search rules, rw z)
-
-pub returns-in-Fault : goal.returns-in-Fault
-returns-in-Fault c =
-    let l = c.loop-i in (
-      points_fault c.args.count l.i l.coordinates _ l.invariant.2
-          c.loop-i-test.true
-          (told (point_in _) c.point.ensures c.in-Fault.is),
-      c.requires,
+pub returns-in_err-x : goal.returns-in_err-x
+returns-in_err-x c =
+    let l = c.loop-i in
+    let r : c.from_residual.result ≡ Err c.in_err-x.field-0.0 = search rules in (
+      passed_on (points_in _) r
+          (points_fault c.args.count l.i l.coordinates _ l.invariant.2 c.loop-i-test.true
+          (sym c.in_err-x.ensures)),
+      rw r tt,
     )
 
 pub loop-i-preserved : goal.loop-i-preserved
@@ -32,7 +26,7 @@ loop-i-preserved c =
       points_more c.args.count l.i l.coordinates _ l.invariant.2
           c.loop-i-test.true
           (omega (arith, l.invariant.1, c.requires, c.loop-i-test.true))
-          (told (point_in _) c.point.ensures c.in-Read.is)
+          (sym c.in_ok-x.ensures)
           (search rules) (search rules),
     )
 

@@ -1,14 +1,9 @@
 -- `points` meets its contract: what is still to be read is what the points so far leave.
-use borrow.Author.Rules.{rules}
 use mathlib.Core.List.{[]}
 use mathlib.Core.Path.{◌≡◌}
 use Prim.Native.Nat.{◌*◌, ◌-◌, ◌≤◌}
-use native.Mathlib.Omega.{arith}
 use lib.ListN.{length, take, drop}
 use Rattle.sheet.specs.Sheet.{points_from}
-use Rattle.sheet.specs.program.Sheet.{point_in}
-use Rattle.sheet.proofs.Tests.{told}
-use Rattle.sheet.proofs.ArrayLaws.{points_end, points_more, points_fault}
 use Rattle.sheet.proofs.reader.points.Given as goal
 
 abbrev pub invariant-loop-i : goal.invariant-loop-i

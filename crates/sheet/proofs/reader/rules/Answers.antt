@@ -1,28 +1,21 @@
 -- `rules` meets its contract: what is still to be read is what the rules so far leave.
 use borrow.Author.Rules.{rules}
-use mathlib.Core.List.{[]}
-use mathlib.Core.Path.{◌≡◌}
-use Prim.Native.Nat.{◌-◌, ◌≤◌}
+use mathlib.Core.Path.{◌≡◌, sym}
 use native.Mathlib.Omega.{arith}
-use lib.ListN.{length, take, drop}
-use Rattle.sheet.specs.Sheet.{rules_from}
-use Rattle.sheet.specs.program.Sheet.{rule_in}
-use Rattle.sheet.proofs.Tests.{told}
+use Rattle.std.specs.Prelude.{Err}
+use Rattle.sheet.specs.program.Sheet.{rules_in}
+use Rattle.sheet.proofs.Tests.{passed_on}
 use Rattle.sheet.proofs.ArrayLaws.{rules_end, rules_more, rules_fault}
 use Rattle.sheet.proofs.reader.rules.Goals as goal
 
-pub loop-i-init : goal.loop-i-init
-loop-i-init c =
-    let n = c.args.count in
-    let z : n - 0 ≡ n = omega arith in (search rules, search rules, rw z)
-
-pub returns-in-Fault : goal.returns-in-Fault
-returns-in-Fault c =
-    let l = c.loop-i in (
-      rules_fault c.args.points c.args.count l.i l.list _ l.invariant.2
-          c.loop-i-test.true
-          (told (rule_in _) c.rule.ensures c.in-Fault.is),
-      c.requires.1,
+pub returns-in_err-x : goal.returns-in_err-x
+returns-in_err-x c =
+    let l = c.loop-i in
+    let r : c.from_residual.result ≡ Err c.in_err-x.field-0.0 = search rules in (
+      passed_on (rules_in _) r
+          (rules_fault c.args.points c.args.count l.i l.list _ l.invariant.2 c.loop-i-test.true
+          (sym c.in_err-x.ensures)),
+      rw r tt,
     )
 
 pub loop-i-preserved : goal.loop-i-preserved
@@ -33,7 +26,7 @@ loop-i-preserved c =
       rules_more c.args.points c.args.count l.i l.list _ l.invariant.2
           c.loop-i-test.true
           (omega (arith, l.invariant.1, c.requires.1, c.loop-i-test.true))
-          (told (rule_in _) c.rule.ensures c.in-Read.is),
+          (sym c.in_ok-x.ensures),
     )
 
 pub returns : goal.returns

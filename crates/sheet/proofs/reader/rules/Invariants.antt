@@ -1,14 +1,9 @@
 -- `rules` meets its contract: what is still to be read is what the rules so far leave.
-use borrow.Author.Rules.{rules}
 use mathlib.Core.List.{[]}
 use mathlib.Core.Path.{◌≡◌}
 use Prim.Native.Nat.{◌-◌, ◌≤◌}
-use native.Mathlib.Omega.{arith}
 use lib.ListN.{length, take, drop}
 use Rattle.sheet.specs.Sheet.{rules_from}
-use Rattle.sheet.specs.program.Sheet.{rule_in}
-use Rattle.sheet.proofs.Tests.{told}
-use Rattle.sheet.proofs.ArrayLaws.{rules_end, rules_more, rules_fault}
 use Rattle.sheet.proofs.reader.rules.Given as goal
 
 abbrev pub invariant-loop-i : goal.invariant-loop-i

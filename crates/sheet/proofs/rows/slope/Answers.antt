@@ -1,26 +1,17 @@
 -- `slope` meets its contract: each arm by the kind of the rule.
-use borrow.Author.Rules.{rules}
 use lib.Ieee.{of_bits}
 use Rattle.sheet.proofs.RowLaws.{slope_span, slope_level, slope_plumb}
 use Rattle.sheet.proofs.rows.slope.Goals as goal
 
-pub returns-then-rule-eq-SPAN : goal.returns-then-rule-eq-SPAN
+pub returns-in-Span : goal.returns-in-Span
 unfolding of_bits
-returns-then-rule-eq-SPAN c =
-    let a = c.args in
-    slope_span a.x.now a.rule c.if-rule-eq-SPAN.true a.v
-    c.slope_apart-by_y.ensures c.slope_apart.ensures
+returns-in-Span c =
+    slope_span c.args.x.now c.args.rule c.in-Span.is c.args.v c.slope_apart-by_y.ensures c.slope_apart.ensures
 
-pub returns-then-rule-eq-LEVEL : goal.returns-then-rule-eq-LEVEL
+pub returns-in-Level : goal.returns-in-Level
 unfolding of_bits
-returns-then-rule-eq-LEVEL c =
-    let a = c.args in
-    slope_level a.x.now a.rule c.if-rule-eq-SPAN.false a.v c.if-rule-eq-LEVEL.true
-    c.slope_by.ensures
+returns-in-Level c = slope_level c.args.x.now c.args.rule c.in-Level.is c.args.v c.slope_by.ensures
 
-pub returns : goal.returns
+pub returns-in-Plumb : goal.returns-in-Plumb
 unfolding of_bits
-returns c =
-    let a = c.args in
-    slope_plumb a.x.now a.rule c.if-rule-eq-SPAN.false c.if-rule-eq-LEVEL.false a.v
-    c.slope_by-2.ensures
+returns-in-Plumb c = slope_plumb c.args.x.now c.args.rule c.in-Plumb.is c.args.v c.slope_by-in-Plumb.ensures

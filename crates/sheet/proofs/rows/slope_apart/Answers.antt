@@ -1,5 +1,4 @@
 -- `slope_apart` meets its contract.
-use borrow.Author.Rules.{rules}
 use lib.Ieee.{of_bits}
 use Rattle.sheet.proofs.RowLaws.{slope_apart_is}
 use Rattle.sheet.proofs.rows.slope_apart.Goals as goal

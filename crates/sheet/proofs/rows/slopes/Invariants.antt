@@ -1,17 +1,10 @@
 -- `slopes` meets its contract: the places so far are filled.
-use borrow.Author.Rules.{rules}
-use mathlib.Core.Path.{◌≡◌, refl, ap, ◌∙◌}
-use Prim.Native.Nat.{◌*◌, ◌/◌, ◌%◌, ◌≤◌, ◌-◌, ◌<◌}
-use native.Mathlib.Nat.{le_antisymm}
-use native.Mathlib.Omega.{arith}
-use lib.ListN.{length, length-map}
+use mathlib.Core.Path.{◌≡◌}
+use Prim.Native.Nat.{◌*◌, ◌/◌, ◌%◌, ◌≤◌, ◌-◌}
+use lib.ListN.{length}
 use Rattle.linear.specs.Flat.{fill_to}
-use Rattle.linear.proofs.FillLaws.{fill_turn}
-use Rattle.linear.proofs.Reflections.{rows_positive}
-use Rattle.run.proofs.RowLaws.{few}
 use Rattle.sheet.specs.Rows.{slope_of, rule_at}
 use Rattle.sheet.specs.program.Sheet.{list_in}
-use Rattle.sheet.proofs.RowLaws.{rule_near, rule-in, row_below}
 use Rattle.sheet.proofs.rows.slopes.Given as goal
 
 abbrev pub invariant-loop-p : goal.invariant-loop-p

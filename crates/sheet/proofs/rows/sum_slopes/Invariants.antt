@@ -1,19 +1,10 @@
 -- `sum_slopes` meets its contract: the places so far are filled.
-use borrow.Author.Rules.{rules}
-use borrow.Author.Tests.{eq-eqb, ne_eqb}
-use mathlib.Core.Logic.{⊎_elim}
-use mathlib.Core.Path.{◌≡◌, refl, ◌∙◌}
+use mathlib.Core.Path.{◌≡◌}
 use Prim.Native.Nat.{◌*◌, ◌/◌, ◌%◌, ◌≤◌, ◌-◌}
-use native.Mathlib.Nat.{le_antisymm}
-use native.Mathlib.Omega.{arith}
 use lib.Dec.{eqb}
-use lib.Ieee.{of_bits}
 use lib.ListN.{length}
 use Rattle.interval.specs.Scalar.{zero_s, pick}
 use Rattle.linear.specs.Flat.{fill_to}
-use Rattle.linear.proofs.Cells.{square_positive}
-use Rattle.linear.proofs.FillLaws.{fill_turn}
-use Rattle.run.proofs.RowLaws.{few}
 use Rattle.sheet.specs.Rows.{one_s}
 use Rattle.sheet.proofs.rows.sum_slopes.Given as goal
 

@@ -1,9 +1,6 @@
 -- `sum_values` meets its contract: the places so far are filled.
 use borrow.Author.Rules.{rules}
-use mathlib.Core.Path.{◌≡◌, refl, ◌∙◌}
-use Prim.Native.Nat.{◌≤◌, ◌-◌}
-use native.Mathlib.Nat.{le_antisymm}
-use lib.ListN.{length}
+use mathlib.Core.Path.{refl, ◌∙◌}
 use Rattle.interval.specs.Scalar.{sub_of}
 use Rattle.linear.specs.Flat.{at, fill_to}
 use Rattle.linear.proofs.FillLaws.{fill_turn}
@@ -26,6 +23,3 @@ loop-i-preserved c =
           c.at-in-loop-i.ensures
           c.sub.ensures.value),
     )
-
-pub returns : goal.returns
-returns c = rw (le_antisymm c.loop-i.invariant.0 c.loop-i-test.false) at c.loop-i.invariant.2

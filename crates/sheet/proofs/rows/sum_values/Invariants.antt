@@ -1,13 +1,9 @@
 -- `sum_values` meets its contract: the places so far are filled.
-use borrow.Author.Rules.{rules}
-use mathlib.Core.Path.{◌≡◌, refl, ◌∙◌}
+use mathlib.Core.Path.{◌≡◌}
 use Prim.Native.Nat.{◌≤◌, ◌-◌}
-use native.Mathlib.Nat.{le_antisymm}
 use lib.ListN.{length}
 use Rattle.interval.specs.Scalar.{sub_of}
 use Rattle.linear.specs.Flat.{at, fill_to}
-use Rattle.linear.proofs.FillLaws.{fill_turn}
-use Rattle.sheet.proofs.RowLaws.{sub_is}
 use Rattle.sheet.proofs.rows.sum_values.Given as goal
 
 abbrev pub invariant-loop-i : goal.invariant-loop-i

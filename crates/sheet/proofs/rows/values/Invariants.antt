@@ -1,14 +1,10 @@
 -- `values` meets its contract: the places so far are filled.
-use borrow.Author.Rules.{rules}
-use mathlib.Core.Path.{◌≡◌, refl, ap, ◌∙◌}
+use mathlib.Core.Path.{◌≡◌}
 use Prim.Native.Nat.{◌≤◌, ◌-◌}
-use native.Mathlib.Nat.{le_antisymm}
-use lib.ListN.{length, length-map}
+use lib.ListN.{length}
 use Rattle.linear.specs.Flat.{fill_to}
-use Rattle.run.proofs.VectorLaws.{fill_first}
 use Rattle.sheet.specs.Rows.{value_of, rule_at}
 use Rattle.sheet.specs.program.Sheet.{list_in}
-use Rattle.sheet.proofs.RowLaws.{rule_near, rule-in}
 use Rattle.sheet.proofs.rows.values.Given as goal
 
 abbrev pub invariant-loop-k : goal.invariant-loop-k

@@ -1,20 +1,9 @@
 -- `answer` meets its contract: the rows are the definition's, and a refusal by 3 leaves the area for the reply with
 -- none.
-use mathlib.Core.Path.{◌≡◌, sym, ap, ◌∙◌}
-use Prim.Native.Nat.{ℕ}
-use native.Mathlib.Omega.{arith}
-use lib.ListN.{length}
-use Rattle.run.specs.Calls.{point_of}
-use Rattle.sheet.specs.Rows.{rows_of}
+use mathlib.Core.Path.{sym, ◌∙◌}
 use Rattle.sheet.specs.program.Sheet.{sheet_by}
 use Rattle.sheet.proofs.SettlingLaws.{answer_rows, answer_none}
-use borrow.Author.Rules.{rules}
 use Rattle.sheet.proofs.settling.answer.Goals as goal
-
-pub rows_at-requires : goal.rows_at-requires
-rows_at-requires c =
-    let p = c.requires in
-    (p.settles.near, omega (arith, p.settles.few_points), p.whole_rows)
 
 pub returns-then-is_outside : goal.returns-then-is_outside
 returns-then-is_outside c =

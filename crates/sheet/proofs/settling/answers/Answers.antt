@@ -1,28 +1,14 @@
 -- `answers` meets its contract: so many replies are left, and what they lead to is what the first leads to.
-use mathlib.Core.Path.{◌≡◌, refl, sym, ap, ◌∙◌}
-use Prim.Native.Nat.{ℕ, ◌-◌, ◌≤◌}
+use mathlib.Core.Path.{sym, ◌∙◌}
 use native.Mathlib.Omega.{arith}
-use borrow.Author.Tests.{not-true, not-false}
-use lib.ListN.{length}
-use Rattle.run.specs.Calls.{after_call}
-use Rattle.sheet.specs.Settling.{answers_to, most_replies}
-use Rattle.sheet.specs.program.Sheet.{sheet_by}
-use Rattle.sheet.specs.program.Settling.{InRange}
+use Rattle.sheet.specs.Settling.{most_replies}
 use Rattle.sheet.proofs.SettlingLaws.{answers_turn, answers_over, answers_ended}
-use borrow.Author.Rules.{rules}
 use Rattle.sheet.proofs.settling.answers.Goals as goal
-
-pub loop-init : goal.loop-init
-loop-init c = (omega arith, refl, refl, refl)
 
 pub returns-then-not-is_question : goal.returns-then-not-is_question
 returns-then-not-is_question c =
     let v = c.loop.invariant in
     sym (v.3 ∙ answers_over _ _ _ _ (sym c.is_question.ensures ∙ c.if-not-is_question.true))
-
-pub answer-out-requires : goal.answer-out-requires
-answer-out-requires c = rw c.loop.invariant.1
-    c.requires
 
 pub loop-preserved : goal.loop-preserved
 loop-preserved c =

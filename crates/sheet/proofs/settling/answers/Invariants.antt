@@ -1,15 +1,10 @@
 -- `answers` meets its contract: so many replies are left, and what they lead to is what the first leads to.
-use mathlib.Core.Path.{◌≡◌, refl, sym, ap, ◌∙◌}
-use Prim.Native.Nat.{ℕ, ◌-◌, ◌≤◌}
-use native.Mathlib.Omega.{arith}
-use borrow.Author.Tests.{not-true, not-false}
+use mathlib.Core.Path.{◌≡◌}
+use Prim.Native.Nat.{◌-◌, ◌≤◌}
 use lib.ListN.{length}
 use Rattle.run.specs.Calls.{after_call}
 use Rattle.sheet.specs.Settling.{answers_to, most_replies}
 use Rattle.sheet.specs.program.Sheet.{sheet_by}
-use Rattle.sheet.specs.program.Settling.{InRange}
-use Rattle.sheet.proofs.SettlingLaws.{answers_turn, answers_over, answers_ended}
-use borrow.Author.Rules.{rules}
 use Rattle.sheet.proofs.settling.answers.Given as goal
 
 abbrev pub invariant-loop : goal.invariant-loop

@@ -1,12 +1,9 @@
 -- `point_at` meets its contract: the first i coordinates are stored.
-use mathlib.Core.Path.{◌≡◌, refl, sym, ap, ◌∙◌}
-use Prim.Native.Nat.{ℕ, ◌+◌, ◌-◌, ◌*◌, ◌≤◌}
-use mathlib.Core.List.{List, ◌++◌}
+use mathlib.Core.Path.{refl, ap, ◌∙◌}
 use native.Mathlib.Omega.{arith}
 use borrow.Author.Rules.{rules}
-use lib.ListN.{length}
 use Rattle.interval.specs.Scalar.{from_i64}
-use Rattle.sheet.proofs.SettlingLaws.{Placing, placing_none, placing_more, placing_all}
+use Rattle.sheet.proofs.SettlingLaws.{placing_none, placing_more}
 use Rattle.sheet.proofs.settling.point_at.Goals as goal
 
 pub loop-i-init : goal.loop-i-init
@@ -20,8 +17,3 @@ loop-i-preserved c =
       placing_more p.2 v.1 (omega (arith, v.0)) (c.from_i64.ensures ∙ ap from_i64 (search rules))
           c.put.ensures,
     )
-
-pub returns : goal.returns
-returns c =
-    let p = c.requires in
-    placing_all p.1 p.2 c.loop-i.invariant.1 (omega (arith, c.loop-i.invariant.0))

@@ -1,12 +1,7 @@
 -- `point_at` meets its contract: the first i coordinates are stored.
-use mathlib.Core.Path.{◌≡◌, refl, sym, ap, ◌∙◌}
-use Prim.Native.Nat.{ℕ, ◌+◌, ◌-◌, ◌*◌, ◌≤◌}
-use mathlib.Core.List.{List, ◌++◌}
-use native.Mathlib.Omega.{arith}
-use borrow.Author.Rules.{rules}
-use lib.ListN.{length}
-use Rattle.interval.specs.Scalar.{from_i64}
-use Rattle.sheet.proofs.SettlingLaws.{Placing, placing_none, placing_more, placing_all}
+use mathlib.Core.Path.{◌≡◌}
+use Prim.Native.Nat.{◌-◌, ◌*◌}
+use Rattle.sheet.proofs.SettlingLaws.{Placing}
 use Rattle.sheet.proofs.settling.point_at.Given as goal
 
 abbrev pub invariant-loop-i : goal.invariant-loop-i

@@ -3,11 +3,7 @@ use mathlib.Core.Path.{ap, ◌∙◌}
 use Rattle.sheet.specs.Printing.{padded}
 use Rattle.sheet.specs.program.Sheet.{sheet_by}
 use Rattle.sheet.proofs.SettlingLaws.{settled_printed}
-use borrow.Author.Rules.{rules}
 use Rattle.sheet.proofs.settling.settle_cut.Goals as goal
-
-pub print_returned-requires : goal.print_returned-requires
-print_returned-requires c = c.requires.2
 
 pub returns : goal.returns
 returns c =

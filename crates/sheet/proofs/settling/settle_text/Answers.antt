@@ -1,7 +1,5 @@
 -- `settle_text` meets its contract: the lengths are checked first, then what was found is printed, and the area is
 -- cleared.
-use borrow.Author.Rules.{rules}
-use Rattle.sheet.proofs.FoundLaws.{found_settles}
 use Rattle.sheet.proofs.SettlingLaws.{text_settled, area_refused, slot_refused}
 use Rattle.sheet.proofs.settling.settle_text.Goals as goal
 
@@ -10,14 +8,6 @@ returns-then-area-ne-AREA c = area_refused _ _ _ c.if-area-ne-AREA.true
 
 pub returns-then-slot-ne-SLOT : goal.returns-then-slot-ne-SLOT
 returns-then-slot-ne-SLOT c = slot_refused _ _ _ c.if-slot-ne-SLOT.true
-
-pub print_found-requires : goal.print_found-requires
-print_found-requires c = (
-  found_settles c.args.text.now
-      c.read.result c.read.type_inv c.read.ensures,
-  c.if-slot-ne-SLOT.false,
-  c.if-area-ne-AREA.false,
-)
 
 pub returns : goal.returns
 returns c =

@@ -2,7 +2,6 @@
 -- behind the other.
 use mathlib.Core.Path.{ap}
 use native.Mathlib.Omega.{arith}
-use borrow.Author.Rules.{rules}
 use mir.Facts.{to_z-of_z}
 use Rattle.sheet.specs.Decimal.{whole_text}
 use Rattle.sheet.proofs.AppendLaws.{then, appends_as}

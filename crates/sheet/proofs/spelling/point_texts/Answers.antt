@@ -1,15 +1,11 @@
 -- `point_texts` meets its contract: the lines of the first i points are written.
-use mathlib.Core.Path.{◌≡◌, refl, ap, ◌∙◌}
-use Prim.Native.Nat.{ℕ, ◌+◌, ◌-◌, ◌*◌, ◌≤◌}
+use mathlib.Core.Path.{◌≡◌, refl, ◌∙◌}
 use native.Mathlib.Omega.{arith}
 use borrow.Author.Rules.{rules, sfits_of}
 use lib.IntN.{pos}
-use lib.ListN.{length, take}
+use lib.ListN.{length}
 use mir.Facts.{to_z-of_z}
 use mir.Syntax.{w64}
-use Rattle.sheet.specs.Spelling.{point_texts}
-use Rattle.sheet.specs.program.Lines.{Appends}
-use Rattle.sheet.proofs.AppendLaws.{appends_as}
 use Rattle.sheet.proofs.SpellingTextLaws.{points_none, point_turn}
 use Rattle.sheet.proofs.spelling.point_texts.Goals as goal
 
@@ -27,10 +23,3 @@ loop-i-preserved c =
           (to_z-of_z {w = w64} (sfits_of (search rules)))
           l.invariant.3 c.point_text-end.ensures.1,
     )
-
-pub returns : goal.returns
-returns c =
-    let v = c.loop-i.invariant in
-    let a = c.args in
-    let e : c.loop-i.i ≡ a.points.count = omega (arith, v.0) in
-    (omega (arith, v.2, e), appends_as v.3 (ap (λ (n : ℕ). point_texts (take (2 * n) a.points.coordinates)) e))

@@ -1,15 +1,9 @@
 -- `point_texts` meets its contract: the lines of the first i points are written.
-use mathlib.Core.Path.{◌≡◌, refl, ap, ◌∙◌}
-use Prim.Native.Nat.{ℕ, ◌+◌, ◌-◌, ◌*◌, ◌≤◌}
-use native.Mathlib.Omega.{arith}
-use borrow.Author.Rules.{rules, sfits_of}
-use lib.IntN.{pos}
+use mathlib.Core.Path.{◌≡◌}
+use Prim.Native.Nat.{◌+◌, ◌-◌, ◌*◌, ◌≤◌}
 use lib.ListN.{length, take}
-use mir.Facts.{to_z-of_z}
 use Rattle.sheet.specs.Spelling.{point_texts}
 use Rattle.sheet.specs.program.Lines.{Appends}
-use Rattle.sheet.proofs.AppendLaws.{appends_as}
-use Rattle.sheet.proofs.SpellingTextLaws.{points_none, point_turn}
 use Rattle.sheet.proofs.spelling.point_texts.Given as goal
 
 abbrev pub invariant-loop-i : goal.invariant-loop-i

@@ -1,5 +1,4 @@
 -- `print_spelling` meets its contract: what was spelled stays, and of what was refused the error is printed.
-use borrow.Author.Rules.{rules}
 use borrow.Author.Tests.{ne_eqb}
 use Rattle.sheet.specs.Spelling.{print_spelling_of}
 use Rattle.sheet.proofs.SpellingTextLaws.{spelling_printed, error_printed}
@@ -9,15 +8,15 @@ pub returns-then-out-ne-MOST_BYTES : goal.returns-then-out-ne-MOST_BYTES
 unfolding print_spelling_of
 returns-then-out-ne-MOST_BYTES c = rw (ne_eqb _ _ c.if-out-ne-MOST_BYTES.true)
 
-pub returns-in-Written : goal.returns-in-Written
-returns-in-Written c =
+pub returns-in-Ok : goal.returns-in-Ok
+returns-in-Ok c =
     let a = c.args in
     spelling_printed a.text.now a.out.now c.if-out-ne-MOST_BYTES.false c.spell_text.result
-    c.spell_text.ensures c.in-Written.is
+    c.spell_text.ensures c.in-Ok.is
 
-pub returns-in-Refused : goal.returns-in-Refused
-returns-in-Refused c =
+pub returns-in-Err : goal.returns-in-Err
+returns-in-Err c =
     let a = c.args in
     error_printed a.text.now a.out.now c.if-out-ne-MOST_BYTES.false c.spell_text.result
-    c.spell_text.ensures c.in-Refused.is c.spell_text.auto.out
+    c.spell_text.ensures c.in-Err.is c.number.ensures c.spell_text.auto.out
     c.print_error.ensures

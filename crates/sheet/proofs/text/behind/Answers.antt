@@ -1,14 +1,18 @@
--- `behind` meets its contract: no byte, another byte, or the one that must stand there.
-use borrow.Author.Rules.{rules}
+-- `behind` meets its contract: the byte that must stand there, another byte, or none.
 use mathlib.Core.Path.{sym}
 use Rattle.sheet.proofs.TextLaws.{behind_outside, behind_other, behind_same}
 use Rattle.sheet.proofs.text.behind.Goals as goal
-
-pub returns-then-at-text : goal.returns-then-at-text
-returns-then-at-text c = sym (behind_outside _ _ c.if-at-text.true)
+use Rattle.sheet.proofs.text.behind.Goals.{
+  else-at-text-via-then-at-text+else-text-at,
+  else-at-text-via-else-at-text,
+}
 
 pub returns-then-text-at : goal.returns-then-text-at
-returns-then-text-at c = sym (behind_other _ _ c.if-at-text.false c.if-text-at.true)
+returns-then-text-at c = sym (behind_same _ _ c.if-at-text.true c.if-text-at.true)
 
 pub returns : goal.returns
-returns c = sym (behind_same _ _ c.if-at-text.false c.if-text-at.false)
+returns c =
+    elim c.else-at-text.branch [
+      | else-at-text-via-then-at-text+else-text-at w ↦ sym (behind_other _ _ w.if-at-text.true w.if-text-at.false)
+      | else-at-text-via-else-at-text w ↦ sym (behind_outside _ _ w.if-at-text.false)
+    ]

@@ -9,4 +9,4 @@ pub returns-in-Finish : goal.returns-in-Finish
 returns-in-Finish c = rw (c.in-Finish.is, c.finished.ensures, c.ending_of.ensures)
 
 pub returns-in-Refused : goal.returns-in-Refused
-returns-in-Refused c = rw (c.in-Refused.is, c.asked-in-Refused.ensures)
+returns-in-Refused c = rw (c.in-Refused.is, c.asked-in-Refused.ensures, c.from.ensures)

@@ -1,9 +1,0 @@
--- `answer` meets its contract: each arm keeps the number.
-use borrow.Author.Rules.{rules}
-use Rattle.linear.proofs.norms.answer.Goals as goal
-
-pub returns-in-Value : goal.returns-in-Value
-returns-in-Value c = rw c.in-Value.is
-
-pub returns-in-Refused : goal.returns-in-Refused
-returns-in-Refused c = rw c.in-Refused.is

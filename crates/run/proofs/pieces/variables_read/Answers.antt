@@ -1,9 +1,0 @@
--- `variables_read` meets its contract.
-use borrow.Author.Tests.{eq-eqb, ne_eqb}
-use Rattle.run.proofs.pieces.variables_read.Goals as goal
-
-pub returns-then-d-eq0 : goal.returns-then-d-eq0
-returns-then-d-eq0 c = rw (eq-eqb _ _ c.if-d-eq0.true)
-
-pub returns : goal.returns
-returns c = rw (ne_eqb _ _ c.if-d-eq0.false)
