@@ -15,16 +15,17 @@ use std::io::{BufRead, Input};
 const EQUALS: u64 = 0x3D;
 
 // The line that starts with a token, the function's code; four operands follow it. The answer to them is held to what
-// the list has behind its sign =.
+// the list has behind its sign =, which is read behind another sign too.
 fn replay(list: &mut impl BufRead, first: Token) -> Result<bool, ListError> {
     let code = first.number.ok_or(ListError::Malformed)?;
     let mut operands = [0; 4];
     read_words(list, &mut operands)?;
-    let sign = next_token(list)?.ok_or(ListError::Malformed)?;
-    if sign.text != EQUALS {
-        return Err(ListError::Malformed);
+    let sign = next_token(list)?;
+    let same = same_words(list, &answer_of(code, operands).0)?;
+    match sign {
+        Some(t) if t.text == EQUALS => same.ok_or(ListError::Malformed),
+        _ => Err(ListError::Malformed),
     }
-    same_words(list, &answer_of(code, operands).0)
 }
 
 fn main(rt: HostRuntime) -> io::Result<()> {

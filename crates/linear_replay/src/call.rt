@@ -2,7 +2,7 @@
 // function reads, then those of the output and of the marks, which it leaves.
 use interval::Scalar;
 use replay_text::error::ListError;
-use replay_text::words::{first_of, read_words, same_words};
+use replay_text::words::{both, first_of, read_words, same_words};
 use std::io::BufRead;
 use yadzvego::lists;
 use yadzvego::scalars::ScalarResult;
@@ -80,5 +80,6 @@ pub fn replay_call(list: &mut impl BufRead, head: Head) -> Result<bool, ListErro
     let number = head.call(Operands { a, b, c }, out, marks);
     let same_out = same_words(list, out)?;
     let same_marks = same_words(list, marks)?;
-    Ok(same_out && same_marks && number == head.number)
+    let same_number = Some(number == head.number);
+    both(both(same_out, same_marks), same_number).ok_or(ListError::Malformed)
 }

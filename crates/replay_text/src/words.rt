@@ -1,7 +1,11 @@
 // What a list writes as the words of numbers, floats and marks.
+ghost use Rattle.std.specs.Prelude.{◌≡◌};
+ghost use Rattle.replay_text.specs.Comparison.{both_of};
+
 use crate::error::ListError;
-use crate::tokens::next_number;
+use crate::tokens::{next_number, next_token};
 use float_bits::{bits_of, float_of};
+use std::io;
 use std::io::BufRead;
 
 pub trait Word: Copy {
@@ -50,11 +54,23 @@ pub fn read_words<T: Word>(list: &mut impl BufRead, xs: &mut [T]) -> Result<(), 
     Ok(())
 }
 
-// Reads a word for each of the slice, and says whether they are the slice's.
-pub fn same_words<T: Word>(list: &mut impl BufRead, xs: &[T]) -> Result<bool, ListError> {
-    let mut same = true;
+// Whether both are the same. None says that the list is malformed, as does either of them.
+pub fn both(a: Option<bool>, b: Option<bool>) -> Option<bool>
+    ensures { result ≡ both_of a b }
+{
+    let a = a?;
+    let b = b?;
+    Some(a && b)
+}
+
+// Reads a word for each of the slice, and says whether they are the slice's, or none where one is malformed. The rest
+// is read all the same, so that an error of the input is told before the list is called malformed.
+pub fn same_words<T: Word>(list: &mut impl BufRead, xs: &[T]) -> io::Result<Option<bool>> {
+    let mut same = Some(true);
     for x in xs {
-        same &= next_number(list)? == x.word();
+        let word = x.word();
+        let number = next_token(list)?.and_then(|t| t.number);
+        same = both(same, number.map(|n| n == word));
     }
     Ok(same)
 }

@@ -1,10 +1,10 @@
 // What a call answered, held to what the list says next. An answer there is `q` with the question's number,
 // kind and standing, or `f` with the stop, its rejection, its independent rows and constraints, iterations,
 // turn-downs and standing, each with the words of the point; or `x` with the number of the refusal.
-use replay_text::error::ListError;
 use replay_text::tokens::next_token;
-use replay_text::words::same_words;
+use replay_text::words::{both, same_words};
 use run::{Event, Kind, Rejection, Stop};
+use std::io;
 use std::io::BufRead;
 
 const QUESTION: u64 = 0x71;
@@ -68,31 +68,33 @@ fn line_of(answer: Event) -> [u64; 8] {
 }
 
 // Reads the words of a point, which must have so many numbers.
-fn same_point(list: &mut impl BufRead, point: &[f64], numbers: usize) -> Result<bool, ListError> {
+fn same_point(list: &mut impl BufRead, point: &[f64], numbers: usize) -> io::Result<Option<bool>> {
     let same = same_words(list, point.get(..numbers).unwrap_or(point))?;
-    Ok(same && point.len() == numbers)
+    Ok(both(same, Some(point.len() == numbers)))
 }
 
-// Reads the answer that the list has next, with so many words for a point. The list's own letter says what stands
-// behind it.
+// Reads the answer that the list has next, with so many words for a point, and says whether it is the same, or none
+// where it is malformed. The list's own letter says what stands behind it, and all of that is read.
 pub fn same_answer(
     list: &mut impl BufRead,
     answer: Event,
     point: &[f64],
     numbers: usize,
-) -> Result<bool, ListError> {
+) -> io::Result<Option<bool>> {
     let line = line_of(answer);
-    let t = next_token(list)?.ok_or(ListError::Malformed)?;
-    if t.length != 1 {
-        return Err(ListError::Malformed);
-    }
+    let Some(t) = next_token(list)? else {
+        return Ok(None);
+    };
     let (words, has_point) = match t.text {
         QUESTION => (&line[1..4], true),
         FINISH => (&line[1..8], true),
         REFUSED => (&line[1..2], false),
-        _ => return Err(ListError::Malformed),
+        _ => return Ok(None),
     };
-    let same_words = same_words(list, words)?;
-    let same_point = !has_point || same_point(list, point, numbers)?;
-    Ok(t.text == line[0] && same_words && same_point)
+    let mut same = same_words(list, words)?;
+    if has_point {
+        same = both(same, same_point(list, point, numbers)?);
+    }
+    let same_letter = (t.length == 1).then_some(t.text == line[0]);
+    Ok(both(same_letter, same))
 }

@@ -9,6 +9,7 @@ use replay_text::tally::{Tally, one_more};
 use replay_text::tokens::{Token, next_token};
 use replay_text::words::{first_of, read_words};
 use run::{Returned, State};
+use std::io;
 use std::io::BufRead;
 
 const RUN: u64 = 0x72756E;
@@ -46,23 +47,25 @@ impl Replay {
         }
     }
 
-    // The answer to a call, where points have so many numbers. Where it differs the run's number is printed before the
-    // call's.
+    // The answer to a call, where points have so many numbers; says whether it is well formed. Where it differs the
+    // run's number is printed before the call's.
     fn compare(
         &mut self,
         rt: &impl Print,
         list: &mut impl BufRead,
         out: Returned,
         numbers: usize,
-    ) -> Result<(), ListError> {
+    ) -> io::Result<bool> {
         let point = run::point(out.state, &self.area);
-        let same = same_answer(list, out.event, point, numbers)?;
+        let Some(same) = same_answer(list, out.event, point, numbers)? else {
+            return Ok(false);
+        };
         if !same {
             print!(rt; "run {}", self.runs)?;
         }
         self.calls.count(rt, ", call ", self.call, same)?;
         self.call = one_more(self.call);
-        Ok(())
+        Ok(true)
     }
 
     // Begins the run that the list has next, and says how many numbers a point has.
@@ -112,13 +115,20 @@ impl Replay {
 
     fn replay_calls(&mut self, rt: &impl Print, list: &mut impl BufRead) -> Result<(), ListError> {
         let (mut out, numbers) = self.begin(list)?;
-        self.compare(rt, list, out, numbers)?;
+        let begun = self.compare(rt, list, out, numbers)?;
         for _ in 0..MOST {
-            let Some(next) = self.reply(list, out.state)? else {
+            // One reply is read behind a malformed answer to the beginning too.
+            let next = self.reply(list, out.state)?;
+            if !begun {
+                return Err(ListError::Malformed);
+            }
+            let Some(next) = next else {
                 break;
             };
             out = next;
-            self.compare(rt, list, out, numbers)?;
+            if !self.compare(rt, list, out, numbers)? {
+                return Err(ListError::Malformed);
+            }
         }
         Ok(())
     }
