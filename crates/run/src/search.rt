@@ -95,17 +95,18 @@ fn seek_from(
         ≡ search_of (standing_in origin area.now) origin.max_step from }
 {
     let mut state = from;
-    loop {
+    let found = loop {
         let p = propose(origin, area, prepared, order, fixed, state, delta, lambda);
         match follow(p, state, origin.point.counts.m, origin.max_step) {
-            Turn::Leave(found) => {
-                return found;
+            Turn::Leave(left) => {
+                break left;
             }
             Turn::On(y) => {
                 state = y;
             }
         }
-    }
+    };
+    found
 }
 
 // The search from a standing point, over the area that holds its rows and the curvature learned.

@@ -43,31 +43,31 @@ module _ (S : Standing) (max : Scalar) (here : Search) (p : Result declared.Prop
       turn_result r (onward S max start i) delta lambda next ≡ search_to DAMPINGS S max start
   whole start i r e = followed-as r e (onward S max start i) ∙ followed S max start i
 
-pub loop-found-init : goal.loop-found-init
-loop-found-init c =
+pub loop-left-init : goal.loop-left-init
+loop-left-init c =
     let g = c.well_formed.1.1.1.1.1.0.1.1.0.1.1 in
     (refl, refl, seeking _ _ c.args.from (yes g.0.1, yes g.1.0.1) (yes c.requires.turned_down_bound.1))
 
 pub follow-requires : goal.follow-requires
 follow-requires c =
-    let i = c.loop-found.invariant.2 in
+    let i = c.loop-left.invariant.2 in
     omega (arith, few _ _ _ i, i.later, c.requires.turned_down_bound.0)
 
-pub loop-found-smaller : goal.loop-found-smaller
-loop-found-smaller c =
+pub loop-left-smaller : goal.loop-left-smaller
+loop-left-smaller c =
     let a = c.args in
     let S : Standing = standing_in a.origin a.area.now in
-    let i = c.loop-found.invariant.2 in
-    let g = grown-to S a.origin.max_step c.loop-found.state _ _ _ _ c.follow.ensures c.propose-p.ensures _ c.in-On.is in
+    let i = c.loop-left.invariant.2 in
+    let g = grown-to S a.origin.max_step c.loop-left.state _ _ _ _ c.follow.ensures c.propose-p.ensures _ c.in-On.is in
     omega (arith, g.one_more, i.later, few _ _ _ i)
 
-pub loop-found-preserved : goal.loop-found-preserved
-loop-found-preserved c =
+pub loop-left-preserved : goal.loop-left-preserved
+loop-left-preserved c =
     let a = c.args in
     let S : Standing = standing_in a.origin a.area.now in
-    let i = c.loop-found.invariant in
+    let i = c.loop-left.invariant in
     let l = c.propose-p.auto in
-    let x = c.loop-found.state in
+    let x = c.loop-left.state in
     let f = c.follow.ensures in
     let p = c.propose-p.ensures in
     let e = c.in-On.is in (
@@ -77,10 +77,10 @@ loop-found-preserved c =
           (whole S a.origin.max_step x _ _ _ _ f p a.from i.2 _ e),
     )
 
-pub returns-in-Leave : goal.returns-in-Leave
+pub returns : goal.returns
 unfolding search_of
-returns-in-Leave c =
+returns c =
     let a = c.args in
     let S : Standing = standing_in a.origin a.area.now in
-    whole S a.origin.max_step c.loop-found.state _ _ _ _ c.follow.ensures c.propose-p.ensures a.from
-    c.loop-found.invariant.2 _ c.in-Leave.is
+    whole S a.origin.max_step c.loop-left.state _ _ _ _ c.follow.ensures c.propose-p.ensures a.from
+    c.loop-left.invariant.2 _ c.in-Leave.is

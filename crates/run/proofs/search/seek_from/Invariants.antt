@@ -8,9 +8,9 @@ use Rattle.run.specs.program.Proposal.{standing_in}
 use Rattle.run.proofs.SearchLaws.{Seeking, growths}
 use Rattle.run.proofs.search.seek_from.Given as goal
 
-abbrev pub invariant-loop-found : goal.invariant-loop-found
-invariant-loop-found l = (length l.delta ≡ length l.initial.delta) × (length l.lambda ≡ length l.initial.lambda)
+abbrev pub invariant-loop-left : goal.invariant-loop-left
+invariant-loop-left l = (length l.delta ≡ length l.initial.delta) × (length l.lambda ≡ length l.initial.lambda)
     × Seeking (standing_in l.origin l.area) l.origin.max_step l.initial.state l.state
 
-abbrev pub decreases-loop-found : goal.decreases-loop-found
-decreases-loop-found l = DAMPINGS - growths l.initial.state l.state
+abbrev pub decreases-loop-left : goal.decreases-loop-left
+decreases-loop-left l = DAMPINGS - growths l.initial.state l.state
